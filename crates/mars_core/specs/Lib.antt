@@ -1,0 +1,14 @@
+pub mod Queue
+pub mod State
+pub mod LoggedCore
+pub mod Operand
+pub mod Effect
+pub mod Turn
+pub mod Edit
+pub mod Validity
+pub mod Leads
+pub mod Rows
+pub mod Laws
+pub mod Start
+pub mod Undo
+pub mod Redo

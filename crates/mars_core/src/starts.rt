@@ -1,0 +1,205 @@
+//! How a battle starts.
+ghost use Rattle.std.specs.Prelude.{◌≡◌, ℕ, ◌+◌, ◌-◌, ◌*◌, ◌%◌, ◌<◌, ◌≤◌, ◌∷◌, [], ◌++◌, length, map, All, List, IfOk, true, nat_lt};
+ghost use Rattle.std.specs.List.{list_all};
+ghost use Rattle.std.proofs.Common.{replicate};
+ghost use Rattle.mars_cell.specs.Cells.{empty_cell, FitsCore};
+ghost use Rattle.mars_cell.specs.Parameters.{AreInRange};
+ghost use Rattle.mars_core.specs.LoggedCore.{IsCore};
+ghost use Rattle.mars_core.specs.Queue.{addresses_of, Queue};
+ghost use Rattle.mars_core.specs.Start.{distance as spec_distance, meets_any, clashes as spec_clashes, overlap, is_inside as spec_is_inside, fields_inside as spec_fields_inside, laid, all_laid, first_processes, start_fault};
+
+use crate::queues::ProcessQueue;
+use mars_cell::{Cell, Params, Warrior};
+use std::alloc::{AllocError, Global};
+
+/// Why a battle can't start.
+#[derive(Clone, Copy, Debug, PartialEq, Eq)]
+pub enum BattleFault {
+    NoWarrior,
+    TooMany,
+    Overlap,
+    StartOutside,
+    FieldOutside,
+    OutOfMemory,
+}
+
+/// How far it is from one address up to another.
+#[tactic(auto, unfolding(crate::specs::Start::distance))]
+fn distance(core_size: u32, from: u32, to: u32) -> u32
+    requires { 1 ≤ core_size }
+    ensures { result ≡ spec_distance core_size from to }
+{
+    let size = u64::from(core_size);
+    ((u64::from(to) + (size - u64::from(from) % size)) % size) as u32
+}
+
+/// Whether a warrior shares an address with one of the others.
+fn meets_others(
+    core_size: u32,
+    warrior: &Warrior,
+    start: u32,
+    others: &[Warrior],
+    starts: &[u32],
+) -> bool
+    requires core_size { 1 ≤ core_size }
+    requires starts { length starts.now ≡ length others.now }
+    ensures { result ≡ meets_any core_size warrior.now start others.now starts.now }
+{
+    for i in 0..others.len() {
+        let other = &others[i];
+        if (distance(core_size, start, starts[i]) as usize) < warrior.cells().len()
+            || (distance(core_size, starts[i], start) as usize) < other.cells().len()
+        {
+            return true;
+        }
+    }
+    false
+}
+
+/// Whether a warrior is longer than the core, or shares an address with one of the others.
+fn clashes(
+    core_size: u32,
+    warrior: &Warrior,
+    start: u32,
+    others: &[Warrior],
+    starts: &[u32],
+) -> bool
+    requires core_size { 1 ≤ core_size }
+    requires starts { length starts.now ≡ length others.now }
+    ensures { result ≡ spec_clashes core_size warrior.now start others.now starts.now }
+{
+    warrior.cells().len() > core_size as usize
+        || meets_others(core_size, warrior, start, others, starts)
+}
+
+/// Whether a warrior is longer than the core, or two share an address.
+pub fn has_overlap(core_size: u32, warriors: &[Warrior], starts: &[u32]) -> bool
+    requires core_size { 1 ≤ core_size }
+    requires starts { length starts.now ≡ length warriors.now }
+    ensures { result ≡ overlap core_size warriors.now starts.now }
+{
+    for i in 0..warriors.len() {
+        if clashes(
+            core_size,
+            &warriors[i],
+            starts[i],
+            &warriors[i + 1..],
+            &starts[i + 1..],
+        ) {
+            return true;
+        }
+    }
+    false
+}
+
+/// Whether the numbers of each cell of each warrior are addresses in the core.
+pub fn fields_inside(core_size: u32, warriors: &[Warrior]) -> bool
+    ensures { result ≡ spec_fields_inside core_size warriors.now }
+{
+    for warrior in warriors {
+        if !cells_inside(core_size, warrior.cells()) {
+            return false;
+        }
+    }
+    true
+}
+
+/// Whether the numbers of each cell are addresses in the core.
+fn cells_inside(core_size: u32, cells: &[Cell]) -> bool
+    ensures { result ≡ list_all (spec_is_inside core_size) cells.now }
+{
+    cells
+        .iter()
+        .all(|cell| cell.a < core_size && cell.b < core_size)
+}
+
+/// Whether each start is an address in the core.
+fn starts_inside(core_size: u32, starts: &[u32]) -> bool
+    ensures { result ≡ list_all (λ s. nat_lt s core_size) starts.now }
+{
+    starts.iter().all(|start| *start < core_size)
+}
+
+/// The first reason not to start, which takes no logged to find.
+pub fn find_fault(params: &Params, warriors: &[Warrior], starts: &[u32]) -> Option<BattleFault>
+    requires { length starts.now ≡ length warriors.now }
+    ensures value { result ≡ start_fault params.now warriors.now starts.now }
+    ensures in_range { AreInRange params.now }
+{
+    let core_size = params.core_size();
+    if warriors.is_empty() {
+        return Some(BattleFault::NoWarrior);
+    }
+    if warriors.len() > 16 {
+        return Some(BattleFault::TooMany);
+    }
+    if has_overlap(core_size, warriors, starts) {
+        return Some(BattleFault::Overlap);
+    }
+    if !starts_inside(core_size, starts) {
+        return Some(BattleFault::StartOutside);
+    }
+    if !fields_inside(core_size, warriors) {
+        return Some(BattleFault::FieldOutside);
+    }
+    None
+}
+
+/// Lays cells from a start on.
+fn lay(core: &mut [Cell], core_size: u32, start: u32, cells: &[Cell])
+    requires core { IsCore core_size core.old }
+    requires positive { 1 ≤ core_size }
+    requires cells { All (FitsCore core_size) cells.now }
+    ensures laid { core.new ≡ laid core_size start cells.now core.old }
+    ensures core { IsCore core_size core.new }
+{
+    for (i, cell) in cells.iter().enumerate() {
+        let address = (start as usize + i) % core_size as usize;
+        core[address] = *cell;
+    }
+}
+
+/// An empty core, with each warrior laid from its start on.
+#[tactic(auto, using(crate::proofs::StartState::inside_at))]
+pub fn lay_all(
+    alloc: Global,
+    params: &Params,
+    warriors: &[Warrior],
+    starts: &[u32],
+) -> Result<Vec<Cell>, AllocError>
+    requires starts { length starts.now ≡ length warriors.now }
+    requires inside { spec_fields_inside params.now.core_size warriors.now ≡ true }
+    ensures laid { IfOk result (λ core. core.items ≡ all_laid params.now.core_size warriors.now starts.now (replicate params.now.core_size empty_cell)) }
+    ensures core { IfOk result (λ core. IsCore params.now.core_size core.items) }
+{
+    let core_size = params.core_size();
+    let mut core = vec![in alloc; Cell::empty(); core_size as usize]?;
+    for i in 0..warriors.len() {
+        let warrior = &warriors[i];
+        lay(core.as_mut_slice(), core_size, starts[i], warrior.cells());
+    }
+    Ok(core)
+}
+
+/// The queues of the first processes.
+pub fn first_queues(
+    alloc: Global,
+    params: &Params,
+    warriors: &[Warrior],
+    starts: &[u32],
+) -> Result<Vec<ProcessQueue>, AllocError>
+    requires starts { length starts.now ≡ length warriors.now }
+    ensures addresses { IfOk result (λ queues. addresses_of queues.items ≡ map (λ address. address ∷ []) (first_processes params.now.core_size warriors.now starts.now)) }
+    ensures limits { IfOk result (λ queues. All (λ (q : Queue). q.limit ≡ params.now.processes) queues.items) }
+{
+    let core_size = u64::from(params.core_size());
+    let mut queues = Vec::new(alloc);
+    for i in 0..warriors.len() {
+        let warrior = &warriors[i];
+        let address = (u64::from(starts[i]) + u64::from(warrior.start())) % core_size;
+        let mut queue = ProcessQueue::with_limit(alloc, params.processes() as usize)?;
+        queue.push(address as u32);
+        queues.push(queue)?;
+    }
+    Ok(queues)
+}
