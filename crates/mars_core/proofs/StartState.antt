@@ -1,24 +1,24 @@
 -- The state at the start is valid.
-use Rattle.std.proofs.Common.{◌≡◌, ◌≢◌, ℕ, zero, suc, ◌+◌, ◌-◌, ◌*◌, ◌<◌, ◌≤◌, List, [], ◌∷◌, ◌++◌, length, get_or, map, sum_by, All, refl, ap, sym, ◌∙◌, subst, arith, rules, Bool, true, false, cond, Some, None}
-use Rattle.std.specs.Prelude.{◌==◌, ◌&&◌, nat_lt}
+use Rattle.std.proofs.Common.{◌≡◌, ◌≢◌, ℕ, zero, suc, ◌+◌, ◌<◌, ◌≤◌, List, [], ◌∷◌, length, get_or, map, All, refl, ap, sym, ◌∙◌, subst, arith, Bool, true, false, cond, None}
+use Rattle.std.specs.Prelude.{◌&&◌}
 use Rattle.std.specs.List.{list_all}
 use Rattle.std.proofs.lemmas.List.{length-map}
 use Rattle.std.proofs.lemmas.List.Sums.{sum_by-cons}
-use Rattle.std.proofs.lemmas.List.Elements.{All-get_or, All-from_get_or, All-map, All-nil, All-weaker}
+use Rattle.std.proofs.lemmas.List.Elements.{All-from_get_or, All-map, All-nil, All-weaker}
 use Rattle.std.proofs.lemmas.Bool.Decides.{nat_tests}
-use Rattle.std.proofs.lemmas.Grind.{common_steps, elements}
+use Rattle.std.proofs.lemmas.Grind.{elements}
 use Rattle.mars_cell.specs.declared.instruction.Cell.{Cell}
 use Rattle.mars_cell.specs.Cells.{FitsCore, empty_cell}
 use Rattle.mars_cell.specs.Parameters.{Parameters, AreInRange}
 use Rattle.mars_cell.specs.Warriors.{WarriorValue}
-use Rattle.mars_core.specs.State.{State, is_empty, survivors_of, queue_of, live_from, state_of}
+use Rattle.mars_core.specs.State.{is_empty, survivors_of, queue_of, state_of}
 use Rattle.mars_core.specs.LoggedCore.{IsCore}
 use Rattle.mars_core.specs.Start.{is_inside, fields_inside, first_processes, start_fault}
 use Rattle.std.proofs.Math.Nat.{mod-lt}
 use Rattle.std.proofs.lemmas.Bool.{true≢false}
 use Rattle.mars_core.specs.declared.journal.Death.{Death}
 use Rattle.mars_core.specs.Queue.{Queue, addresses_of}
-use Rattle.mars_core.specs.Validity.{times_died, AreDeaths, IsQueue, IsClock, IsValid}
+use Rattle.mars_core.specs.Validity.{IsQueue, IsValid}
 
 both_inside : (m : ℕ) (cell : Cell) → is_inside m cell ≡ true → FitsCore m cell
 both_inside m cell h = record { a = grind (arith, nat_tests); b = grind (arith, nat_tests) }

@@ -10,5 +10,5 @@ pub mod Leads
 pub mod Rows
 pub mod Laws
 pub mod Start
-pub mod Undo
-pub mod Redo
+pub mod Shape
+pub mod Facts

@@ -3,8 +3,6 @@ ghost use Rattle.std.specs.Prelude.{◌≡◌, ℕ, ◌+◌, ◌<◌, ◌≤◌,
 ghost use Rattle.arrayvec.specs.ArrayVec.{array_vec_len};
 ghost use Rattle.mars_cell.specs.Cells.{FitsCore};
 ghost use Rattle.mars_core.specs.State.{cell_at as spec_cell_at};
-ghost use Rattle.mars_core.specs.Undo.{undone};
-ghost use Rattle.mars_core.specs.declared.journal.CellChange.{CellChange as Change};
 ghost use Rattle.mars_core.specs.LoggedCore.{address_after as spec_address_after, fold, raised as spec_raised, lowered as spec_lowered, written, logged_core, with_field_changed, IsCore};
 
 use crate::journal::CellChange;
@@ -128,18 +126,4 @@ pub fn lower_field(
     let cell = cell_at(core, address);
     let number = lowered(core_size, cell.field(field));
     write(core, changes, address, cell.with_field(field, number));
-}
-
-/// Undoes writes, the last one first.
-#[tactic(auto, using(crate::proofs::UndoSteps::undone_step))]
-pub fn undo_changes(core: &mut [Cell], changes: &[CellChange])
-    requires { All (λ (c : Change). c.address < length core.old) changes.now }
-    ensures { core.new ≡ undone changes.now core.old }
-{
-    let mut left = changes.len();
-    while left > 0 {
-        left -= 1;
-        let change = changes[left];
-        core[change.address as usize] = change.before;
-    }
 }

@@ -1,6 +1,5 @@
-use Rattle.std.proofs.Common.{arith, ap, ◌∙◌, sym, length, subst}
+use Rattle.std.proofs.Common.{arith, ◌∙◌, sym}
 use Rattle.mars_cell.specs.declared.instruction.Field.TheVariants.{ANumber}
-use Rattle.mars_cell.specs.Cells.{field_of}
 use Rattle.mars_core.specs.Effect.{Pair}
 use Rattle.mars_core.proofs.Pairs.{divided_pairs_drop_zero, divided_pairs_drop_some, FitsCore-with_field}
 use Rattle.std.proofs.lemmas.Grind.{common_steps}

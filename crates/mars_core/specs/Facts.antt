@@ -1,0 +1,74 @@
+-- What the layers above know of turns and edits, whose definitions they don't see into.
+use Rattle.std.specs.Prelude.{◌≡◌, ℕ, ◌+◌, ◌≤◌, Option, None, Some, refl, List, [], ◌∷◌, remove, slice_set}
+use Rattle.std.proofs.Common.{arith}
+use Rattle.std.proofs.lemmas.List.{length-set}
+use Rattle.mars_core.specs.State.{State, moved_clock, live_from, advanced, queue_of}
+use Rattle.mars_core.specs.Turn.{executed, turn_of}
+use Rattle.mars_core.specs.Edit.{left_of, killed, edited}
+use Rattle.mars_core.specs.Shape.{SameShape}
+use Rattle.mars_core.specs.declared.journal.Edit.{Edit}
+use Rattle.mars_core.specs.declared.journal.Edit.TheVariants as edit
+use Rattle.mars_core.specs.declared.queues.Clock.{Clock}
+
+-- one cycle more, or none
+abbrev pub OneMore : ℕ → ℕ → Type 0
+OneMore before after = (before ≤ after) × (after ≤ before + 1)
+
+moved_cycle : (clock : Clock) (o z : Option ℕ) → OneMore clock.cycle (moved_clock clock o z).cycle
+moved_cycle clock (Some k) z = (omega arith, omega arith)
+moved_cycle clock None (Some k) = (omega arith, omega arith)
+moved_cycle clock None None = (omega arith, omega arith)
+
+advanced_cycle : (queues : List (List ℕ)) (clock : Clock) (i : ℕ) → OneMore clock.cycle (advanced queues clock i).cycle
+unfolding advanced
+advanced_cycle queues clock i = moved_cycle clock (live_from queues i) (live_from queues 0)
+
+-- a turn makes the turns one more
+pub turns-turn_of : (s : State) → (turn_of s).turns ≡ s.turns + 1
+unfolding turn_of executed
+turns-turn_of s = refl
+
+pub cycle-turn_of : (s : State) → OneMore s.cycle (turn_of s).cycle
+unfolding turn_of executed
+cycle-turn_of s = advanced_cycle (executed s).queues (record { next = s.next; cycle = s.cycle }) (s.next + 1)
+
+-- a turn keeps the parameters and the number of warriors
+pub shape-turn_of : (s : State) → SameShape (turn_of s) s
+unfolding turn_of executed
+shape-turn_of s = record { params = refl; warriors = length-set s.queues s.next _ }
+
+-- what is left after a kill
+turns-left_of : (s : State) (w : ℕ) (q : List ℕ) → (left_of s w q).turns ≡ s.turns
+turns-left_of s w [] = refl
+turns-left_of s w (x ∷ q) = refl
+
+cycle-left_of : (s : State) (w : ℕ) (q : List ℕ) → OneMore s.cycle (left_of s w q).cycle
+cycle-left_of s w [] = advanced_cycle (slice_set s.queues w []) (record { next = s.next; cycle = s.cycle }) s.next
+cycle-left_of s w (x ∷ q) = (omega arith, omega arith)
+
+shape-left_of : (s : State) (w : ℕ) (q : List ℕ) → SameShape (left_of s w q) s
+shape-left_of s w [] = record { params = refl; warriors = length-set s.queues w _ }
+shape-left_of s w (x ∷ q) = record { params = refl; warriors = length-set s.queues w _ }
+
+-- an edit makes no turn
+pub turns-edited : (s : State) (e : Edit) → (edited s e).turns ≡ s.turns
+unfolding edited killed
+turns-edited s (edit.SetCell a c) = refl
+turns-edited s (edit.MoveProcess w i a) = refl
+turns-edited s (edit.KillProcess w i) = turns-left_of s w (remove (queue_of s.queues w) i)
+turns-edited s (edit.Spawn w a) = refl
+
+pub cycle-edited : (s : State) (e : Edit) → OneMore s.cycle (edited s e).cycle
+unfolding edited killed
+cycle-edited s (edit.SetCell a c) = (omega arith, omega arith)
+cycle-edited s (edit.MoveProcess w i a) = (omega arith, omega arith)
+cycle-edited s (edit.KillProcess w i) = cycle-left_of s w (remove (queue_of s.queues w) i)
+cycle-edited s (edit.Spawn w a) = (omega arith, omega arith)
+
+-- an edit keeps the parameters and the number of warriors
+pub shape-edited : (s : State) (e : Edit) → SameShape (edited s e) s
+unfolding edited killed
+shape-edited s (edit.SetCell a c) = record { params = refl; warriors = refl }
+shape-edited s (edit.MoveProcess w i a) = record { params = refl; warriors = length-set s.queues w _ }
+shape-edited s (edit.KillProcess w i) = shape-left_of s w (remove (queue_of s.queues w) i)
+shape-edited s (edit.Spawn w a) = record { params = refl; warriors = length-set s.queues w _ }
