@@ -3,6 +3,7 @@
 
 mod calls;
 mod commands;
+pub mod laws;
 mod moves;
 mod sessions;
 mod tapes;
