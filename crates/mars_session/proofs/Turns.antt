@@ -1,8 +1,13 @@
 -- One turn more, and no turn more.
 use Rattle.std.proofs.Common.{◌≡◌, ℕ, zero, suc, ◌+◌, ◌-◌, ◌<◌, ◌≤◌, Bool, true, false, [], ◌∷◌, refl, arith, sub-one}
+use Rattle.mars_cell.specs.declared.instruction.Cell.{Cell}
+use Rattle.mars_core.specs.Edit.{edit_fault, edited}
+use Rattle.mars_core.specs.Facts.{shape-edited}
+use Rattle.mars_core.specs.declared.journal.Edit.{Edit}
+use Rattle.mars_core.specs.declared.journal.Edit.TheVariants as edits
 use Rattle.mars_core.specs.State.{State}
 use Rattle.mars_core.specs.Turn.{turn_of}
-use Rattle.mars_session.specs.Commands.{turns_until}
+use Rattle.mars_session.specs.Commands.{turns_until, fills}
 use Rattle.mars_session.specs.History.{History, append, append_all}
 
 -- a turn is made where one is left and the state is not done
@@ -25,3 +30,21 @@ pub one_turned : (done : State → Bool) (n : ℕ) (h new end : History) → 0 <
     → append_all h (turns_until done n h.present.state) ≡ end → new ≡ append h (turn_of h.present.state)
     → append_all new (turns_until done (n - 1) new.present.state) ≡ end
 one_turned done n h new end left runs so_far is = rw is (rw (turns_until_more done n h.present.state left runs) at so_far)
+
+-- one cell more
+pub fills_more : (n address : ℕ) (cell : Cell) (s : State) → 0 < n
+    → fills n address cell s ≡ edited s (edits.SetCell address cell) ∷ fills (n - 1) (address + 1) cell (edited s (edits.SetCell address cell))
+fills_more zero address cell s h = absurd (omega arith)
+fills_more (suc n) address cell s h = rw sub-one refl
+
+-- the places that the cells from h lead to, one cell later
+pub one_filled : (to address : ℕ) (cell : Cell) (h new end : History) → address < to
+    → append_all h (fills (to - address) (address + 1) cell h.present.state) ≡ end → new ≡ append h (edited h.present.state (edits.SetCell (address + 1) cell))
+    → append_all new (fills (to - (address + 1)) (address + 1 + 1) cell new.present.state) ≡ end
+one_filled to address cell h new end left so_far is =
+    let less : (to - address) - 1 ≡ to - (address + 1) = omega arith in
+    rw is (rw (fills_more (to - address) (address + 1) cell h.present.state (omega arith), less) at so_far)
+
+-- whether a cell can be set doesn't change by setting others
+pub fault_kept : (s : State) (e : Edit) (address : ℕ) (cell : Cell) → edit_fault (edited s e) (edits.SetCell address cell) ≡ edit_fault s (edits.SetCell address cell)
+fault_kept s e address cell = rw (shape-edited s e).0 refl

@@ -1,12 +1,14 @@
 //! The commands, over any tape.
 ghost use Rattle.std.specs.Prelude.{◌≡◌, ℕ, ◌+◌, ◌≤◌, ◌<◌, [], Some, None, true, false, IfErr, OnOk, OnErr, MatchOption, length, ◌*◌, ◌-◌};
 ghost use Rattle.mars_session.specs.History.{History, position_of, last_of, marked, cut, append_all, accepted};
-ghost use Rattle.mars_session.specs.Commands.{command_limit, turns_until, stops_at};
-ghost use Rattle.mars_session.specs.Script.{standing_of, no_room, is_memory, IsAnswer};
+ghost use Rattle.mars_session.specs.Commands.{command_limit, turns_until, stops_at, fills, refusal_of, edit_states};
+ghost use Rattle.mars_core.specs.Edit.{edit_fault};
+ghost use Rattle.mars_session.specs.Script.{standing_of, no_room, is_memory, is_poor, commanded, IsAnswer};
 
 use crate::calls::{Call, Refusal, Standing};
 use crate::tapes::Tape;
-use mars_core::Battle;
+use mars_cell::Cell;
+use mars_core::{Battle, Edit, EditFault};
 
 /// The most turns or cells of one command, and the highest limit of a history.
 pub const COMMAND_LIMIT: u64 = 1_000_000;
@@ -134,6 +136,74 @@ pub fn until<T: Tape>(tape: &mut T, limit: u64, cycle: u64) -> Result<Standing, 
     prepare(tape, limit, n)?;
     tape.turn();
     turn_until(tape, n - 1, Some(cycle));
+    tape.set_mark();
+    Ok(standing(tape))
+}
+
+/// The refusal for the fault of an edit.
+fn refusal(fault: EditFault) -> Refusal
+    ensures { result ≡ refusal_of fault }
+{
+    match fault {
+        EditFault::Address => Refusal::Address,
+        EditFault::FieldOutside => Refusal::FieldOutside,
+        EditFault::NoSuchWarrior => Refusal::NoSuchWarrior,
+        EditFault::NoSuchProcess => Refusal::NoSuchProcess,
+        EditFault::WarriorDead => Refusal::WarriorDead,
+        EditFault::QueueFull => Refusal::QueueFull,
+    }
+}
+
+/// One edit.
+pub fn edit<T: Tape>(tape: &mut T, limit: u64, edit: Edit) -> Result<Standing, Refusal>
+    ensures { commanded limit 1 (is_poor result) (T.history tape.old) (edit_states edit (T.history tape.old).present.state) ≡ record { history = T.history tape.new; reply = result } }
+{
+    if let Some(fault) = tape.now().edit_fault(edit) {
+        return Err(refusal(fault));
+    }
+    prepare(tape, limit, 1)?;
+    tape.edit(edit);
+    tape.set_mark();
+    Ok(standing(tape))
+}
+
+/// Sets the cells after the first address up to the last, one place each.
+fn fill_cells<T: Tape>(tape: &mut T, first: u64, last: u64, cell: Cell)
+    requires last { (T.history tape.old).after ≡ [] }
+    requires room { last - first ≤ T.room tape.old }
+    requires accepted { edit_fault (T.history tape.old).present.state (Edit.SetCell last cell) ≡ None }
+    ensures { T.history tape.new ≡ append_all (T.history tape.old) (fills (last - first) (first + 1) cell (T.history tape.old).present.state) }
+{
+    let mut address = first;
+    while address < last {
+        address += 1;
+        tape.edit(Edit::SetCell(address, cell));
+    }
+}
+
+/// The cells from one address to another, both included, are set.
+#[tactic(auto, using(crate::proofs::Turns::fault_kept))]
+pub fn fill<T: Tape>(
+    tape: &mut T,
+    limit: u64,
+    from: u64,
+    to: u64,
+    cell: Cell,
+) -> Result<Standing, Refusal>
+    ensures { IsAnswer limit (Call.Fill from to cell) (T.history tape.old) result (T.history tape.new) }
+{
+    if from <= to && to - from >= COMMAND_LIMIT {
+        return Err(Refusal::Count);
+    }
+    if to < from {
+        return Err(Refusal::Address);
+    }
+    if let Some(fault) = tape.now().edit_fault(Edit::SetCell(to, cell)) {
+        return Err(refusal(fault));
+    }
+    prepare(tape, limit, to - from + 1)?;
+    tape.edit(Edit::SetCell(from, cell));
+    fill_cells(tape, from, to, cell);
     tape.set_mark();
     Ok(standing(tape))
 }

@@ -1,10 +1,11 @@
 //! What a session asks of whatever keeps its history.
-ghost use Rattle.std.specs.Prelude.{◌≡◌, ℕ, ◌+◌, ◌≤◌, [], false, OnOk, IsOk};
+ghost use Rattle.std.specs.Prelude.{◌≡◌, ℕ, ◌+◌, ◌≤◌, [], None, false, OnOk, IsOk};
 ghost use Rattle.mars_core.specs.State.{is_over_of};
 ghost use Rattle.mars_core.specs.Turn.{turn_of};
+ghost use Rattle.mars_core.specs.Edit.{edit_fault, edited};
 ghost use Rattle.mars_session.specs.History.{History, position_of, last_of, following, marked, cut, append, back, forward};
 
-use mars_core::Battle;
+use mars_core::{Battle, Edit};
 use std::alloc::AllocError;
 
 /// A tape of the places that a battle has been at, one of them the present one. Each place may be marked.
@@ -54,6 +55,14 @@ pub trait Tape {
         requires room { 1 ≤ room self.old }
         requires runs { is_over_of (history self.old).present.state ≡ false }
         ensures places { history self.new ≡ append (history self.old) (turn_of (history self.old).present.state) }
+        ensures room { room self.old ≤ room self.new + 1 };
+
+    /// Appends what an edit makes of the present place, and goes there.
+    fn edit(&mut self, edit: Edit)
+        requires last { (history self.old).after ≡ [] }
+        requires room { 1 ≤ room self.old }
+        requires accepted { edit_fault (history self.old).present.state edit ≡ None }
+        ensures places { history self.new ≡ append (history self.old) (edited (history self.old).present.state edit) }
         ensures room { room self.old ≤ room self.new + 1 };
 
     /// Goes one place back, where there is one.
