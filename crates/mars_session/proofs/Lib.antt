@@ -1,3 +1,4 @@
+pub mod Copying
 pub mod Scripts
 pub mod Turns
 pub mod Undoing

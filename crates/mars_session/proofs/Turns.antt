@@ -1,10 +1,15 @@
 -- One turn more, and no turn more.
 use Rattle.std.proofs.Common.{◌≡◌, ℕ, zero, suc, ◌+◌, ◌-◌, ◌<◌, ◌≤◌, Bool, true, false, [], ◌∷◌, refl, arith, sub-one}
+use Rattle.std.specs.Prelude.{Option, None, Some, nat_lt, if◌then◌else◌}
+use Rattle.std.specs.Option.{option_or}
+use Rattle.std.proofs.lemmas.Grind.{common_steps}
 use Rattle.mars_cell.specs.declared.instruction.Cell.{Cell}
-use Rattle.mars_core.specs.Edit.{edit_fault, edited}
+use Rattle.mars_core.specs.Edit.{edit_fault, edited, cell_fault}
 use Rattle.mars_core.specs.Facts.{shape-edited}
 use Rattle.mars_core.specs.declared.journal.Edit.{Edit}
 use Rattle.mars_core.specs.declared.journal.Edit.TheVariants as edits
+use Rattle.mars_core.specs.declared.journal.EditFault.{EditFault}
+use Rattle.mars_core.specs.declared.journal.EditFault.TheVariants as faults
 use Rattle.mars_core.specs.State.{State}
 use Rattle.mars_core.specs.Turn.{turn_of}
 use Rattle.mars_session.specs.Commands.{turns_until, fills}
@@ -47,4 +52,15 @@ one_filled to address cell h new end left so_far is =
 
 -- whether a cell can be set doesn't change by setting others
 pub fault_kept : (s : State) (e : Edit) (address : ℕ) (cell : Cell) → edit_fault (edited s e) (edits.SetCell address cell) ≡ edit_fault s (edits.SetCell address cell)
-fault_kept s e address cell = rw (shape-edited s e).0 refl
+unfolding edit_fault
+fault_kept s e address cell = rw (shape-edited s e).params refl
+
+inside-below : (a b size : ℕ) (fits : Option EditFault) → a ≤ b
+    → option_or (if nat_lt b size then None else Some faults.Address) fits ≡ None
+    → option_or (if nat_lt a size then None else Some faults.Address) fits ≡ None
+inside-below a b size fits l h = grind (common_steps, arith)
+
+-- where a cell can be set, so can each one below
+pub fault_below : (s : State) (a b : ℕ) (cell : Cell) → a ≤ b → edit_fault s (edits.SetCell b cell) ≡ None → edit_fault s (edits.SetCell a cell) ≡ None
+unfolding edit_fault
+fault_below s a b cell l h = inside-below a b s.params.core_size (cell_fault s cell) l h

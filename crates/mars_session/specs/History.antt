@@ -13,6 +13,10 @@ pub record History : Type 0 where
   pub present : Place
   pub after : List Place
 
+-- one place, which is marked
+abbrev pub beginning : State → History
+beginning s = record { before = []; present = record { state = s; mark = true }; after = [] }
+
 -- all places in order
 abbrev pub places : History → List Place
 places h = reverse h.before ++ h.present ∷ h.after

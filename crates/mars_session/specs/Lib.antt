@@ -2,3 +2,4 @@ pub mod Commands
 pub mod History
 pub mod Laws
 pub mod Script
+pub mod Whole

@@ -168,6 +168,7 @@ pub fn edit<T: Tape>(tape: &mut T, limit: u64, edit: Edit) -> Result<Standing, R
 }
 
 /// Sets the cells after the first address up to the last, one place each.
+#[tactic(auto, using(crate::proofs::Turns::fault_below))]
 fn fill_cells<T: Tape>(tape: &mut T, first: u64, last: u64, cell: Cell)
     requires last { (T.history tape.old).after ≡ [] }
     requires room { last - first ≤ T.room tape.old }
@@ -182,7 +183,7 @@ fn fill_cells<T: Tape>(tape: &mut T, first: u64, last: u64, cell: Cell)
 }
 
 /// The cells from one address to another, both included, are set.
-#[tactic(auto, using(crate::proofs::Turns::fault_kept))]
+#[tactic(auto, using(crate::proofs::Turns::fault_kept, crate::proofs::Turns::fault_below))]
 pub fn fill<T: Tape>(
     tape: &mut T,
     limit: u64,

@@ -3,11 +3,14 @@
 
 mod calls;
 mod commands;
+mod copies;
 pub mod laws;
 mod moves;
 mod sessions;
 mod tapes;
+mod whole;
 
 pub use calls::{Call, Refusal, Reply, Standing};
 pub use sessions::Session;
 pub use tapes::Tape;
+pub use whole::WholeTape;
