@@ -1,4 +1,5 @@
 pub mod Copying
+pub mod Places
 pub mod Scripts
 pub mod Turns
 pub mod Undoing
