@@ -5,7 +5,7 @@ use Rattle.std.proofs.lemmas.Bool.{eqb-true, eqb-false}
 use Rattle.std.proofs.lemmas.List.{reverse-append, append_assoc, length-reverse, length-append}
 use Rattle.std.proofs.Math.Seq.{take-append_seam}
 use Rattle.mars_core.specs.State.{State}
-use Rattle.mars_session.specs.History.{Place, History, places, position_of, following, append, append_all, cut, marked, accepted, marked_before, undo, marked_after, redo, rewound_from, rewound, first_at_turn_from, goto}
+use Rattle.mars_session.specs.History.{Place, History, places, position_of, append, append_all, cut, marked, accepted, marked_before, undo, marked_after, redo, rewound_from, rewound, first_at_turn_from, goto}
 use Rattle.mars_session.specs.Laws.{passes_at, IsGreatestBelow, IsLeastBetween, MovesKeepPlaces, UndoFindsNearest, RedoFindsNearest, GotoFindsFirst, command_places, CommandsAppend}
 use Rattle.mars_session.proofs.Walking.{rewound_again, position_rewound}
 use Rattle.mars_session.proofs.Undoing.{after_append_all}

@@ -63,4 +63,4 @@ inside-below a b size fits l h = grind (common_steps, arith)
 -- where a cell can be set, so can each one below
 pub fault_below : (s : State) (a b : ℕ) (cell : Cell) → a ≤ b → edit_fault s (edits.SetCell b cell) ≡ None → edit_fault s (edits.SetCell a cell) ≡ None
 unfolding edit_fault
-fault_below s a b cell l h = inside-below a b s.params.core_size (cell_fault s cell) l h
+fault_below s a b cell l h = inside-below a b s.params.core_size (cell_fault s.params.core_size cell) l h

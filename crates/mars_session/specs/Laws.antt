@@ -1,6 +1,6 @@
 -- Laws over the definitions alone: what undo and redo give back, and what holds along a tape.
-use Rattle.std.specs.Prelude.{◌≡◌, ◌≤◌, ◌<◌, ◌+◌, ◌↔◌, ◌⊎◌, ◌==◌, ◌++◌, ℕ, zero, suc, Bool, true, false, List, [], ◌∷◌, length, take, All, Option, None, Some, Ok, IsTrue, IsOk, IsSome, IsSomeAnd, option_and_then, option_map}
-use Rattle.mars_core.specs.State.{State, is_over_of}
+use Rattle.std.specs.Prelude.{◌≡◌, ◌≤◌, ◌<◌, ◌+◌, ◌↔◌, ◌⊎◌, ◌==◌, ◌++◌, ℕ, zero, suc, Bool, true, false, List, [], ◌∷◌, length, take, Option, None, Some, Ok, IsTrue, IsOk, IsSome, IsSomeAnd, option_and_then, option_map}
+use Rattle.mars_core.specs.State.{State}
 use Rattle.mars_core.specs.Validity.{IsValid}
 use Rattle.mars_session.specs.declared.calls.Call.{Call}
 use Rattle.mars_session.specs.declared.calls.Call.TheVariants.{Step, Run, Until, SetCell, Fill, MoveProcess, Kill, Spawn, Undo, Redo, Goto}
