@@ -1,3 +1,4 @@
 pub mod Digits
 pub mod FirstLine
+pub mod Listings
 pub mod PartsOf

@@ -1,7 +1,7 @@
 -- Load files of version 1.
 use Rattle.std.specs.Prelude.{ℕ, ◌+◌, Bool, false, not, ◌==◌, ◌&&◌, ◌||◌, nat_lt, List, [], ◌∷◌, length, Option, None, Some, option_map, unwrap_or, Result, Ok, Err, if◌then◌else◌, codes}
 use Rattle.std.specs.List.{take_while, flat_map, last_or}
-use Rattle.std.specs.Option.{option_to_list}
+use Rattle.std.specs.Option.{option_or, option_to_list}
 use Rattle.std.specs.Str.{str_eq_ignore_ascii_case}
 use Rattle.mars_cell.specs.declared.instruction.Cell.{Cell}
 use Rattle.mars_cell.specs.declared.numbers.Number.{Number}
@@ -86,9 +86,9 @@ end_in (statement.Instruction c) = []
 abbrev pub cells_of : List Statement → List Cell
 cells_of ss = flat_map cell_in ss
 
--- the number of the last ORG; else that of END; else 0
+-- the number of the last ORG, or else that of END, or else 0
 abbrev pub start_of : List Statement → Number
-start_of ss = unwrap_or (last_or (last_or None (flat_map end_in ss)) (flat_map origin_in ss)) (record { is_negative = false; magnitude = 0 })
+start_of ss = unwrap_or (option_or (last_or None (flat_map origin_in ss)) (last_or None (flat_map end_in ss))) (record { is_negative = false; magnitude = 0 })
 
 -- an index below the length; a minus may stand before 0 alone
 abbrev pub is_index : Number → ℕ → Bool
