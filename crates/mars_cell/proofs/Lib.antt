@@ -2,3 +2,4 @@ pub mod Digits
 pub mod FirstLine
 pub mod Listings
 pub mod PartsOf
+pub mod RoundTrip

@@ -3,6 +3,7 @@
 
 mod grammar;
 mod instruction;
+pub mod laws;
 mod load;
 mod numbers;
 mod parameters;
