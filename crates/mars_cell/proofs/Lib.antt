@@ -3,3 +3,4 @@ pub mod FirstLine
 pub mod Listings
 pub mod PartsOf
 pub mod RoundTrip
+pub mod WrittenLines

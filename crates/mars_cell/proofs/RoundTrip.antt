@@ -122,7 +122,7 @@ number_read m n below small =
 
 -- ---- parts
 
-digits_part : (xs rest : List ℕ) → 0 < length xs → list_all is_ascii_digit xs ≡ true → begins_word rest ≡ false → parts (xs ++ rest) ≡ xs ∷ parts rest
+pub digits_part : (xs rest : List ℕ) → 0 < length xs → list_all is_ascii_digit xs ≡ true → begins_word rest ≡ false → parts (xs ++ rest) ≡ xs ∷ parts rest
 digits_part [] rest some all ends = absurd (omega arith)
 digits_part (d ∷ ds) rest some all ends =
     let both = and_both (is_ascii_digit d) (list_all is_ascii_digit ds) all in
@@ -223,7 +223,7 @@ comma_part : (rest : List ℕ) → parts (44 ∷ 32 ∷ rest) ≡ (44 ∷ []) �
 unfolding parts joins begins_word
 comma_part rest = refl
 
-parts_nil : parts [] ≡ []
+pub parts_nil : parts [] ≡ []
 unfolding parts
 parts_nil = refl
 
