@@ -8,19 +8,25 @@ use crate::parameters::Params;
 use crate::statements::{Statement, read_line};
 use crate::warriors::{Warrior, WarriorFault};
 use std::alloc::Global;
+use thiserror::Error;
 
-/// Why a load file isn't read. The fault's number is its place here, counted from 1.
-#[derive(Clone, Copy, Debug, PartialEq, Eq)]
+/// Why a load file isn't read. It is displayed as its number and name.
+#[derive(Clone, Copy, Debug, PartialEq, Eq, Error)]
 pub enum LoadFault {
     /// The line of this number, counted from 1, is the first that isn't of the grammar.
+    #[error("1 Syntax")]
     Syntax(usize),
     /// There are more cells than the longest warrior has.
+    #[error("2 TooLong")]
     TooLong,
     /// There is no cell.
+    #[error("3 Empty")]
     Empty,
-    /// The start is no cell of the warrior.
+    /// The start isn't the index of a cell.
+    #[error("4 BadOrigin")]
     BadOrigin,
     /// A growth was refused.
+    #[error("5 OutOfMemory")]
     OutOfMemory,
 }
 

@@ -4,6 +4,7 @@ ghost use Rattle.std.specs.Prelude.{◌≡◌, ◌<◌, length, string_bytes, If
 use crate::instruction::Cell;
 use std::alloc::AllocError;
 use std::marker::Model;
+use thiserror::Error;
 
 /// A program with its name and author: it has a cell, and starts at one of its cells.
 ///
@@ -37,12 +38,14 @@ impl Model for Warrior {
     }) };
 }
 
-/// Why a program is no warrior. The fault's number is its place here, counted from 1.
-#[derive(Clone, Copy, Debug, PartialEq, Eq)]
+/// Why a program is no warrior. It is displayed as its number and name.
+#[derive(Clone, Copy, Debug, PartialEq, Eq, Error)]
 pub enum WarriorFault {
     /// There is no cell.
+    #[error("1 Empty")]
     Empty,
     /// The start isn't the index of a cell.
+    #[error("2 BadOrigin")]
     BadOrigin,
 }
 
