@@ -26,3 +26,6 @@ pub use load::{LoadFault, read_load};
 pub use parameters::{ParamFault, Params};
 pub use warriors::{Warrior, WarriorFault};
 pub use written::write_load;
+
+#[cfg(test)]
+mod tests;
