@@ -1,0 +1,9 @@
+//! The program `mars`: a debugger for battles in the core.
+#![tactic(auto)]
+
+mod line_buffer;
+mod output;
+mod request;
+mod words;
+
+fn main() {}

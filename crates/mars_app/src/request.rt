@@ -1,0 +1,159 @@
+//! What a line of the debugger asks for.
+ghost use Rattle.std.specs.Prelude.{◌≡◌, ◌<◌, option_map};
+ghost use Rattle.mars_app.specs.Requests.{command_of, alone, one_number, two_numbers, three_numbers, with_arguments, request_of};
+
+use crate::words::{split_number, split_word};
+use mars_session::Call;
+
+/// The words that a line may begin with.
+#[derive(Clone, Copy, Debug, PartialEq, Eq)]
+pub enum Command {
+    Step,
+    Run,
+    Until,
+    Move,
+    Kill,
+    Spawn,
+    Undo,
+    Redo,
+    Goto,
+    List,
+    Queue,
+    Show,
+    Quit,
+}
+
+/// What a line asks for.
+#[derive(Clone, Copy, Debug, PartialEq, Eq)]
+pub enum Request {
+    Nothing,
+    Call(Call),
+    /// An address, and how many cells from there on.
+    List(u64, u64),
+    /// A warrior.
+    Queue(u64),
+    Show,
+    Quit,
+    Unknown,
+}
+
+#[tactic(auto, unfolding(crate::specs::Requests::command_of))]
+fn read_command(word: &[u8]) -> Option<Command>
+    ensures { result ≡ command_of word.now }
+{
+    if word == b"step".as_slice() {
+        Some(Command::Step)
+    } else if word == b"run".as_slice() {
+        Some(Command::Run)
+    } else if word == b"until".as_slice() {
+        Some(Command::Until)
+    } else if word == b"move".as_slice() {
+        Some(Command::Move)
+    } else if word == b"kill".as_slice() {
+        Some(Command::Kill)
+    } else if word == b"spawn".as_slice() {
+        Some(Command::Spawn)
+    } else if word == b"undo".as_slice() {
+        Some(Command::Undo)
+    } else if word == b"redo".as_slice() {
+        Some(Command::Redo)
+    } else if word == b"goto".as_slice() {
+        Some(Command::Goto)
+    } else if word == b"list".as_slice() {
+        Some(Command::List)
+    } else if word == b"queue".as_slice() {
+        Some(Command::Queue)
+    } else if word == b"show".as_slice() {
+        Some(Command::Show)
+    } else if word == b"quit".as_slice() {
+        Some(Command::Quit)
+    } else {
+        None
+    }
+}
+
+/// The request, where no word follows.
+#[tactic(auto, unfolding(crate::specs::Requests::alone))]
+fn alone(request: Request, rest: &[u8]) -> Option<Request>
+    ensures { result ≡ alone request rest.now }
+{
+    let (word, _) = split_word(rest);
+    if word.is_empty() { Some(request) } else { None }
+}
+
+#[tactic(auto, unfolding(crate::specs::Requests::one_number, crate::specs::Requests::alone))]
+fn read_one(rest: &[u8]) -> Option<u64>
+    ensures { result ≡ one_number rest.now }
+{
+    let (number, rest) = split_number(rest)?;
+    let (word, _) = split_word(rest);
+    if word.is_empty() { Some(number) } else { None }
+}
+
+#[tactic(auto, unfolding(crate::specs::Requests::two_numbers))]
+fn read_two(rest: &[u8]) -> Option<(u64, u64)>
+    ensures { result ≡ two_numbers rest.now }
+{
+    let (first, rest) = split_number(rest)?;
+    Some((first, read_one(rest)?))
+}
+
+#[tactic(auto, unfolding(crate::specs::Requests::three_numbers))]
+fn read_three(rest: &[u8]) -> Option<(u64, u64, u64)>
+    ensures { result ≡ three_numbers rest.now }
+{
+    let (first, rest) = split_number(rest)?;
+    let (second, third) = read_two(rest)?;
+    Some((first, second, third))
+}
+
+#[tactic(auto, unfolding(crate::specs::Requests::with_arguments))]
+fn read_arguments(command: Command, rest: &[u8], core_size: u32) -> Option<Request>
+    requires { 0 < core_size }
+    ensures { result ≡ with_arguments core_size command rest.now }
+{
+    let _ = core_size;
+    match command {
+        Command::Step => alone(Request::Call(Call::Step), rest),
+        Command::Run => Some(Request::Call(Call::Run(read_one(rest)?))),
+        Command::Until => Some(Request::Call(Call::Until(read_one(rest)?))),
+        Command::Move => {
+            let (warrior, process, address) = read_three(rest)?;
+            Some(Request::Call(Call::MoveProcess(warrior, process, address)))
+        }
+        Command::Kill => {
+            let (warrior, process) = read_two(rest)?;
+            Some(Request::Call(Call::Kill(warrior, process)))
+        }
+        Command::Spawn => {
+            let (warrior, address) = read_two(rest)?;
+            Some(Request::Call(Call::Spawn(warrior, address)))
+        }
+        Command::Undo => alone(Request::Call(Call::Undo), rest),
+        Command::Redo => alone(Request::Call(Call::Redo), rest),
+        Command::Goto => Some(Request::Call(Call::Goto(read_one(rest)?))),
+        Command::List => {
+            let (address, count) = read_two(rest)?;
+            Some(Request::List(address, count))
+        }
+        Command::Queue => Some(Request::Queue(read_one(rest)?)),
+        Command::Show => alone(Request::Show, rest),
+        Command::Quit => alone(Request::Quit, rest),
+    }
+}
+
+/// What the bytes of a line ask for, in a core of that size.
+#[tactic(auto, unfolding(crate::specs::Requests::request_of, crate::specs::Requests::asked))]
+pub fn read_request(line: &[u8], core_size: u32) -> Request
+    requires { 0 < core_size }
+    ensures { result ≡ request_of core_size line.now }
+{
+    let (word, rest) = split_word(line);
+    if word.is_empty() {
+        return Request::Nothing;
+    }
+    let Some(command) = read_command(word) else {
+        return Request::Unknown;
+    };
+    read_arguments(command, rest, core_size).unwrap_or(Request::Unknown)
+}
