@@ -1,6 +1,7 @@
 -- What a line asks for.
 use Rattle.std.specs.Prelude.{ℕ, Bool, ◌==◌, List, length, Option, Some, None, option_map, unwrap_or, if◌then◌else◌, codes}
 use Rattle.std.specs.Str.{bytes_eq}
+use Rattle.mars_cell.specs.Grammar.{◌>>=◌, read_cell}
 use Rattle.mars_session.specs.declared.calls.Call.TheVariants as call
 use Rattle.mars_app.specs.Words.{first_word, after_word, number_at}
 use Rattle.mars_app.specs.declared.request.Command.{Command}
@@ -14,6 +15,8 @@ command_of w =
     if bytes_eq w (codes "step") then Some command.Step
     else if bytes_eq w (codes "run") then Some command.Run
     else if bytes_eq w (codes "until") then Some command.Until
+    else if bytes_eq w (codes "edit") then Some command.Edit
+    else if bytes_eq w (codes "fill") then Some command.Fill
     else if bytes_eq w (codes "move") then Some command.Move
     else if bytes_eq w (codes "kill") then Some command.Kill
     else if bytes_eq w (codes "spawn") then Some command.Spawn
@@ -25,11 +28,6 @@ command_of w =
     else if bytes_eq w (codes "show") then Some command.Show
     else if bytes_eq w (codes "quit") then Some command.Quit
     else None
-
-infixl 10 ◌>>=◌
-abbrev pub ◌>>=◌ : {A B : Type 0} → Option A → (A → Option B) → Option B
-None >>= f = None
-(Some x) >>= f = f x
 
 -- x, where no word follows
 unfoldable pub alone : {X : Type 0} → X → List ℕ → Option X
@@ -58,6 +56,15 @@ unfoldable pub with_arguments : ℕ → Command → List ℕ → Option Request
 with_arguments core_size command.Step l = alone (request.Call call.Step) l
 with_arguments core_size command.Run l = option_map (λ n. request.Call (call.Run n)) (one_number l)
 with_arguments core_size command.Until l = option_map (λ n. request.Call (call.Until n)) (one_number l)
+with_arguments core_size command.Edit l = do
+  address ← number_at l
+  cell ← read_cell core_size address.1
+  Some (request.Call (call.SetCell address.0 cell))
+with_arguments core_size command.Fill l = do
+  from ← number_at l
+  to ← number_at from.1
+  cell ← read_cell core_size to.1
+  Some (request.Call (call.Fill from.0 to.0 cell))
 with_arguments core_size command.Move l = option_map (λ (ns : ℕ × ℕ × ℕ). request.Call (call.MoveProcess ns.0 ns.1 ns.2)) (three_numbers l)
 with_arguments core_size command.Kill l = option_map (λ (ns : ℕ × ℕ). request.Call (call.Kill ns.0 ns.1)) (two_numbers l)
 with_arguments core_size command.Spawn l = option_map (λ (ns : ℕ × ℕ). request.Call (call.Spawn ns.0 ns.1)) (two_numbers l)

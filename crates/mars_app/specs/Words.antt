@@ -1,13 +1,9 @@
 -- The words of a line.
-use Rattle.std.specs.Prelude.{ℕ, Bool, ◌&&◌, not, ◌==◌, ◌+◌, ◌-◌, ◌*◌, nat_lt, nat_le, List, [], ◌∷◌, length, take, drop, Option, Some, None, option_map, unwrap_or, if◌then◌else◌}
+use Rattle.std.specs.Prelude.{ℕ, Bool, ◌&&◌, not, nat_lt, nat_le, List, length, take, drop, Option, Some, None, option_map, unwrap_or, if◌then◌else◌}
+use Rattle.std.specs.Char.{is_ascii_digit}
 use Rattle.std.specs.List.{list_all, position}
-
--- every byte up to 32 but LF
-abbrev pub is_blank : ℕ → Bool
-is_blank b = nat_lt b 33 && not (b == 10)
-
-abbrev pub is_digit : ℕ → Bool
-is_digit b = nat_le 48 b && nat_le b 57
+use Rattle.std.specs.Str.Parse.{digits_value}
+use Rattle.mars_cell.specs.Parts.{is_blank}
 
 -- where the first byte is that p holds for, or the line's length
 abbrev pub index_of : (ℕ → Bool) → List ℕ → ℕ
@@ -24,15 +20,10 @@ first_word l = take (index_of is_blank (from_word l)) (from_word l)
 unfoldable pub after_word : List ℕ → List ℕ
 after_word l = drop (index_of is_blank (from_word l)) (from_word l)
 
--- the number that some digits after it make of n
-unfoldable pub value_of : ℕ → List ℕ → ℕ
-value_of n [] = n
-value_of n (d ∷ ds) = value_of (n * 10 + (d - 48)) ds
-
 -- a number is 1 to 18 digits
 unfoldable pub number_of : List ℕ → Option ℕ
 number_of w =
-    if nat_lt 0 (length w) && (nat_le (length w) 18 && list_all is_digit w) then Some (value_of 0 w) else None
+    if nat_lt 0 (length w) && (nat_le (length w) 18 && list_all is_ascii_digit w) then Some (digits_value 10 w) else None
 
 -- the number that is the first word of a line, and what follows it
 unfoldable pub number_at : List ℕ → Option (ℕ × List ℕ)

@@ -3,6 +3,7 @@ ghost use Rattle.std.specs.Prelude.{◌≡◌, ◌<◌, option_map};
 ghost use Rattle.mars_app.specs.Requests.{command_of, alone, one_number, two_numbers, three_numbers, with_arguments, request_of};
 
 use crate::words::{split_number, split_word};
+use mars_cell::read_cell;
 use mars_session::Call;
 
 /// The words that a line may begin with.
@@ -11,6 +12,8 @@ pub enum Command {
     Step,
     Run,
     Until,
+    Edit,
+    Fill,
     Move,
     Kill,
     Spawn,
@@ -47,6 +50,10 @@ fn read_command(word: &[u8]) -> Option<Command>
         Some(Command::Run)
     } else if word == b"until".as_slice() {
         Some(Command::Until)
+    } else if word == b"edit".as_slice() {
+        Some(Command::Edit)
+    } else if word == b"fill".as_slice() {
+        Some(Command::Fill)
     } else if word == b"move".as_slice() {
         Some(Command::Move)
     } else if word == b"kill".as_slice() {
@@ -112,11 +119,21 @@ fn read_arguments(command: Command, rest: &[u8], core_size: u32) -> Option<Reque
     requires { 0 < core_size }
     ensures { result ≡ with_arguments core_size command rest.now }
 {
-    let _ = core_size;
     match command {
         Command::Step => alone(Request::Call(Call::Step), rest),
         Command::Run => Some(Request::Call(Call::Run(read_one(rest)?))),
         Command::Until => Some(Request::Call(Call::Until(read_one(rest)?))),
+        Command::Edit => {
+            let (address, rest) = split_number(rest)?;
+            let cell = read_cell(rest, core_size)?;
+            Some(Request::Call(Call::SetCell(address, cell)))
+        }
+        Command::Fill => {
+            let (from, rest) = split_number(rest)?;
+            let (to, rest) = split_number(rest)?;
+            let cell = read_cell(rest, core_size)?;
+            Some(Request::Call(Call::Fill(from, to, cell)))
+        }
         Command::Move => {
             let (warrior, process, address) = read_three(rest)?;
             Some(Request::Call(Call::MoveProcess(warrior, process, address)))

@@ -1,7 +1,10 @@
 //! The words and numbers of a line.
 ghost use Rattle.std.specs.Prelude.{◌≡◌, ◌≤◌, length, option_map, true, not};
 ghost use Rattle.std.specs.List.{list_all, position};
-ghost use Rattle.mars_app.specs.Words.{is_blank, is_digit, index_of, first_word, after_word, number_of, number_at, value_of};
+ghost use Rattle.std.specs.Char.{is_ascii_digit};
+ghost use Rattle.std.specs.Str.Parse.{digits_value};
+ghost use Rattle.mars_cell.specs.Parts.{is_blank};
+ghost use Rattle.mars_app.specs.Words.{index_of, first_word, after_word, number_of, number_at};
 
 fn is_blank(byte: u8) -> bool
     ensures { result ≡ is_blank byte }
@@ -51,9 +54,9 @@ pub fn split_word(line: &[u8]) -> (&[u8], &[u8])
 
 /// The value of at most 18 digits.
 fn value(digits: &[u8]) -> u64
-    requires digits { list_all is_digit digits.now ≡ true }
+    requires digits { list_all is_ascii_digit digits.now ≡ true }
     requires few { length digits.now ≤ 18 }
-    ensures { result ≡ value_of 0 digits.now }
+    ensures { result ≡ digits_value 10 digits.now }
 {
     let mut value = 0;
     for digit in digits {
@@ -63,9 +66,9 @@ fn value(digits: &[u8]) -> u64
 }
 
 fn are_digits(bytes: &[u8]) -> bool
-    ensures { result ≡ list_all is_digit bytes.now }
+    ensures { result ≡ list_all is_ascii_digit bytes.now }
 {
-    bytes.iter().all(|byte| b'0' <= *byte && *byte <= b'9')
+    bytes.iter().all(|byte| byte.is_ascii_digit())
 }
 
 /// The number that a word is: 1 to 18 digits.
