@@ -3,6 +3,8 @@
 
 mod line_buffer;
 mod output;
+mod readings;
+mod replies;
 mod request;
 mod words;
 

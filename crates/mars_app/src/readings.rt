@@ -1,0 +1,137 @@
+//! Writing what the lines answer that change nothing.
+ghost use Rattle.std.specs.Prelude.{◌≡◌, ◌<◌, ◌++◌, length, OnOk, OnErr};
+ghost use Rattle.std.specs.Io.KnownBytes.{Appends};
+ghost use Rattle.std.specs.List.{flat_map};
+ghost use Rattle.mars_app.specs.Writing.{CutShort};
+ghost use Rattle.mars_core.specs.State.{queue_of};
+ghost use Rattle.arrayvec.specs.ArrayString.{array_string_len};
+ghost use Rattle.mars_app.specs.Readings.{texts, queue_text, process_text, warrior_text, life_text, death_of, show_text, end_text};
+
+use crate::output::{WriteFailed, write_text};
+use crate::replies::{Line, fixed, numbered, push_number, refusal_line, standing_line};
+use mars_core::{Battle, Death};
+use mars_session::{Refusal, Standing};
+use std::io::Write;
+
+/// A space and an address.
+fn process_part(address: u32) -> Line
+    ensures { result.bytes ≡ process_text address }
+{
+    numbered(" ", u64::from(address), "")
+}
+
+/// Writes a space and an address for each process of a warrior, the front first.
+fn write_processes<W: Write>(
+    writer: &mut W,
+    battle: &Battle,
+    warrior: usize,
+) -> Result<(), WriteFailed>
+    ensures ok { OnOk result (Appends (W.contents writer.old) (W.contents writer.new) (flat_map process_text (queue_of battle.now.queues warrior))) }
+    ensures err { OnErr result (CutShort (W.contents writer.old) (W.contents writer.new) (flat_map process_text (queue_of battle.now.queues warrior))) }
+{
+    for place in 0..battle.queue_len(warrior) {
+        let address = battle.process(warrior, place).unwrap();
+        let part = process_part(address);
+        write_text(writer, part.as_str().as_bytes())?;
+    }
+    Ok(())
+}
+
+/// Writes the addresses of a warrior's processes, the front first.
+#[tactic(auto, unfolding(crate::specs::Readings::queue_text))]
+pub fn write_queue<W: Write>(
+    writer: &mut W,
+    battle: &Battle,
+    warrior: u64,
+) -> Result<(), WriteFailed>
+    ensures ok { OnOk result (Appends (W.contents writer.old) (W.contents writer.new) (queue_text battle.now warrior)) }
+    ensures err { OnErr result (CutShort (W.contents writer.old) (W.contents writer.new) (queue_text battle.now warrior)) }
+{
+    if warrior >= battle.warriors() as u64 {
+        return write_text(
+            writer,
+            refusal_line(Refusal::NoSuchWarrior).as_str().as_bytes(),
+        );
+    }
+    let head = numbered("queue ", warrior, ":");
+    write_text(writer, head.as_str().as_bytes())?;
+    write_processes(writer, battle, warrior as usize)?;
+    write_text(writer, b"\n")
+}
+
+/// The death of a warrior, where it died.
+fn find_death(deaths: &[Death], warrior: usize) -> Option<Death>
+    ensures { result ≡ death_of deaths.now warrior }
+{
+    deaths
+        .iter()
+        .copied()
+        .find(|death| death.warrior as usize == warrior)
+}
+
+/// Appends how a warrior fares.
+fn push_life(line: &mut Line, battle: &Battle, warrior: usize)
+    requires { array_string_len line.old < 100 }
+    ensures bytes { line.new.bytes ≡ line.old.bytes ++ life_text (queue_of battle.now.queues warrior) (death_of battle.now.deaths warrior) }
+    ensures len { array_string_len line.new < 150 }
+{
+    match find_death(battle.deaths(), warrior) {
+        Some(death) => {
+            line.push_str(" dead ");
+            push_number(line, u64::from(death.turns));
+        }
+        None => {
+            line.push_str(" processes ");
+            push_number(line, battle.queue_len(warrior) as u64);
+        }
+    }
+}
+
+/// The line of a warrior.
+#[tactic(auto, unfolding(crate::specs::Readings::warrior_text))]
+fn warrior_line(battle: &Battle, warrior: usize) -> Line
+    ensures { result.bytes ≡ warrior_text battle.now warrior }
+{
+    let mut line = numbered("warrior ", warrior as u64, "");
+    push_life(&mut line, battle, warrior);
+    line.push_str("\n");
+    line
+}
+
+/// Writes the line of each warrior.
+fn write_warriors<W: Write>(writer: &mut W, battle: &Battle) -> Result<(), WriteFailed>
+    ensures ok { OnOk result (Appends (W.contents writer.old) (W.contents writer.new) (texts (warrior_text battle.now) (length battle.now.queues))) }
+    ensures err { OnErr result (CutShort (W.contents writer.old) (W.contents writer.new) (texts (warrior_text battle.now) (length battle.now.queues))) }
+{
+    for warrior in 0..battle.warriors() {
+        let line = warrior_line(battle, warrior);
+        write_text(writer, line.as_str().as_bytes())?;
+    }
+    Ok(())
+}
+
+/// Whether the battle is over.
+fn end_line(battle: &Battle) -> Line
+    ensures { result.bytes ≡ end_text battle.now }
+{
+    if battle.is_over() {
+        fixed("battle over\n")
+    } else {
+        fixed("battle running\n")
+    }
+}
+
+/// Writes where the session stands, each warrior, and whether the battle is over.
+#[tactic(auto, unfolding(crate::specs::Readings::show_text))]
+pub fn write_show<W: Write>(
+    writer: &mut W,
+    standing: Standing,
+    battle: &Battle,
+) -> Result<(), WriteFailed>
+    ensures ok { OnOk result (Appends (W.contents writer.old) (W.contents writer.new) (show_text standing battle.now)) }
+    ensures err { OnErr result (CutShort (W.contents writer.old) (W.contents writer.new) (show_text standing battle.now)) }
+{
+    write_text(writer, standing_line(standing).as_str().as_bytes())?;
+    write_warriors(writer, battle)?;
+    write_text(writer, end_line(battle).as_str().as_bytes())
+}
