@@ -3,5 +3,7 @@ pub mod Lines
 pub mod Readings
 pub mod Replies
 pub mod Requests
+pub mod Steps
+pub mod Transcript
 pub mod Words
 pub mod Writing

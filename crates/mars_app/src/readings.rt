@@ -1,17 +1,73 @@
 //! Writing what the lines answer that change nothing.
-ghost use Rattle.std.specs.Prelude.{◌≡◌, ◌<◌, ◌++◌, length, OnOk, OnErr};
+ghost use Rattle.std.specs.Prelude.{◌≡◌, ◌<◌, ◌≤◌, ◌++◌, length, OnOk, OnErr};
 ghost use Rattle.std.specs.Io.KnownBytes.{Appends};
 ghost use Rattle.std.specs.List.{flat_map};
 ghost use Rattle.mars_app.specs.Writing.{CutShort};
-ghost use Rattle.mars_core.specs.State.{queue_of};
+ghost use Rattle.mars_core.specs.State.{cell_at, queue_of};
 ghost use Rattle.arrayvec.specs.ArrayString.{array_string_len};
-ghost use Rattle.mars_app.specs.Readings.{texts, queue_text, process_text, warrior_text, life_text, death_of, show_text, end_text};
+ghost use Rattle.mars_app.specs.Readings.{cell_line, line_at, list_text, most_listed, texts, queue_text, process_text, warrior_text, life_text, death_of, show_text, end_text};
 
 use crate::output::{WriteFailed, write_text};
 use crate::replies::{Line, fixed, numbered, push_number, refusal_line, standing_line};
 use mars_core::{Battle, Death};
 use mars_session::{Refusal, Standing};
 use std::io::Write;
+
+/// The line of the cell at an address.
+fn cell_line(battle: &Battle, address: u32) -> Line
+    requires { address < battle.now.params.core_size }
+    ensures { result.bytes ≡ cell_line battle.now.params.core_size address (cell_at battle.now.core address) }
+{
+    let core_size = battle.params().core_size();
+    let cell = battle.cell(address).unwrap();
+    let mut line = numbered("", u64::from(address), " ");
+    line.push_str(cell.text(core_size).as_str());
+    line.push_str("\n");
+    line
+}
+
+/// Writes the lines of so many cells from an address on, around the core.
+fn write_cells<W: Write>(
+    writer: &mut W,
+    battle: &Battle,
+    address: u64,
+    count: u64,
+) -> Result<(), WriteFailed>
+    requires address { address < battle.now.params.core_size }
+    requires count { count ≤ most_listed }
+    ensures ok { OnOk result (Appends (W.contents writer.old) (W.contents writer.new) (texts (line_at battle.now address) count)) }
+    ensures err { OnErr result (CutShort (W.contents writer.old) (W.contents writer.new) (texts (line_at battle.now address) count)) }
+{
+    let core_size = u64::from(battle.params().core_size());
+    for i in 0..count {
+        let line = cell_line(battle, ((address + i) % core_size) as u32);
+        write_text(writer, line.as_str().as_bytes())?;
+    }
+    Ok(())
+}
+
+/// The most cells of one list.
+const MOST_LISTED: u64 = 1_000_000;
+
+/// Writes so many cells from an address on, around the core.
+#[tactic(auto, unfolding(crate::specs::Readings::list_text))]
+pub fn write_list<W: Write>(
+    writer: &mut W,
+    battle: &Battle,
+    address: u64,
+    count: u64,
+) -> Result<(), WriteFailed>
+    ensures ok { OnOk result (Appends (W.contents writer.old) (W.contents writer.new) (list_text battle.now address count)) }
+    ensures err { OnErr result (CutShort (W.contents writer.old) (W.contents writer.new) (list_text battle.now address count)) }
+{
+    if count == 0 || count > MOST_LISTED {
+        return write_text(writer, refusal_line(Refusal::Count).as_str().as_bytes());
+    }
+    if address >= u64::from(battle.params().core_size()) {
+        return write_text(writer, refusal_line(Refusal::Address).as_str().as_bytes());
+    }
+    write_cells(writer, battle, address, count)
+}
 
 /// A space and an address.
 fn process_part(address: u32) -> Line
