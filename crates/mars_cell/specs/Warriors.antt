@@ -1,6 +1,5 @@
 -- Warriors.
-use Rattle.std.specs.Prelude.{ℕ, ◌≤◌, List, length, All, refl}
-use Rattle.std.specs.Coded.{Coded, code_by, coded×, coded_ℕ, coded_list}
+use Rattle.std.specs.Prelude.{ℕ, ◌<◌, ◌≤◌, List, length, All}
 use Rattle.mars_cell.specs.declared.instruction.Cell.{Cell}
 
 -- a program with its name and author
@@ -10,7 +9,13 @@ pub record WarriorValue : Type 0 where
   pub cells : List Cell
   pub start : ℕ
 
--- at most sixty printed characters of ASCII
+-- at most 60 printed characters of ASCII
 pub record IsName (bytes : List ℕ) : Type 0 where
   pub short : length bytes ≤ 60
   pub printed : All (λ b. (32 ≤ b) × (b ≤ 126)) bytes
+
+-- what each warrior keeps: it starts at one of its cells, and its name and author are names
+pub record IsWarrior (w : WarriorValue) : Type 0 where
+  pub start : w.start < length w.cells
+  pub name : IsName w.name
+  pub author : IsName w.author

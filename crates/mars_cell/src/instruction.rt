@@ -1,6 +1,6 @@
 //! The parts of an instruction, and the cell that holds one.
 
-/// What an instruction does.
+/// What an instruction does: the opcodes of the ICWS'94 draft with SEQ, SNE and NOP. CMP is another spelling of SEQ.
 #[derive(Clone, Copy, Debug, PartialEq, Eq)]
 pub enum Op {
     Dat,
@@ -21,7 +21,7 @@ pub enum Op {
     Nop,
 }
 
-/// Which fields of its two cells an instruction uses.
+/// Which fields of its two cells an instruction uses, as in the ICWS'94 draft.
 #[derive(Clone, Copy, Debug, PartialEq, Eq)]
 pub enum Modifier {
     A,
@@ -33,7 +33,7 @@ pub enum Modifier {
     I,
 }
 
-/// How a number leads to a cell.
+/// How a number leads to a cell: `#`, `$`, `*`, `@`, `{`, `<`, `}` and `>` in this order.
 #[derive(Clone, Copy, Debug, PartialEq, Eq)]
 pub enum Mode {
     Immediate,
@@ -55,7 +55,8 @@ pub enum Field {
 
 /// A cell of the core: an instruction, whose numbers are addresses relative to it.
 ///
-/// The four tags stand together, so that a cell takes 12 bytes and is copied as whole words.
+/// In a core of some size both numbers are below it. The four tags stand together, so that a cell takes 12 bytes and is
+/// copied as whole words.
 #[derive(Clone, Copy, Debug, PartialEq, Eq)]
 pub struct Cell {
     pub op: Op,
@@ -70,7 +71,7 @@ impl Cell {
     ghost use Rattle.std.specs.Prelude.{◌≡◌};
     ghost use Rattle.mars_cell.specs.Cells.{empty_cell, field_of, with_field};
 
-    /// What the core is filled with, `DAT.F $0, $0`.
+    /// What an empty core is filled with, `DAT.F $0, $0`.
     pub const fn empty() -> Cell
         ensures { result ≡ empty_cell }
     {

@@ -1,10 +1,14 @@
-//! Warriors that can be warriors into a core.
-ghost use Rattle.std.specs.Prelude.{◌≡◌, ◌<◌, ◌≤◌, length, string_bytes, IfOk};
+//! Warriors.
+ghost use Rattle.std.specs.Prelude.{◌≡◌, ◌<◌, length, string_bytes, IfOk};
 
+use crate::instruction::Cell;
 use std::alloc::AllocError;
 use std::marker::Model;
+use thiserror::Error;
 
-/// A program with its name and author: at least one cell, and one of them to start at.
+/// A program with its name and author: it has a cell, and starts at one of its cells.
+///
+/// Its name and author are names: at most 60 bytes, each from 32 to 126.
 #[derive(Debug, Drop)]
 pub struct Warrior {
     name: String,
@@ -13,11 +17,9 @@ pub struct Warrior {
     start: u32,
 }
 
-use crate::instruction::Cell;
-
 impl Model for Warrior {
-    ghost use Rattle.std.specs.Prelude.{◌<◌, length, string_bytes};
-    ghost use Rattle.mars_cell.specs.Warriors.{WarriorValue};
+    ghost use Rattle.std.specs.Prelude.{string_bytes};
+    ghost use Rattle.mars_cell.specs.Warriors.{WarriorValue, IsWarrior};
 
     ghost Value = { WarriorValue };
 
@@ -28,13 +30,22 @@ impl Model for Warrior {
       start = w.start;
     } };
 
-    ghost invariant = { λ w. w.start < length w.cells.items };
+    ghost invariant = { λ w. IsWarrior (record {
+      name = string_bytes w.name;
+      author = string_bytes w.author;
+      cells = w.cells.items;
+      start = w.start;
+    }) };
 }
 
-/// Why a program is no warrior.
-#[derive(Clone, Copy, Debug, PartialEq, Eq)]
+/// Why a program is no warrior. It is displayed as its number and name.
+#[derive(Clone, Copy, Debug, PartialEq, Eq, Error)]
 pub enum WarriorFault {
+    /// There is no cell.
+    #[error("1 Empty")]
     Empty,
+    /// The start isn't the index of a cell.
+    #[error("2 BadOrigin")]
     BadOrigin,
 }
 
@@ -42,7 +53,9 @@ impl Warrior {
     ghost use Rattle.mars_cell.specs.WarriorFaults.{checked_warrior};
     ghost use Rattle.mars_cell.specs.Warriors.{IsName};
 
-    /// A warrior of these cells, or the first fault.
+    /// A warrior of these cells that starts at the cell of index `start`, or the first fault.
+    ///
+    /// A refusal drops the arguments.
     pub fn new(
         name: String,
         author: String,
@@ -72,21 +85,23 @@ impl Warrior {
         })
     }
 
-    /// The name.
+    /// The name: at most 60 bytes, each from 32 to 126.
     pub fn name(&self) -> &str
-        ensures { result.now ≡ self.now.name }
+        ensures value { result.now ≡ self.now.name }
+        ensures is_name { IsName self.now.name }
     {
         self.name.as_str()
     }
 
-    /// The author.
+    /// The author's name: at most 60 bytes, each from 32 to 126.
     pub fn author(&self) -> &str
-        ensures { result.now ≡ self.now.author }
+        ensures value { result.now ≡ self.now.author }
+        ensures is_name { IsName self.now.author }
     {
         self.author.as_str()
     }
 
-    /// The cells.
+    /// The cells, at least one.
     pub fn cells(&self) -> &[Cell]
         ensures { result.now ≡ self.now.cells }
     {
@@ -96,12 +111,12 @@ impl Warrior {
     /// The index of the cell to start at.
     pub fn start(&self) -> u32
         ensures value { result ≡ self.now.start }
-        ensures inside { result < length self.now.cells }
+        ensures inside { self.now.start < length self.now.cells }
     {
         self.start
     }
 
-    /// The same warrior once more.
+    /// The same warrior once more. Only want of memory refuses it.
     pub fn copy(&self) -> Result<Warrior, AllocError>
         ensures { IfOk result (λ w. w ≡ self.now) }
     {

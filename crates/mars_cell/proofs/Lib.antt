@@ -1,0 +1,6 @@
+pub mod Digits
+pub mod FirstLine
+pub mod Listings
+pub mod PartsOf
+pub mod RoundTrip
+pub mod WrittenLines

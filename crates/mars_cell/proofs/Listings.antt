@@ -1,0 +1,103 @@
+-- What is read line after line is what the statements of the lines say.
+use Rattle.std.proofs.Common.{◌≡◌, refl, ℕ, ◌+◌, ◌==◌, Bool, false, nat_lt, List, [], ◌∷◌, ◌++◌, length, Option, None, Some, Result, Ok, Err, sym, ap, ◌∙◌, cond, append_assoc, append-nil}
+use Rattle.std.specs.Prelude.{if◌then◌else◌, unwrap_or}
+use Rattle.std.specs.List.{flat_map, last_or}
+use Rattle.std.specs.Option.{option_or, option_to_list}
+use Rattle.mars_cell.specs.declared.instruction.Cell.{Cell}
+use Rattle.mars_cell.specs.declared.numbers.Number.{Number}
+use Rattle.mars_cell.specs.declared.statements.Statement.{Statement}
+use Rattle.mars_cell.specs.declared.statements.Statement.TheVariants as statement
+use Rattle.mars_cell.specs.declared.load.LoadFault.{LoadFault}
+use Rattle.mars_cell.specs.declared.load.LoadFault.TheVariants as fault
+use Rattle.mars_cell.specs.Load.{before, cells_of, cell_in, end_in, is_index, line_statement, lines_of, load, nameless, origin_in, statements, then_statements, warrior_of}
+use Rattle.mars_cell.specs.LoadCode.{Listing, ReadsListing, load_from, nothing_read}
+use Rattle.mars_cell.specs.LoadResults.{Loads}
+use Rattle.mars_cell.specs.Warriors.{WarriorValue}
+
+-- what is read in all, after s
+abbrev after : Listing → List Statement → Listing
+after s ss = record { cells = s.cells ++ cells_of ss; origin = last_or s.origin (flat_map origin_in ss); end = last_or s.end (flat_map end_in ss) }
+
+abbrev read_after : Listing → Result (List Statement) ℕ → Result Listing ℕ
+read_after s (Ok ss) = Ok (after s ss)
+read_after s (Err k) = Err k
+
+read_after-nothing : (s : Listing) (r : Result (List Statement) ℕ) → read_after s (before statement.Nothing r) ≡ read_after s r
+read_after-nothing s (Ok ss) = refl
+read_after-nothing s (Err k) = refl
+
+read_after-origin : (s : Listing) (n : Number) (r : Result (List Statement) ℕ) → read_after s (before (statement.Origin n) r) ≡ read_after (record s { origin = Some n }) r
+read_after-origin s n (Ok ss) = refl
+read_after-origin s n (Err k) = refl
+
+read_after-instruction : (s : Listing) (c : Cell) (r : Result (List Statement) ℕ) → read_after s (before (statement.Instruction c) r) ≡ read_after (record s { cells = s.cells ++ c ∷ [] }) r
+read_after-instruction s c (Ok ss) = rw (append_assoc s.cells (c ∷ []) (cells_of ss)) refl
+read_after-instruction s c (Err k) = refl
+
+after-end : (s : Listing) (n : Option Number) → s.end ≡ None → after s (statement.End n ∷ []) ≡ record s { end = n }
+after-end s (Some n) e = rw append-nil refl
+after-end s None e = rw (append-nil, e) refl
+
+after-none : (s : Listing) → after s [] ≡ s
+after-none s = rw append-nil refl
+
+pub load_from-statements : (m k : ℕ) (s : Listing) (ls : List (List ℕ)) → s.end ≡ None → load_from m k s ls ≡ read_after s (statements m k ls)
+unfolding load_from statements
+load_from-statements m k s [] open_end = ap Ok (sym (after-none s))
+load_from-statements m k s (l ∷ ls) open_end =
+    elim (line_statement m l) as (λ t. line_statement m l ≡ t → load_from m k s (l ∷ ls) ≡ read_after s (statements m k (l ∷ ls))) [
+      | None ↦ λ e. rw (load_from, statements, e) refl
+      | Some x ↦ λ e. rw (load_from, statements, e) (elim x as (λ x. elim x [
+            | statement.Nothing ↦ load_from m (k + 1) s ls
+            | statement.Origin n ↦ load_from m (k + 1) (record s { origin = Some n }) ls
+            | statement.End n ↦ Ok (record s { end = n })
+            | statement.Instruction c ↦ load_from m (k + 1) (record s { cells = s.cells ++ c ∷ [] }) ls
+          ] ≡ read_after s (then_statements x (statements m (k + 1) ls))) [
+            | statement.Nothing ↦ load_from-statements m (k + 1) s ls open_end ∙ sym (read_after-nothing s (statements m (k + 1) ls))
+            | statement.Origin n ↦ load_from-statements m (k + 1) (record s { origin = Some n }) ls open_end ∙ sym (read_after-origin s n (statements m (k + 1) ls))
+            | statement.End n ↦ ap Ok (sym (after-end s n open_end))
+            | statement.Instruction c ↦ load_from-statements m (k + 1) (record s { cells = s.cells ++ c ∷ [] }) ls open_end ∙ sym (read_after-instruction s c (statements m (k + 1) ls))
+          ])
+    ] refl
+
+-- ---- the warrior of a listing
+
+abbrev pub start_in : Listing → Number
+start_in s = unwrap_or (option_or s.origin s.end) (record { is_negative = false; magnitude = 0 })
+
+abbrev pub warrior_in : ℕ → Listing → Result WarriorValue LoadFault
+warrior_in longest s =
+    if nat_lt longest (length s.cells) then Err fault.TooLong
+    else if length s.cells == 0 then Err fault.Empty
+    else if is_index (start_in s) (length s.cells) then Ok (nameless s.cells (start_in s).magnitude)
+    else Err fault.BadOrigin
+
+abbrev load_with : ℕ → Result (List Statement) ℕ → Result WarriorValue LoadFault
+load_with longest (Err k) = Err (fault.Syntax k)
+load_with longest (Ok ss) = warrior_of longest ss
+
+load-with : (m longest : ℕ) (bytes : List ℕ) → load m longest bytes ≡ load_with longest (statements m 1 (lines_of bytes))
+unfolding load
+load-with m longest bytes = refl
+
+with_listing : (longest : ℕ) (r : Result (List Statement) ℕ) (s : Listing) → read_after nothing_read r ≡ Ok s → load_with longest r ≡ warrior_in longest s
+with_listing longest (Ok ss) s e = let same : after nothing_read ss ≡ s = cc in rw (← same) refl
+with_listing longest (Err k) s e = cc
+
+with_bad_line : (longest : ℕ) (r : Result (List Statement) ℕ) (k : ℕ) → read_after nothing_read r ≡ Err k → load_with longest r ≡ Err (fault.Syntax k)
+with_bad_line longest (Ok ss) k e = cc
+with_bad_line longest (Err j) k e = let same : j ≡ k = cc in rw same refl
+
+pub load-listing : (m longest : ℕ) (bytes : List ℕ) (s : Listing) → load_from m 1 nothing_read (lines_of bytes) ≡ Ok s → load m longest bytes ≡ warrior_in longest s
+load-listing m longest bytes s e = load-with m longest bytes ∙ with_listing longest (statements m 1 (lines_of bytes)) s (sym (load_from-statements m 1 nothing_read (lines_of bytes) refl) ∙ e)
+
+pub load-bad_line : (m longest : ℕ) (bytes : List ℕ) (k : ℕ) → load_from m 1 nothing_read (lines_of bytes) ≡ Err k → load m longest bytes ≡ Err (fault.Syntax k)
+load-bad_line m longest bytes k e = load-with m longest bytes ∙ with_bad_line longest (statements m 1 (lines_of bytes)) k (sym (load_from-statements m 1 nothing_read (lines_of bytes) refl) ∙ e)
+
+-- the reader's fault is the defined one
+pub fault_from_listing : (m longest : ℕ) (bytes : List ℕ) (f : LoadFault) → ReadsListing (Err f) (load_from m 1 nothing_read (lines_of bytes)) → Loads (Err f) (load m longest bytes)
+fault_from_listing m longest bytes fault.OutOfMemory h = tt
+fault_from_listing m longest bytes (fault.Syntax k) h = load-bad_line m longest bytes k h
+fault_from_listing m longest bytes fault.TooLong h = absurd h
+fault_from_listing m longest bytes fault.Empty h = absurd h
+fault_from_listing m longest bytes fault.BadOrigin h = absurd h

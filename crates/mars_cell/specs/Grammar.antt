@@ -1,0 +1,90 @@
+-- The line of a cell: `OP[.MODIFIER] [mode]number , [mode]number`.
+use Rattle.std.specs.Prelude.{ℕ, ◌==◌, List, [], ◌∷◌, length, Option, None, Some, option_map, unwrap_or, if◌then◌else◌, codes}
+use Rattle.std.specs.Str.{bytes_eq}
+use Rattle.mars_cell.specs.declared.instruction.Op.{Op}
+use Rattle.mars_cell.specs.declared.instruction.Op.TheVariants as op
+use Rattle.mars_cell.specs.declared.instruction.Modifier.{Modifier}
+use Rattle.mars_cell.specs.declared.instruction.Modifier.TheVariants as modifier
+use Rattle.mars_cell.specs.declared.instruction.Mode.{Mode}
+use Rattle.mars_cell.specs.declared.instruction.Mode.TheVariants as mode
+use Rattle.mars_cell.specs.declared.instruction.Cell.{Cell}
+use Rattle.mars_cell.specs.declared.numbers.Number.{Number}
+use Rattle.mars_cell.specs.Words.{op_of, modifier_of, mode_of}
+use Rattle.mars_cell.specs.Numbers.{parse_number, reduced}
+use Rattle.mars_cell.specs.Parts.{parts}
+
+infixl 10 ◌>>=◌
+abbrev pub ◌>>=◌ : {A B : Type 0} → Option A → (A → Option B) → Option B
+None >>= f = None
+(Some x) >>= f = f x
+
+-- Each of these takes its parts from the front of the line's, and gives those that follow.
+
+unfoldable pub op_at : List (List ℕ) → Option (Op × List (List ℕ))
+op_at [] = None
+op_at (p ∷ ps) = option_map (λ o. (o, ps)) (op_of p)
+
+unfoldable pub modifier_at : List (List ℕ) → Option (Modifier × List (List ℕ))
+modifier_at [] = None
+modifier_at (p ∷ ps) = option_map (λ o. (o, ps)) (modifier_of p)
+
+-- `.` and a modifier, or none
+unfoldable pub suffix_at : List (List ℕ) → Option (Option Modifier × List (List ℕ))
+suffix_at [] = Some (None, [])
+suffix_at (p ∷ ps) = if bytes_eq p (codes ".") then option_map (λ r. (Some r.0, r.1)) (modifier_at ps) else Some (None, p ∷ ps)
+
+-- a mode or none, which is `$`
+unfoldable pub mode_at : List (List ℕ) → Mode × List (List ℕ)
+mode_at [] = (mode.Direct, [])
+mode_at (p ∷ ps) = elim (mode_of p) [ Some o ↦ (o, ps) | None ↦ (mode.Direct, p ∷ ps) ]
+
+unfoldable pub number_at : List (List ℕ) → Option (Number × List (List ℕ))
+number_at [] = None
+number_at (p ∷ ps) = option_map (λ n. (n, ps)) (parse_number p)
+
+-- an operand in a core of m cells
+unfoldable pub operand_at : ℕ → List (List ℕ) → Option (Mode × ℕ × List (List ℕ))
+operand_at m ps = let o = mode_at ps in option_map (λ r. (o.0, reduced m r.0, r.1)) (number_at o.1)
+
+unfoldable pub comma_at : List (List ℕ) → Option (List (List ℕ))
+comma_at [] = None
+comma_at (p ∷ ps) = if bytes_eq p (codes ",") then Some ps else None
+
+-- AB where A is immediate, else B where B is, else another
+abbrev pub by_operands : Modifier → Mode → Mode → Modifier
+by_operands other mode.Immediate b = modifier.Ab
+by_operands other _ mode.Immediate = modifier.B
+by_operands other _ _ = other
+
+-- the modifier of a cell that names none
+unfoldable pub default_modifier : Op → Mode → Mode → Modifier
+default_modifier op.Dat a b = modifier.F
+default_modifier op.Nop a b = modifier.F
+default_modifier op.Mov a b = by_operands modifier.I a b
+default_modifier op.Seq a b = by_operands modifier.I a b
+default_modifier op.Sne a b = by_operands modifier.I a b
+default_modifier op.Add a b = by_operands modifier.F a b
+default_modifier op.Sub a b = by_operands modifier.F a b
+default_modifier op.Mul a b = by_operands modifier.F a b
+default_modifier op.Div a b = by_operands modifier.F a b
+default_modifier op.Mod a b = by_operands modifier.F a b
+default_modifier op.Slt a b = by_operands modifier.B a b
+default_modifier op.Jmp a b = modifier.B
+default_modifier op.Jmz a b = modifier.B
+default_modifier op.Jmn a b = modifier.B
+default_modifier op.Djn a b = modifier.B
+default_modifier op.Spl a b = modifier.B
+
+-- the cell that these parts spell, and no more
+unfoldable pub cell_of : ℕ → List (List ℕ) → Option Cell
+cell_of m ps = do
+  head ← op_at ps
+  suffix ← suffix_at head.1
+  a ← operand_at m suffix.1
+  after ← comma_at a.2
+  b ← operand_at m after
+  if length b.2 == 0 then Some (record { op = head.0; modifier = unwrap_or suffix.0 (default_modifier head.0 a.0 b.0); a_mode = a.0; a = a.1; b_mode = b.0; b = b.1 }) else None
+
+-- the cell of a text alone, with no comment
+abbrev pub read_cell : ℕ → List ℕ → Option Cell
+read_cell m text = cell_of m (parts text)

@@ -1,0 +1,113 @@
+-- Load files of version 1.
+use Rattle.std.specs.Prelude.{ℕ, ◌+◌, Bool, false, not, ◌==◌, ◌&&◌, ◌||◌, nat_lt, List, [], ◌∷◌, length, Option, None, Some, option_map, unwrap_or, Result, Ok, Err, if◌then◌else◌, codes}
+use Rattle.std.specs.List.{take_while, flat_map, last_or}
+use Rattle.std.specs.Option.{option_or, option_to_list}
+use Rattle.std.specs.Str.{str_eq_ignore_ascii_case}
+use Rattle.mars_cell.specs.declared.instruction.Cell.{Cell}
+use Rattle.mars_cell.specs.declared.numbers.Number.{Number}
+use Rattle.mars_cell.specs.declared.statements.Statement.{Statement}
+use Rattle.mars_cell.specs.declared.statements.Statement.TheVariants as statement
+use Rattle.mars_cell.specs.declared.load.LoadFault.{LoadFault}
+use Rattle.mars_cell.specs.declared.load.LoadFault.TheVariants as fault
+use Rattle.mars_cell.specs.Parts.{parts, onto_first}
+use Rattle.mars_cell.specs.Numbers.{parse_number}
+use Rattle.mars_cell.specs.Grammar.{cell_of}
+use Rattle.mars_cell.specs.Warriors.{WarriorValue}
+
+-- the lines of some bytes; the last may have no LF
+unfoldable pub lines_of : List ℕ → List (List ℕ)
+lines_of [] = []
+lines_of (b ∷ bs) = if b == 10 then [] ∷ lines_of bs else onto_first b (lines_of bs)
+
+-- a line up to its comment
+abbrev pub uncommented : List ℕ → List ℕ
+uncommented l = take_while (λ b. not (b == 59)) l
+
+-- a number, and no more
+unfoldable pub lone_number : List (List ℕ) → Option Number
+lone_number [] = None
+lone_number (p ∷ []) = parse_number p
+lone_number (p ∷ q ∷ ps) = None
+
+-- what stands after END: nothing, or a number
+unfoldable pub end_of : List (List ℕ) → Option Statement
+end_of [] = Some (statement.End None)
+end_of (p ∷ ps) = option_map (λ n. statement.End (Some n)) (lone_number (p ∷ ps))
+
+-- what the parts of a line say in a core of m cells
+unfoldable pub statement_of : ℕ → List (List ℕ) → Option Statement
+statement_of m [] = Some statement.Nothing
+statement_of m (p ∷ ps) =
+    if str_eq_ignore_ascii_case p (codes "ORG") then option_map (λ n. statement.Origin n) (lone_number ps) else
+    if str_eq_ignore_ascii_case p (codes "END") then end_of ps else
+    option_map (λ c. statement.Instruction c) (cell_of m (p ∷ ps))
+
+abbrev pub line_statement : ℕ → List ℕ → Option Statement
+line_statement m l = statement_of m (parts (uncommented l))
+
+-- a statement, and those that follow it where these are
+abbrev pub before : Statement → Result (List Statement) ℕ → Result (List Statement) ℕ
+before s (Ok ss) = Ok (s ∷ ss)
+before s (Err k) = Err k
+
+-- END stops reading
+abbrev pub then_statements : Statement → Result (List Statement) ℕ → Result (List Statement) ℕ
+then_statements (statement.End n) rest = Ok (statement.End n ∷ [])
+then_statements statement.Nothing rest = before statement.Nothing rest
+then_statements (statement.Origin n) rest = before (statement.Origin n) rest
+then_statements (statement.Instruction c) rest = before (statement.Instruction c) rest
+
+-- the statements of some lines up to END, or the number of the first bad line; the first line has number k
+unfoldable pub statements : ℕ → ℕ → List (List ℕ) → Result (List Statement) ℕ
+statements m k [] = Ok []
+statements m k (l ∷ ls) = elim (line_statement m l) [
+  | None ↦ Err k
+  | Some s ↦ then_statements s (statements m (k + 1) ls)
+]
+
+abbrev pub cell_in : Statement → List Cell
+cell_in statement.Nothing = []
+cell_in (statement.Origin n) = []
+cell_in (statement.End n) = []
+cell_in (statement.Instruction c) = c ∷ []
+
+abbrev pub origin_in : Statement → List Number
+origin_in statement.Nothing = []
+origin_in (statement.Origin n) = n ∷ []
+origin_in (statement.End n) = []
+origin_in (statement.Instruction c) = []
+
+abbrev pub end_in : Statement → List Number
+end_in statement.Nothing = []
+end_in (statement.Origin n) = []
+end_in (statement.End n) = option_to_list n
+end_in (statement.Instruction c) = []
+
+abbrev pub cells_of : List Statement → List Cell
+cells_of ss = flat_map cell_in ss
+
+-- the number of the last ORG, or else that of END, or else 0
+abbrev pub start_of : List Statement → Number
+start_of ss = unwrap_or (option_or (last_or None (flat_map origin_in ss)) (last_or None (flat_map end_in ss))) (record { is_negative = false; magnitude = 0 })
+
+-- an index below the length; a minus may stand before 0 alone
+abbrev pub is_index : Number → ℕ → Bool
+is_index n len = nat_lt n.magnitude len && (not n.is_negative || n.magnitude == 0)
+
+-- a load file of version 1 names no one
+abbrev pub nameless : List Cell → ℕ → WarriorValue
+nameless cells start = record { name = codes "Unknown"; author = codes "Anonymous"; cells = cells; start = start }
+
+-- the warrior, or the first fault, in a core of m cells and with warriors of at most `longest` cells
+abbrev pub warrior_of : ℕ → List Statement → Result WarriorValue LoadFault
+warrior_of longest ss =
+    if nat_lt longest (length (cells_of ss)) then Err fault.TooLong
+    else if length (cells_of ss) == 0 then Err fault.Empty
+    else if is_index (start_of ss) (length (cells_of ss)) then Ok (nameless (cells_of ss) (start_of ss).magnitude)
+    else Err fault.BadOrigin
+
+unfoldable pub load : ℕ → ℕ → List ℕ → Result WarriorValue LoadFault
+load m longest bytes = elim (statements m 1 (lines_of bytes)) [
+  | Err k ↦ Err (fault.Syntax k)
+  | Ok ss ↦ warrior_of longest ss
+]

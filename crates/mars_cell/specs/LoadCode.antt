@@ -1,0 +1,44 @@
+-- What the reader of load files holds, line after line, and what it answers.
+use Rattle.std.specs.Prelude.{◌≡◌, ⊤, ℕ, ◌+◌, List, [], ◌∷◌, ◌++◌, Option, None, Some, Result, Ok, Err}
+use Rattle.mars_cell.specs.declared.instruction.Cell.{Cell}
+use Rattle.mars_cell.specs.declared.numbers.Number.{Number}
+use Rattle.mars_cell.specs.declared.statements.Statement.{Statement}
+use Rattle.mars_cell.specs.declared.statements.Statement.TheVariants as statement
+use Rattle.mars_cell.specs.declared.load.Reading.{Reading}
+use Rattle.mars_cell.specs.declared.load.LoadFault.{LoadFault}
+use Rattle.mars_cell.specs.declared.load.LoadFault.TheVariants as fault
+use Rattle.mars_cell.specs.declared.warriors.Warrior.{Warrior}
+use Rattle.mars_cell.specs.Load.{line_statement}
+use Rattle.mars_cell.specs.Warriors.{WarriorValue}
+
+-- what was read: the cells, the last ORG's number, and END's
+pub record Listing : Type 0 where
+  pub cells : List Cell
+  pub origin : Option Number
+  pub end : Option Number
+
+abbrev pub nothing_read : Listing
+nothing_read = record { cells = []; origin = None; end = None }
+
+abbrev pub listing : Reading → Listing
+listing r = record { cells = r.cells.items; origin = r.origin; end = r.end }
+
+-- reading on from line number k, up to END: what is read in all, or the number of the first bad line
+unfoldable pub load_from : ℕ → ℕ → Listing → List (List ℕ) → Result Listing ℕ
+load_from m k s [] = Ok s
+load_from m k s (l ∷ ls) = elim (line_statement m l) [
+  | None ↦ Err k
+  | Some x ↦ elim x [
+    | statement.Nothing ↦ load_from m (k + 1) s ls
+    | statement.Origin n ↦ load_from m (k + 1) (record s { origin = Some n }) ls
+    | statement.End n ↦ Ok (record s { end = n })
+    | statement.Instruction c ↦ load_from m (k + 1) (record s { cells = s.cells ++ c ∷ [] }) ls
+  ]
+]
+
+-- the listing that was read is the defined one, and a bad line is the defined one, unless memory ran out
+abbrev pub ReadsListing : Result Reading LoadFault → Result Listing ℕ → Type 0
+ReadsListing (Ok r) read = read ≡ Ok (listing r)
+ReadsListing (Err fault.OutOfMemory) read = ⊤
+ReadsListing (Err (fault.Syntax k)) read = read ≡ Err k
+ReadsListing (Err _) read = ⊥

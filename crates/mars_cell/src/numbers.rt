@@ -1,0 +1,74 @@
+//! Numbers as they are written.
+ghost use Rattle.std.specs.Prelude.{◌≡◌, ◌≤◌, ◌<◌, length, true};
+ghost use Rattle.std.specs.Char.{is_ascii_digit};
+ghost use Rattle.std.specs.List.{list_all};
+ghost use Rattle.std.specs.Str.Parse.{digits_value};
+ghost use Rattle.mars_cell.specs.Numbers.{parse_number, signed, reduced};
+
+/// A number with its sign. A minus may stand before 0, too.
+#[derive(Clone, Copy, Debug, PartialEq, Eq)]
+pub struct Number {
+    pub is_negative: bool,
+    pub magnitude: u64,
+}
+
+/// The value of at most 18 digits.
+fn value(digits: &[u8]) -> u64
+    requires digits { list_all is_ascii_digit digits.now ≡ true }
+    requires few { length digits.now ≤ 18 }
+    ensures { result ≡ digits_value 10 digits.now }
+{
+    let mut value = 0;
+    for digit in digits {
+        value = value * 10 + u64::from(*digit - b'0');
+    }
+    value
+}
+
+/// Whether a minus stands first, and what follows the sign.
+#[tactic(auto, unfolding(crate::specs::Numbers::signed))]
+fn split_sign(word: &[u8]) -> (bool, &[u8])
+    ensures { let r = result in (r.0, r.1.now) ≡ signed word.now }
+{
+    match word {
+        [b'-', digits @ ..] => (true, digits),
+        [b'+', digits @ ..] => (false, digits),
+        _ => (false, word),
+    }
+}
+
+fn are_digits(bytes: &[u8]) -> bool
+    ensures { result ≡ list_all is_ascii_digit bytes.now }
+{
+    bytes.iter().all(|byte| byte.is_ascii_digit())
+}
+
+/// The number that a word spells: an optional sign, and 1 to 18 digits.
+#[tactic(auto, unfolding(crate::specs::Numbers::parse_number))]
+pub fn read_number(word: &[u8]) -> Option<Number>
+    ensures { result ≡ parse_number word.now }
+{
+    let (is_negative, digits) = split_sign(word);
+    if digits.is_empty() || digits.len() > 18 || !are_digits(digits) {
+        return None;
+    }
+    Some(Number {
+        is_negative,
+        magnitude: value(digits),
+    })
+}
+
+/// The number from 0 to `core_size - 1` that differs from it by a multiple of `core_size`.
+#[tactic(auto, unfolding(crate::specs::Numbers::reduced))]
+pub fn reduce(number: Number, core_size: u32) -> u32
+    requires { 0 < core_size }
+    ensures value { result ≡ reduced core_size number }
+    ensures below { result < core_size }
+{
+    let rest = (number.magnitude % u64::from(core_size)) as u32;
+    if number.is_negative {
+        (core_size - rest) % core_size
+    } else {
+        rest
+    }
+}

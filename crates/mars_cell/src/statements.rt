@@ -1,0 +1,82 @@
+//! What the lines of a load file say.
+ghost use Rattle.std.specs.Prelude.{◌≡◌, ◌<◌, ◌==◌, length, not, take_while};
+ghost use Rattle.mars_cell.specs.Parts.{parts};
+ghost use Rattle.mars_cell.specs.Load.{line_statement, lone_number, end_of, statement_of};
+
+use crate::grammar::take_cell;
+use crate::instruction::Cell;
+use crate::numbers::{Number, read_number};
+use crate::parts::Parts;
+use crate::words::is_word;
+
+/// What a line of a load file says.
+#[derive(Clone, Copy, Debug, PartialEq, Eq)]
+pub enum Statement {
+    Nothing,
+    Origin(Number),
+    End(Option<Number>),
+    Instruction(Cell),
+}
+
+/// A number, and no more.
+#[tactic(auto, unfolding(crate::specs::Load::lone_number))]
+fn read_lone_number(line: Parts<'_>) -> Option<Number>
+    ensures { result ≡ lone_number (parts line.entry.rest.now) }
+{
+    let mut line = line;
+    let number = line.take_first()?;
+    if line.take_first().is_some() {
+        return None;
+    }
+    read_number(number)
+}
+
+/// What follows `END`.
+#[tactic(auto, unfolding(crate::specs::Load::end_of, crate::specs::Load::lone_number))]
+fn read_end(line: Parts<'_>) -> Option<Statement>
+    ensures { result ≡ end_of (parts line.entry.rest.now) }
+{
+    let mut after = line;
+    if after.take_first().is_none() {
+        return Some(Statement::End(None));
+    }
+    let number = read_lone_number(line)?;
+    Some(Statement::End(Some(number)))
+}
+
+/// What the parts of a line say.
+#[tactic(auto, unfolding(crate::specs::Load::statement_of))]
+fn read_statement(line: Parts<'_>, core_size: u32) -> Option<Statement>
+    requires { 0 < core_size }
+    ensures { result ≡ statement_of core_size (parts line.entry.rest.now) }
+{
+    let mut after = line;
+    let Some(first) = after.take_first() else {
+        return Some(Statement::Nothing);
+    };
+    if is_word(first, b"ORG") {
+        let number = read_lone_number(after)?;
+        Some(Statement::Origin(number))
+    } else if is_word(first, b"END") {
+        read_end(after)
+    } else {
+        let cell = take_cell(line, core_size)?;
+        Some(Statement::Instruction(cell))
+    }
+}
+
+/// What a line says.
+pub fn read_line(line: &[u8], core_size: u32) -> Option<Statement>
+    requires { 0 < core_size }
+    ensures { result ≡ line_statement core_size line.now }
+{
+    let (text, _) = line.split_at(text_len(line));
+    read_statement(Parts::new(text), core_size)
+}
+
+/// How many bytes come before the comment.
+fn text_len(line: &[u8]) -> usize
+    ensures { result ≡ length (take_while (λ b. not (b == 59)) line.now) }
+{
+    line.iter().take_while(|byte| **byte != b';').count()
+}
