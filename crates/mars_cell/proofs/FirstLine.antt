@@ -1,5 +1,5 @@
 -- The first of some lines, and a line without its comment.
-use Rattle.std.proofs.Common.{◌≡◌, refl, ℕ, Bool, true, false, not, nat_eq, List, [], ◌∷◌, length, take, drop, sym, ap, ◌∙◌, rules, arith, one-add}
+use Rattle.std.proofs.Common.{◌≡◌, refl, ℕ, Bool, true, false, not, nat_eq, List, [], ◌∷◌, length, take, drop, ap, one-add}
 use Rattle.std.specs.List.{take_while}
 use Rattle.mars_cell.specs.Parts.{onto_first}
 use Rattle.mars_cell.specs.Load.{lines_of}

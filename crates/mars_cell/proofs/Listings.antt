@@ -1,17 +1,16 @@
 -- What is read line after line is what the statements of the lines say.
-use Rattle.std.proofs.Common.{◌≡◌, refl, ℕ, ◌+◌, ◌==◌, Bool, false, nat_lt, List, [], ◌∷◌, ◌++◌, length, Option, None, Some, Result, Ok, Err, sym, ap, ◌∙◌, cond, append_assoc, append-nil}
+use Rattle.std.proofs.Common.{◌≡◌, refl, ℕ, ◌+◌, ◌==◌, false, nat_lt, List, [], ◌∷◌, ◌++◌, length, Option, None, Some, Result, Ok, Err, sym, ap, ◌∙◌, append_assoc, append-nil}
 use Rattle.std.specs.Prelude.{if◌then◌else◌, unwrap_or}
 use Rattle.std.specs.List.{flat_map, last_or}
-use Rattle.std.specs.Option.{option_or, option_to_list}
+use Rattle.std.specs.Option.{option_or}
 use Rattle.mars_cell.specs.declared.instruction.Cell.{Cell}
 use Rattle.mars_cell.specs.declared.numbers.Number.{Number}
 use Rattle.mars_cell.specs.declared.statements.Statement.{Statement}
 use Rattle.mars_cell.specs.declared.statements.Statement.TheVariants as statement
 use Rattle.mars_cell.specs.declared.load.LoadFault.{LoadFault}
 use Rattle.mars_cell.specs.declared.load.LoadFault.TheVariants as fault
-use Rattle.mars_cell.specs.Load.{before, cells_of, cell_in, end_in, is_index, line_statement, lines_of, load, nameless, origin_in, statements, then_statements, warrior_of}
+use Rattle.mars_cell.specs.Load.{Loads, before, cells_of, end_in, is_index, line_statement, lines_of, load, nameless, origin_in, statements, then_statements, warrior_of}
 use Rattle.mars_cell.specs.LoadCode.{Listing, ReadsListing, load_from, nothing_read}
-use Rattle.mars_cell.specs.LoadResults.{Loads}
 use Rattle.mars_cell.specs.Warriors.{WarriorValue}
 
 -- what is read in all, after s
@@ -48,16 +47,16 @@ load_from-statements m k s (l ∷ ls) open_end =
     elim (line_statement m l) as (λ t. line_statement m l ≡ t → load_from m k s (l ∷ ls) ≡ read_after s (statements m k (l ∷ ls))) [
       | None ↦ λ e. rw (load_from, statements, e) refl
       | Some x ↦ λ e. rw (load_from, statements, e) (elim x as (λ x. elim x [
-            | statement.Nothing ↦ load_from m (k + 1) s ls
-            | statement.Origin n ↦ load_from m (k + 1) (record s { origin = Some n }) ls
-            | statement.End n ↦ Ok (record s { end = n })
-            | statement.Instruction c ↦ load_from m (k + 1) (record s { cells = s.cells ++ c ∷ [] }) ls
-          ] ≡ read_after s (then_statements x (statements m (k + 1) ls))) [
-            | statement.Nothing ↦ load_from-statements m (k + 1) s ls open_end ∙ sym (read_after-nothing s (statements m (k + 1) ls))
-            | statement.Origin n ↦ load_from-statements m (k + 1) (record s { origin = Some n }) ls open_end ∙ sym (read_after-origin s n (statements m (k + 1) ls))
-            | statement.End n ↦ ap Ok (sym (after-end s n open_end))
-            | statement.Instruction c ↦ load_from-statements m (k + 1) (record s { cells = s.cells ++ c ∷ [] }) ls open_end ∙ sym (read_after-instruction s c (statements m (k + 1) ls))
-          ])
+        | statement.Nothing ↦ load_from m (k + 1) s ls
+        | statement.Origin n ↦ load_from m (k + 1) (record s { origin = Some n }) ls
+        | statement.End n ↦ Ok (record s { end = n })
+        | statement.Instruction c ↦ load_from m (k + 1) (record s { cells = s.cells ++ c ∷ [] }) ls
+      ] ≡ read_after s (then_statements x (statements m (k + 1) ls))) [
+        | statement.Nothing ↦ load_from-statements m (k + 1) s ls open_end ∙ sym (read_after-nothing s (statements m (k + 1) ls))
+        | statement.Origin n ↦ load_from-statements m (k + 1) (record s { origin = Some n }) ls open_end ∙ sym (read_after-origin s n (statements m (k + 1) ls))
+        | statement.End n ↦ ap Ok (sym (after-end s n open_end))
+        | statement.Instruction c ↦ load_from-statements m (k + 1) (record s { cells = s.cells ++ c ∷ [] }) ls open_end ∙ sym (read_after-instruction s c (statements m (k + 1) ls))
+      ])
     ] refl
 
 -- ---- the warrior of a listing

@@ -1,11 +1,11 @@
 -- A written load file is read as its warrior's cells and start.
-use Rattle.std.proofs.Common.{◌≡◌, refl, ℕ, suc, ◌+◌, ◌-◌, ◌/◌, ◌<◌, ◌≤◌, ◌^◌, Bool, true, false, ◌&&◌, not, List, [], ◌∷◌, ◌++◌, Option, None, Some, Result, Ok, Err, length, map, sym, ap, ◌∙◌, cond, nat_eq, nat_le, nat_lt, rules, arith, one-add, decimal, append_assoc, append-nil}
+use Rattle.std.proofs.Common.{◌≡◌, refl, ℕ, suc, ◌+◌, ◌-◌, ◌/◌, ◌<◌, ◌≤◌, ◌^◌, Bool, true, false, ◌&&◌, not, List, [], ◌∷◌, ◌++◌, Some, Ok, length, map, sym, ap, ◌∙◌, nat_eq, nat_le, rules, arith, one-add, decimal, append_assoc, append-nil}
 use Rattle.std.specs.Prelude.{codes, All, option_map}
-use Rattle.std.specs.List.{list_all, flat_map, take_while, AllByRecursion}
+use Rattle.std.specs.List.{list_all, flat_map, AllByRecursion}
 use Rattle.std.specs.Char.{is_ascii_digit}
 use Rattle.std.specs.Str.{str_eq_ignore_ascii_case}
 use Rattle.std.proofs.lemmas.List.Folds.{list_all-append}
-use Rattle.std.proofs.lemmas.Bool.{lt-ltb, le-ltb}
+use Rattle.std.proofs.lemmas.Bool.{le-ltb}
 use Rattle.std.proofs.lemmas.Fmt.{decimal_nonempty}
 use Rattle.mars_cell.specs.declared.instruction.Op.{Op}
 use Rattle.mars_cell.specs.declared.instruction.Op.TheVariants as op
@@ -18,9 +18,8 @@ use Rattle.mars_cell.specs.declared.statements.Statement.{Statement}
 use Rattle.mars_cell.specs.declared.statements.Statement.TheVariants as statement
 use Rattle.mars_cell.specs.Cells.{FitsCore}
 use Rattle.mars_cell.specs.Grammar.{cell_of}
-use Rattle.mars_cell.specs.Load.{cell_in, cells_of, end_in, line_statement, lines_of, load, lone_number, nameless, origin_in, start_of, statement_of, statements, uncommented, warrior_of}
+use Rattle.mars_cell.specs.Load.{cell_in, end_in, line_statement, lines_of, load, lone_number, nameless, origin_in, statement_of, statements, uncommented, warrior_of}
 use Rattle.mars_cell.specs.Numbers.{parse_number}
-use Rattle.mars_cell.specs.Parameters.{Parameters, AreInRange}
 use Rattle.mars_cell.specs.Parts.{begins_word, joins, parts}
 use Rattle.mars_cell.specs.Text.{cell_text, number_text, operand_text}
 use Rattle.mars_cell.specs.Warriors.{WarriorValue}

@@ -1,5 +1,5 @@
 -- Load files of version 1.
-use Rattle.std.specs.Prelude.{ℕ, ◌+◌, Bool, false, not, ◌==◌, ◌&&◌, ◌||◌, nat_lt, List, [], ◌∷◌, length, Option, None, Some, option_map, unwrap_or, Result, Ok, Err, if◌then◌else◌, codes}
+use Rattle.std.specs.Prelude.{◌≡◌, ⊤, ℕ, ◌+◌, Bool, false, not, ◌==◌, ◌&&◌, ◌||◌, nat_lt, List, [], ◌∷◌, length, Option, None, Some, option_map, unwrap_or, Result, Ok, Err, if◌then◌else◌, codes}
 use Rattle.std.specs.List.{take_while, flat_map, last_or}
 use Rattle.std.specs.Option.{option_or, option_to_list}
 use Rattle.std.specs.Str.{str_eq_ignore_ascii_case}
@@ -111,3 +111,9 @@ load m longest bytes = elim (statements m 1 (lines_of bytes)) [
   | Err k ↦ Err (fault.Syntax k)
   | Ok ss ↦ warrior_of longest ss
 ]
+
+-- the result is the defined warrior or the defined fault, unless memory ran out
+abbrev pub Loads : Result WarriorValue LoadFault → Result WarriorValue LoadFault → Type 0
+Loads (Ok w) defined = defined ≡ Ok w
+Loads (Err fault.OutOfMemory) defined = ⊤
+Loads (Err f) defined = defined ≡ Err f

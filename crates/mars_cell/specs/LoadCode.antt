@@ -1,15 +1,12 @@
--- What the reader of load files holds, line after line, and what it answers.
+-- What the reader of load files holds, line after line.
 use Rattle.std.specs.Prelude.{◌≡◌, ⊤, ℕ, ◌+◌, List, [], ◌∷◌, ◌++◌, Option, None, Some, Result, Ok, Err}
 use Rattle.mars_cell.specs.declared.instruction.Cell.{Cell}
 use Rattle.mars_cell.specs.declared.numbers.Number.{Number}
-use Rattle.mars_cell.specs.declared.statements.Statement.{Statement}
 use Rattle.mars_cell.specs.declared.statements.Statement.TheVariants as statement
 use Rattle.mars_cell.specs.declared.load.Reading.{Reading}
 use Rattle.mars_cell.specs.declared.load.LoadFault.{LoadFault}
 use Rattle.mars_cell.specs.declared.load.LoadFault.TheVariants as fault
-use Rattle.mars_cell.specs.declared.warriors.Warrior.{Warrior}
 use Rattle.mars_cell.specs.Load.{line_statement}
-use Rattle.mars_cell.specs.Warriors.{WarriorValue}
 
 -- what was read: the cells, the last ORG's number, and END's
 pub record Listing : Type 0 where

@@ -1,5 +1,5 @@
 -- Worked examples: what the definitions give.
-use Rattle.std.specs.Prelude.{◌≡◌, ℕ, List, [], ◌∷◌, Option, None, Some, Result, Ok, Err, codes, refl}
+use Rattle.std.specs.Prelude.{◌≡◌, ℕ, [], ◌∷◌, None, Some, Ok, Err, codes, refl}
 use Rattle.std.specs.Fmt.{digits}
 use Rattle.mars_cell.specs.declared.instruction.Cell.{Cell}
 use Rattle.mars_cell.specs.declared.instruction.Op.{Op}
@@ -8,14 +8,12 @@ use Rattle.mars_cell.specs.declared.instruction.Modifier.{Modifier}
 use Rattle.mars_cell.specs.declared.instruction.Modifier.TheVariants as modifier
 use Rattle.mars_cell.specs.declared.instruction.Mode.{Mode}
 use Rattle.mars_cell.specs.declared.instruction.Mode.TheVariants.{Immediate, Direct, AIndirect, BIndirect, APredecrement, BPredecrement, APostincrement, BPostincrement}
-use Rattle.mars_cell.specs.declared.load.LoadFault.{LoadFault}
 use Rattle.mars_cell.specs.declared.load.LoadFault.TheVariants as fault
 use Rattle.mars_cell.specs.Grammar.{cell_of, comma_at, default_modifier, mode_at, modifier_at, number_at, op_at, operand_at, read_cell, suffix_at}
 use Rattle.mars_cell.specs.Load.{end_of, lines_of, load, lone_number, nameless, statement_of, statements}
 use Rattle.mars_cell.specs.Numbers.{parse_number, reduced, signed}
 use Rattle.mars_cell.specs.Parts.{begins_word, joins, parts}
 use Rattle.mars_cell.specs.Text.{cell_text, number_text}
-use Rattle.mars_cell.specs.Warriors.{WarriorValue}
 use Rattle.mars_cell.specs.Words.{mode_of, modifier_of, op_of}
 use Rattle.mars_cell.specs.Written.{load_text}
 

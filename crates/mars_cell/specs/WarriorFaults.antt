@@ -1,5 +1,5 @@
 -- Which programs are refused.
-use Rattle.std.specs.Prelude.{ℕ, Bool, not, nat_lt, ◌==◌, length, if◌then◌else◌, Result, Ok, Err}
+use Rattle.std.specs.Prelude.{not, nat_lt, ◌==◌, length, if◌then◌else◌, Result, Ok, Err}
 use Rattle.mars_cell.specs.Warriors.{WarriorValue}
 use Rattle.mars_cell.specs.declared.warriors.WarriorFault.{WarriorFault}
 use Rattle.mars_cell.specs.declared.warriors.WarriorFault.TheVariants.{Empty, BadOrigin}

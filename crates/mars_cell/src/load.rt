@@ -1,6 +1,7 @@
 //! Reading load files.
 ghost use Rattle.std.specs.Prelude.{◌≡◌, ◌∷◌, ◌<◌, ◌==◌, [], length, not, MatchOption, Ok, take_while};
-ghost use Rattle.mars_cell.specs.Load.{lines_of, load, nameless};
+ghost use Rattle.mars_cell.specs.Load.{lines_of, load, is_index, nameless, Loads};
+ghost use Rattle.mars_cell.specs.LoadCode.{ReadsListing, load_from, nothing_read};
 
 use crate::instruction::Cell;
 use crate::numbers::Number;
@@ -71,8 +72,6 @@ struct Reading {
     end: Option<Number>,
 }
 
-ghost use Rattle.mars_cell.specs.LoadCode.{ReadsListing, load_from, nothing_read};
-
 /// Reads the lines up to END.
 #[tactic(auto, unfolding(crate::specs::LoadCode::load_from))]
 fn read_listing(alloc: Global, bytes: &[u8], core_size: u32) -> Result<Reading, LoadFault>
@@ -105,9 +104,6 @@ fn read_listing(alloc: Global, bytes: &[u8], core_size: u32) -> Result<Reading, 
     }
     Ok(reading)
 }
-
-ghost use Rattle.mars_cell.specs.Load.{is_index};
-ghost use Rattle.mars_cell.specs.LoadResults.{Loads};
 
 /// Whether a number is the index of one of so many cells.
 fn is_start(number: Number, length: usize) -> bool

@@ -43,15 +43,36 @@ fn texts_of_cells(rt: HostRuntime) {
             "MOV.I $0, $1",
         ),
         (
-            cell(Op::Mov, Modifier::Ab, Mode::APredecrement, 4, Mode::APostincrement, 5),
+            cell(
+                Op::Mov,
+                Modifier::Ab,
+                Mode::APredecrement,
+                4,
+                Mode::APostincrement,
+                5,
+            ),
             "MOV.AB {4, }-3",
         ),
         (
-            cell(Op::Seq, Modifier::Ba, Mode::AIndirect, 1, Mode::BIndirect, 7),
+            cell(
+                Op::Seq,
+                Modifier::Ba,
+                Mode::AIndirect,
+                1,
+                Mode::BIndirect,
+                7,
+            ),
             "SEQ.BA *1, @-1",
         ),
         (
-            cell(Op::Slt, Modifier::X, Mode::BPredecrement, 2, Mode::BPostincrement, 3),
+            cell(
+                Op::Slt,
+                Modifier::X,
+                Mode::BPredecrement,
+                2,
+                Mode::BPostincrement,
+                3,
+            ),
             "SLT.X <2, >3",
         ),
     ];
@@ -65,7 +86,14 @@ fn texts_of_cells(rt: HostRuntime) {
 
 #[test]
 fn cells_read(rt: HostRuntime) {
-    let mov = cell(Op::Mov, Modifier::I, Mode::Direct, 4, Mode::BPredecrement, 7);
+    let mov = cell(
+        Op::Mov,
+        Modifier::I,
+        Mode::Direct,
+        4,
+        Mode::BPredecrement,
+        7,
+    );
     let rows: [&[u8]; 5] = [
         b"MOV.I $4, <-1",
         b"\t mov . i 4 , < +7\r",
@@ -121,9 +149,18 @@ fn parameters(rt: HostRuntime) -> Result<(), Fail> {
     assert_eq!(rt; params.max_length(), 100);
     assert_eq!(rt; params.distance(), 200);
     let faults = [
-        (Params::new(1_048_577, 1, 1, 1, 1, 1, 1).err(), ParamFault::CoreSize),
-        (Params::new(8, 65_537, 1, 1, 1, 1, 1).err(), ParamFault::Processes),
-        (Params::new(8, 1, 10_000_001, 1, 1, 1, 1).err(), ParamFault::Cycles),
+        (
+            Params::new(1_048_577, 1, 1, 1, 1, 1, 1).err(),
+            ParamFault::CoreSize,
+        ),
+        (
+            Params::new(8, 65_537, 1, 1, 1, 1, 1).err(),
+            ParamFault::Processes,
+        ),
+        (
+            Params::new(8, 1, 10_000_001, 1, 1, 1, 1).err(),
+            ParamFault::Cycles,
+        ),
         (Params::new(8, 1, 1, 9, 1, 1, 1).err(), ParamFault::Limit),
         (Params::new(8, 1, 1, 1, 9, 1, 1).err(), ParamFault::Limit),
         (Params::new(8, 1, 1, 1, 1, 9, 9).err(), ParamFault::Length),
@@ -132,7 +169,12 @@ fn parameters(rt: HostRuntime) -> Result<(), Fail> {
     for (found, fault) in faults {
         assert_eq!(rt; found, Some(fault));
     }
-    assert!(rt; Params::new(1_048_576, 65_536, 10_000_000, 1_048_576, 1_048_576, 1_048_576, 1_048_576).is_ok());
+    assert!(rt;
+        Params::new(
+            1_048_576, 65_536, 10_000_000, 1_048_576, 1_048_576, 1_048_576, 1_048_576
+        )
+        .is_ok()
+    );
     assert!(rt; Params::new(1, 1, 1, 1, 1, 1, 1).is_ok());
     Ok(())
 }
@@ -153,7 +195,12 @@ fn warriors(rt: HostRuntime) -> Result<(), Fail> {
     }
     let empty = Warrior::new(String::new(alloc), String::new(alloc), Vec::new(alloc), 0);
     assert_eq!(rt; empty.err(), Some(WarriorFault::Empty));
-    let outside = Warrior::new(String::new(alloc), String::new(alloc), vec![in alloc; jmp]?, 1);
+    let outside = Warrior::new(
+        String::new(alloc),
+        String::new(alloc),
+        vec![in alloc; jmp]?,
+        1,
+    );
     assert_eq!(rt; outside.err(), Some(WarriorFault::BadOrigin));
     Ok(())
 }
@@ -161,18 +208,34 @@ fn warriors(rt: HostRuntime) -> Result<(), Fail> {
 #[test]
 fn faults_displayed(rt: HostRuntime) -> Result<(), Fail> {
     let alloc = rt.alloc();
-    assert_eq!(rt; format!(in alloc; "{}", ParamFault::CoreSize)?.as_str(), "1 CoreSize");
-    assert_eq!(rt; format!(in alloc; "{}", ParamFault::Distance)?.as_str(), "6 Distance");
-    assert_eq!(rt; format!(in alloc; "{}", WarriorFault::BadOrigin)?.as_str(), "2 BadOrigin");
-    assert_eq!(rt; format!(in alloc; "{}", LoadFault::Syntax(7))?.as_str(), "1 Syntax");
-    assert_eq!(rt; format!(in alloc; "{}", LoadFault::OutOfMemory)?.as_str(), "5 OutOfMemory");
+    assert_eq!(rt;
+        format!(in alloc; "{}", ParamFault::CoreSize)?.as_str(),
+        "1 CoreSize"
+    );
+    assert_eq!(rt;
+        format!(in alloc; "{}", ParamFault::Distance)?.as_str(),
+        "6 Distance"
+    );
+    assert_eq!(rt;
+        format!(in alloc; "{}", WarriorFault::BadOrigin)?.as_str(),
+        "2 BadOrigin"
+    );
+    assert_eq!(rt;
+        format!(in alloc; "{}", LoadFault::Syntax(7))?.as_str(),
+        "1 Syntax"
+    );
+    assert_eq!(rt;
+        format!(in alloc; "{}", LoadFault::OutOfMemory)?.as_str(),
+        "5 OutOfMemory"
+    );
     Ok(())
 }
 
 #[test]
 fn a_load_file(rt: HostRuntime) -> Result<(), Fail> {
     let alloc = rt.alloc();
-    let dwarf = b"; a dwarf\nORG 1 ; here\n\n ADD.AB #4, $3\nmov 2, @2\nJMP -2, 0\ndat #0,#0\nEND 9\nthis is prose";
+    let dwarf =
+        b"; a dwarf\nORG 1 ; here\n\n ADD.AB #4, $3\nmov 2, @2\nJMP -2, 0\ndat #0,#0\nEND 9\nthis is prose";
     let warrior = read_load(alloc, dwarf, &sizes(8000, 100)?)?;
     assert_eq!(rt; warrior.name(), "Unknown");
     assert_eq!(rt; warrior.author(), "Anonymous");
@@ -221,7 +284,10 @@ fn load_faults(rt: HostRuntime) -> Result<(), Fail> {
         (b"MOV.I0,1", LoadFault::Syntax(1)),
         (b"NOP 0,0\nORG 1000000000000000000", LoadFault::Syntax(2)),
         (b"NOP 0,0 0\n", LoadFault::Syntax(1)),
-        (b"NOP 0,0\nNOP 0,0\nNOP 0,0\n\nEND -\n", LoadFault::Syntax(5)),
+        (
+            b"NOP 0,0\nNOP 0,0\nNOP 0,0\n\nEND -\n",
+            LoadFault::Syntax(5),
+        ),
         (b"\x7f", LoadFault::Syntax(1)),
         (b"NOP 0,0\nNOP 0,0\nNOP 0,0", LoadFault::TooLong),
         (b"ORG 9\nNOP 0,0\nNOP 0,0\nNOP 0,0", LoadFault::TooLong),
@@ -248,11 +314,14 @@ fn written_load_file(rt: HostRuntime) -> Result<(), Fail> {
         cell(Op::Add, Modifier::Ab, Mode::Immediate, 4, Mode::Direct, 3),
         cell(Op::Mov, Modifier::I, Mode::Direct, 2, Mode::BIndirect, 2),
         cell(Op::Jmp, Modifier::B, Mode::Direct, 7998, Mode::Direct, 0),
-        cell(Op::Dat, Modifier::F, Mode::Immediate, 0, Mode::Immediate, 0)
+        cell(Op::Dat, Modifier::F, Mode::Immediate, 0, Mode::Immediate, 0),
     ]?;
     let warrior = Warrior::new(String::new(alloc), String::new(alloc), cells, 0)?;
     let text = write_load(alloc, &warrior, 8000)?;
-    assert!(rt; text.as_slice() == b"ORG 0\nADD.AB #4, $3\nMOV.I $2, @2\nJMP.B $-2, $0\nDAT.F #0, #0\n".as_slice());
+    assert!(rt;
+        text.as_slice()
+            == b"ORG 0\nADD.AB #4, $3\nMOV.I $2, @2\nJMP.B $-2, $0\nDAT.F #0, #0\n".as_slice()
+    );
     let again = read_load(alloc, text.as_slice(), &sizes(8000, 4)?)?;
     assert_eq!(rt; again.cells(), warrior.cells());
     assert_eq!(rt; again.start(), 0);

@@ -111,7 +111,7 @@ impl Warrior {
     /// The index of the cell to start at.
     pub fn start(&self) -> u32
         ensures value { result ≡ self.now.start }
-        ensures inside { self.now.start < length self.now.cells }
+        ensures inside { result < length self.now.cells }
     {
         self.start
     }

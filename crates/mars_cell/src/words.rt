@@ -7,7 +7,7 @@ use crate::instruction::{Mode, Modifier, Op};
 
 impl Op {
     /// The opcode's name of three letters.
-    pub fn name(self) -> &'static str
+    pub(crate) fn name(self) -> &'static str
         ensures value { result.now ≡ op_name self }
         ensures short { length result.now ≤ 3 }
     {
@@ -34,7 +34,7 @@ impl Op {
 
 impl Modifier {
     /// The modifier's name of one or two letters.
-    pub fn name(self) -> &'static str
+    pub(crate) fn name(self) -> &'static str
         ensures value { result.now ≡ modifier_name self }
         ensures short { length result.now ≤ 2 }
     {
@@ -52,7 +52,7 @@ impl Modifier {
 
 impl Mode {
     /// The mode's byte, which stands before a number.
-    pub fn name(self) -> &'static str
+    pub(crate) fn name(self) -> &'static str
         ensures value { result.now ≡ mode_name self }
         ensures short { length result.now ≤ 1 }
     {

@@ -11,15 +11,28 @@ ghost use Rattle.mars_core.specs.Start.{distance as spec_distance, meets_any, cl
 use crate::queues::ProcessQueue;
 use mars_cell::{Cell, Params, Warrior};
 use std::alloc::{AllocError, Global};
+use thiserror::Error;
 
-/// Why a battle can't start.
-#[derive(Clone, Copy, Debug, PartialEq, Eq)]
+/// Why a battle can't start: the first that applies. It is displayed as its number and name.
+#[derive(Clone, Copy, Debug, PartialEq, Eq, Error)]
 pub enum BattleFault {
+    /// There is no warrior.
+    #[error("1 NoWarrior")]
     NoWarrior,
+    /// There are more than 16 warriors.
+    #[error("2 TooMany")]
     TooMany,
+    /// Two loaded cells have one address, those of a warrior longer than the core among them.
+    #[error("3 Overlap")]
     Overlap,
+    /// A warrior's start isn't an address in the core.
+    #[error("4 StartOutside")]
     StartOutside,
+    /// A number of a cell isn't an address in the core.
+    #[error("5 FieldOutside")]
     FieldOutside,
+    /// A growth was refused.
+    #[error("6 OutOfMemory")]
     OutOfMemory,
 }
 

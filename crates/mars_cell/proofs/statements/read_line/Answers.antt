@@ -1,4 +1,4 @@
-use Rattle.std.proofs.Common.{◌≡◌, ◌∙◌, ap, not, nat_eq}
+use Rattle.std.proofs.Common.{◌∙◌, ap, not, nat_eq}
 use Rattle.mars_cell.specs.Load.{statement_of}
 use Rattle.mars_cell.specs.Parts.{parts}
 use Rattle.mars_cell.proofs.FirstLine.{take_front}

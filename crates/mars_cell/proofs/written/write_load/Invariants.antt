@@ -1,4 +1,4 @@
-use Rattle.std.proofs.Common.{◌≡◌, ◌++◌, ◌∷◌, [], take, map, decimal}
+use Rattle.std.proofs.Common.{◌≡◌, ◌++◌, take, map, decimal}
 use Rattle.std.specs.Prelude.{codes}
 use Rattle.std.specs.List.{flat_map}
 use Rattle.mars_cell.specs.Text.{cell_text}

@@ -1,5 +1,4 @@
-use Rattle.std.proofs.Common.{◌≡◌, ◌≢◌, ◌∙◌, List, ℕ, [], ◌∷◌, length, drop, ap, sym, refl, rules, arith}
-use Rattle.mars_cell.specs.Load.{lines_of}
+use Rattle.std.proofs.Common.{rules}
 use Rattle.mars_cell.proofs.FirstLine.{lines_of-none, lines_of-some, behind_one, behind_none}
 use Rattle.mars_cell.proofs.load.Lines.take_first.Goals as goal
 use Rattle.mars_cell.proofs.load.Lines.take_first.Goals.{in-Some, in-None}

@@ -1,7 +1,5 @@
-use Rattle.std.proofs.Common.{◌≡◌, ℕ, List, [], ◌∷◌, ◌++◌, ◌∙◌, sym, ap, refl, length, take, drop, true, false, rules, arith, take_while}
-use Rattle.std.specs.Char.{is_ascii_alphanumeric}
-use Rattle.mars_cell.specs.Parts.{is_blank, joins, parts}
-use Rattle.mars_cell.proofs.PartsOf.{parts-blanks, parts-end, part_joined, part_single}
+use Rattle.std.proofs.Common.{◌≡◌, ◌∷◌, ◌∙◌, sym}
+use Rattle.mars_cell.proofs.PartsOf.{parts-end, part_joined, part_single}
 use Rattle.mars_cell.proofs.parts.Parts.take_first.Goals as goal
 use Rattle.mars_cell.proofs.parts.Parts.take_first.Goals.{then-is_joining, else-is_joining}
 

@@ -1,0 +1,6 @@
+pub mod Copying
+pub mod Places
+pub mod Scripts
+pub mod Turns
+pub mod Undoing
+pub mod Walking

@@ -1,0 +1,157 @@
+-- What undo and redo find among the places of accepted commands.
+use Rattle.std.proofs.Common.{◌≡◌, ℕ, zero, suc, ◌+◌, Bool, true, false, List, [], ◌∷◌, ◌++◌, length, Option, Some, None, refl, ap, sym, ◌∙◌, arith, if◌then◌else◌}
+use Rattle.std.specs.Prelude.{option_and_then, IsOk, IsTrue, Result, Ok, Err}
+use Rattle.mars_core.specs.State.{State}
+use Rattle.mars_core.specs.declared.journal.Edit.{Edit}
+use Rattle.mars_core.specs.declared.journal.Edit.TheVariants as edits
+use Rattle.mars_session.specs.History.{Place, History, position_of, append, append_all, accepted, cut, marked, marked_before, undo, marked_after, redo}
+use Rattle.mars_session.specs.declared.calls.Call.{Call}
+use Rattle.mars_session.specs.declared.calls.Call.TheVariants.{Step, Run, Until, SetCell, Fill, MoveProcess, Kill, Spawn, Undo, Redo, Goto}
+use Rattle.mars_session.specs.declared.calls.Refusal.{Refusal}
+use Rattle.mars_session.specs.Commands.{States, step_states, run_states, until_bound, until_states, edit_states, cells_between, fill_states}
+use Rattle.mars_session.specs.Script.{outcome, commanded, appended, no_room, history_after, first, rest}
+use Rattle.mars_session.specs.Laws.{times, is_command, AllAccepted, UndosGiveBack, RedosGiveAgain, RedoAfterUndo}
+
+-- the present place is marked, and these places follow
+abbrev pub base : History → List Place → History
+base h after = record { before = h.before; present = record { state = h.present.state; mark = true }; after = after }
+
+-- the places of a command: the last is marked
+abbrev pub tail_of : State → List State → List Place
+tail_of s [] = record { state = s; mark = true } ∷ []
+tail_of s (t ∷ ss) = record { state = s; mark = false } ∷ tail_of t ss
+
+-- undo from the last of appended places goes on from the place before them
+undo_appended : (b : List Place) (p : Place) (s : State) (ss : List State) (x : List Place)
+    → undo (base (append_all (record { before = b; present = p; after = [] }) (s ∷ ss)) x)
+    ≡ (if p.mark then Some (record { before = b; present = p; after = tail_of s ss ++ x }) else marked_before b p (tail_of s ss ++ x))
+undo_appended b p s [] x = refl
+undo_appended b p s (t ∷ ss) x = undo_appended (p ∷ b) (record { state = s; mark = false }) t ss x
+
+-- undo of an accepted command stands at the place before it
+pub undo_accepted : (h : History) (s : State) (ss : List State) (x : List Place) → undo (base (accepted h s ss) x) ≡ Some (base h (tail_of s ss ++ x))
+undo_accepted h s ss x = undo_appended h.before (record { state = h.present.state; mark = true }) s ss x
+
+-- redo finds the last of appended places
+redo_appended : (b : List Place) (p : Place) (s : State) (ss : List State) (x : List Place)
+    → marked_after b p (tail_of s ss ++ x) ≡ Some (base (append_all (record { before = b; present = p; after = [] }) (s ∷ ss)) x)
+redo_appended b p s [] x = refl
+redo_appended b p s (t ∷ ss) x = redo_appended (p ∷ b) (record { state = s; mark = false }) t ss x
+
+pub redo_accepted : (h : History) (s : State) (ss : List State) (x : List Place) → redo (base h (tail_of s ss ++ x)) ≡ Some (base (accepted h s ss) x)
+redo_accepted h s ss x = redo_appended h.before (record { state = h.present.state; mark = true }) s ss x
+
+-- appending moves on by as many places, and stands last
+pub position_append_all : (h : History) (ss : List State) → position_of (append_all h ss) ≡ position_of h + length ss
+position_append_all h [] = omega arith
+position_append_all h (s ∷ ss) = position_append_all (append h s) ss ∙ omega arith
+
+pub after_append_all : (h : History) (ss : List State) → h.after ≡ [] → (append_all h ss).after ≡ []
+after_append_all h [] e = e
+after_append_all h (s ∷ ss) e = after_append_all (append h s) ss refl
+
+-- an accepted command stands at a marked last place
+pub base_accepted : (h : History) (s : State) (ss : List State) → base (accepted h s ss) [] ≡ accepted h s ss
+base_accepted h s ss =
+    let end : History = accepted h s ss in
+    ap (λ (a : List Place). record { before = end.before; present = end.present; after = a }) (sym (after_append_all (append (cut (marked h)) s) ss refl))
+
+-- one time more, at the end
+some_again : (x : Option History) → option_and_then (λ k. Some k) x ≡ x
+some_again None = refl
+some_again (Some k) = refl
+
+more_from : (n : ℕ) (move : History → Option History) → ((k : History) → times (suc n) move k ≡ option_and_then move (times n move k)) → (x : Option History) → option_and_then (times (suc n) move) x ≡ option_and_then move (option_and_then (times n move) x)
+more_from n move e None = refl
+more_from n move e (Some k) = e k
+
+pub times_more : (n : ℕ) (move : History → Option History) (h : History) → times (suc n) move h ≡ option_and_then move (times n move h)
+times_more zero move h = some_again (move h)
+times_more (suc n) move h = more_from n move (times_more n move) (move h)
+
+-- either the place is marked and is the one found, or the search goes on
+found_again : (m : Bool) (here : History) (further on : Option History) (h back : History) → (if m then Some here else further) ≡ Some back → on ≡ Some h → redo here ≡ on
+    → (further ≡ Some back → (if m then Some here else on) ≡ Some h → redo back ≡ Some h) → redo back ≡ Some h
+found_again true here further on h back u r e more = let same : here ≡ back = cc in rw (sym same) (e ∙ r)
+found_again false here further on h back u r e more = more u r
+
+-- from p back to the nearest marked place and on again
+redo_undo_from : (before : List Place) (p : Place) (after : List Place) (h back : History) → marked_before before p after ≡ Some back
+    → (if p.mark then Some (record { before = before; present = p; after = after }) else marked_after before p after) ≡ Some h → redo back ≡ Some h
+redo_undo_from [] p after h back u r = absurd (cc)
+redo_undo_from (b ∷ before) p after h back u r =
+    found_again b.mark (record { before = before; present = b; after = p ∷ after }) (marked_before before b (p ∷ after)) (marked_after before b (p ∷ after)) h back u r refl
+    (λ v q. redo_undo_from before b (p ∷ after) h back v q)
+
+pub redo_undo : RedoAfterUndo
+redo_undo h back m u = redo_undo_from h.before h.present h.after h back u (rw m refl)
+
+-- an accepted command reaches states
+record Accepted (h new : History) : Type 0 where
+  first : State
+  others : List State
+  is : new ≡ accepted h first others
+
+accepted_room : (h : History) (states : States) (o : Option Refusal) → IsOk (appended h states o).reply → Accepted h (appended h states o).history
+accepted_room h states (Some r) ok = absurd (let e : false ≡ true = ok in cc)
+accepted_room h states None ok = record { first = states.0; others = states.1; is = refl }
+
+accepted_command : (limit bound : ℕ) (poor : Bool) (h : History) (x : Result States Refusal) → IsOk (commanded limit bound poor h x).reply → Accepted h (commanded limit bound poor h x).history
+accepted_command limit bound poor h (Err r) ok = absurd (let e : false ≡ true = ok in cc)
+accepted_command limit bound poor h (Ok states) ok = accepted_room h states (no_room limit bound poor h) ok
+
+accepted_edit : (limit : ℕ) (poor : Bool) (h : History) (e : Edit) → IsOk (commanded limit 1 poor h (edit_states e h.present.state)).reply → Accepted h (commanded limit 1 poor h (edit_states e h.present.state)).history
+accepted_edit limit poor h e ok = accepted_command limit 1 poor h (edit_states e h.present.state) ok
+
+accepted_call : (limit : ℕ) (call : Call) (poor : Bool) (h : History) → IsTrue (is_command call) → IsOk (outcome limit call poor h).reply → Accepted h (outcome limit call poor h).history
+accepted_call limit Undo poor h c ok = absurd (let e : false ≡ true = c in cc)
+accepted_call limit Redo poor h c ok = absurd (let e : false ≡ true = c in cc)
+accepted_call limit (Goto t) poor h c ok = absurd (let e : false ≡ true = c in cc)
+accepted_call limit Step poor h c ok = accepted_command limit 1 poor h (step_states h.present.state) ok
+accepted_call limit (Run n) poor h c ok = accepted_command limit n poor h (run_states n h.present.state) ok
+accepted_call limit (Until t) poor h c ok = accepted_command limit (until_bound t h.present.state) poor h (until_states t h.present.state) ok
+accepted_call limit (Fill from to cell) poor h c ok = accepted_command limit (cells_between from to) poor h (fill_states from to cell h.present.state) ok
+accepted_call limit (SetCell address cell) poor h c ok = accepted_edit limit poor h (edits.SetCell address cell) ok
+accepted_call limit (MoveProcess w i address) poor h c ok = accepted_edit limit poor h (edits.MoveProcess w i address) ok
+accepted_call limit (Kill w i) poor h c ok = accepted_edit limit poor h (edits.KillProcess w i) ok
+accepted_call limit (Spawn w address) poor h c ok = accepted_edit limit poor h (edits.Spawn w address) ok
+
+-- from the end, n undos lead to h and the places after it, and n redos lead from there to the end
+record Undone (n : ℕ) (h end : History) : Type 0 where
+  follow : List Place
+  back : times n undo end ≡ Some (base h follow)
+  again : times n redo (base h follow) ≡ Some end
+
+one_undone : (n : ℕ) (h end : History) (s : State) (ss : List State) → Undone n (accepted h s ss) end → Undone (suc n) h end
+one_undone n h end s ss u = record {
+  follow = tail_of s ss ++ u.follow;
+  back = times_more n undo end ∙ ap (option_and_then undo) u.back ∙ undo_accepted h s ss u.follow;
+  again = ap (option_and_then (times n redo)) (redo_accepted h s ss u.follow) ∙ u.again;
+}
+
+all_undone : (limit : ℕ) (calls : List Call) (poor : List Bool) (h : History) (s : State) (ss : List State) → AllAccepted limit calls poor (accepted h s ss)
+    → Undone (length calls) (accepted h s ss) (history_after limit calls poor (accepted h s ss))
+all_undone limit [] poor h s ss a = record { follow = []; back = ap (λ (k : History). Some k) (sym (base_accepted h s ss)); again = ap (λ (k : History). Some k) (base_accepted h s ss) }
+all_undone limit (call ∷ calls) poor h s ss a =
+    let k : History = accepted h s ss in
+    let one = accepted_call limit call (first poor) k a.0 a.1 in
+    let more : AllAccepted limit calls (rest poor) (accepted k one.first one.others) = rw one.is at a.2 in
+    one_undone (length calls) k _ one.first one.others (rw one.is (all_undone limit calls (rest poor) k one.first one.others more))
+
+-- as many undos, from wherever the commands began
+some_undone : (limit : ℕ) (call : Call) (calls : List Call) (poor : List Bool) (h : History) → AllAccepted limit (call ∷ calls) poor h → Undone (suc (length calls)) h (history_after limit (call ∷ calls) poor h)
+some_undone limit call calls poor h a =
+    let one = accepted_call limit call (first poor) h a.0 a.1 in
+    let more : AllAccepted limit calls (rest poor) (accepted h one.first one.others) = rw one.is at a.2 in
+    one_undone (length calls) h _ one.first one.others (rw one.is (all_undone limit calls (rest poor) h one.first one.others more))
+
+pub undos_give_back : UndosGiveBack
+undos_give_back limit [] poor h a = (refl, refl)
+undos_give_back limit (call ∷ calls) poor h a = rw (some_undone limit call calls poor h a).back (refl, refl)
+
+pub redos_give_again : RedosGiveAgain
+redos_give_again limit [] poor h back a u = sym u
+redos_give_again limit (call ∷ calls) poor h back a u =
+    let all = some_undone limit call calls poor h a in
+    let same : back ≡ base h all.follow = (let e = all.back in cc) in
+    rw same all.again

@@ -1,0 +1,16 @@
+use Rattle.std.proofs.Common.{◌≡◌, ◌≤◌, ◌+◌, ◌-◌, ◌++◌, List, Result, take, length, vec_len}
+use Rattle.std.specs.Prelude.{vec_capacity}
+use Rattle.mars_session.specs.declared.calls.Standing.{Standing}
+use Rattle.mars_session.specs.declared.calls.Refusal.{Refusal}
+use Rattle.mars_session.specs.Script.{IsScript}
+use Rattle.mars_session.proofs.sessions.Session.apply_all.Given as goal
+
+-- the replies so far are those to the calls so far
+abbrev pub invariant-loop-call : goal.invariant-loop-call
+invariant-loop-call g l = record {
+  replies : List (Result Standing Refusal);
+  items : l.out.items ≡ l.fn.out.items ++ replies;
+  script : IsScript l.fn.self.limit (take l.call-index l.calls) l.fn.self.history replies l.self.history;
+  limit : l.self.limit ≡ l.fn.self.limit;
+  room : vec_len l.out + (length l.calls - l.call-index) ≤ vec_capacity l.out;
+}

@@ -1,0 +1,93 @@
+-- What a command makes of a state: the states that it reaches, one after another, or why it is refused.
+use Rattle.std.specs.Prelude.{ℕ, zero, suc, Bool, ◌+◌, ◌-◌, ◌*◌, ◌==◌, ◌||◌, nat_lt, nat_le, List, [], ◌∷◌, length, Option, Some, None, Result, Ok, Err, if◌then◌else◌}
+use Rattle.mars_cell.specs.declared.instruction.Cell.{Cell}
+use Rattle.mars_core.specs.State.{State, is_over_of}
+use Rattle.mars_core.specs.Turn.{turn_of}
+use Rattle.mars_core.specs.Edit.{edit_fault, edited}
+use Rattle.mars_core.specs.declared.journal.Edit.{Edit}
+use Rattle.mars_core.specs.declared.journal.Edit.TheVariants as edits
+use Rattle.mars_core.specs.declared.journal.EditFault.{EditFault}
+use Rattle.mars_core.specs.declared.journal.EditFault.TheVariants as faults
+use Rattle.mars_session.specs.declared.calls.Refusal.{Refusal}
+use Rattle.mars_session.specs.declared.calls.Refusal.TheVariants.{Count, Address, FieldOutside, NoSuchWarrior, NoSuchProcess, WarriorDead, QueueFull, Over, CyclePassed}
+
+-- the most turns or cells of one command
+abbrev pub command_limit : ℕ
+command_limit = 1000000
+
+-- the states that a command reaches: the first, and the others in order; so there is always one
+abbrev pub States : Type 0
+States = State × List State
+
+-- the turns from s on, at most n of them, up to the first state that is done
+abbrev pub turns_until : (State → Bool) → ℕ → State → List State
+turns_until done zero s = []
+turns_until done (suc n) s = if done s then [] else (turn_of s ∷ turns_until done n (turn_of s))
+
+-- the battle is over, or stands in cycle c
+abbrev pub in_cycle : ℕ → State → Bool
+in_cycle c s = is_over_of s || s.cycle == c
+
+-- where the turns of a command stop: in a cycle, or where the battle is over
+abbrev pub stops_at : Option ℕ → State → Bool
+stops_at None s = is_over_of s
+stops_at (Some c) s = in_cycle c s
+
+-- one turn
+abbrev pub step_states : State → Result States Refusal
+step_states s = if is_over_of s then Err Over else Ok (turn_of s, [])
+
+-- n turns, or as many as there are
+abbrev pub run_states : ℕ → State → Result States Refusal
+run_states n s =
+    if n == 0 || nat_lt command_limit n then Err Count
+    else if is_over_of s then Err Over
+    else Ok (turn_of s, turns_until (stops_at None) (n - 1) (turn_of s))
+
+-- the most turns up to cycle c: each cycle has at most one for each warrior, the dead counted too
+abbrev pub until_bound : ℕ → State → ℕ
+until_bound c s = (c - s.cycle) * length s.queues
+
+-- the turns up to cycle c, or as many as there are
+abbrev pub until_states : ℕ → State → Result States Refusal
+until_states c s =
+    if nat_lt command_limit (until_bound c s) then Err Count
+    else if is_over_of s then Err Over
+    else if nat_le c s.cycle then Err (CyclePassed s.cycle)
+    else Ok (turn_of s, turns_until (stops_at (Some c)) (until_bound c s - 1) (turn_of s))
+
+-- the refusal for the fault of an edit
+abbrev pub refusal_of : EditFault → Refusal
+refusal_of faults.Address = Address
+refusal_of faults.FieldOutside = FieldOutside
+refusal_of faults.NoSuchWarrior = NoSuchWarrior
+refusal_of faults.NoSuchProcess = NoSuchProcess
+refusal_of faults.WarriorDead = WarriorDead
+refusal_of faults.QueueFull = QueueFull
+
+-- these states, where there is no fault
+abbrev pub unless_fault : Option EditFault → States → Result States Refusal
+unless_fault None states = Ok states
+unless_fault (Some fault) states = Err (refusal_of fault)
+
+-- one edit
+abbrev pub edit_states : Edit → State → Result States Refusal
+edit_states e s = unless_fault (edit_fault s e) (edited s e, [])
+
+-- n cells from an address on are set, one after another
+abbrev pub fills : ℕ → ℕ → Cell → State → List State
+fills zero address cell s = []
+fills (suc n) address cell s =
+    let next = edited s (edits.SetCell address cell) in next ∷ fills n (address + 1) cell next
+
+-- the number of cells from one address to another, both included
+abbrev pub cells_between : ℕ → ℕ → ℕ
+cells_between from to = (to + 1) - from
+
+-- the cells from one address to another are set, both included; where the last one can be set, so can each
+abbrev pub fill_states : ℕ → ℕ → Cell → State → Result States Refusal
+fill_states from to cell s =
+    let first = edited s (edits.SetCell from cell) in
+    if nat_lt command_limit (cells_between from to) then Err Count
+    else if nat_lt to from then Err Address
+    else unless_fault (edit_fault s (edits.SetCell to cell)) (first, fills (to - from) (from + 1) cell first)

@@ -1,0 +1,137 @@
+-- Laws over the definitions alone: what undo and redo give back, and what holds along a tape.
+use Rattle.std.specs.Prelude.{◌≡◌, ◌≤◌, ◌<◌, ◌+◌, ◌↔◌, ◌⊎◌, ◌==◌, ◌++◌, ℕ, zero, suc, Bool, true, false, List, [], ◌∷◌, length, take, Option, None, Some, Ok, IsTrue, IsOk, IsSome, IsSomeAnd, option_and_then, option_map}
+use Rattle.mars_core.specs.State.{State}
+use Rattle.mars_core.specs.Validity.{IsValid}
+use Rattle.mars_session.specs.declared.calls.Call.{Call}
+use Rattle.mars_session.specs.declared.calls.Call.TheVariants.{Step, Run, Until, SetCell, Fill, MoveProcess, Kill, Spawn, Undo, Redo, Goto}
+use Rattle.mars_session.specs.History.{Place, History, beginning, places, position_of, last_of, accepted, undo, redo, goto, first_turns, last_turns}
+use Rattle.mars_session.specs.Commands.{States, in_cycle, until_states}
+use Rattle.mars_session.specs.Tapes.{IsTape}
+use Rattle.mars_session.specs.Script.{outcome, history_after, first, rest}
+
+-- a move so many times, where each time it is accepted
+abbrev pub times : ℕ → (History → Option History) → History → Option History
+times zero move h = Some h
+times (suc n) move h = option_and_then (times n move) (move h)
+
+-- it is no move
+abbrev pub is_command : Call → Bool
+is_command Step = true
+is_command (Run n) = true
+is_command (Until c) = true
+is_command (SetCell address cell) = true
+is_command (Fill from to cell) = true
+is_command (MoveProcess w i address) = true
+is_command (Kill w i) = true
+is_command (Spawn w address) = true
+is_command Undo = false
+is_command Redo = false
+is_command (Goto t) = false
+
+-- the calls are commands, and each is accepted
+abbrev pub AllAccepted : ℕ → List Call → List Bool → History → Type 0
+AllAccepted limit [] poor h = Unit {0}
+AllAccepted limit (call ∷ calls) poor h =
+    IsTrue (is_command call) × IsOk (outcome limit call (first poor) h).reply
+    × AllAccepted limit calls (rest poor) (outcome limit call (first poor) h).history
+
+-- as many undos as there were accepted commands are accepted, and give back the state and the position
+abbrev pub UndosGiveBack : Type 0
+UndosGiveBack = (limit : ℕ) (calls : List Call) (poor : List Bool) (h : History) → AllAccepted limit calls poor h
+    → IsSomeAnd (times (length calls) undo (history_after limit calls poor h))
+    (λ back. (back.present.state ≡ h.present.state) × (position_of back ≡ position_of h))
+
+-- as many redos after them are accepted, and give the very history from after the commands
+abbrev pub RedosGiveAgain : Type 0
+RedosGiveAgain = (limit : ℕ) (calls : List Call) (poor : List Bool) (h back : History) → AllAccepted limit calls poor h
+    → times (length calls) undo (history_after limit calls poor h) ≡ Some back
+    → times (length calls) redo back ≡ Some (history_after limit calls poor h)
+
+-- from a marked place, redo after an accepted undo gives back the history
+abbrev pub RedoAfterUndo : Type 0
+RedoAfterUndo = (h back : History) → h.present.mark ≡ true → undo h ≡ Some back → redo back ≡ Some h
+
+-- a battle's first place makes a tape
+abbrev pub BeginningIsTape : Type 0
+BeginningIsTape = (s : State) → IsValid s → IsTape (beginning s)
+
+-- every call, accepted or refused, keeps a tape
+abbrev pub CallsKeepTapes : Type 0
+CallsKeepTapes = (limit : ℕ) (call : Call) (poor : Bool) (h : History) → IsTape h → IsTape (outcome limit call poor h).history
+
+-- so does every list of calls
+abbrev pub ScriptsKeepTapes : Type 0
+ScriptsKeepTapes = (limit : ℕ) (calls : List Call) (poor : List Bool) (h : History) → IsTape h → IsTape (history_after limit calls poor h)
+
+-- every call keeps the places within the limit
+abbrev pub CallsKeepLimit : Type 0
+CallsKeepLimit = (limit : ℕ) (call : Call) (poor : Bool) (h : History) → last_of h ≤ limit → last_of (outcome limit call poor h).history ≤ limit
+
+-- a number never falls from a state along the places, and rises by at most one a place
+abbrev pub RisesFrom : (State → ℕ) → State → List Place → Type 0
+RisesFrom number s [] = Unit {0}
+RisesFrom number s (p ∷ ps) = (number s ≤ number p.state) × (number p.state ≤ number s + 1) × RisesFrom number p.state ps
+
+abbrev pub RisesAlong : (State → ℕ) → List Place → Type 0
+RisesAlong number [] = Unit {0}
+RisesAlong number (p ∷ ps) = RisesFrom number p.state ps
+
+-- turns and cycles never fall along a tape, and rise by at most one a place
+abbrev pub TurnsAndCyclesRise : Type 0
+TurnsAndCyclesRise = (h : History) → IsTape h → RisesAlong (λ (s : State). s.turns) (places h) × RisesAlong (λ (s : State). s.cycle) (places h)
+
+-- a tape has a place after so many turns just where they lie between those of its first and its last place
+abbrev pub GotoBetween : Type 0
+GotoBetween = (h : History) (t : ℕ) → IsTape h → IsSome (goto t h) ↔ ((first_turns h ≤ t) × (t ≤ last_turns h))
+
+-- whether there is a place of this number, and it passes the test
+abbrev pub passes_at : (Place → Bool) → List Place → ℕ → Bool
+passes_at test [] i = false
+passes_at test (p ∷ ps) zero = test p
+passes_at test (p ∷ ps) (suc i) = passes_at test ps i
+
+-- the greatest number below n that passes, where one does
+abbrev pub IsGreatestBelow : (ℕ → Bool) → ℕ → Option ℕ → Type 0
+IsGreatestBelow passes n None = (k : ℕ) → k < n → passes k ≡ false
+IsGreatestBelow passes n (Some i) = (i < n) × (passes i ≡ true) × ((k : ℕ) → i < k → k < n → passes k ≡ false)
+
+-- the least number from n on and below m that passes, where one does
+abbrev pub IsLeastBetween : (ℕ → Bool) → ℕ → ℕ → Option ℕ → Type 0
+IsLeastBetween passes n m None = (k : ℕ) → n ≤ k → k < m → passes k ≡ false
+IsLeastBetween passes n m (Some i) = (n ≤ i) × (i < m) × (passes i ≡ true) × ((k : ℕ) → n ≤ k → k < i → passes k ≡ false)
+
+-- a move leads to the same places
+abbrev pub MovesKeepPlaces : Type 0
+MovesKeepPlaces = (h to : History) → ((undo h ≡ Some to) ⊎ ((redo h ≡ Some to) ⊎ ((t : ℕ) × (goto t h ≡ Some to)))) → places to ≡ places h
+
+-- undo leads to the nearest marked place before the present one
+abbrev pub UndoFindsNearest : Type 0
+UndoFindsNearest = (h : History) → IsGreatestBelow (passes_at (λ (p : Place). p.mark) (places h)) (position_of h) (option_map position_of (undo h))
+
+-- redo leads to the nearest marked place after the present one
+abbrev pub RedoFindsNearest : Type 0
+RedoFindsNearest = (h : History) → IsLeastBetween (passes_at (λ (p : Place). p.mark) (places h)) (position_of h + 1) (length (places h)) (option_map position_of (redo h))
+
+-- goto leads to the first place after so many turns
+abbrev pub GotoFindsFirst : Type 0
+GotoFindsFirst = (h : History) (t : ℕ) → IsLeastBetween (passes_at (λ (p : Place). p.state.turns == t) (places h)) 0 (length (places h)) (option_map position_of (goto t h))
+
+-- the places of a command: the last is marked
+abbrev pub command_places : State → List State → List Place
+command_places s [] = record { state = s; mark = true } ∷ []
+command_places s (t ∷ ss) = record { state = s; mark = false } ∷ command_places t ss
+
+-- an accepted command keeps the places before the present one, marks that, and appends its own, where the last is the present one
+abbrev pub CommandsAppend : Type 0
+CommandsAppend = (h : History) (s : State) (ss : List State)
+    → (places (accepted h s ss) ≡ take (position_of h) (places h) ++ record { state = h.present.state; mark = true } ∷ command_places s ss)
+    × (position_of (accepted h s ss) + 1 ≡ length (places (accepted h s ss)))
+
+-- the last state of a command
+abbrev pub last_state : State → List State → State
+last_state s [] = s
+last_state s (t ∷ ss) = last_state t ss
+
+-- turns up to a cycle end in it, or where the battle is over
+abbrev pub UntilArrives : Type 0
+UntilArrives = (c : ℕ) (s : State) (states : States) → IsValid s → until_states c s ≡ Ok states → IsTrue (in_cycle c (last_state states.0 states.1))

@@ -1,0 +1,210 @@
+//! The commands, over any tape.
+ghost use Rattle.std.specs.Prelude.{◌≡◌, ℕ, ◌+◌, ◌≤◌, ◌<◌, [], Some, None, true, false, IfErr, OnOk, OnErr, MatchOption, length, ◌*◌, ◌-◌};
+ghost use Rattle.mars_session.specs.History.{History, position_of, last_of, marked, cut, append_all, accepted};
+ghost use Rattle.mars_session.specs.Commands.{command_limit, turns_until, stops_at, fills, refusal_of, edit_states};
+ghost use Rattle.mars_core.specs.Edit.{edit_fault};
+ghost use Rattle.mars_session.specs.Script.{standing_of, no_room, is_memory, is_poor, commanded, IsAnswer};
+
+use crate::calls::{Call, Refusal, Standing};
+use crate::tapes::Tape;
+use mars_cell::Cell;
+use mars_core::{Battle, Edit, EditFault};
+
+/// The most turns or cells of one command, and the highest limit of a history.
+pub const COMMAND_LIMIT: u64 = 1_000_000;
+
+/// Where a tape stands.
+pub fn standing<T: Tape>(tape: &T) -> Standing
+    ensures { result ≡ standing_of (T.history tape.now) }
+{
+    let battle = tape.now();
+    Standing {
+        turns: battle.turns() as u64,
+        cycle: battle.cycle() as u64,
+        next: battle.next() as u64,
+        alive: battle.survivors() as u64,
+        position: tape.position(),
+        last: tape.len() - 1,
+    }
+}
+
+/// Makes room for the places of a command, marks the present one and drops what follows.
+fn prepare<T: Tape>(tape: &mut T, limit: u64, bound: u64) -> Result<(), Refusal>
+    requires { 1 ≤ bound }
+    ensures room { OnOk result (no_room limit bound false (T.history tape.old) ≡ None) }
+    ensures refused { IfErr result (λ r. no_room limit bound (is_memory r) (T.history tape.old) ≡ Some r) }
+    ensures ok { OnOk result (T.history tape.new ≡ cut (marked (T.history tape.old))) }
+    ensures reserved { OnOk result (bound ≤ T.room tape.new) }
+    ensures err { OnErr result (T.history tape.new ≡ T.history tape.old) }
+{
+    let left = limit.saturating_sub(tape.position());
+    if bound > left {
+        return Err(Refusal::JournalFull(left));
+    }
+    if tape.reserve(bound).is_err() {
+        return Err(Refusal::OutOfMemory);
+    }
+    tape.set_mark();
+    tape.cut();
+    Ok(())
+}
+
+/// Whether turns stop at a battle: where it is over, or stands in this cycle.
+fn stops(battle: &Battle, cycle: Option<u64>) -> bool
+    ensures { result ≡ stops_at cycle battle.now }
+{
+    match cycle {
+        None => battle.is_over(),
+        Some(c) => battle.is_over() || battle.cycle() as u64 == c,
+    }
+}
+
+/// Appends the turns, at most n, up to the first place where they stop.
+fn turn_until<T: Tape>(tape: &mut T, n: u64, cycle: Option<u64>)
+    requires last { (T.history tape.old).after ≡ [] }
+    requires room { n ≤ T.room tape.old }
+    ensures { T.history tape.new ≡ append_all (T.history tape.old) (turns_until (stops_at cycle) n (T.history tape.old).present.state) }
+{
+    let mut left = n;
+    while left > 0 && !stops(tape.now(), cycle) {
+        tape.turn();
+        left -= 1;
+    }
+}
+
+/// One turn.
+pub fn step<T: Tape>(tape: &mut T, limit: u64) -> Result<Standing, Refusal>
+    ensures { IsAnswer limit Call.Step (T.history tape.old) result (T.history tape.new) }
+{
+    if tape.now().is_over() {
+        return Err(Refusal::Over);
+    }
+    prepare(tape, limit, 1)?;
+    tape.turn();
+    tape.set_mark();
+    Ok(standing(tape))
+}
+
+/// So many turns, or as many as there are.
+pub fn run<T: Tape>(tape: &mut T, limit: u64, n: u64) -> Result<Standing, Refusal>
+    ensures { IsAnswer limit (Call.Run n) (T.history tape.old) result (T.history tape.new) }
+{
+    if n == 0 || n > COMMAND_LIMIT {
+        return Err(Refusal::Count);
+    }
+    if tape.now().is_over() {
+        return Err(Refusal::Over);
+    }
+    prepare(tape, limit, n)?;
+    tape.turn();
+    turn_until(tape, n - 1, None);
+    tape.set_mark();
+    Ok(standing(tape))
+}
+
+/// The product, where one command may make so many turns.
+fn few_turns(cycles: u64, warriors: u64) -> Option<u64>
+    ensures { MatchOption result (command_limit < cycles * warriors) (λ n. (n ≡ cycles * warriors) × (n ≤ command_limit)) }
+{
+    cycles.checked_mul(warriors).filter(|n| *n <= COMMAND_LIMIT)
+}
+
+/// How many warriors there are, the dead counted too.
+fn warriors(battle: &Battle) -> u64
+    ensures value { result ≡ length battle.now.queues }
+    ensures some { 1 ≤ result }
+{
+    let _params = battle.params();
+    battle.warriors() as u64
+}
+
+/// Turns up to a cycle, or as many as there are.
+pub fn until<T: Tape>(tape: &mut T, limit: u64, cycle: u64) -> Result<Standing, Refusal>
+    ensures { IsAnswer limit (Call.Until cycle) (T.history tape.old) result (T.history tape.new) }
+{
+    let now = tape.now();
+    let reached = now.cycle() as u64;
+    let Some(n) = few_turns(cycle.saturating_sub(reached), warriors(now)) else {
+        return Err(Refusal::Count);
+    };
+    if now.is_over() {
+        return Err(Refusal::Over);
+    }
+    if cycle <= reached {
+        return Err(Refusal::CyclePassed(reached));
+    }
+    prepare(tape, limit, n)?;
+    tape.turn();
+    turn_until(tape, n - 1, Some(cycle));
+    tape.set_mark();
+    Ok(standing(tape))
+}
+
+/// The refusal for the fault of an edit.
+fn refusal(fault: EditFault) -> Refusal
+    ensures { result ≡ refusal_of fault }
+{
+    match fault {
+        EditFault::Address => Refusal::Address,
+        EditFault::FieldOutside => Refusal::FieldOutside,
+        EditFault::NoSuchWarrior => Refusal::NoSuchWarrior,
+        EditFault::NoSuchProcess => Refusal::NoSuchProcess,
+        EditFault::WarriorDead => Refusal::WarriorDead,
+        EditFault::QueueFull => Refusal::QueueFull,
+    }
+}
+
+/// One edit.
+pub fn edit<T: Tape>(tape: &mut T, limit: u64, edit: Edit) -> Result<Standing, Refusal>
+    ensures { commanded limit 1 (is_poor result) (T.history tape.old) (edit_states edit (T.history tape.old).present.state) ≡ record { history = T.history tape.new; reply = result } }
+{
+    if let Some(fault) = tape.now().edit_fault(edit) {
+        return Err(refusal(fault));
+    }
+    prepare(tape, limit, 1)?;
+    tape.edit(edit);
+    tape.set_mark();
+    Ok(standing(tape))
+}
+
+/// Sets the cells after the first address up to the last, one place each.
+#[tactic(auto, using(crate::proofs::Turns::fault_below))]
+fn fill_cells<T: Tape>(tape: &mut T, first: u64, last: u64, cell: Cell)
+    requires last { (T.history tape.old).after ≡ [] }
+    requires room { last - first ≤ T.room tape.old }
+    requires accepted { edit_fault (T.history tape.old).present.state (Edit.SetCell last cell) ≡ None }
+    ensures { T.history tape.new ≡ append_all (T.history tape.old) (fills (last - first) (first + 1) cell (T.history tape.old).present.state) }
+{
+    let mut address = first;
+    while address < last {
+        address += 1;
+        tape.edit(Edit::SetCell(address, cell));
+    }
+}
+
+/// The cells from one address to another, both included, are set.
+#[tactic(auto, using(crate::proofs::Turns::fault_kept, crate::proofs::Turns::fault_below))]
+pub fn fill<T: Tape>(
+    tape: &mut T,
+    limit: u64,
+    from: u64,
+    to: u64,
+    cell: Cell,
+) -> Result<Standing, Refusal>
+    ensures { IsAnswer limit (Call.Fill from to cell) (T.history tape.old) result (T.history tape.new) }
+{
+    if from <= to && to - from >= COMMAND_LIMIT {
+        return Err(Refusal::Count);
+    }
+    if to < from {
+        return Err(Refusal::Address);
+    }
+    if let Some(fault) = tape.now().edit_fault(Edit::SetCell(to, cell)) {
+        return Err(refusal(fault));
+    }
+    prepare(tape, limit, to - from + 1)?;
+    tape.edit(Edit::SetCell(from, cell));
+    fill_cells(tape, from, to, cell);
+    tape.set_mark();
+    Ok(standing(tape))
+}

@@ -1,0 +1,12 @@
+//! A copy of a battle that a tape keeps.
+
+use mars_core::Battle;
+
+/// A copy of a battle, for one place.
+#[derive(Drop)]
+pub struct Kept {
+    /// The copy.
+    pub battle: Battle,
+    /// Whether its place is marked.
+    pub mark: bool,
+}

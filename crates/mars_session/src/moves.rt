@@ -1,0 +1,77 @@
+//! The moves to places that are in the history, over any tape.
+ghost use Rattle.std.specs.Prelude.{◌≡◌, ℕ, ◌≤◌};
+ghost use Rattle.mars_session.specs.History.{position_of, last_of, rewound, undo, redo, goto, first_turns, last_turns};
+ghost use Rattle.mars_session.specs.Script.{moved};
+
+use crate::calls::{Refusal, Standing};
+use crate::commands::standing;
+use crate::tapes::Tape;
+
+/// Goes to the place of this number.
+fn go_to<T: Tape>(tape: &mut T, position: u64)
+    requires { position ≤ last_of (T.history tape.old) }
+    ensures places { rewound (T.history tape.new) ≡ rewound (T.history tape.old) }
+    ensures position { position_of (T.history tape.new) ≡ position }
+{
+    'back: while tape.position() > position {
+        tape.back();
+    }
+    'on: while tape.position() < position {
+        tape.forward();
+    }
+}
+
+/// To the nearest marked place before.
+pub fn undo<T: Tape>(tape: &mut T) -> Result<Standing, Refusal>
+    ensures { moved (T.history tape.old) Refusal.NothingToUndo (undo (T.history tape.old)) ≡ record { history = T.history tape.new; reply = result } }
+{
+    let start = tape.position();
+    'back: while tape.position() > 0 {
+        tape.back();
+        if tape.is_marked() {
+            return Ok(standing(tape));
+        }
+    }
+    go_to(tape, start);
+    Err(Refusal::NothingToUndo)
+}
+
+/// To the nearest marked place after.
+pub fn redo<T: Tape>(tape: &mut T) -> Result<Standing, Refusal>
+    ensures { moved (T.history tape.old) Refusal.NothingToRedo (redo (T.history tape.old)) ≡ record { history = T.history tape.new; reply = result } }
+{
+    let start = tape.position();
+    'on: while tape.position() < tape.len() - 1 {
+        tape.forward();
+        if tape.is_marked() {
+            return Ok(standing(tape));
+        }
+    }
+    go_to(tape, start);
+    Err(Refusal::NothingToRedo)
+}
+
+/// How many turns the present place has.
+fn turns_now<T: Tape>(tape: &T) -> u64
+    ensures { result ≡ (T.history tape.now).present.state.turns }
+{
+    tape.now().turns() as u64
+}
+
+/// To the first place after so many turns.
+pub fn goto<T: Tape>(tape: &mut T, turns: u64) -> Result<Standing, Refusal>
+    ensures { moved (T.history tape.old) (Refusal.NotInHistory (first_turns (T.history tape.old)) (last_turns (T.history tape.old))) (goto turns (T.history tape.old)) ≡ record { history = T.history tape.new; reply = result } }
+{
+    let start = tape.position();
+    go_to(tape, 0);
+    let first = turns_now(tape);
+    'on: while turns_now(tape) != turns && tape.position() < tape.len() - 1 {
+        tape.forward();
+    }
+    let last = turns_now(tape);
+    if last == turns {
+        return Ok(standing(tape));
+    }
+    go_to(tape, start);
+    Err(Refusal::NotInHistory(first, last))
+}

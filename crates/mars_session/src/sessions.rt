@@ -1,0 +1,175 @@
+//! A debugger's session over a tape.
+ghost use Rattle.std.specs.Prelude.{◌≡◌, ◌++◌, List, OnOk, OnErr, Result};
+ghost use Rattle.mars_session.specs.declared.calls.Standing.{Standing};
+ghost use Rattle.mars_session.specs.declared.calls.Refusal.{Refusal};
+ghost use Rattle.mars_session.specs.Script.{SessionState, standing_of, IsScript, Answers};
+
+use crate::calls::{Call, Refusal, Reply, Standing};
+use crate::tapes::Tape;
+use crate::{commands, moves};
+use mars_cell::Cell;
+use mars_core::{Battle, Edit};
+use std::alloc::AllocError;
+use std::marker::Model;
+
+/// A session: a tape, and the most places after its first.
+#[derive(Drop)]
+pub struct Session<T: Tape> {
+    tape: T,
+    limit: u64,
+}
+
+impl<T: Tape> Model for Session<T> {
+    ghost use Rattle.mars_session.specs.Script.{SessionState};
+
+    ghost Value = { SessionState };
+
+    ghost view = { λ s. record { history = T.history s.tape; limit = s.limit } };
+}
+
+impl<T: Tape> Session<T> {
+    /// A session over a tape, with the most places that may stand after the first one.
+    pub fn new(tape: T, limit: u64) -> Self
+        ensures { result ≡ record { history = T.history tape; limit = limit } }
+    {
+        Session { tape, limit }
+    }
+
+    /// The battle of the present place.
+    pub fn battle(&self) -> &Battle
+        ensures { result.now ≡ self.now.history.present.state }
+    {
+        self.tape.now()
+    }
+
+    /// Where the session stands.
+    pub fn standing(&self) -> Standing
+        ensures { result ≡ standing_of self.now.history }
+    {
+        commands::standing(&self.tape)
+    }
+
+    /// Makes one turn.
+    pub fn step(&mut self) -> Result<Standing, Refusal>
+        ensures { Answers self.old Call.Step result self.new }
+    {
+        commands::step(&mut self.tape, self.limit)
+    }
+
+    /// Makes so many turns, or as many as there are.
+    pub fn run(&mut self, n: u64) -> Result<Standing, Refusal>
+        ensures { Answers self.old (Call.Run n) result self.new }
+    {
+        commands::run(&mut self.tape, self.limit, n)
+    }
+
+    /// Makes turns up to a cycle, or as many as there are.
+    pub fn until(&mut self, cycle: u64) -> Result<Standing, Refusal>
+        ensures { Answers self.old (Call.Until cycle) result self.new }
+    {
+        commands::until(&mut self.tape, self.limit, cycle)
+    }
+
+    /// Sets the cell at an address.
+    pub fn set_cell(&mut self, address: u64, cell: Cell) -> Result<Standing, Refusal>
+        ensures { Answers self.old (Call.SetCell address cell) result self.new }
+    {
+        commands::edit(&mut self.tape, self.limit, Edit::SetCell(address, cell))
+    }
+
+    /// Sets the cells from one address to another, both included, one place each.
+    pub fn fill(&mut self, from: u64, to: u64, cell: Cell) -> Result<Standing, Refusal>
+        ensures { Answers self.old (Call.Fill from to cell) result self.new }
+    {
+        commands::fill(&mut self.tape, self.limit, from, to, cell)
+    }
+
+    /// Moves a process of a warrior, by its place in the queue, to an address.
+    pub fn move_process(
+        &mut self,
+        warrior: u64,
+        place: u64,
+        address: u64,
+    ) -> Result<Standing, Refusal>
+        ensures { Answers self.old (Call.MoveProcess warrior place address) result self.new }
+    {
+        commands::edit(
+            &mut self.tape,
+            self.limit,
+            Edit::MoveProcess(warrior, place, address),
+        )
+    }
+
+    /// Ends a process of a warrior, by its place in the queue.
+    pub fn kill(&mut self, warrior: u64, place: u64) -> Result<Standing, Refusal>
+        ensures { Answers self.old (Call.Kill warrior place) result self.new }
+    {
+        commands::edit(
+            &mut self.tape,
+            self.limit,
+            Edit::KillProcess(warrior, place),
+        )
+    }
+
+    /// Gives a warrior a further process at an address.
+    pub fn spawn(&mut self, warrior: u64, address: u64) -> Result<Standing, Refusal>
+        ensures { Answers self.old (Call.Spawn warrior address) result self.new }
+    {
+        commands::edit(&mut self.tape, self.limit, Edit::Spawn(warrior, address))
+    }
+
+    /// Goes to the nearest marked place before.
+    pub fn undo(&mut self) -> Result<Standing, Refusal>
+        ensures { Answers self.old Call.Undo result self.new }
+    {
+        moves::undo(&mut self.tape)
+    }
+
+    /// Goes to the nearest marked place after.
+    pub fn redo(&mut self) -> Result<Standing, Refusal>
+        ensures { Answers self.old Call.Redo result self.new }
+    {
+        moves::redo(&mut self.tape)
+    }
+
+    /// Goes to the first place after so many turns.
+    pub fn goto(&mut self, turns: u64) -> Result<Standing, Refusal>
+        ensures { Answers self.old (Call.Goto turns) result self.new }
+    {
+        moves::goto(&mut self.tape, turns)
+    }
+    /// Makes any call.
+    pub fn call(&mut self, call: Call) -> Result<Standing, Refusal>
+        ensures { Answers self.old call result self.new }
+    {
+        match call {
+            Call::Step => self.step(),
+            Call::Run(n) => self.run(n),
+            Call::Until(cycle) => self.until(cycle),
+            Call::SetCell(address, cell) => self.set_cell(address, cell),
+            Call::Fill(from, to, cell) => self.fill(from, to, cell),
+            Call::MoveProcess(warrior, place, address) => self.move_process(
+                warrior, place, address,
+            ),
+            Call::Kill(warrior, place) => self.kill(warrior, place),
+            Call::Spawn(warrior, address) => self.spawn(warrior, address),
+            Call::Undo => self.undo(),
+            Call::Redo => self.redo(),
+            Call::Goto(turns) => self.goto(turns),
+        }
+    }
+
+    /// Makes each call in order and appends its reply. Room for all replies is made first; where that is refused, nothing is done.
+    pub fn apply_all(&mut self, calls: &[Call], out: &mut Vec<Reply>) -> Result<(), AllocError>
+        ensures ok { OnOk result ((replies : List (Result Standing Refusal)) × (out.new.items ≡ out.old.items ++ replies) × IsScript self.old.limit calls.now self.old.history replies self.new.history) }
+        ensures limit { self.new.limit ≡ self.old.limit }
+        ensures err { OnErr result ((self.new ≡ self.old) × (out.new.items ≡ out.old.items)) }
+    {
+        out.reserve(calls.len())?;
+        for call in calls {
+            let reply = self.call(*call);
+            out.push(reply).unwrap();
+        }
+        Ok(())
+    }
+}

@@ -1,0 +1,75 @@
+//! What a session asks of whatever keeps its history.
+ghost use Rattle.std.specs.Prelude.{◌≡◌, ℕ, ◌+◌, ◌≤◌, [], None, false, OnOk, IsOk};
+ghost use Rattle.mars_core.specs.State.{is_over_of};
+ghost use Rattle.mars_core.specs.Turn.{turn_of};
+ghost use Rattle.mars_core.specs.Edit.{edit_fault, edited};
+ghost use Rattle.mars_session.specs.History.{History, position_of, last_of, following, marked, cut, append, back, forward};
+
+use mars_core::{Battle, Edit};
+use std::alloc::AllocError;
+
+/// A tape of the places that a battle has been at, one of them the present one. Each place may be marked.
+pub trait Tape {
+    /// The places, and which of them is the present one.
+    ghost history: { Self → History };
+
+    /// How many places may be appended once what follows is dropped.
+    ghost room: { Self → ℕ };
+
+    /// The battle of the present place.
+    fn now(&self) -> &Battle
+        ensures { result.now ≡ (history self.now).present.state };
+
+    /// The present place's number, counted from 0.
+    fn position(&self) -> u64
+        ensures { result ≡ position_of (history self.now) };
+
+    /// How many places there are.
+    fn len(&self) -> u64
+        ensures { result ≡ last_of (history self.now) + 1 };
+
+    /// Whether the present place is marked.
+    fn is_marked(&self) -> bool
+        ensures { result ≡ (history self.now).present.mark };
+
+    /// Marks the present place.
+    fn set_mark(&mut self)
+        ensures places { history self.new ≡ marked (history self.old) }
+        ensures room { room self.old ≤ room self.new };
+
+    /// Makes room for so many places after the present one.
+    fn reserve(&mut self, n: u64) -> Result<(), AllocError>
+        ensures places { history self.new ≡ history self.old }
+        ensures ok { OnOk result (n ≤ room self.new) }
+        ensures enough { n ≤ room self.old → IsOk result }
+        ensures followed { n ≤ following (history self.old) → IsOk result };
+
+    /// Drops the places after the present one.
+    fn cut(&mut self)
+        ensures places { history self.new ≡ cut (history self.old) }
+        ensures room { room self.old ≤ room self.new };
+
+    /// Appends the present place's turn, and goes there.
+    fn turn(&mut self)
+        requires last { (history self.old).after ≡ [] }
+        requires room { 1 ≤ room self.old }
+        requires runs { is_over_of (history self.old).present.state ≡ false }
+        ensures places { history self.new ≡ append (history self.old) (turn_of (history self.old).present.state) }
+        ensures room { room self.old ≤ room self.new + 1 };
+
+    /// Appends what an edit makes of the present place, and goes there.
+    fn edit(&mut self, edit: Edit)
+        requires last { (history self.old).after ≡ [] }
+        requires room { 1 ≤ room self.old }
+        requires accepted { edit_fault (history self.old).present.state edit ≡ None }
+        ensures places { history self.new ≡ append (history self.old) (edited (history self.old).present.state edit) }
+        ensures room { room self.old ≤ room self.new + 1 };
+
+    /// Goes one place back, where there is one.
+    fn back(&mut self)
+        ensures { history self.new ≡ back (history self.old) };
+
+    /// Goes one place on, where there is one.
+    fn forward(&mut self)
+        ensures { history self.new ≡ forward (history self.old) };
+}

@@ -1,0 +1,168 @@
+//! A tape of whole copies.
+ghost use Rattle.std.specs.Prelude.{◌≡◌, ℕ, ◌+◌, ◌-◌, ◌<◌, ◌≤◌, [], None, false, true, OnOk, OnErr, IsOk, MatchResult, length, slice_set, vec_len, vec_capacity};
+ghost use Rattle.mars_core.specs.State.{is_over_of};
+ghost use Rattle.mars_core.specs.Turn.{turn_of};
+ghost use Rattle.mars_core.specs.Edit.{edit_fault, edited};
+ghost use Rattle.mars_core.specs.Shape.{SameShape};
+ghost use Rattle.mars_session.specs.History.{History, beginning, marked, cut, append, back, forward};
+ghost use Rattle.mars_session.specs.Whole.{kept_at, whole_history, IsGrown};
+
+use crate::copies::Kept;
+use crate::tapes::Tape;
+use mars_core::{Battle, Edit};
+use std::alloc::{AllocError, Global};
+use std::marker::Model;
+
+/// A tape that keeps a copy of each place's battle, and copies to spare.
+#[derive(Drop)]
+pub struct WholeTape {
+    alloc: Global,
+    copies: Vec<Kept>,
+    at: usize,
+    len: usize,
+}
+
+impl Model for WholeTape {
+    ghost use Rattle.std.specs.Prelude.{◌+◌, ◌-◌, length};
+    ghost use Rattle.mars_session.specs.Whole.{Taped, IsWhole, whole_history};
+
+    ghost Value = { Taped };
+
+    ghost view = { λ t. record { history = whole_history t.copies.items t.at t.len; room = length t.copies.items - (t.at + 1) } };
+
+    ghost invariant = { λ t. IsWhole t.copies.items t.at t.len };
+}
+
+/// Copies the present battle over the next copy.
+fn copy_on(copies: &mut [Kept], at: usize)
+    requires next { at + 1 < length copies.old }
+    requires shapes { SameShape (kept_at copies.old at).battle (kept_at copies.old (at + 1)).battle }
+    ensures { copies.new ≡ slice_set copies.old (at + 1) (record { battle = (kept_at copies.old at).battle; mark = false }) }
+{
+    let (front, rest) = copies.split_at_mut(at + 1);
+    let from = &front[at];
+    let to = &mut rest[0];
+    from.battle.copy_into(&mut to.battle);
+    to.mark = false;
+}
+
+/// Makes the next copy that of the present battle's turn.
+fn turn_on(copies: &mut Vec<Kept>, at: usize)
+    requires next { at + 1 < vec_len copies.old }
+    requires shapes { SameShape (kept_at copies.old.items at).battle (kept_at copies.old.items (at + 1)).battle }
+    requires runs { is_over_of (kept_at copies.old.items at).battle ≡ false }
+    ensures { copies.new.items ≡ slice_set copies.old.items (at + 1) (record { battle = turn_of (kept_at copies.old.items at).battle; mark = false }) }
+{
+    copy_on(copies, at);
+    let kept = &mut copies[at + 1];
+    let _ = kept.battle.turn();
+}
+
+/// Makes the next copy what an edit makes of the present battle.
+fn edit_on(copies: &mut Vec<Kept>, at: usize, edit: Edit)
+    requires next { at + 1 < vec_len copies.old }
+    requires shapes { SameShape (kept_at copies.old.items at).battle (kept_at copies.old.items (at + 1)).battle }
+    requires accepted { edit_fault (kept_at copies.old.items at).battle edit ≡ None }
+    ensures { copies.new.items ≡ slice_set copies.old.items (at + 1) (record { battle = edited (kept_at copies.old.items at).battle edit; mark = false }) }
+{
+    copy_on(copies, at);
+    let kept = &mut copies[at + 1];
+    let _ = kept.battle.edit(edit);
+}
+
+/// Adds copies of the present battle, up to so many after it.
+fn add_copies(alloc: Global, copies: &mut Vec<Kept>, at: usize, n: u64) -> Result<(), AllocError>
+    requires { at < vec_len copies.old }
+    ensures grown { IsGrown copies.old.items copies.new.items at }
+    ensures ok { OnOk result (n ≤ vec_len copies.new - (at + 1)) }
+    ensures enough { n ≤ vec_len copies.old - (at + 1) → IsOk result }
+{
+    'copies: while ((copies.len() - (at + 1)) as u64) < n {
+        let battle = copies[at].battle.copy(alloc)?;
+        copies.push(Kept {
+            battle,
+            mark: false,
+        })?;
+    }
+    Ok(())
+}
+
+impl WholeTape {
+    /// A tape at the one, marked place of a battle; where memory is refused, the battle comes back.
+    pub fn new(alloc: Global, battle: Battle) -> Result<Self, Battle>
+        ensures { MatchResult result (λ t. t.history ≡ beginning battle) (λ b. b ≡ battle) }
+    {
+        let mut copies = Vec::new(alloc);
+        match copies.push(Kept { battle, mark: true }) {
+            Ok(()) => Ok(WholeTape {
+                alloc,
+                copies,
+                at: 0,
+                len: 1,
+            }),
+            Err(refused) => {
+                let Kept { battle, mark: _ } = refused.value;
+                Err(battle)
+            }
+        }
+    }
+}
+
+impl Tape for WholeTape {
+    ghost history = { λ t. t.history };
+
+    ghost room = { λ t. t.room };
+
+    fn now(&self) -> &Battle {
+        &self.copies[self.at].battle
+    }
+
+    fn position(&self) -> u64 {
+        self.at as u64
+    }
+
+    fn len(&self) -> u64 {
+        self.len as u64
+    }
+
+    fn is_marked(&self) -> bool {
+        self.copies[self.at].mark
+    }
+
+    fn set_mark(&mut self) {
+        let kept = &mut self.copies[self.at];
+        kept.mark = true;
+    }
+
+    fn reserve(&mut self, n: u64) -> Result<(), AllocError> {
+        add_copies(self.alloc, &mut self.copies, self.at, n)
+    }
+
+    fn cut(&mut self) {
+        self.len = self.at + 1;
+    }
+
+    fn turn(&mut self) {
+        turn_on(&mut self.copies, self.at);
+        self.at += 1;
+        self.len = self.at + 1;
+    }
+
+    fn edit(&mut self, edit: Edit) {
+        edit_on(&mut self.copies, self.at, edit);
+        self.at += 1;
+        self.len = self.at + 1;
+    }
+
+    fn back(&mut self) {
+        if self.at > 0 {
+            self.at -= 1;
+        }
+    }
+
+    fn forward(&mut self) {
+        if self.at + 1 < self.len {
+            self.at += 1;
+        }
+    }
+}
