@@ -135,6 +135,7 @@ fn fault_of(alloc: Global, error: &clap::Error) -> WordsFault {
 fn command<'a>(alloc: Global) -> Result<Command<'a>, AllocError> {
     Command::new(alloc, "mars")
         .about("Core War: debugs a battle of warriors, forwards and backwards")
+        .no_binary_name(true)
         .disable_help_flag(true)
         .arg(counted(alloc, "core", "Core size [default: 8000]").short('s'))?
         .arg(counted(alloc, "cycles", "Cycle limit [default: 80000]").short('c'))?
