@@ -1,12 +1,52 @@
-//! The program `mars`: a debugger for battles in the core.
+//! The program `mars`: a debugger for battles of Core War that steps backwards as well as forwards.
 #![tactic(auto)]
 
 mod debugger;
+mod files;
 mod line_buffer;
+mod options;
 mod output;
 mod readings;
 mod replies;
 mod request;
+mod run;
 mod words;
 
-fn main() {}
+use crate::files::SystemFiles;
+use crate::run::{RunFault, run};
+use std::env;
+use std::io::{ErrorKind, Write};
+use std::process::ExitCode;
+
+fn main(rt: HostRuntime) -> ExitCode {
+    let alloc = rt.alloc();
+    let (mut input, mut output, mut faults) = (rt.stdin(), rt.stdout(), rt.stderr());
+    let mut words = match env::args(&rt) {
+        Ok(words) => words,
+        Err(error) if error.kind() == ErrorKind::OutOfMemory => {
+            return end(&mut faults, RunFault::OutOfMemory);
+        }
+        // A word that isn't UTF-8.
+        Err(_) => return end(&mut faults, RunFault::Words),
+    };
+    let _name = words.next();
+    let Ok(words) = words.collect::<Vec<String>>(alloc) else {
+        return end(&mut faults, RunFault::OutOfMemory);
+    };
+    let files = SystemFiles(&rt);
+    let status = run(
+        alloc,
+        words.as_slice(),
+        &files,
+        &mut input,
+        &mut output,
+        &mut faults,
+    );
+    ExitCode::from(status)
+}
+
+/// Writes the line for a fault, and gives its status.
+fn end<E: Write>(faults: &mut E, fault: RunFault) -> ExitCode {
+    let _ = writeln!(faults, "{fault}");
+    ExitCode::from(fault.status())
+}
