@@ -142,13 +142,15 @@ fn command<'a>(alloc: Global) -> Result<Command<'a>, AllocError> {
         .arg(counted(alloc, "processes", "Process limit [default: 8000]").short('p'))?
         .arg(counted(alloc, "longest", "Longest warrior [default: 100]").short('l'))?
         .arg(counted(alloc, "distance", "Least distance [default: 100]").short('d'))?
-        .arg(
-            counted(alloc, "read-limit", "How far is read [default: core size]").long("read-limit"),
-        )?
-        .arg(
-            counted(alloc, "write-limit", "How far is written [default: core size]")
-                .long("write-limit"),
-        )?
+        .arg(counted(alloc, "read-limit", "How far is read [default: core size]").long(
+            "read-limit",
+        ))?
+        .arg(counted(
+            alloc,
+            "write-limit",
+            "How far is written [default: core size]",
+        )
+        .long("write-limit"))?
         .arg(
             Arg::new(alloc, "debugger")
                 .short('e')
