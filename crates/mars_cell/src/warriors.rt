@@ -1,5 +1,5 @@
 //! Warriors.
-ghost use Rattle.std.specs.Prelude.{◌≡◌, ◌<◌, length, string_bytes, IfOk};
+ghost use Rattle.std.specs.Prelude.{◌≡◌, ◌≤◌, ◌<◌, length, string_bytes, IfOk};
 
 use crate::instruction::Cell;
 use std::alloc::AllocError;
@@ -103,7 +103,8 @@ impl Warrior {
 
     /// The cells, at least one.
     pub fn cells(&self) -> &[Cell]
-        ensures { result.now ≡ self.now.cells }
+        ensures value { result.now ≡ self.now.cells }
+        ensures some { 1 ≤ length self.now.cells }
     {
         self.cells.as_slice()
     }

@@ -12,3 +12,4 @@ pub mod Laws
 pub mod Start
 pub mod Shape
 pub mod Facts
+pub mod Arcs

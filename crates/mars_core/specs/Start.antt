@@ -1,7 +1,7 @@
 -- How a battle starts.
-use Rattle.std.specs.Prelude.{ℕ, ◌+◌, ◌-◌, ◌%◌, Bool, true, false, ◌&&◌, ◌||◌, not, ◌==◌, nat_lt, if◌then◌else◌, List, [], ◌∷◌, length, map, Option, None, Some, slice_set}
+use Rattle.std.specs.Prelude.{ℕ, zero, suc, ◌+◌, ◌%◌, Bool, true, false, ◌&&◌, ◌||◌, not, ◌==◌, nat_lt, if◌then◌else◌, List, [], ◌∷◌, ◌++◌, length, map, Option, None, Some, slice_set}
 use Rattle.std.proofs.Common.{replicate}
-use Rattle.std.specs.List.{list_all}
+use Rattle.std.specs.List.{list_all, list_any}
 use Rattle.mars_cell.specs.declared.instruction.Cell.{Cell}
 use Rattle.mars_cell.specs.Cells.{empty_cell}
 use Rattle.mars_cell.specs.Parameters.{Parameters}
@@ -10,29 +10,29 @@ use Rattle.mars_core.specs.State.{State}
 use Rattle.mars_core.specs.declared.starts.BattleFault.{BattleFault}
 use Rattle.mars_core.specs.declared.starts.BattleFault.TheVariants.{NoWarrior, TooMany, Overlap, StartOutside, FieldOutside}
 
--- how far it is from one address up to another
-unfoldable pub distance : ℕ → ℕ → ℕ → ℕ
-distance m from to = (to + (m - from % m)) % m
+-- the addresses of n cells in a row, the first of them at s
+abbrev pub addresses_from : ℕ → ℕ → ℕ → List ℕ
+addresses_from m s zero = []
+addresses_from m s (suc n) = (s % m) ∷ addresses_from m (s + 1) n
 
--- two warriors share an address: the one starts within the other
-abbrev pub meet : ℕ → WarriorValue → ℕ → WarriorValue → ℕ → Bool
-meet m w s v t = nat_lt (distance m s t) (length w.cells) || nat_lt (distance m t s) (length v.cells)
+-- the address of each loaded cell
+abbrev pub loaded_addresses : ℕ → List WarriorValue → List ℕ → List ℕ
+loaded_addresses m [] starts = []
+loaded_addresses m (w ∷ warriors) [] = []
+loaded_addresses m (w ∷ warriors) (s ∷ starts) = addresses_from m s (length w.cells) ++ loaded_addresses m warriors starts
 
--- a warrior shares an address with one of the others
-abbrev pub meets_any : ℕ → WarriorValue → ℕ → List WarriorValue → List ℕ → Bool
-meets_any m w s [] starts = false
-meets_any m w s (v ∷ warriors) [] = false
-meets_any m w s (v ∷ warriors) (t ∷ starts) = meet m w s v t || meets_any m w s warriors starts
+-- an address is in a list
+abbrev pub is_in : List ℕ → ℕ → Bool
+is_in xs x = list_any (λ y. x == y) xs
 
--- a warrior is longer than the core, or shares an address with one of the others
-abbrev pub clashes : ℕ → WarriorValue → ℕ → List WarriorValue → List ℕ → Bool
-clashes m w s warriors starts = nat_lt m (length w.cells) || meets_any m w s warriors starts
+-- an address stands twice in a list
+abbrev pub has_duplicate : List ℕ → Bool
+has_duplicate [] = false
+has_duplicate (x ∷ xs) = is_in xs x || has_duplicate xs
 
--- some warrior clashes with those after it
-abbrev pub overlap : ℕ → List WarriorValue → List ℕ → Bool
-overlap m [] starts = false
-overlap m (w ∷ warriors) [] = false
-overlap m (w ∷ warriors) (s ∷ starts) = clashes m w s warriors starts || overlap m warriors starts
+-- two loaded cells have one address
+unfoldable pub overlap : ℕ → List WarriorValue → List ℕ → Bool
+overlap m warriors starts = has_duplicate (loaded_addresses m warriors starts)
 
 -- both numbers of a cell are addresses in the core
 abbrev pub is_inside : ℕ → Cell → Bool

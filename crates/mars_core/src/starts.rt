@@ -1,12 +1,13 @@
 //! How a battle starts.
-ghost use Rattle.std.specs.Prelude.{◌≡◌, ℕ, ◌+◌, ◌-◌, ◌*◌, ◌%◌, ◌<◌, ◌≤◌, ◌∷◌, [], ◌++◌, length, map, All, List, IfOk, true, nat_lt};
+ghost use Rattle.std.specs.Prelude.{◌≡◌, ℕ, ◌+◌, ◌-◌, ◌*◌, ◌%◌, ◌<◌, ◌≤◌, ◌∷◌, [], ◌++◌, ◌||◌, length, map, All, List, IfOk, true, nat_lt};
 ghost use Rattle.std.specs.List.{list_all};
 ghost use Rattle.std.proofs.Common.{replicate};
 ghost use Rattle.mars_cell.specs.Cells.{empty_cell, FitsCore};
 ghost use Rattle.mars_cell.specs.Parameters.{AreInRange};
 ghost use Rattle.mars_core.specs.LoggedCore.{IsCore};
 ghost use Rattle.mars_core.specs.Queue.{addresses_of, Queue};
-ghost use Rattle.mars_core.specs.Start.{distance as spec_distance, meets_any, clashes as spec_clashes, overlap, is_inside as spec_is_inside, fields_inside as spec_fields_inside, laid, all_laid, first_processes, start_fault};
+ghost use Rattle.mars_core.specs.Arcs.{distance as spec_distance, share};
+ghost use Rattle.mars_core.specs.Start.{addresses_from, loaded_addresses, has_duplicate, overlap, is_inside as spec_is_inside, fields_inside as spec_fields_inside, laid, all_laid, first_processes, start_fault};
 
 use crate::queues::ProcessQueue;
 use mars_cell::{Cell, Params, Warrior};
@@ -37,7 +38,7 @@ pub enum BattleFault {
 }
 
 /// How far it is from one address up to another.
-#[tactic(auto, unfolding(crate::specs::Start::distance))]
+#[tactic(auto, unfolding(crate::specs::Arcs::distance))]
 fn distance(core_size: u32, from: u32, to: u32) -> u32
     requires { 1 ≤ core_size }
     ensures { result ≡ spec_distance core_size from to }
@@ -46,7 +47,19 @@ fn distance(core_size: u32, from: u32, to: u32) -> u32
     ((u64::from(to) + (size - u64::from(from) % size)) % size) as u32
 }
 
-/// Whether a warrior shares an address with one of the others.
+/// Whether two rows of cells have an address in common: one of them starts within the other.
+#[tactic(auto, using(crate::proofs::Overlaps::rows_share))]
+fn rows_share(core_size: u32, start: u32, len: usize, other_start: u32, other_len: usize) -> bool
+    requires core_size { 1 ≤ core_size }
+    requires len { 1 ≤ len }
+    requires other_len { 1 ≤ other_len }
+    ensures { result ≡ share (addresses_from core_size start len) (addresses_from core_size other_start other_len) }
+{
+    (distance(core_size, start, other_start) as usize) < len
+        || (distance(core_size, other_start, start) as usize) < other_len
+}
+
+/// Whether a warrior's cells share an address with those of the others.
 fn meets_others(
     core_size: u32,
     warrior: &Warrior,
@@ -56,20 +69,20 @@ fn meets_others(
 ) -> bool
     requires core_size { 1 ≤ core_size }
     requires starts { length starts.now ≡ length others.now }
-    ensures { result ≡ meets_any core_size warrior.now start others.now starts.now }
+    ensures { result ≡ share (addresses_from core_size start (length warrior.now.cells)) (loaded_addresses core_size others.now starts.now) }
 {
+    let len = warrior.cells().len();
     for i in 0..others.len() {
         let other = &others[i];
-        if (distance(core_size, start, starts[i]) as usize) < warrior.cells().len()
-            || (distance(core_size, starts[i], start) as usize) < other.cells().len()
-        {
+        if rows_share(core_size, start, len, starts[i], other.cells().len()) {
             return true;
         }
     }
     false
 }
 
-/// Whether a warrior is longer than the core, or shares an address with one of the others.
+/// Whether two of a warrior's cells share an address, or one shares one with the others'.
+#[tactic(auto, using(crate::proofs::Overlaps::row_has_duplicate))]
 fn clashes(
     core_size: u32,
     warrior: &Warrior,
@@ -79,13 +92,14 @@ fn clashes(
 ) -> bool
     requires core_size { 1 ≤ core_size }
     requires starts { length starts.now ≡ length others.now }
-    ensures { result ≡ spec_clashes core_size warrior.now start others.now starts.now }
+    ensures { let row = addresses_from core_size start (length warrior.now.cells) in
+        result ≡ (has_duplicate row || share row (loaded_addresses core_size others.now starts.now)) }
 {
     warrior.cells().len() > core_size as usize
         || meets_others(core_size, warrior, start, others, starts)
 }
 
-/// Whether a warrior is longer than the core, or two share an address.
+/// Whether two loaded cells share an address.
 pub fn has_overlap(core_size: u32, warriors: &[Warrior], starts: &[u32]) -> bool
     requires core_size { 1 ≤ core_size }
     requires starts { length starts.now ≡ length warriors.now }
