@@ -6,7 +6,7 @@ ghost use Rattle.std.specs.Str.Parse.{digits_value};
 ghost use Rattle.mars_cell.specs.Numbers.{parse_number, signed, reduced};
 
 /// A number with its sign. A minus may stand before 0, too.
-#[derive(Clone, Copy, Debug, PartialEq, Eq)]
+#[derive(Clone, Copy)]
 pub struct Number {
     pub is_negative: bool,
     pub magnitude: u64,

@@ -10,7 +10,7 @@ use crate::parts::Parts;
 use crate::words::is_word;
 
 /// What a line of a load file says.
-#[derive(Clone, Copy, Debug, PartialEq, Eq)]
+#[derive(Clone, Copy)]
 pub enum Statement {
     Nothing,
     Origin(Number),

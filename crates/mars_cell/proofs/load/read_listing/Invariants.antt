@@ -1,6 +1,6 @@
 use Rattle.std.proofs.Common.{◌≡◌, ◌+◌, ◌≤◌, length}
 use Rattle.mars_cell.specs.Load.{lines_of}
-use Rattle.mars_cell.specs.LoadCode.{listing, load_from, nothing_read}
+use Rattle.mars_cell.specs.Listing.{listing, load_from, nothing_read}
 use Rattle.mars_cell.proofs.load.read_listing.Given as goal
 
 abbrev pub invariant-loop-line : goal.invariant-loop-line
