@@ -4,7 +4,7 @@ ghost use Rattle.mars_cell.specs.Parts.{parts};
 ghost use Rattle.mars_cell.specs.Grammar.{op_at, modifier_at, suffix_at, number_at, mode_at, operand_at, comma_at, default_modifier, cell_of, read_cell};
 
 use crate::instruction::{Cell, Mode, Modifier, Op};
-use crate::numbers::{Number, read_number, reduce};
+use crate::numbers::{Number, read_number, residue};
 use crate::parts::Parts;
 use crate::words::{read_mode, read_modifier, read_op};
 
@@ -89,7 +89,7 @@ fn take_operand<'a>(line: Parts<'a>, core_size: u32) -> Option<(Mode, u32, Parts
 {
     let (mode, line) = take_mode(line);
     let (number, line) = take_number(line)?;
-    Some((mode, reduce(number, core_size), line))
+    Some((mode, residue(number, core_size), line))
 }
 
 #[tactic(auto, unfolding(crate::specs::Grammar::comma_at))]

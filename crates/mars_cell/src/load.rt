@@ -1,6 +1,6 @@
 //! Reading load files.
 ghost use Rattle.std.specs.Prelude.{◌≡◌, ◌∷◌, ◌<◌, ◌==◌, [], length, not, MatchOption, Ok, take_while};
-ghost use Rattle.mars_cell.specs.Load.{lines_of, load, is_index, nameless, Loads};
+ghost use Rattle.mars_cell.specs.Load.{lines_of, load, is_index, nameless_warrior, Loads};
 ghost use Rattle.mars_cell.specs.Listing.{ReadsListing, load_from, nothing_read};
 
 use crate::instruction::Cell;
@@ -115,7 +115,7 @@ fn is_start(number: Number, length: usize) -> bool
 /// A warrior of these cells, whose load file names no one.
 fn nameless_warrior(alloc: Global, cells: Vec<Cell>, start: u32) -> Result<Warrior, LoadFault>
     requires { start < length cells.items }
-    ensures { Loads result (Ok (nameless cells.items start)) }
+    ensures { Loads result (Ok (nameless_warrior cells.items start)) }
 {
     let Ok(name) = String::from_str(alloc, "Unknown") else {
         return Err(LoadFault::OutOfMemory);
