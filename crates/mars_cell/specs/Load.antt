@@ -30,16 +30,16 @@ lone_number (p ∷ []) = parse_number p
 lone_number (p ∷ q ∷ ps) = None
 
 -- what stands after END: nothing, or a number
-unfoldable pub end_of : List (List ℕ) → Option Statement
-end_of [] = Some (statement.End None)
-end_of (p ∷ ps) = option_map (λ n. statement.End (Some n)) (lone_number (p ∷ ps))
+unfoldable pub end_of : List (List ℕ) → Option (Option Number)
+end_of [] = Some None
+end_of (p ∷ ps) = option_map (λ n. Some n) (lone_number (p ∷ ps))
 
 -- what the parts of a line say in a core of m cells
 unfoldable pub statement_of : ℕ → List (List ℕ) → Option Statement
 statement_of m [] = Some statement.Nothing
 statement_of m (p ∷ ps) =
     if str_eq_ignore_ascii_case p (codes "ORG") then option_map (λ n. statement.Origin n) (lone_number ps) else
-    if str_eq_ignore_ascii_case p (codes "END") then end_of ps else
+    if str_eq_ignore_ascii_case p (codes "END") then option_map (λ n. statement.End n) (end_of ps) else
     option_map (λ c. statement.Instruction c) (cell_of m (p ∷ ps))
 
 -- what a line says, if it is of the grammar
