@@ -9,8 +9,8 @@ use Rattle.mars_cell.specs.declared.statements.Statement.{Statement}
 use Rattle.mars_cell.specs.declared.statements.Statement.TheVariants as statement
 use Rattle.mars_cell.specs.declared.load.LoadFault.{LoadFault}
 use Rattle.mars_cell.specs.declared.load.LoadFault.TheVariants as fault
-use Rattle.mars_cell.specs.Load.{Loads, before, cells_of, end_in, is_index, line_statement, lines_of, load, nameless, origin_in, statements, then_statements, warrior_of}
-use Rattle.mars_cell.specs.LoadCode.{Listing, ReadsListing, load_from, nothing_read}
+use Rattle.mars_cell.specs.Load.{Loads, with_rest, cells_of, end_in, is_index, line_statement, lines_of, load, nameless_warrior, origin_in, statements, statements_from, warrior_of}
+use Rattle.mars_cell.specs.Listing.{Listing, ReadsListing, load_from, nothing_read}
 use Rattle.mars_cell.specs.Warriors.{WarriorValue}
 
 -- what is read in all, after s
@@ -21,15 +21,15 @@ abbrev read_after : Listing → Result (List Statement) ℕ → Result Listing �
 read_after s (Ok ss) = Ok (after s ss)
 read_after s (Err k) = Err k
 
-read_after-nothing : (s : Listing) (r : Result (List Statement) ℕ) → read_after s (before statement.Nothing r) ≡ read_after s r
+read_after-nothing : (s : Listing) (r : Result (List Statement) ℕ) → read_after s (with_rest statement.Nothing r) ≡ read_after s r
 read_after-nothing s (Ok ss) = refl
 read_after-nothing s (Err k) = refl
 
-read_after-origin : (s : Listing) (n : Number) (r : Result (List Statement) ℕ) → read_after s (before (statement.Origin n) r) ≡ read_after (record s { origin = Some n }) r
+read_after-origin : (s : Listing) (n : Number) (r : Result (List Statement) ℕ) → read_after s (with_rest (statement.Origin n) r) ≡ read_after (record s { origin = Some n }) r
 read_after-origin s n (Ok ss) = refl
 read_after-origin s n (Err k) = refl
 
-read_after-instruction : (s : Listing) (c : Cell) (r : Result (List Statement) ℕ) → read_after s (before (statement.Instruction c) r) ≡ read_after (record s { cells = s.cells ++ c ∷ [] }) r
+read_after-instruction : (s : Listing) (c : Cell) (r : Result (List Statement) ℕ) → read_after s (with_rest (statement.Instruction c) r) ≡ read_after (record s { cells = s.cells ++ c ∷ [] }) r
 read_after-instruction s c (Ok ss) = rw (append_assoc s.cells (c ∷ []) (cells_of ss)) refl
 read_after-instruction s c (Err k) = refl
 
@@ -51,7 +51,7 @@ load_from-statements m k s (l ∷ ls) open_end =
         | statement.Origin n ↦ load_from m (k + 1) (record s { origin = Some n }) ls
         | statement.End n ↦ Ok (record s { end = n })
         | statement.Instruction c ↦ load_from m (k + 1) (record s { cells = s.cells ++ c ∷ [] }) ls
-      ] ≡ read_after s (then_statements x (statements m (k + 1) ls))) [
+      ] ≡ read_after s (statements_from x (statements m (k + 1) ls))) [
         | statement.Nothing ↦ load_from-statements m (k + 1) s ls open_end ∙ sym (read_after-nothing s (statements m (k + 1) ls))
         | statement.Origin n ↦ load_from-statements m (k + 1) (record s { origin = Some n }) ls open_end ∙ sym (read_after-origin s n (statements m (k + 1) ls))
         | statement.End n ↦ ap Ok (sym (after-end s n open_end))
@@ -68,7 +68,7 @@ abbrev pub warrior_in : ℕ → Listing → Result WarriorValue LoadFault
 warrior_in longest s =
     if nat_lt longest (length s.cells) then Err fault.TooLong
     else if length s.cells == 0 then Err fault.Empty
-    else if is_index (start_in s) (length s.cells) then Ok (nameless s.cells (start_in s).magnitude)
+    else if is_index (start_in s) (length s.cells) then Ok (nameless_warrior s.cells (start_in s).magnitude)
     else Err fault.BadOrigin
 
 abbrev load_with : ℕ → Result (List Statement) ℕ → Result WarriorValue LoadFault

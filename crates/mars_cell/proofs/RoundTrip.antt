@@ -18,7 +18,7 @@ use Rattle.mars_cell.specs.declared.instruction.Mode.TheVariants as mode
 use Rattle.mars_cell.specs.declared.instruction.Cell.{Cell}
 use Rattle.mars_cell.specs.Words.{op_name, op_of, modifier_name, modifier_of, mode_name, mode_of}
 use Rattle.mars_cell.specs.declared.numbers.Number.{Number}
-use Rattle.mars_cell.specs.Numbers.{parse_number, reduced, signed}
+use Rattle.mars_cell.specs.Numbers.{parse_number, residue, split_sign}
 use Rattle.mars_cell.specs.Cells.{FitsCore}
 use Rattle.mars_cell.specs.Text.{cell_text}
 use Rattle.mars_cell.specs.Grammar.{cell_of, comma_at, mode_at, modifier_at, number_at, op_at, operand_at, suffix_at}
@@ -76,17 +76,17 @@ back m n below above =
     let outer : m - (m - n) ≡ n = omega arith in
     rw (inner, outer) (mod-eq_of_lt below)
 
-signed_digits : (ds : List ℕ) → list_all is_ascii_digit ds ≡ true → signed ds ≡ (false, ds)
-unfolding signed
-signed_digits [] all = refl
-signed_digits (b ∷ bs) all =
+split_sign-digits : (ds : List ℕ) → list_all is_ascii_digit ds ≡ true → split_sign ds ≡ (false, ds)
+unfolding split_sign
+split_sign-digits [] all = refl
+split_sign-digits (b ∷ bs) all =
     let both = and_both (is_ascii_digit b) (list_all is_ascii_digit bs) all in
     rw (no_minus b both.0, no_plus b both.0) refl
 
 abbrev pub signed_number : Bool → ℕ → Number
 signed_number is_negative n = record { is_negative = is_negative; magnitude = n }
 
-parse_number_digits : (minus : Bool) (p ds : List ℕ) → signed p ≡ (minus, ds) → 0 < length ds → length ds ≤ 18 → list_all is_ascii_digit ds ≡ true → parse_number p ≡ Some (signed_number minus (digits_value 10 ds))
+parse_number_digits : (minus : Bool) (p ds : List ℕ) → split_sign p ≡ (minus, ds) → 0 < length ds → length ds ≤ 18 → list_all is_ascii_digit ds ≡ true → parse_number p ≡ Some (signed_number minus (digits_value 10 ds))
 unfolding parse_number
 parse_number_digits minus p ds e some few all = rw (e, lt-ltb 0 (length ds) some, le-leb (length ds) 18 few, all) refl
 
@@ -97,22 +97,22 @@ few_digits n h = length-decimal-le 18 n (omega arith) (omega arith) (omega arith
 pub decimal_read : (n : ℕ) → n < 2 ^ 32 → parse_number (decimal n) ≡ Some (signed_number false n)
 decimal_read n small =
     let d = numeral n (omega arith) in
-    parse_number_digits false (decimal n) (decimal n) (signed_digits (decimal n) d.digits) (decimal_nonempty n (omega arith)) (few_digits n small) d.digits ∙ ap (λ v. Some (signed_number false v)) d.value
+    parse_number_digits false (decimal n) (decimal n) (split_sign-digits (decimal n) d.digits) (decimal_nonempty n (omega arith)) (few_digits n small) d.digits ∙ ap (λ v. Some (signed_number false v)) d.value
 
 minus_read : (n : ℕ) → n < 2 ^ 32 → parse_number (codes "-" ++ decimal n) ≡ Some (signed_number true n)
-unfolding signed
+unfolding split_sign
 minus_read n small =
     let d = numeral n (omega arith) in
     parse_number_digits true (codes "-" ++ decimal n) (decimal n) refl (decimal_nonempty n (omega arith)) (few_digits n small) d.digits ∙ ap (λ v. Some (signed_number true v)) d.value
 
--- what is printed of a number is read as a number that is reduced to it
+-- what is printed of a number is read as a number whose residue it is
 record ReadsBack (m n : ℕ) : Type 0 where
   number : Number
   is_read : parse_number (number_text m n) ≡ Some number
-  same : reduced m number ≡ n
+  same : residue m number ≡ n
 
 number_read : (m n : ℕ) → n < m → m < 2 ^ 32 → ReadsBack m n
-unfolding reduced
+unfolding residue
 number_read m n below small =
     elim (nat_le n (m / 2)) as (λ t. nat_le n (m / 2) ≡ t → ReadsBack m n) [
       | true ↦ λ e. record { number = signed_number false n; is_read = rw e (decimal_read n (omega arith)); same = mod-eq_of_lt below }

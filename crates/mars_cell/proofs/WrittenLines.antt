@@ -18,23 +18,23 @@ use Rattle.mars_cell.specs.declared.statements.Statement.{Statement}
 use Rattle.mars_cell.specs.declared.statements.Statement.TheVariants as statement
 use Rattle.mars_cell.specs.Cells.{FitsCore}
 use Rattle.mars_cell.specs.Grammar.{cell_of}
-use Rattle.mars_cell.specs.Load.{cell_in, end_in, line_statement, lines_of, load, lone_number, nameless, origin_in, statement_of, statements, uncommented, warrior_of}
+use Rattle.mars_cell.specs.Load.{cell_in, end_in, line_statement, lines_of, load, lone_number, nameless_warrior, origin_in, statement_of, statements, before_comment, warrior_of}
 use Rattle.mars_cell.specs.Numbers.{parse_number}
 use Rattle.mars_cell.specs.Parts.{begins_word, joins, parts}
 use Rattle.mars_cell.specs.Text.{cell_text, number_text, operand_text}
 use Rattle.mars_cell.specs.Warriors.{WarriorValue}
 use Rattle.mars_cell.specs.Words.{op_name, modifier_name, mode_name}
-use Rattle.mars_cell.specs.Written.{ended, load_lines, load_text}
+use Rattle.mars_cell.specs.Written.{with_newline, load_lines, load_text}
 use Rattle.mars_cell.proofs.RoundTrip.{cell_parts, cell_read, decimal_read, digits_part, numeral, parts_nil, signed_number}
 
 -- ---- lines
 
 -- a byte that ends no line and begins no comment
-abbrev is_plain : ℕ → Bool
+abbrev pub is_plain : ℕ → Bool
 is_plain b = not (nat_eq b 10) && not (nat_eq b 59)
 
-record IsPlain (line : List ℕ) : Type 0 where
-  each : list_all is_plain line ≡ true
+pub record IsPlain (line : List ℕ) : Type 0 where
+  pub each : list_all is_plain line ≡ true
 
 both : (a b : Bool) → (a && b) ≡ true → (a ≡ true) × (b ≡ true)
 both true true e = (refl, refl)
@@ -52,15 +52,15 @@ unfolding lines_of
 lines_of-line [] bs h = refl
 lines_of-line (b ∷ line) bs h = let h' = both (is_plain b) (list_all is_plain line) h in rw (no_newline b h'.0, lines_of-line line bs h'.1) refl
 
--- lines that are ended by LF, none of which holds an LF, are parted again
-lines_of-ended : (ls : List (List ℕ)) → AllByRecursion IsPlain ls → lines_of (flat_map ended ls) ≡ ls
+-- lines that are ended by LF, and hold none, are parted again
+lines_of-with_newline : (ls : List (List ℕ)) → AllByRecursion IsPlain ls → lines_of (flat_map with_newline ls) ≡ ls
 unfolding lines_of
-lines_of-ended [] h = refl
-lines_of-ended (l ∷ ls) h = rw (append_assoc l (10 ∷ []) (flat_map ended ls), lines_of-line l (flat_map ended ls) h.0.each, lines_of-ended ls h.1) refl
+lines_of-with_newline [] h = refl
+lines_of-with_newline (l ∷ ls) h = rw (append_assoc l (10 ∷ []) (flat_map with_newline ls), lines_of-line l (flat_map with_newline ls) h.0.each, lines_of-with_newline ls h.1) refl
 
-uncommented-plain : (line : List ℕ) → list_all is_plain line ≡ true → uncommented line ≡ line
-uncommented-plain [] h = refl
-uncommented-plain (b ∷ line) h = let h' = both (is_plain b) (list_all is_plain line) h in rw (no_comment b h'.0, one-add) (ap (λ l. b ∷ l) (uncommented-plain line h'.1))
+before_comment-plain : (line : List ℕ) → list_all is_plain line ≡ true → before_comment line ≡ line
+before_comment-plain [] h = refl
+before_comment-plain (b ∷ line) h = let h' = both (is_plain b) (list_all is_plain line) h in rw (no_comment b h'.0, one-add) (ap (λ l. b ∷ l) (before_comment-plain line h'.1))
 
 -- ---- what is written is plain
 
@@ -127,7 +127,8 @@ text_is_plain xs e = record { each = e }
 operand_is_plain : (m : ℕ) (o : Mode) (n : ℕ) → n < m → m < 2 ^ 32 → IsPlain (operand_text m o n)
 operand_is_plain m o n below small = append_is_plain (text_is_plain (mode_name o) (mode_is_plain o)) (text_is_plain (number_text m n) (number_is_plain m n below small))
 
-cell_is_plain : (m : ℕ) (c : Cell) → m < 2 ^ 32 → FitsCore m c → IsPlain (cell_text m c)
+-- so a cell's text holds no LF and no comment
+pub cell_is_plain : (m : ℕ) (c : Cell) → m < 2 ^ 32 → FitsCore m c → IsPlain (cell_text m c)
 cell_is_plain m c small fits =
     let op_and_dot = append_is_plain (text_is_plain (op_name c.op) (op_is_plain c.op)) (text_is_plain (codes ".") refl) in
     let head = append_is_plain op_and_dot (text_is_plain (modifier_name c.modifier) (modifier_is_plain c.modifier)) in
@@ -183,7 +184,7 @@ statement_of-op m o ps c e = rw (no_origin o, no_end o, e) refl
 statement_of-cell : (m : ℕ) (c : Cell) → m < 2 ^ 32 → FitsCore m c → line_statement m (cell_text m c) ≡ Some (statement.Instruction c)
 statement_of-cell m c small fits =
     let shape = cell_parts m c small fits.a fits.b in
-    ap (λ l. statement_of m (parts l)) (uncommented-plain (cell_text m c) (cell_is_plain m c small fits).each)
+    ap (λ l. statement_of m (parts l)) (before_comment-plain (cell_text m c) (cell_is_plain m c small fits).each)
     ∙ ap (statement_of m) shape
     ∙ statement_of-op m c.op _ c (ap (cell_of m) (sym shape) ∙ cell_read m c small fits)
 
@@ -202,7 +203,7 @@ statement_of-org m p = refl
 statement_of-origin : (m n : ℕ) → n < 2 ^ 32 → line_statement m (codes "ORG " ++ decimal n) ≡ Some (statement.Origin (signed_number false n))
 statement_of-origin m n small =
     let wide : n < 2 ^ 64 = omega arith in
-    ap (λ l. statement_of m (parts l)) (uncommented-plain (codes "ORG " ++ decimal n) (origin_is_plain n wide).each)
+    ap (λ l. statement_of m (parts l)) (before_comment-plain (codes "ORG " ++ decimal n) (origin_is_plain n wide).each)
     ∙ ap (statement_of m) (origin_parts n wide)
     ∙ statement_of-org m (decimal n)
     ∙ ap (option_map (λ n. statement.Origin n)) (decimal_read n small)
@@ -242,13 +243,13 @@ unfolding statements
 statements-written m w small low all = rw (statements, statement_of-origin m w.start low, statements-cells m 2 w.cells small all) refl
 
 lines_of-written : (m : ℕ) (w : WarriorValue) → m < 2 ^ 32 → w.start < 2 ^ 64 → AllByRecursion (FitsCore m) w.cells → lines_of (load_text m w) ≡ load_lines m w
-lines_of-written m w small low all = lines_of-ended (load_lines m w) (origin_is_plain w.start low, plain_cells m w.cells small all)
+lines_of-written m w small low all = lines_of-with_newline (load_lines m w) (origin_is_plain w.start low, plain_cells m w.cells small all)
 
-warrior_of-written : (longest : ℕ) (w : WarriorValue) → w.start < length w.cells → length w.cells ≤ longest → warrior_of longest (written w) ≡ Ok (nameless w.cells w.start)
+warrior_of-written : (longest : ℕ) (w : WarriorValue) → w.start < length w.cells → length w.cells ≤ longest → warrior_of longest (written w) ≡ Ok (nameless_warrior w.cells w.start)
 warrior_of-written longest w inside few =
     rw (cells_of-instructions w.cells, origins-instructions w.cells, le-ltb longest (length w.cells) few) (search rules)
 
-pub load-written : (m longest : ℕ) (w : WarriorValue) → m < 2 ^ 32 → longest < 2 ^ 32 → w.start < length w.cells → length w.cells ≤ longest → All (FitsCore m) w.cells → load m longest (load_text m w) ≡ Ok (nameless w.cells w.start)
+pub load-written : (m longest : ℕ) (w : WarriorValue) → m < 2 ^ 32 → longest < 2 ^ 32 → w.start < length w.cells → length w.cells ≤ longest → All (FitsCore m) w.cells → load m longest (load_text m w) ≡ Ok (nameless_warrior w.cells w.start)
 unfolding load
 load-written m longest w small short inside few all =
     let all' = by_recursion m w.cells all in

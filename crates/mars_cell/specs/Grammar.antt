@@ -10,7 +10,7 @@ use Rattle.mars_cell.specs.declared.instruction.Mode.TheVariants as mode
 use Rattle.mars_cell.specs.declared.instruction.Cell.{Cell}
 use Rattle.mars_cell.specs.declared.numbers.Number.{Number}
 use Rattle.mars_cell.specs.Words.{op_of, modifier_of, mode_of}
-use Rattle.mars_cell.specs.Numbers.{parse_number, reduced}
+use Rattle.mars_cell.specs.Numbers.{parse_number, residue}
 use Rattle.mars_cell.specs.Parts.{parts}
 
 infixl 10 ◌>>=◌
@@ -44,7 +44,7 @@ number_at (p ∷ ps) = option_map (λ n. (n, ps)) (parse_number p)
 
 -- an operand in a core of m cells
 unfoldable pub operand_at : ℕ → List (List ℕ) → Option (Mode × ℕ × List (List ℕ))
-operand_at m ps = let o = mode_at ps in option_map (λ r. (o.0, reduced m r.0, r.1)) (number_at o.1)
+operand_at m ps = let o = mode_at ps in option_map (λ r. (o.0, residue m r.0, r.1)) (number_at o.1)
 
 unfoldable pub comma_at : List (List ℕ) → Option (List (List ℕ))
 comma_at [] = None

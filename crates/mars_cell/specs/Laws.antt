@@ -3,7 +3,7 @@ use Rattle.std.specs.Prelude.{◌≡◌, ℕ, ◌<◌, ◌≤◌, ◌^◌, lengt
 use Rattle.mars_cell.specs.declared.instruction.Cell.{Cell}
 use Rattle.mars_cell.specs.Cells.{FitsCore}
 use Rattle.mars_cell.specs.Grammar.{read_cell}
-use Rattle.mars_cell.specs.Load.{load, nameless}
+use Rattle.mars_cell.specs.Load.{load, nameless_warrior}
 use Rattle.mars_cell.specs.Parameters.{Parameters, AreInRange}
 use Rattle.mars_cell.specs.Text.{cell_text}
 use Rattle.mars_cell.specs.Warriors.{WarriorValue}
@@ -16,4 +16,4 @@ TextIsRead = (m : ℕ) (c : Cell) → m < 2 ^ 32 → FitsCore m c → read_cell 
 -- the load file of a warrior is read as a warrior with its cells and its start
 abbrev pub LoadFileIsRead : Type 0
 LoadFileIsRead = (p : Parameters) (w : WarriorValue) → AreInRange p → w.start < length w.cells → length w.cells ≤ p.max_length → All (FitsCore p.core_size) w.cells
-    → load p.core_size p.max_length (load_text p.core_size w) ≡ Ok (nameless w.cells w.start)
+    → load p.core_size p.max_length (load_text p.core_size w) ≡ Ok (nameless_warrior w.cells w.start)

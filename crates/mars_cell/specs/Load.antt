@@ -20,8 +20,8 @@ lines_of [] = []
 lines_of (b ∷ bs) = if b == 10 then [] ∷ lines_of bs else onto_first b (lines_of bs)
 
 -- a line up to its comment
-abbrev pub uncommented : List ℕ → List ℕ
-uncommented l = take_while (λ b. not (b == 59)) l
+abbrev pub before_comment : List ℕ → List ℕ
+before_comment l = take_while (λ b. not (b == 59)) l
 
 -- a number, and no more
 unfoldable pub lone_number : List (List ℕ) → Option Number
@@ -30,41 +30,43 @@ lone_number (p ∷ []) = parse_number p
 lone_number (p ∷ q ∷ ps) = None
 
 -- what stands after END: nothing, or a number
-unfoldable pub end_of : List (List ℕ) → Option Statement
-end_of [] = Some (statement.End None)
-end_of (p ∷ ps) = option_map (λ n. statement.End (Some n)) (lone_number (p ∷ ps))
+unfoldable pub end_of : List (List ℕ) → Option (Option Number)
+end_of [] = Some None
+end_of (p ∷ ps) = option_map (λ n. Some n) (lone_number (p ∷ ps))
 
 -- what the parts of a line say in a core of m cells
 unfoldable pub statement_of : ℕ → List (List ℕ) → Option Statement
 statement_of m [] = Some statement.Nothing
 statement_of m (p ∷ ps) =
     if str_eq_ignore_ascii_case p (codes "ORG") then option_map (λ n. statement.Origin n) (lone_number ps) else
-    if str_eq_ignore_ascii_case p (codes "END") then end_of ps else
+    if str_eq_ignore_ascii_case p (codes "END") then option_map (λ n. statement.End n) (end_of ps) else
     option_map (λ c. statement.Instruction c) (cell_of m (p ∷ ps))
 
+-- what a line says, if it is of the grammar
 abbrev pub line_statement : ℕ → List ℕ → Option Statement
-line_statement m l = statement_of m (parts (uncommented l))
+line_statement m l = statement_of m (parts (before_comment l))
 
--- a statement, and those that follow it where these are
-abbrev pub before : Statement → Result (List Statement) ℕ → Result (List Statement) ℕ
-before s (Ok ss) = Ok (s ∷ ss)
-before s (Err k) = Err k
+-- a statement and those of the lines that follow, where these are good
+abbrev pub with_rest : Statement → Result (List Statement) ℕ → Result (List Statement) ℕ
+with_rest s (Ok ss) = Ok (s ∷ ss)
+with_rest s (Err k) = Err k
 
--- END stops reading
-abbrev pub then_statements : Statement → Result (List Statement) ℕ → Result (List Statement) ℕ
-then_statements (statement.End n) rest = Ok (statement.End n ∷ [])
-then_statements statement.Nothing rest = before statement.Nothing rest
-then_statements (statement.Origin n) rest = before (statement.Origin n) rest
-then_statements (statement.Instruction c) rest = before (statement.Instruction c) rest
+-- the same, but that END stops reading
+abbrev pub statements_from : Statement → Result (List Statement) ℕ → Result (List Statement) ℕ
+statements_from (statement.End n) rest = Ok (statement.End n ∷ [])
+statements_from statement.Nothing rest = with_rest statement.Nothing rest
+statements_from (statement.Origin n) rest = with_rest (statement.Origin n) rest
+statements_from (statement.Instruction c) rest = with_rest (statement.Instruction c) rest
 
 -- the statements of some lines up to END, or the number of the first bad line; the first line has number k
 unfoldable pub statements : ℕ → ℕ → List (List ℕ) → Result (List Statement) ℕ
 statements m k [] = Ok []
 statements m k (l ∷ ls) = elim (line_statement m l) [
   | None ↦ Err k
-  | Some s ↦ then_statements s (statements m (k + 1) ls)
+  | Some s ↦ statements_from s (statements m (k + 1) ls)
 ]
 
+-- the cell, the start and END's start that a statement gives, as lists of at most one
 abbrev pub cell_in : Statement → List Cell
 cell_in statement.Nothing = []
 cell_in (statement.Origin n) = []
@@ -83,6 +85,7 @@ end_in (statement.Origin n) = []
 end_in (statement.End n) = option_to_list n
 end_in (statement.Instruction c) = []
 
+-- the cells, in order
 abbrev pub cells_of : List Statement → List Cell
 cells_of ss = flat_map cell_in ss
 
@@ -94,18 +97,19 @@ start_of ss = unwrap_or (option_or (last_or None (flat_map origin_in ss)) (last_
 abbrev pub is_index : Number → ℕ → Bool
 is_index n len = nat_lt n.magnitude len && (not n.is_negative || n.magnitude == 0)
 
--- a load file of version 1 names no one
-abbrev pub nameless : List Cell → ℕ → WarriorValue
-nameless cells start = record { name = codes "Unknown"; author = codes "Anonymous"; cells = cells; start = start }
+-- a load file of version 1 names neither its warrior nor an author
+abbrev pub nameless_warrior : List Cell → ℕ → WarriorValue
+nameless_warrior cells start = record { name = codes "Unknown"; author = codes "Anonymous"; cells = cells; start = start }
 
--- the warrior, or the first fault, in a core of m cells and with warriors of at most `longest` cells
+-- the warrior of some statements, or the first fault, where a warrior has at most `longest` cells
 abbrev pub warrior_of : ℕ → List Statement → Result WarriorValue LoadFault
 warrior_of longest ss =
     if nat_lt longest (length (cells_of ss)) then Err fault.TooLong
     else if length (cells_of ss) == 0 then Err fault.Empty
-    else if is_index (start_of ss) (length (cells_of ss)) then Ok (nameless (cells_of ss) (start_of ss).magnitude)
+    else if is_index (start_of ss) (length (cells_of ss)) then Ok (nameless_warrior (cells_of ss) (start_of ss).magnitude)
     else Err fault.BadOrigin
 
+-- the warrior of a load file in a core of m cells, or the first fault; a bad line comes before all others
 unfoldable pub load : ℕ → ℕ → List ℕ → Result WarriorValue LoadFault
 load m longest bytes = elim (statements m 1 (lines_of bytes)) [
   | Err k ↦ Err (fault.Syntax k)

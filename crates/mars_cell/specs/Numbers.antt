@@ -6,16 +6,16 @@ use Rattle.std.specs.Str.Parse.{digits_value}
 use Rattle.mars_cell.specs.declared.numbers.Number.{Number}
 
 -- whether a minus stands first, and what follows the sign
-unfoldable pub signed : List ℕ → Bool × List ℕ
-signed [] = (false, [])
-signed (b ∷ bs) = if b == 45 then (true, bs) else if b == 43 then (false, bs) else (false, b ∷ bs)
+unfoldable pub split_sign : List ℕ → Bool × List ℕ
+split_sign [] = (false, [])
+split_sign (b ∷ bs) = if b == 45 then (true, bs) else if b == 43 then (false, bs) else (false, b ∷ bs)
 
 -- an optional sign and 1 to 18 digits
 unfoldable pub parse_number : List ℕ → Option Number
 parse_number word =
-    let (is_negative, digits) = signed word in
+    let (is_negative, digits) = split_sign word in
     if nat_lt 0 (length digits) && (nat_le (length digits) 18 && list_all is_ascii_digit digits) then Some (record { is_negative = is_negative; magnitude = digits_value 10 digits }) else None
 
 -- the number from 0 to m-1 that differs from it by a multiple of m
-unfoldable pub reduced : ℕ → Number → ℕ
-reduced m n = if n.is_negative then (m - n.magnitude % m) % m else n.magnitude % m
+unfoldable pub residue : ℕ → Number → ℕ
+residue m n = if n.is_negative then (m - n.magnitude % m) % m else n.magnitude % m

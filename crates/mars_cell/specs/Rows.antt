@@ -10,8 +10,8 @@ use Rattle.mars_cell.specs.declared.instruction.Mode.{Mode}
 use Rattle.mars_cell.specs.declared.instruction.Mode.TheVariants.{Immediate, Direct, AIndirect, BIndirect, APredecrement, BPredecrement, APostincrement, BPostincrement}
 use Rattle.mars_cell.specs.declared.load.LoadFault.TheVariants as fault
 use Rattle.mars_cell.specs.Grammar.{cell_of, comma_at, default_modifier, mode_at, modifier_at, number_at, op_at, operand_at, read_cell, suffix_at}
-use Rattle.mars_cell.specs.Load.{end_of, lines_of, load, lone_number, nameless, statement_of, statements}
-use Rattle.mars_cell.specs.Numbers.{parse_number, reduced, signed}
+use Rattle.mars_cell.specs.Load.{end_of, lines_of, load, lone_number, nameless_warrior, statement_of, statements}
+use Rattle.mars_cell.specs.Numbers.{parse_number, residue, split_sign}
 use Rattle.mars_cell.specs.Parts.{begins_word, joins, parts}
 use Rattle.mars_cell.specs.Text.{cell_text, number_text}
 use Rattle.mars_cell.specs.Words.{mode_of, modifier_of, op_of}
@@ -113,7 +113,7 @@ pub row_cells_read :
     × (read_cell 8 (codes "ADD #4, 3") ≡ Some (cell op.Add modifier.Ab Immediate 4 Direct 3))
     × (read_cell 8 (codes "JMP.F *1, >2") ≡ Some (cell op.Jmp modifier.F AIndirect 1 BPostincrement 2))
     × (read_cell 10 (codes "NOP 123456789012345678, -123456789012345678") ≡ Some (cell op.Nop modifier.F Direct 8 Direct 2))
-unfolding parts joins begins_word cell_of op_at suffix_at modifier_at mode_at number_at operand_at comma_at op_of modifier_of mode_of parse_number signed reduced default_modifier
+unfolding parts joins begins_word cell_of op_at suffix_at modifier_at mode_at number_at operand_at comma_at op_of modifier_of mode_of parse_number split_sign residue default_modifier
 row_cells_read = (refl, refl, refl, refl, refl, refl, refl, refl, refl, refl)
 
 -- a number is one part, a word ends before a digit, and nothing may follow
@@ -136,20 +136,20 @@ pub row_no_cells :
     × (read_cell 8 (codes "MOV.I $$1, 1") ≡ None)
     × (read_cell 8 (codes "STP 1, 2") ≡ None)
     × (read_cell 8 (codes "NOP 1234567890123456789, 0") ≡ None)
-unfolding parts joins begins_word cell_of op_at suffix_at modifier_at mode_at number_at operand_at comma_at op_of modifier_of mode_of parse_number signed reduced default_modifier
+unfolding parts joins begins_word cell_of op_at suffix_at modifier_at mode_at number_at operand_at comma_at op_of modifier_of mode_of parse_number split_sign residue default_modifier
 row_no_cells = (refl, refl, refl, refl, refl, refl, refl, refl, refl, refl, refl, refl, refl, refl, refl, refl, refl, refl)
 
 -- the last ORG counts; END stops, and its number counts only without ORG; comments have no meaning
 pub row_loaded :
-    (load 8 8 (codes "ORG 0\nMOV.I $0, $7\n") ≡ Ok (nameless (cell op.Mov modifier.I Direct 0 Direct 7 ∷ []) 0))
-    × (load 8 8 (codes "ORG 0\nORG 1\nNOP 0, 0\nNOP 0, 0\n") ≡ Ok (nameless (nop ∷ nop ∷ []) 1))
-    × (load 8 8 (codes "NOP 0, 0\nend\nthis is prose\n") ≡ Ok (nameless (nop ∷ []) 0))
-    × (load 8 8 (codes "NOP 0, 0\nNOP 0, 0\nEND 1") ≡ Ok (nameless (nop ∷ nop ∷ []) 1))
-    × (load 8 8 (codes "org 0\nNOP 0, 0\nEND 9") ≡ Ok (nameless (nop ∷ []) 0))
-    × (load 8 8 (codes "ORG 9\nNOP 0, 0\nORG -0\n") ≡ Ok (nameless (nop ∷ []) 0))
-    × (load 8 8 (codes "; a comment\n\n  \nNOP 0, 0 ; another ; one\r\n") ≡ Ok (nameless (nop ∷ []) 0))
-    × (load 8 8 (codes ";load it\nNOP 0, 0") ≡ Ok (nameless (nop ∷ []) 0))
-unfolding parts joins begins_word cell_of op_at suffix_at modifier_at mode_at number_at operand_at comma_at op_of modifier_of mode_of parse_number signed reduced default_modifier load statements lines_of statement_of lone_number end_of
+    (load 8 8 (codes "ORG 0\nMOV.I $0, $7\n") ≡ Ok (nameless_warrior (cell op.Mov modifier.I Direct 0 Direct 7 ∷ []) 0))
+    × (load 8 8 (codes "ORG 0\nORG 1\nNOP 0, 0\nNOP 0, 0\n") ≡ Ok (nameless_warrior (nop ∷ nop ∷ []) 1))
+    × (load 8 8 (codes "NOP 0, 0\nend\nthis is prose\n") ≡ Ok (nameless_warrior (nop ∷ []) 0))
+    × (load 8 8 (codes "NOP 0, 0\nNOP 0, 0\nEND 1") ≡ Ok (nameless_warrior (nop ∷ nop ∷ []) 1))
+    × (load 8 8 (codes "org 0\nNOP 0, 0\nEND 9") ≡ Ok (nameless_warrior (nop ∷ []) 0))
+    × (load 8 8 (codes "ORG 9\nNOP 0, 0\nORG -0\n") ≡ Ok (nameless_warrior (nop ∷ []) 0))
+    × (load 8 8 (codes "; a comment\n\n  \nNOP 0, 0 ; another ; one\r\n") ≡ Ok (nameless_warrior (nop ∷ []) 0))
+    × (load 8 8 (codes ";load it\nNOP 0, 0") ≡ Ok (nameless_warrior (nop ∷ []) 0))
+unfolding parts joins begins_word cell_of op_at suffix_at modifier_at mode_at number_at operand_at comma_at op_of modifier_of mode_of parse_number split_sign residue default_modifier load statements lines_of statement_of lone_number end_of
 row_loaded = (refl, refl, refl, refl, refl, refl, refl, refl)
 
 -- the first bad line comes before every other fault, also behind the line too many
@@ -172,11 +172,11 @@ pub row_load_faults :
     × (load 8 8 (codes "ORG 1\nNOP 0, 0") ≡ Err fault.BadOrigin)
     × (load 8 8 (codes "ORG-1\nNOP 0, 0") ≡ Err fault.BadOrigin)
     × (load 8 8 (codes "NOP 0, 0\nEND 1") ≡ Err fault.BadOrigin)
-unfolding parts joins begins_word cell_of op_at suffix_at modifier_at mode_at number_at operand_at comma_at op_of modifier_of mode_of parse_number signed reduced default_modifier load statements lines_of statement_of lone_number end_of
+unfolding parts joins begins_word cell_of op_at suffix_at modifier_at mode_at number_at operand_at comma_at op_of modifier_of mode_of parse_number split_sign residue default_modifier load statements lines_of statement_of lone_number end_of
 row_load_faults = (refl, refl, refl, refl, refl, refl, refl, refl, refl, refl, refl, refl, refl, refl, refl, refl, refl, refl)
 
 -- the load file of a warrior that bombs the core
-pub row_written : load_text 8000 (nameless
+pub row_written : load_text 8000 (nameless_warrior
     (cell op.Add modifier.Ab Immediate 4 Direct 3
     ∷ cell op.Mov modifier.I Direct 2 BIndirect 2
     ∷ cell op.Jmp modifier.B Direct 7998 Direct 0

@@ -8,9 +8,9 @@ use Rattle.mars_cell.specs.Text.{cell_text}
 abbrev pub load_lines : ℕ → WarriorValue → List (List ℕ)
 load_lines m w = (codes "ORG " ++ decimal w.start) ∷ map (cell_text m) w.cells
 
--- every line is ended by LF
-abbrev pub ended : List ℕ → List ℕ
-ended line = line ++ 10 ∷ []
+-- a line is ended by LF
+abbrev pub with_newline : List ℕ → List ℕ
+with_newline line = line ++ 10 ∷ []
 
 abbrev pub load_text : ℕ → WarriorValue → List ℕ
-load_text m w = flat_map ended (load_lines m w)
+load_text m w = flat_map with_newline (load_lines m w)

@@ -1,10 +1,11 @@
 //! The line of a cell.
-ghost use Rattle.std.specs.Prelude.{◌≡◌, ◌<◌, option_map};
+ghost use Rattle.std.specs.Prelude.{◌≡◌, ◌<◌, IfSome, option_map};
+ghost use Rattle.mars_cell.specs.Cells.{FitsCore};
 ghost use Rattle.mars_cell.specs.Parts.{parts};
 ghost use Rattle.mars_cell.specs.Grammar.{op_at, modifier_at, suffix_at, number_at, mode_at, operand_at, comma_at, default_modifier, cell_of, read_cell};
 
 use crate::instruction::{Cell, Mode, Modifier, Op};
-use crate::numbers::{Number, read_number, reduce};
+use crate::numbers::{Number, read_number, residue};
 use crate::parts::Parts;
 use crate::words::{read_mode, read_modifier, read_op};
 
@@ -84,12 +85,13 @@ fn take_mode<'a>(line: Parts<'a>) -> (Mode, Parts<'a>)
 #[tactic(auto, unfolding(crate::specs::Grammar::operand_at))]
 fn take_operand<'a>(line: Parts<'a>, core_size: u32) -> Option<(Mode, u32, Parts<'a>)>
     requires { 0 < core_size }
-    ensures { option_map (λ r. (r.0, r.1, parts r.2.rest.now)) result
+    ensures value { option_map (λ r. (r.0, r.1, parts r.2.rest.now)) result
         ≡ operand_at core_size (parts line.entry.rest.now) }
+    ensures below { IfSome result (λ r. r.1 < core_size) }
 {
     let (mode, line) = take_mode(line);
     let (number, line) = take_number(line)?;
-    Some((mode, reduce(number, core_size), line))
+    Some((mode, residue(number, core_size), line))
 }
 
 #[tactic(auto, unfolding(crate::specs::Grammar::comma_at))]
@@ -108,7 +110,8 @@ fn take_comma<'a>(line: Parts<'a>) -> Option<Parts<'a>>
 #[tactic(auto, unfolding(crate::specs::Grammar::cell_of))]
 pub fn take_cell(line: Parts<'_>, core_size: u32) -> Option<Cell>
     requires { 0 < core_size }
-    ensures { result ≡ cell_of core_size (parts line.entry.rest.now) }
+    ensures value { result ≡ cell_of core_size (parts line.entry.rest.now) }
+    ensures fits { IfSome result (FitsCore core_size) }
 {
     let (op, line) = take_op(line)?;
     let (suffix, line) = take_suffix(line)?;
@@ -136,7 +139,8 @@ pub fn take_cell(line: Parts<'_>, core_size: u32) -> Option<Cell>
 /// A comment or a line's end makes it no cell.
 pub fn read_cell(text: &[u8], core_size: u32) -> Option<Cell>
     requires { 0 < core_size }
-    ensures { result ≡ read_cell core_size text.now }
+    ensures value { result ≡ read_cell core_size text.now }
+    ensures fits { IfSome result (FitsCore core_size) }
 {
     take_cell(Parts::new(text), core_size)
 }

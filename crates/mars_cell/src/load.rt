@@ -1,7 +1,8 @@
 //! Reading load files.
-ghost use Rattle.std.specs.Prelude.{◌≡◌, ◌∷◌, ◌<◌, ◌==◌, [], length, not, MatchOption, Ok, take_while};
-ghost use Rattle.mars_cell.specs.Load.{lines_of, load, is_index, nameless, Loads};
-ghost use Rattle.mars_cell.specs.LoadCode.{ReadsListing, load_from, nothing_read};
+ghost use Rattle.std.specs.Prelude.{◌≡◌, ◌∷◌, ◌<◌, ◌==◌, [], length, not, All, IfOk, MatchOption, Ok, take_while};
+ghost use Rattle.mars_cell.specs.Cells.{FitsCore};
+ghost use Rattle.mars_cell.specs.Load.{lines_of, load, is_index, nameless_warrior, Loads};
+ghost use Rattle.mars_cell.specs.Listing.{ReadsListing, load_from, nothing_read};
 
 use crate::instruction::Cell;
 use crate::numbers::Number;
@@ -73,10 +74,11 @@ struct Reading {
 }
 
 /// Reads the lines up to END.
-#[tactic(auto, unfolding(crate::specs::LoadCode::load_from))]
+#[tactic(auto, unfolding(crate::specs::Listing::load_from))]
 fn read_listing(alloc: Global, bytes: &[u8], core_size: u32) -> Result<Reading, LoadFault>
     requires { 0 < core_size }
-    ensures { ReadsListing result (load_from core_size 1 nothing_read (lines_of bytes.now)) }
+    ensures value { ReadsListing result (load_from core_size 1 nothing_read (lines_of bytes.now)) }
+    ensures fits { IfOk result (λ reading. All (FitsCore core_size) reading.cells.items) }
 {
     let mut reading = Reading {
         cells: Vec::new(alloc),
@@ -115,7 +117,7 @@ fn is_start(number: Number, length: usize) -> bool
 /// A warrior of these cells, whose load file names no one.
 fn nameless_warrior(alloc: Global, cells: Vec<Cell>, start: u32) -> Result<Warrior, LoadFault>
     requires { start < length cells.items }
-    ensures { Loads result (Ok (nameless cells.items start)) }
+    ensures { Loads result (Ok (nameless_warrior cells.items start)) }
 {
     let Ok(name) = String::from_str(alloc, "Unknown") else {
         return Err(LoadFault::OutOfMemory);
@@ -134,11 +136,12 @@ fn nameless_warrior(alloc: Global, cells: Vec<Cell>, start: u32) -> Result<Warri
 ///
 /// Each line up to END is empty, `ORG` and the start, `END` with or without a start, or a cell as `read_cell` reads it;
 /// a `;` begins a comment. The start is the number of the last ORG, else that of END, else 0. The faults come in their
-/// order, and Syntax names the first bad line. The warrior is called `Unknown`, by `Anonymous`.
-/// Want of memory refuses it only where a growth was refused.
+/// order, and Syntax names the first bad line. The warrior is called `Unknown`, by `Anonymous`, and its numbers are
+/// below the core size. OutOfMemory comes only where a growth was refused, in place of whatever would have come later.
 #[tactic(auto, unfolding(crate::specs::Load::load))]
 pub fn read_load(alloc: Global, bytes: &[u8], params: &Params) -> Result<Warrior, LoadFault>
-    ensures { Loads result (load params.now.core_size params.now.max_length bytes.now) }
+    ensures value { Loads result (load params.now.core_size params.now.max_length bytes.now) }
+    ensures fits { IfOk result (λ warrior. All (FitsCore params.now.core_size) warrior.cells) }
 {
     let reading = match read_listing(alloc, bytes, params.core_size()) {
         Ok(reading) => reading,

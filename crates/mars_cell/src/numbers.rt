@@ -3,10 +3,10 @@ ghost use Rattle.std.specs.Prelude.{◌≡◌, ◌≤◌, ◌<◌, length, true}
 ghost use Rattle.std.specs.Char.{is_ascii_digit};
 ghost use Rattle.std.specs.List.{list_all};
 ghost use Rattle.std.specs.Str.Parse.{digits_value};
-ghost use Rattle.mars_cell.specs.Numbers.{parse_number, signed, reduced};
+ghost use Rattle.mars_cell.specs.Numbers.{parse_number, split_sign, residue};
 
 /// A number with its sign. A minus may stand before 0, too.
-#[derive(Clone, Copy, Debug, PartialEq, Eq)]
+#[derive(Clone, Copy)]
 pub struct Number {
     pub is_negative: bool,
     pub magnitude: u64,
@@ -26,9 +26,9 @@ fn value(digits: &[u8]) -> u64
 }
 
 /// Whether a minus stands first, and what follows the sign.
-#[tactic(auto, unfolding(crate::specs::Numbers::signed))]
+#[tactic(auto, unfolding(crate::specs::Numbers::split_sign))]
 fn split_sign(word: &[u8]) -> (bool, &[u8])
-    ensures { let r = result in (r.0, r.1.now) ≡ signed word.now }
+    ensures { let r = result in (r.0, r.1.now) ≡ split_sign word.now }
 {
     match word {
         [b'-', digits @ ..] => (true, digits),
@@ -59,10 +59,10 @@ pub fn read_number(word: &[u8]) -> Option<Number>
 }
 
 /// The number from 0 to `core_size - 1` that differs from it by a multiple of `core_size`.
-#[tactic(auto, unfolding(crate::specs::Numbers::reduced))]
-pub fn reduce(number: Number, core_size: u32) -> u32
+#[tactic(auto, unfolding(crate::specs::Numbers::residue))]
+pub fn residue(number: Number, core_size: u32) -> u32
     requires { 0 < core_size }
-    ensures value { result ≡ reduced core_size number }
+    ensures value { result ≡ residue core_size number }
     ensures below { result < core_size }
 {
     let rest = (number.magnitude % u64::from(core_size)) as u32;

@@ -1,6 +1,7 @@
 //! What the lines of a load file say.
-ghost use Rattle.std.specs.Prelude.{◌≡◌, ◌<◌, ◌==◌, length, not, take_while};
+ghost use Rattle.std.specs.Prelude.{◌≡◌, ◌<◌, ◌==◌, IfSome, length, not, take_while};
 ghost use Rattle.mars_cell.specs.Parts.{parts};
+ghost use Rattle.mars_cell.specs.Listing.{StatementFits};
 ghost use Rattle.mars_cell.specs.Load.{line_statement, lone_number, end_of, statement_of};
 
 use crate::grammar::take_cell;
@@ -10,11 +11,15 @@ use crate::parts::Parts;
 use crate::words::is_word;
 
 /// What a line of a load file says.
-#[derive(Clone, Copy, Debug, PartialEq, Eq)]
+#[derive(Clone, Copy)]
 pub enum Statement {
+    /// The line has no part.
     Nothing,
+    /// `ORG` and the start.
     Origin(Number),
+    /// `END`, and the start where ORG gives none.
     End(Option<Number>),
+    /// The line of a cell.
     Instruction(Cell),
 }
 
@@ -33,22 +38,23 @@ fn read_lone_number(line: Parts<'_>) -> Option<Number>
 
 /// What follows `END`.
 #[tactic(auto, unfolding(crate::specs::Load::end_of, crate::specs::Load::lone_number))]
-fn read_end(line: Parts<'_>) -> Option<Statement>
+fn read_end(line: Parts<'_>) -> Option<Option<Number>>
     ensures { result ≡ end_of (parts line.entry.rest.now) }
 {
     let mut after = line;
     if after.take_first().is_none() {
-        return Some(Statement::End(None));
+        return Some(None);
     }
     let number = read_lone_number(line)?;
-    Some(Statement::End(Some(number)))
+    Some(Some(number))
 }
 
 /// What the parts of a line say.
 #[tactic(auto, unfolding(crate::specs::Load::statement_of))]
 fn read_statement(line: Parts<'_>, core_size: u32) -> Option<Statement>
     requires { 0 < core_size }
-    ensures { result ≡ statement_of core_size (parts line.entry.rest.now) }
+    ensures value { result ≡ statement_of core_size (parts line.entry.rest.now) }
+    ensures fits { IfSome result (StatementFits core_size) }
 {
     let mut after = line;
     let Some(first) = after.take_first() else {
@@ -58,7 +64,8 @@ fn read_statement(line: Parts<'_>, core_size: u32) -> Option<Statement>
         let number = read_lone_number(after)?;
         Some(Statement::Origin(number))
     } else if is_word(first, b"END") {
-        read_end(after)
+        let number = read_end(after)?;
+        Some(Statement::End(number))
     } else {
         let cell = take_cell(line, core_size)?;
         Some(Statement::Instruction(cell))
@@ -68,7 +75,8 @@ fn read_statement(line: Parts<'_>, core_size: u32) -> Option<Statement>
 /// What a line says.
 pub fn read_line(line: &[u8], core_size: u32) -> Option<Statement>
     requires { 0 < core_size }
-    ensures { result ≡ line_statement core_size line.now }
+    ensures value { result ≡ line_statement core_size line.now }
+    ensures fits { IfSome result (StatementFits core_size) }
 {
     let (text, _) = line.split_at(text_len(line));
     read_statement(Parts::new(text), core_size)

@@ -2,7 +2,7 @@
 ghost use Rattle.std.specs.Prelude.{◌≡◌, ◌++◌, All, IfOk, OnOk, codes, decimal};
 ghost use Rattle.mars_cell.specs.Cells.{FitsCore};
 ghost use Rattle.mars_cell.specs.Text.{cell_text};
-ghost use Rattle.mars_cell.specs.Written.{ended, load_text};
+ghost use Rattle.mars_cell.specs.Written.{load_text, with_newline};
 
 use crate::instruction::Cell;
 use crate::warriors::Warrior;
@@ -11,7 +11,7 @@ use std::alloc::{AllocError, Global};
 
 /// The line of the start.
 fn origin_line(alloc: Global, start: u32) -> Result<Vec<u8>, AllocError>
-    ensures { IfOk result (λ text. text.items ≡ ended (codes "ORG " ++ decimal start)) }
+    ensures { IfOk result (λ text. text.items ≡ with_newline (codes "ORG " ++ decimal start)) }
 {
     let mut digits = Buffer::new();
     let mut text = Vec::from_slice(alloc, b"ORG ")?;
@@ -23,7 +23,7 @@ fn origin_line(alloc: Global, start: u32) -> Result<Vec<u8>, AllocError>
 /// Adds the line of a cell to a text. An error leaves the text as it was, or with a beginning of the line.
 fn push_cell(text: &mut Vec<u8>, cell: Cell, core_size: u32) -> Result<(), AllocError>
     requires { FitsCore core_size cell }
-    ensures { OnOk result (text.new.items ≡ text.old.items ++ ended (cell_text core_size cell)) }
+    ensures { OnOk result (text.new.items ≡ text.old.items ++ with_newline (cell_text core_size cell)) }
 {
     text.extend_from_slice(cell.text(core_size).as_str().as_bytes())?;
     text.push(b'\n')?;

@@ -2,11 +2,20 @@
 use Rattle.std.specs.Prelude.{◌≡◌, ⊤, ℕ, ◌+◌, List, [], ◌∷◌, ◌++◌, Option, None, Some, Result, Ok, Err}
 use Rattle.mars_cell.specs.declared.instruction.Cell.{Cell}
 use Rattle.mars_cell.specs.declared.numbers.Number.{Number}
+use Rattle.mars_cell.specs.declared.statements.Statement.{Statement}
 use Rattle.mars_cell.specs.declared.statements.Statement.TheVariants as statement
 use Rattle.mars_cell.specs.declared.load.Reading.{Reading}
 use Rattle.mars_cell.specs.declared.load.LoadFault.{LoadFault}
 use Rattle.mars_cell.specs.declared.load.LoadFault.TheVariants as fault
+use Rattle.mars_cell.specs.Cells.{FitsCore}
 use Rattle.mars_cell.specs.Load.{line_statement}
+
+-- the cell that a statement gives fits a core of m cells
+abbrev pub StatementFits : ℕ → Statement → Type 0
+StatementFits m statement.Nothing = ⊤
+StatementFits m (statement.Origin n) = ⊤
+StatementFits m (statement.End n) = ⊤
+StatementFits m (statement.Instruction c) = FitsCore m c
 
 -- what was read: the cells, the last ORG's number, and END's
 pub record Listing : Type 0 where
