@@ -1,4 +1,6 @@
+pub mod Between
 pub mod Copying
+pub mod Keeping
 pub mod Places
 pub mod Scripts
 pub mod Turns

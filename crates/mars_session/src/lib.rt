@@ -14,3 +14,6 @@ pub use calls::{Call, Refusal, Reply, Standing};
 pub use sessions::Session;
 pub use tapes::Tape;
 pub use whole::WholeTape;
+
+#[cfg(test)]
+mod tests;
