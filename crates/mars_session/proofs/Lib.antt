@@ -1,3 +1,4 @@
+pub mod Arriving
 pub mod Between
 pub mod Copying
 pub mod Keeping

@@ -1,5 +1,5 @@
 //! Laws of the history, over the definitions alone.
-ghost use Rattle.mars_session.specs.Laws.{UndosGiveBack, RedosGiveAgain, RedoAfterUndo, MovesKeepPlaces, UndoFindsNearest, RedoFindsNearest, GotoFindsFirst, CommandsAppend, BeginningIsTape, CallsKeepTapes, ScriptsKeepTapes, GotoBetween, TurnsAndCyclesRise};
+ghost use Rattle.mars_session.specs.Laws.{UndosGiveBack, RedosGiveAgain, RedoAfterUndo, MovesKeepPlaces, UndoFindsNearest, RedoFindsNearest, GotoFindsFirst, CommandsAppend, BeginningIsTape, CallsKeepTapes, ScriptsKeepTapes, GotoBetween, TurnsAndCyclesRise, UntilArrives};
 
 /// After accepted commands as many undos are accepted, and give back the state and the position.
 pub fn undos_give_back()
@@ -64,4 +64,9 @@ pub fn turns_and_cycles_rise()
 /// So goto finds a place just where the turns lie between those of the first and of the last place.
 pub fn goto_between()
     ensures { GotoBetween }
+{}
+
+/// Turns up to a cycle end in it, or where the battle is over.
+pub fn until_arrives()
+    ensures { UntilArrives }
 {}
