@@ -25,7 +25,7 @@ rises_from number one s [] a = tt
 rises_from number one s (p ∷ ps) a = ((one s p.state a.0).0, (one s p.state a.0).1, rises_from number one p.state ps a.1)
 
 -- the places in one list follow one another too
-AllFollow-rewound : (before : List Place) (p : Place) (after : List Place) → FollowsAll before p.state → AllFollow p.state after
+pub AllFollow-rewound : (before : List Place) (p : Place) (after : List Place) → FollowsAll before p.state → AllFollow p.state after
     → AllFollow (rewound_from before p after).present.state (rewound_from before p after).after
 AllFollow-rewound [] p after b a = a
 AllFollow-rewound (q ∷ before) p after b a = AllFollow-rewound before q (p ∷ after) b.1 (b.0, a)

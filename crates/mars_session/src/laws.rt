@@ -1,5 +1,7 @@
 //! Laws of the history, over the definitions alone.
-ghost use Rattle.mars_session.specs.Laws.{UndosGiveBack, RedosGiveAgain, RedoAfterUndo, MovesKeepPlaces, UndoFindsNearest, RedoFindsNearest, GotoFindsFirst, CommandsAppend, BeginningIsTape, CallsKeepTapes, ScriptsKeepTapes, GotoBetween, TurnsAndCyclesRise, UntilArrives};
+ghost use Rattle.mars_session.specs.Laws.{UndosGiveBack, RedosGiveAgain, RedoAfterUndo, MovesKeepPlaces, UndoFindsNearest, RedoFindsNearest, GotoFindsFirst, CommandsAppend, BeginningIsTape, CallsKeepTapes, ScriptsKeepTapes, GotoBetween, TurnsAndCyclesRise, UntilArrives, CallsKeepLimit, PlacesAreValid};
+
+use mars_core::laws::{edits_stay_valid, turns_stay_valid};
 
 /// After accepted commands as many undos are accepted, and give back the state and the position.
 pub fn undos_give_back()
@@ -70,3 +72,16 @@ pub fn goto_between()
 pub fn until_arrives()
     ensures { UntilArrives }
 {}
+
+/// Every call keeps a tape within its limit: no command has more places than its bound.
+pub fn calls_keep_limit()
+    ensures { CallsKeepLimit }
+{}
+
+/// Each place of a tape is valid.
+pub fn places_are_valid()
+    ensures { PlacesAreValid }
+{
+    turns_stay_valid();
+    edits_stay_valid();
+}
