@@ -1,6 +1,11 @@
+pub mod Arriving
+pub mod Between
 pub mod Copying
+pub mod Keeping
+pub mod Limits
 pub mod Places
 pub mod Scripts
 pub mod Turns
 pub mod Undoing
+pub mod Valid
 pub mod Walking

@@ -27,26 +27,26 @@ found P true x y h k = h refl
 found P false x y h k = k refl
 
 -- a history that was found has this first place
-abbrev SameStart : History → Option History → Type 0
+abbrev pub SameStart : History → Option History → Type 0
 SameStart r None = Unit {0}
 SameStart r (Some to) = rewound to ≡ r
 
 start_of : (r : History) (o : Option History) (to : History) → SameStart r o → o ≡ Some to → rewound to ≡ r
 start_of r o to h e = subst (λ (x : Option History). SameStart r x) e h
 
-undo_start : (before : List Place) (p : Place) (after : List Place) → SameStart (rewound_from before p after) (marked_before before p after)
+pub undo_start : (before : List Place) (p : Place) (after : List Place) → SameStart (rewound_from before p after) (marked_before before p after)
 undo_start [] p after = tt
 undo_start (b ∷ before) p after =
     found (SameStart (rewound_from before b (p ∷ after))) b.mark (Some (record { before = before; present = b; after = p ∷ after })) (marked_before before b (p ∷ after))
     (λ e. refl) (λ e. undo_start before b (p ∷ after))
 
-redo_start : (before : List Place) (p : Place) (after : List Place) → SameStart (rewound_from before p after) (marked_after before p after)
+pub redo_start : (before : List Place) (p : Place) (after : List Place) → SameStart (rewound_from before p after) (marked_after before p after)
 redo_start before p [] = tt
 redo_start before p (a ∷ after) =
     found (SameStart (rewound_from (p ∷ before) a after)) a.mark (Some (record { before = p ∷ before; present = a; after = after })) (marked_after (p ∷ before) a after)
     (λ e. refl) (λ e. redo_start (p ∷ before) a after)
 
-goto_start : (t : ℕ) (before : List Place) (p : Place) (after : List Place) → SameStart (rewound_from before p after) (first_at_turn_from t before p after)
+pub goto_start : (t : ℕ) (before : List Place) (p : Place) (after : List Place) → SameStart (rewound_from before p after) (first_at_turn_from t before p after)
 goto_start t before p [] =
     found (SameStart (rewound_from before p [])) (nat_eq p.state.turns t) (Some (record { before = before; present = p; after = [] })) None (λ e. refl) (λ e. tt)
 goto_start t before p (a ∷ after) =

@@ -10,35 +10,30 @@ use Rattle.mars_session.specs.declared.calls.Call.TheVariants.{Step, Run, Until,
 use Rattle.mars_session.specs.declared.calls.Refusal.{Refusal}
 use Rattle.mars_session.specs.Commands.{States, step_states, run_states, until_bound, until_states, edit_states, cells_between, fill_states}
 use Rattle.mars_session.specs.Script.{outcome, commanded, appended, no_room, history_after, first, rest}
-use Rattle.mars_session.specs.Laws.{times, is_command, AllAccepted, UndosGiveBack, RedosGiveAgain, RedoAfterUndo}
+use Rattle.mars_session.specs.Laws.{command_places, times, is_command, AllAccepted, UndosGiveBack, RedosGiveAgain, RedoAfterUndo}
 
 -- the present place is marked, and these places follow
 abbrev pub base : History → List Place → History
 base h after = record { before = h.before; present = record { state = h.present.state; mark = true }; after = after }
 
--- the places of a command: the last is marked
-abbrev pub tail_of : State → List State → List Place
-tail_of s [] = record { state = s; mark = true } ∷ []
-tail_of s (t ∷ ss) = record { state = s; mark = false } ∷ tail_of t ss
-
 -- undo from the last of appended places goes on from the place before them
 undo_appended : (b : List Place) (p : Place) (s : State) (ss : List State) (x : List Place)
     → undo (base (append_all (record { before = b; present = p; after = [] }) (s ∷ ss)) x)
-    ≡ (if p.mark then Some (record { before = b; present = p; after = tail_of s ss ++ x }) else marked_before b p (tail_of s ss ++ x))
+    ≡ (if p.mark then Some (record { before = b; present = p; after = command_places s ss ++ x }) else marked_before b p (command_places s ss ++ x))
 undo_appended b p s [] x = refl
 undo_appended b p s (t ∷ ss) x = undo_appended (p ∷ b) (record { state = s; mark = false }) t ss x
 
 -- undo of an accepted command stands at the place before it
-pub undo_accepted : (h : History) (s : State) (ss : List State) (x : List Place) → undo (base (accepted h s ss) x) ≡ Some (base h (tail_of s ss ++ x))
+pub undo_accepted : (h : History) (s : State) (ss : List State) (x : List Place) → undo (base (accepted h s ss) x) ≡ Some (base h (command_places s ss ++ x))
 undo_accepted h s ss x = undo_appended h.before (record { state = h.present.state; mark = true }) s ss x
 
 -- redo finds the last of appended places
 redo_appended : (b : List Place) (p : Place) (s : State) (ss : List State) (x : List Place)
-    → marked_after b p (tail_of s ss ++ x) ≡ Some (base (append_all (record { before = b; present = p; after = [] }) (s ∷ ss)) x)
+    → marked_after b p (command_places s ss ++ x) ≡ Some (base (append_all (record { before = b; present = p; after = [] }) (s ∷ ss)) x)
 redo_appended b p s [] x = refl
 redo_appended b p s (t ∷ ss) x = redo_appended (p ∷ b) (record { state = s; mark = false }) t ss x
 
-pub redo_accepted : (h : History) (s : State) (ss : List State) (x : List Place) → redo (base h (tail_of s ss ++ x)) ≡ Some (base (accepted h s ss) x)
+pub redo_accepted : (h : History) (s : State) (ss : List State) (x : List Place) → redo (base h (command_places s ss ++ x)) ≡ Some (base (accepted h s ss) x)
 redo_accepted h s ss x = redo_appended h.before (record { state = h.present.state; mark = true }) s ss x
 
 -- appending moves on by as many places, and stands last
@@ -124,7 +119,7 @@ record Undone (n : ℕ) (h end : History) : Type 0 where
 
 one_undone : (n : ℕ) (h end : History) (s : State) (ss : List State) → Undone n (accepted h s ss) end → Undone (suc n) h end
 one_undone n h end s ss u = record {
-  follow = tail_of s ss ++ u.follow;
+  follow = command_places s ss ++ u.follow;
   back = times_more n undo end ∙ ap (option_and_then undo) u.back ∙ undo_accepted h s ss u.follow;
   again = ap (option_and_then (times n redo)) (redo_accepted h s ss u.follow) ∙ u.again;
 }

@@ -62,7 +62,7 @@ same_place h k e n =
     sym there ∙ ap (λ m. forwards m (rewound h)) n ∙ ap (forwards (position_of k)) e ∙ here
 
 -- nothing lies before the first place
-rewound_first : (before : List Place) (p : Place) (after : List Place) → (rewound_from before p after).before ≡ []
+pub rewound_first : (before : List Place) (p : Place) (after : List Place) → (rewound_from before p after).before ≡ []
 rewound_first [] p after = refl
 rewound_first (b ∷ before) p after = rewound_first before b (p ∷ after)
 

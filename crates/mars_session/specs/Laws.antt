@@ -1,5 +1,5 @@
 -- Laws over the definitions alone: what undo and redo give back, and what holds along a tape.
-use Rattle.std.specs.Prelude.{◌≡◌, ◌≤◌, ◌<◌, ◌+◌, ◌↔◌, ◌⊎◌, ◌==◌, ◌++◌, ℕ, zero, suc, Bool, true, false, List, [], ◌∷◌, length, take, Option, None, Some, Ok, IsTrue, IsOk, IsSome, IsSomeAnd, option_and_then, option_map}
+use Rattle.std.specs.Prelude.{All, ◌≡◌, ◌≤◌, ◌<◌, ◌+◌, ◌↔◌, ◌⊎◌, ◌==◌, ◌++◌, ℕ, zero, suc, Bool, true, false, List, [], ◌∷◌, length, take, Option, None, Some, Ok, IsTrue, IsOk, IsSome, IsSomeAnd, option_and_then, option_map}
 use Rattle.mars_core.specs.State.{State}
 use Rattle.mars_core.specs.Validity.{IsValid}
 use Rattle.mars_session.specs.declared.calls.Call.{Call}
@@ -63,9 +63,13 @@ CallsKeepTapes = (limit : ℕ) (call : Call) (poor : Bool) (h : History) → IsT
 abbrev pub ScriptsKeepTapes : Type 0
 ScriptsKeepTapes = (limit : ℕ) (calls : List Call) (poor : List Bool) (h : History) → IsTape h → IsTape (history_after limit calls poor h)
 
--- every call keeps the places within the limit
+-- every call keeps a tape within the limit
 abbrev pub CallsKeepLimit : Type 0
-CallsKeepLimit = (limit : ℕ) (call : Call) (poor : Bool) (h : History) → last_of h ≤ limit → last_of (outcome limit call poor h).history ≤ limit
+CallsKeepLimit = (limit : ℕ) (call : Call) (poor : Bool) (h : History) → IsTape h → last_of h ≤ limit → last_of (outcome limit call poor h).history ≤ limit
+
+-- each place of a tape is valid
+abbrev pub PlacesAreValid : Type 0
+PlacesAreValid = (h : History) → IsTape h → All (λ (p : Place). IsValid p.state) (places h)
 
 -- a number never falls from a state along the places, and rises by at most one a place
 abbrev pub RisesFrom : (State → ℕ) → State → List Place → Type 0

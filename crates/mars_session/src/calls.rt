@@ -1,6 +1,7 @@
 //! What a session is asked and what it answers.
 
 use mars_cell::Cell;
+use thiserror::Error;
 
 /// A command or a move.
 #[derive(Clone, Copy, Debug, PartialEq, Eq)]
@@ -46,36 +47,50 @@ pub struct Standing {
     pub last: u64,
 }
 
-/// Why a call was refused, in the order in which it is looked for.
-#[derive(Clone, Copy, Debug, PartialEq, Eq)]
+/// Why a call was refused: the first that applies. It is displayed as its number, its name and its values.
+#[derive(Clone, Copy, Debug, PartialEq, Eq, Error)]
 pub enum Refusal {
     /// No turn, or more turns or cells than one command may have.
+    #[error("1 Count")]
     Count,
     /// An address outside the core, or a fill whose first address is above its last.
+    #[error("2 Address")]
     Address,
     /// A number of the cell isn't an address of the core.
+    #[error("3 FieldOutside")]
     FieldOutside,
     /// There is no such warrior.
+    #[error("4 NoSuchWarrior")]
     NoSuchWarrior,
     /// The warrior has no such process.
+    #[error("5 NoSuchProcess")]
     NoSuchProcess,
     /// A dead warrior gets no process.
+    #[error("6 WarriorDead")]
     WarriorDead,
     /// The warrior has as many processes as it may have.
+    #[error("7 QueueFull")]
     QueueFull,
     /// The battle is over, and makes no turn.
+    #[error("8 Over")]
     Over,
     /// The cycle has begun already: this is the present one.
+    #[error("9 CyclePassed {0}")]
     CyclePassed(u64),
     /// No marked place lies before.
+    #[error("10 NothingToUndo")]
     NothingToUndo,
     /// No marked place lies after.
+    #[error("11 NothingToRedo")]
     NothingToRedo,
     /// No place has so many turns: those of the first and of the last place.
+    #[error("12 NotInHistory {0} {1}")]
     NotInHistory(u64, u64),
     /// The history's limit leaves room for this many places alone.
+    #[error("13 JournalFull {0}")]
     JournalFull(u64),
     /// Memory for the command's places was refused.
+    #[error("14 OutOfMemory")]
     OutOfMemory,
 }
 

@@ -41,12 +41,14 @@ fn prepare<T: Tape>(tape: &mut T, limit: u64, bound: u64) -> Result<(), Refusal>
     if bound > left {
         return Err(Refusal::JournalFull(left));
     }
-    if tape.reserve(bound).is_err() {
-        return Err(Refusal::OutOfMemory);
+    match tape.reserve(bound) {
+        Ok(()) => {
+            tape.set_mark();
+            tape.cut();
+            Ok(())
+        }
+        Err(_) => Err(Refusal::OutOfMemory),
     }
-    tape.set_mark();
-    tape.cut();
-    Ok(())
 }
 
 /// Whether turns stop at a battle: where it is over, or stands in this cycle.

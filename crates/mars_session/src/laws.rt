@@ -1,5 +1,7 @@
 //! Laws of the history, over the definitions alone.
-ghost use Rattle.mars_session.specs.Laws.{UndosGiveBack, RedosGiveAgain, RedoAfterUndo, MovesKeepPlaces, UndoFindsNearest, RedoFindsNearest, GotoFindsFirst, CommandsAppend};
+ghost use Rattle.mars_session.specs.Laws.{UndosGiveBack, RedosGiveAgain, RedoAfterUndo, MovesKeepPlaces, UndoFindsNearest, RedoFindsNearest, GotoFindsFirst, CommandsAppend, BeginningIsTape, CallsKeepTapes, ScriptsKeepTapes, GotoBetween, TurnsAndCyclesRise, UntilArrives, CallsKeepLimit, PlacesAreValid};
+
+use mars_core::laws::{edits_stay_valid, turns_stay_valid};
 
 /// After accepted commands as many undos are accepted, and give back the state and the position.
 pub fn undos_give_back()
@@ -40,3 +42,46 @@ pub fn goto_finds_first()
 pub fn commands_append()
     ensures { CommandsAppend }
 {}
+
+/// A valid battle alone makes a tape: one place, which is marked.
+pub fn beginning_is_tape()
+    ensures { BeginningIsTape }
+{}
+
+/// Every call keeps a tape: each place is a turn or an edit of the one before, and the first and the last are marked.
+pub fn calls_keep_tapes()
+    ensures { CallsKeepTapes }
+{}
+
+/// So does every list of calls.
+pub fn scripts_keep_tapes()
+    ensures { ScriptsKeepTapes }
+{}
+
+/// Turns and cycles never fall along a tape, and rise by at most one a place.
+pub fn turns_and_cycles_rise()
+    ensures { TurnsAndCyclesRise }
+{}
+
+/// So goto finds a place just where the turns lie between those of the first and of the last place.
+pub fn goto_between()
+    ensures { GotoBetween }
+{}
+
+/// Turns up to a cycle end in it, or where the battle is over.
+pub fn until_arrives()
+    ensures { UntilArrives }
+{}
+
+/// Every call keeps a tape within its limit: no command has more places than its bound.
+pub fn calls_keep_limit()
+    ensures { CallsKeepLimit }
+{}
+
+/// Each place of a tape is valid.
+pub fn places_are_valid()
+    ensures { PlacesAreValid }
+{
+    turns_stay_valid();
+    edits_stay_valid();
+}

@@ -1,4 +1,15 @@
 //! A debugger's session: commands over a battle that can be undone and done again.
+//!
+//! A session stands over a tape of all places that its battle has been at. A command appends
+//! a place for each turn or edit, and drops what followed; undo and redo go to the nearest
+//! marked place, and the ends of commands are marked, as is each place that a command began
+//! at; goto goes to the first place after so many turns. A refused call changes nothing.
+//!
+//! The layer above may use: each call of [`Session`] is one step of the definition `outcome`
+//! (`specs/Script.antt`) over a history of whole states, whatever the tape; `apply_all` is a
+//! list of such steps; the laws of [`laws`] on that definition; and each tape keeps a history
+//! as [`Tape`] says. Want of memory is answered by commands alone, before any change, and only
+//! where more places are wanted than follow the present one.
 #![tactic(auto)]
 
 mod calls;
@@ -14,3 +25,6 @@ pub use calls::{Call, Refusal, Reply, Standing};
 pub use sessions::Session;
 pub use tapes::Tape;
 pub use whole::WholeTape;
+
+#[cfg(test)]
+mod tests;

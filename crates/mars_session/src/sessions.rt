@@ -138,6 +138,7 @@ impl<T: Tape> Session<T> {
     {
         moves::goto(&mut self.tape, turns)
     }
+
     /// Makes any call.
     pub fn call(&mut self, call: Call) -> Result<Standing, Refusal>
         ensures { Answers self.old call result self.new }

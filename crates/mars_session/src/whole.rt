@@ -139,7 +139,7 @@ impl Tape for WholeTape {
     }
 
     fn cut(&mut self) {
-        self.len = self.at + 1;
+        self.len = self.at + 1; // the copies past it stay, to spare
     }
 
     fn turn(&mut self) {

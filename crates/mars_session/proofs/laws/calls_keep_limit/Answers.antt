@@ -1,0 +1,5 @@
+use Rattle.mars_session.proofs.Limits.{calls_keep_limit}
+use Rattle.mars_session.proofs.laws.calls_keep_limit.Goals as goal
+
+pub returns : goal.returns
+returns c = calls_keep_limit

@@ -1,0 +1,323 @@
+//! The worked cases, each call by itself and as one list of calls.
+
+use crate::{Call, Refusal, Reply, Session, Standing, WholeTape};
+use mars_cell::{Cell, Mode, Modifier, Op, Params, Warrior};
+use mars_core::Battle;
+use std::alloc::Global;
+use std::process::Abort;
+use std::test::Fail;
+
+fn direct(op: Op, modifier: Modifier, a: u32, b: u32) -> Cell {
+    Cell {
+        op,
+        modifier,
+        a_mode: Mode::Direct,
+        a,
+        b_mode: Mode::Direct,
+        b,
+    }
+}
+
+fn idle() -> Cell {
+    direct(Op::Nop, Modifier::F, 0, 0)
+}
+
+fn one_cell(alloc: Global, cell: Cell) -> Result<Warrior, Fail> {
+    let mut cells = Vec::new(alloc);
+    cells.push(cell)?;
+    let name = String::from_str(alloc, "")?;
+    let author = String::from_str(alloc, "")?;
+    let warrior = Warrior::new(name, author, cells, 0).ok().ok_or("warrior")?;
+    Ok(warrior)
+}
+
+fn session_of(
+    alloc: Global,
+    processes: u32,
+    limit: u64,
+    warriors: &[Warrior],
+    starts: &[u32],
+) -> Result<Session<WholeTape>, Fail> {
+    let params = Params::new(8, processes, 80000, 8, 8, 1, 1)
+        .ok()
+        .ok_or("parameters")?;
+    if starts.len() != warriors.len() {
+        return Err("starts".into());
+    }
+    let battle = Battle::new(alloc, &params, warriors, starts)
+        .ok()
+        .ok_or("battle")?;
+    let tape = WholeTape::new(alloc, battle).ok().ok_or("tape")?;
+    Ok(Session::new(tape, limit))
+}
+
+/// One warrior that copies itself to the next cell, over and over.
+fn imp(alloc: Global, limit: u64) -> Result<Session<WholeTape>, Fail> {
+    let warriors = vec![in alloc; one_cell(alloc, direct(Op::Mov, Modifier::I, 0, 1))?]?;
+    session_of(alloc, 8, limit, &warriors, &[0])
+}
+
+/// Warriors that stand where they are.
+fn stayers(alloc: Global, processes: u32, starts: &[u32]) -> Result<Session<WholeTape>, Fail> {
+    let mut warriors = Vec::new(alloc);
+    for _start in starts {
+        warriors.push(one_cell(alloc, direct(Op::Jmp, Modifier::B, 0, 0))?)?;
+    }
+    session_of(alloc, processes, 100, &warriors, starts)
+}
+
+fn at(turns: u64, cycle: u64, next: u64, alive: u64, position: u64, last: u64) -> Reply {
+    Ok(Standing {
+        turns,
+        cycle,
+        next,
+        alive,
+        position,
+        last,
+    })
+}
+
+/// The imp, which ends a cycle with each turn.
+fn imp_at(turns: u64, position: u64, last: u64) -> Reply {
+    at(turns, turns, 0, 1, position, last)
+}
+
+/// The calls give these replies, one by one over the first session and in one go over the second.
+fn gives(
+    rt: &impl Abort,
+    alloc: Global,
+    mut one: Session<WholeTape>,
+    mut all: Session<WholeTape>,
+    calls: &[(Call, Reply)],
+) -> Result<(), Fail> {
+    let mut list = Vec::new(alloc);
+    for (call, reply) in calls {
+        assert_eq!(rt; one.call(*call), *reply);
+        list.push(*call)?;
+    }
+    let mut out = Vec::new(alloc);
+    out.push(Err(Refusal::Count))?;
+    all.apply_all(&list, &mut out)?;
+    assert_eq!(rt; out.len(), calls.len() + 1);
+    assert_eq!(rt; out[0], Err(Refusal::Count));
+    for (made, (_call, reply)) in out[1..].iter().zip(calls) {
+        assert_eq!(rt; *made, *reply);
+    }
+    Ok(())
+}
+
+#[test]
+fn edit_in_the_middle_of_a_run(rt: HostRuntime) -> Result<(), Fail> {
+    let alloc = rt.alloc();
+    let calls = [
+        (Call::Run(4), imp_at(4, 4, 4)),
+        (Call::Goto(2), imp_at(2, 2, 4)),
+        (Call::SetCell(7, idle()), imp_at(2, 3, 3)),
+        (Call::Undo, imp_at(2, 2, 3)),
+        (Call::Redo, imp_at(2, 3, 3)),
+    ];
+    gives(&rt, alloc, imp(alloc, 100)?, imp(alloc, 100)?, &calls)
+}
+
+#[test]
+fn cell_of_an_undone_edit(rt: HostRuntime) -> Result<(), Fail> {
+    let mut session = imp(rt.alloc(), 100)?;
+    assert_eq!(rt; session.run(4), imp_at(4, 4, 4));
+    assert_eq!(rt; session.goto(2), imp_at(2, 2, 4));
+    assert_eq!(rt; session.set_cell(7, idle()), imp_at(2, 3, 3));
+    assert_eq!(rt; session.battle().cell(7), Some(idle()));
+    assert_eq!(rt; session.undo(), imp_at(2, 2, 3));
+    assert_eq!(rt;
+        session.battle().cell(7),
+        Some(direct(Op::Dat, Modifier::F, 0, 0))
+    );
+    assert_eq!(rt; session.redo(), imp_at(2, 3, 3));
+    assert_eq!(rt; session.battle().cell(7), Some(idle()));
+    assert_eq!(rt; Ok(session.standing()), imp_at(2, 3, 3));
+    Ok(())
+}
+
+#[test]
+fn undo_from_the_middle_of_a_run(rt: HostRuntime) -> Result<(), Fail> {
+    let alloc = rt.alloc();
+    let calls = [
+        (Call::Run(4), imp_at(4, 4, 4)),
+        (Call::Goto(2), imp_at(2, 2, 4)),
+        (Call::Undo, imp_at(0, 0, 4)),
+        (Call::Redo, imp_at(4, 4, 4)),
+    ];
+    gives(&rt, alloc, imp(alloc, 100)?, imp(alloc, 100)?, &calls)
+}
+
+#[test]
+fn steps_undone_and_redone(rt: HostRuntime) -> Result<(), Fail> {
+    let alloc = rt.alloc();
+    let calls = [
+        (Call::Step, imp_at(1, 1, 1)),
+        (Call::Step, imp_at(2, 2, 2)),
+        (Call::Undo, imp_at(1, 1, 2)),
+        (Call::Undo, imp_at(0, 0, 2)),
+        (Call::Undo, Err(Refusal::NothingToUndo)),
+        (Call::Redo, imp_at(1, 1, 2)),
+        (Call::Redo, imp_at(2, 2, 2)),
+    ];
+    gives(&rt, alloc, imp(alloc, 100)?, imp(alloc, 100)?, &calls)
+}
+
+#[test]
+fn next_warrior_is_killed(rt: HostRuntime) -> Result<(), Fail> {
+    let alloc = rt.alloc();
+    let calls = [
+        (Call::Step, at(1, 0, 1, 3, 1, 1)),
+        (Call::Kill(1, 0), at(1, 0, 2, 2, 2, 2)),
+        (Call::Kill(1, 0), Err(Refusal::NoSuchProcess)),
+        (Call::Spawn(1, 0), Err(Refusal::WarriorDead)),
+        (Call::Until(400_000), Err(Refusal::Count)),
+    ];
+    let starts = [0, 2, 4];
+    gives(
+        &rt,
+        alloc,
+        stayers(alloc, 8, &starts)?,
+        stayers(alloc, 8, &starts)?,
+        &calls,
+    )
+}
+
+#[test]
+fn two_kills_end_the_battle(rt: HostRuntime) -> Result<(), Fail> {
+    let alloc = rt.alloc();
+    let calls = [
+        (Call::Step, at(1, 0, 1, 3, 1, 1)),
+        (Call::Step, at(2, 0, 2, 3, 2, 2)),
+        (Call::Kill(2, 0), at(2, 1, 0, 2, 3, 3)),
+        (Call::Kill(0, 0), at(2, 1, 1, 1, 4, 4)),
+        (Call::Step, Err(Refusal::Over)),
+        (Call::Run(0), Err(Refusal::Count)),
+        (Call::Until(0), Err(Refusal::Over)),
+        (Call::Undo, at(2, 1, 0, 2, 3, 4)),
+        (Call::Step, at(3, 1, 1, 2, 4, 4)),
+    ];
+    let starts = [0, 2, 4];
+    gives(
+        &rt,
+        alloc,
+        stayers(alloc, 8, &starts)?,
+        stayers(alloc, 8, &starts)?,
+        &calls,
+    )
+}
+
+#[test]
+fn step_from_the_middle_of_a_run(rt: HostRuntime) -> Result<(), Fail> {
+    let alloc = rt.alloc();
+    let calls = [
+        (Call::Run(5), at(5, 1, 2, 3, 5, 5)),
+        (Call::Goto(4), at(4, 1, 1, 3, 4, 5)),
+        (Call::Step, at(5, 1, 2, 3, 5, 5)),
+        (Call::Undo, at(4, 1, 1, 3, 4, 5)),
+        (Call::Undo, at(0, 0, 0, 3, 0, 5)),
+    ];
+    let starts = [0, 2, 4];
+    gives(
+        &rt,
+        alloc,
+        stayers(alloc, 8, &starts)?,
+        stayers(alloc, 8, &starts)?,
+        &calls,
+    )
+}
+
+#[test]
+fn history_of_two_places(rt: HostRuntime) -> Result<(), Fail> {
+    let alloc = rt.alloc();
+    let calls = [
+        (Call::Run(3), Err(Refusal::JournalFull(2))),
+        (Call::Run(2), imp_at(2, 2, 2)),
+        (Call::Step, Err(Refusal::JournalFull(0))),
+        (Call::Undo, imp_at(0, 0, 2)),
+    ];
+    gives(&rt, alloc, imp(alloc, 2)?, imp(alloc, 2)?, &calls)
+}
+
+#[test]
+fn refused_turns_and_moves(rt: HostRuntime) -> Result<(), Fail> {
+    let alloc = rt.alloc();
+    let calls = [
+        (Call::Until(3), imp_at(3, 3, 3)),
+        (Call::Until(3), Err(Refusal::CyclePassed(3))),
+        (Call::Goto(9), Err(Refusal::NotInHistory(0, 3))),
+        (Call::Run(0), Err(Refusal::Count)),
+        (Call::Run(1_000_001), Err(Refusal::Count)),
+        (Call::Until(u64::MAX), Err(Refusal::Count)),
+        (Call::Redo, Err(Refusal::NothingToRedo)),
+    ];
+    gives(&rt, alloc, imp(alloc, 100)?, imp(alloc, 100)?, &calls)
+}
+
+#[test]
+fn filled_cells(rt: HostRuntime) -> Result<(), Fail> {
+    let alloc = rt.alloc();
+    let outside = direct(Op::Dat, Modifier::F, 8, 0);
+    let calls = [
+        (Call::Fill(2, 4, idle()), imp_at(0, 3, 3)),
+        (Call::Undo, imp_at(0, 0, 3)),
+        (Call::Redo, imp_at(0, 3, 3)),
+        (Call::Goto(0), imp_at(0, 0, 3)),
+        (Call::Redo, imp_at(0, 3, 3)),
+        (Call::Fill(4, 2, idle()), Err(Refusal::Address)),
+        (Call::Fill(0, 8, idle()), Err(Refusal::Address)),
+        (Call::Fill(0, 1_000_000, idle()), Err(Refusal::Count)),
+        (Call::Fill(0, 7, outside), Err(Refusal::FieldOutside)),
+        (Call::SetCell(1, outside), Err(Refusal::FieldOutside)),
+        (Call::SetCell(8, outside), Err(Refusal::Address)),
+    ];
+    gives(&rt, alloc, imp(alloc, 100)?, imp(alloc, 100)?, &calls)
+}
+
+#[test]
+fn processes_of_one_warrior(rt: HostRuntime) -> Result<(), Fail> {
+    let alloc = rt.alloc();
+    let calls = [
+        (Call::Spawn(0, 1), at(0, 0, 0, 1, 1, 1)),
+        (Call::Spawn(0, 2), at(0, 0, 0, 1, 2, 2)),
+        (Call::Spawn(0, 3), Err(Refusal::QueueFull)),
+        (Call::Spawn(0, 8), Err(Refusal::Address)),
+        (Call::Spawn(4_294_967_296, 0), Err(Refusal::NoSuchWarrior)),
+        (Call::Kill(0, 4_294_967_296), Err(Refusal::NoSuchProcess)),
+        (Call::Kill(0, 1), at(0, 0, 0, 1, 3, 3)),
+        (Call::Undo, at(0, 0, 0, 1, 2, 3)),
+        (Call::MoveProcess(0, 2, 5), at(0, 0, 0, 1, 3, 3)),
+        (Call::MoveProcess(0, 3, 5), Err(Refusal::NoSuchProcess)),
+        (Call::Step, at(1, 1, 0, 1, 4, 4)),
+        (Call::Kill(0, 0), at(1, 1, 0, 1, 5, 5)),
+        (Call::Undo, at(1, 1, 0, 1, 4, 5)),
+        (Call::Undo, at(0, 0, 0, 1, 3, 5)),
+        (Call::Undo, at(0, 0, 0, 1, 2, 5)),
+    ];
+    gives(
+        &rt,
+        alloc,
+        stayers(alloc, 3, &[0])?,
+        stayers(alloc, 3, &[0])?,
+        &calls,
+    )
+}
+
+#[test]
+fn queue_after_edits(rt: HostRuntime) -> Result<(), Fail> {
+    let mut session = stayers(rt.alloc(), 3, &[0])?;
+    assert_eq!(rt; session.spawn(0, 1), at(0, 0, 0, 1, 1, 1));
+    assert_eq!(rt; session.spawn(0, 2), at(0, 0, 0, 1, 2, 2));
+    assert_eq!(rt; session.kill(0, 1), at(0, 0, 0, 1, 3, 3));
+    assert_eq!(rt; session.battle().queue_len(0), 2);
+    assert_eq!(rt; session.battle().process(0, 1), Some(2));
+    assert_eq!(rt; session.undo(), at(0, 0, 0, 1, 2, 3));
+    assert_eq!(rt; session.move_process(0, 2, 5), at(0, 0, 0, 1, 3, 3));
+    assert_eq!(rt; session.battle().process(0, 2), Some(5));
+    assert_eq!(rt; session.step(), at(1, 1, 0, 1, 4, 4));
+    assert_eq!(rt; session.battle().process(0, 1), Some(5));
+    assert_eq!(rt; session.fill(3, 3, idle()), at(1, 1, 0, 1, 5, 5));
+    assert_eq!(rt; session.until(3), at(3, 3, 0, 1, 7, 7));
+    Ok(())
+}
