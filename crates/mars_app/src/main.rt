@@ -7,6 +7,8 @@ mod output;
 mod readings;
 mod replies;
 mod request;
+#[cfg(test)]
+mod tests;
 mod words;
 
 fn main() {}
