@@ -4,6 +4,7 @@ pub mod Options
 pub mod Readings
 pub mod Replies
 pub mod Requests
+pub mod Status
 pub mod Steps
 pub mod Transcript
 pub mod Words

@@ -41,9 +41,11 @@ pub enum RunFault {
 }
 
 impl RunFault {
+    ghost use Rattle.mars_app.specs.Status.{status_of};
+
     /// The exit status: 2 for a fault of the words, 1 for one of input or files.
     pub fn status(&self) -> u8
-        ensures { result ≤ 2 }
+        ensures { result ≡ status_of self.now }
     {
         match self {
             RunFault::Words | RunFault::Parameters(_) => 2,
@@ -191,3 +193,6 @@ fn debug_battle<R: Read, W: Write>(
         Err(DebugFault::Write) => Err(RunFault::Output),
     }
 }
+
+#[cfg(test)]
+mod tests;
