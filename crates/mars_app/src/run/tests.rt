@@ -12,7 +12,7 @@ const IMP: &[u8] = b"ORG 0\nMOV.I $0, $1\n";
 
 /// What a run answered: the status, and what it wrote.
 #[derive(Drop)]
-struct Answer {
+struct Outcome {
     status: u8,
     output: Vec<u8>,
     faults: Vec<u8>,
@@ -38,7 +38,7 @@ fn files(alloc: Global) -> Result<MemoryFiles, Fail> {
     Ok(files)
 }
 
-fn answer(alloc: Global, words: &[&str], input: &[u8]) -> Result<Answer, Fail> {
+fn answer(alloc: Global, words: &[&str], input: &[u8]) -> Result<Outcome, Fail> {
     let words = words_of(alloc, words)?;
     let files = files(alloc)?;
     let (mut output, mut faults) = (Vec::new(alloc), Vec::new(alloc));
@@ -51,7 +51,7 @@ fn answer(alloc: Global, words: &[&str], input: &[u8]) -> Result<Answer, Fail> {
         &mut output,
         &mut faults,
     );
-    Ok(Answer {
+    Ok(Outcome {
         status,
         output,
         faults,
