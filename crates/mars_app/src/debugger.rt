@@ -16,7 +16,9 @@ use std::io::{Read, Write};
 /// Why the debugger ended before `quit` and the end of its input.
 #[derive(Clone, Copy, Debug, PartialEq, Eq)]
 pub enum DebugFault {
+    /// A read failed, or there were too many.
     Read,
+    /// A write failed, or took no byte.
     Write,
 }
 

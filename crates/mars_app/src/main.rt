@@ -10,6 +10,8 @@ mod readings;
 mod replies;
 mod request;
 mod run;
+#[cfg(test)]
+mod tests;
 mod words;
 
 use crate::files::SystemFiles;

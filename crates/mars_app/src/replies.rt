@@ -15,7 +15,7 @@ pub type Line = ArrayString<LINE>;
 
 /// Appends a number.
 pub fn push_number(line: &mut Line, number: u64)
-    requires { array_string_len line.old + 20 ≤ 192 }
+    requires { array_string_len line.old + 20 ≤ LINE }
     ensures bytes { line.new.bytes ≡ line.old.bytes ++ decimal number }
     ensures len { array_string_len line.new ≤ array_string_len line.old + 20 }
 {
@@ -25,7 +25,7 @@ pub fn push_number(line: &mut Line, number: u64)
 
 /// A text as it is.
 pub fn fixed(text: &str) -> Line
-    requires { length text.now ≤ 192 }
+    requires { length text.now ≤ LINE }
     ensures { result.bytes ≡ text.now }
 {
     let mut line = Line::new();
