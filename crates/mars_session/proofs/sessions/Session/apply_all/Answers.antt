@@ -1,7 +1,9 @@
 -- One call more, and its reply.
-use Rattle.std.proofs.Common.{◌≡◌, ◌+◌, ◌∷◌, ◌++◌, [], ◌∙◌, refl, append_assoc, arith, take, get_or, vec_len}
+use Rattle.std.proofs.Common.{List, Result, ◌≡◌, ◌+◌, ◌∷◌, ◌++◌, [], ◌∙◌, refl, append_assoc, arith, take, get_or, vec_len}
 use Rattle.std.proofs.lemmas.List.{take_more}
 use Rattle.mars_session.specs.declared.calls.Call.TheVariants.{Step}
+use Rattle.mars_session.specs.declared.calls.Standing.{Standing}
+use Rattle.mars_session.specs.declared.calls.Refusal.{Refusal}
 use Rattle.mars_session.proofs.Scripts.{script_more}
 use Rattle.mars_session.proofs.sessions.Session.apply_all.Goals as goal
 
@@ -10,7 +12,7 @@ loop-call-preserved g c =
     let before = c.loop-call.invariant in
     record {
       replies = before.replies ++ c.call-reply.result ∷ [];
-      items = rw (c.push.ensures.items, c.unwrap.ensures, before.items, append_assoc) refl;
+      items = rw (c.push.ensures.items, c.unwrap.ensures, before.items, append_assoc) (refl {A = List (Result Standing Refusal)});
       script =
           rw (take_more c.args.calls.now c.loop-call.call-index Step c.loop-call-test.true)
           (script_more c.args.self.now.limit (take c.loop-call.call-index c.args.calls.now) (get_or c.args.calls.now c.loop-call.call-index Step)
