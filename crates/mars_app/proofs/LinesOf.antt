@@ -1,10 +1,9 @@
 -- The lines of some bytes.
-use Rattle.std.proofs.Common.{◌≡◌, ◌≢◌, refl, ℕ, Bool, true, false, List, [], ◌∷◌, ◌++◌, nat_eq, length, sym, ap, ◌∙◌, rules, arith, append_assoc, append-nil}
-use Rattle.std.proofs.lemmas.Grind.{flat_map-append}
+use Rattle.std.proofs.Common.{◌≡◌, ◌≢◌, refl, ℕ, false, List, [], ◌∷◌, ◌++◌, nat_eq, rules, append_assoc}
 use Rattle.std.specs.List.{flat_map, AllByRecursion}
 use Rattle.mars_app.specs.declared.request.Request.{Request}
 use Rattle.mars_app.specs.declared.request.Request.TheVariants as request
-use Rattle.mars_app.specs.Lines.{IsLine, Splits, ended, line_asks, lines_of, onto_first}
+use Rattle.mars_app.specs.Lines.{IsLine, Splits, ended, line_asks, lines_of}
 use Rattle.mars_app.specs.Transcript.{GoesOn, is_quit, until_quit}
 
 not_newline : (b : ℕ) → b ≢ 10 → nat_eq b 10 ≡ false

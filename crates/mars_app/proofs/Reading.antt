@@ -1,5 +1,5 @@
 -- Steps of the debugger, one after the other.
-use Rattle.std.proofs.Common.{◌≡◌, ◌≢◌, refl, ℕ, ◌+◌, ◌<◌, ◌≤◌, Bool, true, false, nat_eq, List, [], ◌∷◌, ◌++◌, Option, None, Some, IfSome, length, take, drop, get_or, take-append-drop, sym, ap, subst, ◌∙◌, inl, inr, rules, arith, append_assoc, append-nil}
+use Rattle.std.proofs.Common.{◌≡◌, ◌≢◌, refl, ℕ, ◌+◌, ◌<◌, Bool, true, false, nat_eq, List, [], ◌∷◌, ◌++◌, Option, None, Some, IfSome, length, take, drop, get_or, take-append-drop, sym, ap, subst, ◌∙◌, inl, inr, append_assoc, append-nil}
 use Rattle.std.proofs.lemmas.Grind.{flat_map-append}
 use Rattle.std.proofs.lemmas.List.{take_more}
 use Rattle.std.proofs.Math.Dec.{eqb-suc-zero}
@@ -11,12 +11,12 @@ use Rattle.mars_app.specs.declared.line_buffer.LineBuffer.{LineBuffer}
 use Rattle.mars_app.specs.declared.request.Request.{Request}
 use Rattle.mars_app.specs.declared.request.Request.TheVariants.{Quit}
 use Rattle.mars_app.specs.LineBuffer.{Holds}
-use Rattle.mars_app.specs.Lines.{IsLine, Splits, ended, line_asks, lines_of}
+use Rattle.mars_app.specs.Lines.{IsLine, ended, line_asks, lines_of}
 use Rattle.mars_app.specs.Writing.{CutShort}
-use Rattle.mars_app.specs.Transcript.{Transcript, BrokenAt, GoesOn, HasQuit, Completes, WriteFails, answer, until_quit}
+use Rattle.mars_app.specs.Transcript.{Transcript, GoesOn, Completes, WriteFails, answer, until_quit}
 use Rattle.mars_app.specs.Transcript.EndsIn.{at_newline, at_end}
 use Rattle.mars_app.specs.Transcript.Transcript.{none, line}
-use Rattle.mars_app.specs.Steps.{GoesThrough, Quits, Breaks, Reading, Quitting, Breaking, Finishes, BreaksAtEnd}
+use Rattle.mars_app.specs.Steps.{GoesThrough, Quits, Breaks, Reading, Quitting, Finishes, BreaksAtEnd}
 use Rattle.mars_app.proofs.LinesOf.{executed_lines, last_of, lines_of-line, lines_of-lines, until_quit-lines, until_quit-one, until_quit-quit}
 
 -- ---- the core's size under another name

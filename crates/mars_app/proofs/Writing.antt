@@ -1,7 +1,7 @@
 -- What several writes, one after the other, did.
-use Rattle.std.proofs.Common.{◌≡◌, refl, ℕ, zero, suc, ◌+◌, ◌<◌, ◌≤◌, List, [], ◌∷◌, ◌++◌, Option, length, take, drop, get_or, sym, ap, ◌∙◌, ◌⊎◌, inl, inr, rules, arith, append_assoc, length-append, take-append-drop, add-one, append-nil}
+use Rattle.std.proofs.Common.{◌≡◌, refl, ℕ, zero, suc, ◌+◌, ◌<◌, List, [], ◌∷◌, ◌++◌, Option, length, take, drop, get_or, sym, ap, ◌∙◌, ◌⊎◌, inl, inr, arith, append_assoc, length-append, take-append-drop, add-one, append-nil}
 use Rattle.std.proofs.Math.Seq.{take-append-add, drop-cons, take-suc}
-use Rattle.std.proofs.lemmas.List.{take-append-le, take_all}
+use Rattle.std.proofs.lemmas.List.{take-append-le}
 use Rattle.std.proofs.lemmas.Grind.{flat_map-append}
 use Rattle.std.proofs.KnownBytes.{Appends-trans}
 use Rattle.std.specs.List.{flat_map}

@@ -1,5 +1,4 @@
-use Rattle.std.proofs.Common.{rules, arith, subst}
-use Rattle.mars_app.specs.Steps.{GoesThrough, Quits, Breaks}
+use Rattle.std.proofs.Common.{rules}
 use Rattle.mars_app.proofs.Reading.{goes_through_byte, goes_through_line, quits_at_line, breaks_at_line}
 use Rattle.mars_app.proofs.debugger.take_byte.Goals as goal
 

@@ -1,4 +1,4 @@
-use Rattle.std.proofs.Common.{refl, ◌<◌, ◌≤◌, length, arith}
+use Rattle.std.proofs.Common.{refl}
 use Rattle.std.proofs.lemmas.List.{take_all}
 use Rattle.mars_app.proofs.Reading.{goes_through_next, quits_inside, breaks_inside}
 use Rattle.mars_app.proofs.debugger.take_bytes.Goals as goal

@@ -1,6 +1,5 @@
-use Rattle.std.proofs.Common.{◌≡◌, ◌∙◌, sym, true, false, nat_eq, length, ℕ, List, rules}
+use Rattle.std.proofs.Common.{◌∙◌, sym, rules}
 use Rattle.std.proofs.lemmas.Result.{on_ok_weaker, on_err_weaker}
-use Rattle.mars_app.specs.LineBuffer.{Holds}
 use Rattle.mars_app.proofs.Reading.{finishes_empty, finishes_quit, finishes_line, breaks_at_last}
 use Rattle.mars_app.proofs.debugger.take_last_line.Goals as goal
 
