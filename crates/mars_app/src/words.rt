@@ -1,10 +1,10 @@
 //! The words and numbers of a line.
-ghost use Rattle.std.specs.Prelude.{◌≡◌, ◌≤◌, length, option_map, true, not};
-ghost use Rattle.std.specs.List.{list_all, position};
-ghost use Rattle.std.specs.Char.{is_ascii_digit};
-ghost use Rattle.std.specs.Str.Parse.{digits_value};
+ghost use Rattle.std.specs.Prelude.{◌≡◌, ◌≤◌, length, option_map, not};
+ghost use Rattle.std.specs.List.{position};
 ghost use Rattle.mars_cell.specs.Parts.{is_blank};
-ghost use Rattle.mars_app.specs.Words.{index_of, first_word, after_word, number_of, number_at};
+ghost use Rattle.mars_app.specs.Words.{index_of, first_word, after_word, number_at};
+
+use mars_cell::read_digits;
 
 fn is_blank(byte: u8) -> bool
     ensures { result ≡ is_blank byte }
@@ -52,45 +52,11 @@ pub fn split_word(line: &[u8]) -> (&[u8], &[u8])
     line.split_at(word_end(line))
 }
 
-/// The value of at most 18 digits.
-fn value(digits: &[u8]) -> u64
-    requires digits { list_all is_ascii_digit digits.now ≡ true }
-    requires few { length digits.now ≤ 18 }
-    ensures { result ≡ digits_value 10 digits.now }
-{
-    let mut value = 0;
-    for digit in digits {
-        value = value * 10 + u64::from(*digit - b'0');
-    }
-    value
-}
-
-fn are_digits(bytes: &[u8]) -> bool
-    ensures { result ≡ list_all is_ascii_digit bytes.now }
-{
-    bytes.iter().all(|byte| byte.is_ascii_digit())
-}
-
-/// The number that a word is: 1 to 18 digits.
-#[tactic(auto, unfolding(crate::specs::Words::number_of))]
-fn read_number(word: &[u8]) -> Option<u64>
-    ensures { result ≡ number_of word.now }
-{
-    if word.is_empty() || word.len() > 18 {
-        return None;
-    }
-    if are_digits(word) {
-        Some(value(word))
-    } else {
-        None
-    }
-}
-
 /// The number at the front of a line, and what follows it.
 #[tactic(auto, unfolding(crate::specs::Words::number_at))]
 pub fn split_number(line: &[u8]) -> Option<(u64, &[u8])>
     ensures { option_map (λ r. (r.0, r.1.now)) result ≡ number_at line.now }
 {
     let (word, rest) = split_word(line);
-    Some((read_number(word)?, rest))
+    Some((read_digits(word)?, rest))
 }

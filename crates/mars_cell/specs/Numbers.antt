@@ -10,6 +10,11 @@ unfoldable pub split_sign : List ℕ → Bool × List ℕ
 split_sign [] = (false, [])
 split_sign (b ∷ bs) = if b == 45 then (true, bs) else if b == 43 then (false, bs) else (false, b ∷ bs)
 
+-- 1 to 18 digits
+unfoldable pub parse_digits : List ℕ → Option ℕ
+parse_digits word =
+    if nat_lt 0 (length word) && (nat_le (length word) 18 && list_all is_ascii_digit word) then Some (digits_value 10 word) else None
+
 -- an optional sign and 1 to 18 digits
 unfoldable pub parse_number : List ℕ → Option Number
 parse_number word =

@@ -23,6 +23,7 @@ mod written;
 pub use grammar::{default_modifier, read_cell};
 pub use instruction::{Cell, Field, Mode, Modifier, Op};
 pub use load::{LoadFault, read_load};
+pub use numbers::read_digits;
 pub use parameters::{ParamFault, Params};
 pub use warriors::{Warrior, WarriorFault};
 pub use written::write_load;

@@ -3,7 +3,7 @@ ghost use Rattle.std.specs.Prelude.{◌≡◌, ◌≤◌, ◌<◌, length, true}
 ghost use Rattle.std.specs.Char.{is_ascii_digit};
 ghost use Rattle.std.specs.List.{list_all};
 ghost use Rattle.std.specs.Str.Parse.{digits_value};
-ghost use Rattle.mars_cell.specs.Numbers.{parse_number, split_sign, residue};
+ghost use Rattle.mars_cell.specs.Numbers.{parse_digits, parse_number, split_sign, residue};
 
 /// A number with its sign. A minus may stand before 0, too.
 #[derive(Clone, Copy)]
@@ -43,18 +43,31 @@ fn are_digits(bytes: &[u8]) -> bool
     bytes.iter().all(|byte| byte.is_ascii_digit())
 }
 
+/// The number that 1 to 18 digits spell.
+#[tactic(auto, unfolding(crate::specs::Numbers::parse_digits))]
+pub fn read_digits(word: &[u8]) -> Option<u64>
+    ensures { result ≡ parse_digits word.now }
+{
+    if word.is_empty() || word.len() > 18 {
+        return None;
+    }
+    if are_digits(word) {
+        Some(value(word))
+    } else {
+        None
+    }
+}
+
 /// The number that a word spells: an optional sign, and 1 to 18 digits.
-#[tactic(auto, unfolding(crate::specs::Numbers::parse_number))]
+#[tactic(auto, unfolding(crate::specs::Numbers::parse_number, crate::specs::Numbers::parse_digits))]
 pub fn read_number(word: &[u8]) -> Option<Number>
     ensures { result ≡ parse_number word.now }
 {
     let (is_negative, digits) = split_sign(word);
-    if digits.is_empty() || digits.len() > 18 || !are_digits(digits) {
-        return None;
-    }
+    let magnitude = read_digits(digits)?;
     Some(Number {
         is_negative,
-        magnitude: value(digits),
+        magnitude,
     })
 }
 

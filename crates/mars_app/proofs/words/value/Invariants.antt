@@ -1,9 +1,0 @@
-use Rattle.std.proofs.Common.{◌≡◌, ◌<◌, ◌^◌, take}
-use Rattle.std.specs.Str.Parse.{digits_value}
-use Rattle.mars_app.proofs.words.value.Given as goal
-
-abbrev pub invariant-loop-digit : goal.invariant-loop-digit
-invariant-loop-digit l = record {
-  below : l.value < 10 ^ l.digit-index;
-  same : l.value ≡ digits_value 10 (take l.digit-index l.digits);
-}
