@@ -1,0 +1,10 @@
+pub mod ShapeSteps
+pub mod Trees
+pub mod Climbs
+pub mod Splits
+pub mod Shapes
+pub mod Evaluates
+pub mod Reducing
+pub mod Standing
+pub mod Linking
+pub mod Running

@@ -1,0 +1,195 @@
+-- The shape and the value of an expression.
+use Rattle.std.specs.Prelude.{ℕ, ◌+◌, ◌-◌, ◌^◌, List, [], ◌∷◌, Bool, true, false, not, ◌&&◌, ◌||◌, ℤ, pos, negsuc, ◌+ℤ◌, ◌-ℤ◌, ◌*ℤ◌, neg_ℤ, int_lt, int_div, int_rem, Option, Some, None, Result, Ok, Err, if◌then◌else◌, zero, suc, length, nat_lt, nat_le, ◌==◌, map}
+use Rattle.std.specs.Ordering.{int_eq}
+use Rattle.redcode_text.specs.declared.token.Token.{Token}
+use Rattle.redcode_text.specs.declared.token.TokenKind.{TokenKind}
+use Rattle.redcode_text.specs.declared.token.TokenKind.TheVariants.{Number, Name}
+use Rattle.redcode_text.specs.declared.token.TokenKind.TheVariants as token
+use Rattle.redcode_text.specs.declared.token.Sign.{Sign}
+use Rattle.redcode_text.specs.declared.token.Sign.TheVariants.{Equal, NotEqual, LessEqual, GreaterEqual, And, Or, Plus, Minus, Star, Slash, Percent, Bang, Less, Greater, OpenParen, CloseParen}
+use Rattle.redcode_text.specs.declared.fault.ExprFault.{ExprFault}
+use Rattle.redcode_text.specs.declared.fault.ExprFault.TheVariants.{Syntax, Unknown, DivideByZero, Range, Depth}
+use Rattle.redcode_text.specs.declared.shape.ShapeState.{ShapeState}
+
+infixl 10 ◌>>=◌
+-- the second, with what the first gives; a fault of the first is the fault
+abbrev pub ◌>>=◌ : {A B : Type 0} → Result A ExprFault → (A → Result B ExprFault) → Result B ExprFault
+(Ok x) >>= f = f x
+(Err e) >>= f = Err e
+
+-- what the tokens are, apart from where they stand
+abbrev pub kinds : List Token → List TokenKind
+kinds tokens = map (λ t. t.kind) tokens
+
+-- ---- shape
+
+-- the precedence of an operator between two operands: 1 binds tightest, 5 loosest; 0 for any other sign
+abbrev pub precedence : Sign → ℕ
+precedence Star = 1
+precedence Slash = 1
+precedence Percent = 1
+precedence Plus = 2
+precedence Minus = 2
+precedence Equal = 3
+precedence NotEqual = 3
+precedence Less = 3
+precedence Greater = 3
+precedence LessEqual = 3
+precedence GreaterEqual = 3
+precedence And = 4
+precedence Or = 5
+precedence _ = 0
+
+abbrev pub one_more_sign : ShapeState → Result ShapeState ExprFault
+one_more_sign p = if nat_le 64 p.signs then Err Depth else Ok (record { opened = p.opened; signs = p.signs + 1; after_operand = false })
+
+-- a sign where an operand is wanted
+abbrev pub before_sign : ShapeState → Sign → Result ShapeState ExprFault
+before_sign p Plus = one_more_sign p
+before_sign p Minus = one_more_sign p
+before_sign p Bang = one_more_sign p
+before_sign p OpenParen = if nat_le 64 p.opened then Err Depth else Ok (record { opened = p.opened + 1; signs = 0; after_operand = false })
+before_sign p _ = Err Syntax
+
+-- a sign where an operator is wanted
+abbrev pub after_sign : ShapeState → Sign → Result ShapeState ExprFault
+after_sign p CloseParen = if p.opened == 0 then Err Syntax else Ok (record { opened = p.opened - 1; signs = 0; after_operand = true })
+after_sign p s = if precedence s == 0 then Err Syntax else Ok (record { opened = p.opened; signs = 0; after_operand = false })
+
+abbrev pub operand_at : ShapeState → Result ShapeState ExprFault
+operand_at p = if p.after_operand then Err Syntax else Ok (record { opened = p.opened; signs = 0; after_operand = true })
+
+abbrev pub next_state : ShapeState → TokenKind → Result ShapeState ExprFault
+next_state p (Number n) = operand_at p
+next_state p (Name n) = operand_at p
+next_state p (token.Sign s) = if p.after_operand then after_sign p s else before_sign p s
+
+-- the fault of the first token that doesn't fit, or of the end
+abbrev pub shape : ShapeState → List TokenKind → Result (Unit {0}) ExprFault
+shape p [] = if p.after_operand && (p.opened == 0) then Ok tt else Err Syntax
+shape p (x ∷ xs) = next_state p x >>= λ q. shape q xs
+
+abbrev pub start : ShapeState
+start = record { opened = 0; signs = 0; after_operand = false }
+
+-- ---- values
+
+abbrev pub truth : Bool → ℤ
+truth b = if b then pos 1 else pos 0
+
+abbrev pub is_true : ℤ → Bool
+is_true z = not (int_eq z (pos 0))
+
+abbrev pub in_range : ℤ → Result ℤ ExprFault
+in_range (pos n) = if nat_lt n (2 ^ 63) then Ok (pos n) else Err Range
+in_range (negsuc n) = if nat_lt n (2 ^ 63) then Ok (negsuc n) else Err Range
+
+-- the value of an operator between two values
+abbrev pub binary : Sign → ℤ → ℤ → Result ℤ ExprFault
+binary Or a b = Ok (truth (is_true a || is_true b))
+binary And a b = Ok (truth (is_true a && is_true b))
+binary Equal a b = Ok (truth (int_eq a b))
+binary NotEqual a b = Ok (truth (not (int_eq a b)))
+binary Less a b = Ok (truth (int_lt a b))
+binary Greater a b = Ok (truth (int_lt b a))
+binary LessEqual a b = Ok (truth (not (int_lt b a)))
+binary GreaterEqual a b = Ok (truth (not (int_lt a b)))
+binary Plus a b = in_range (a +ℤ b)
+binary Minus a b = in_range (a -ℤ b)
+binary Star a b = in_range (a *ℤ b)
+binary Slash a b = if int_eq b (pos 0) then Err DivideByZero else in_range (int_div a b)
+binary Percent a b = if int_eq b (pos 0) then Err DivideByZero else (in_range (int_div a b) >>= λ _. Ok (int_rem a b))
+binary _ a b = Err Syntax
+
+-- the value of a sign before a value
+abbrev pub unary : Sign → ℤ → Result ℤ ExprFault
+unary Plus a = Ok a
+unary Minus a = in_range (neg_ℤ a)
+unary Bang a = Ok (truth (int_eq a (pos 0)))
+unary _ a = Err Syntax
+
+-- ---- trees
+
+pub data Tree : Type 0 where
+  Numeral : ℤ → Tree
+  Named : ℕ → Tree
+  Parens : Tree → Tree
+  Unary : Sign → Tree → Tree
+  Binary : Tree → Sign → Tree → Tree
+  Missing : Tree
+
+-- what stands before an operator, the operator, and what stands after it
+pub record Parts : Type 0 where
+  pub before : List TokenKind
+  pub sign : Sign
+  pub after : List TokenKind
+
+-- the operator of this precedence that a token is, where it stands after an operand and outside parentheses
+abbrev pub operator_at : ℕ → ℕ → Bool → TokenKind → Option Sign
+operator_at k depth after (token.Sign s) = if after && (depth == 0) && (precedence s == k) then Some s else None
+operator_at k depth after _ = None
+
+-- the depth of parentheses after a token
+abbrev pub depth_after : ℕ → TokenKind → ℕ
+depth_after depth (token.Sign OpenParen) = depth + 1
+depth_after depth (token.Sign CloseParen) = depth - 1
+depth_after depth _ = depth
+
+abbrev pub ends_operand : TokenKind → Bool
+ends_operand (token.Sign CloseParen) = true
+ends_operand (token.Sign _) = false
+ends_operand _ = true
+
+-- a later operator, or this one
+abbrev pub later_or : Option Parts → TokenKind → Option Sign → List TokenKind → Option Parts
+later_or (Some p) x here xs = Some (record { before = x ∷ p.before; sign = p.sign; after = p.after })
+later_or None x (Some s) xs = Some (record { before = []; sign = s; after = xs })
+later_or None x None xs = None
+
+-- the last operator of this precedence outside parentheses
+abbrev pub last_operator : ℕ → ℕ → Bool → List TokenKind → Option Parts
+last_operator k depth after [] = None
+last_operator k depth after (x ∷ xs) = later_or (last_operator k (depth_after depth x) (ends_operand x) xs) x (operator_at k depth after x) xs
+
+abbrev pub without_last : List TokenKind → List TokenKind
+without_last [] = []
+without_last (x ∷ []) = []
+without_last (x ∷ y ∷ ys) = x ∷ without_last (y ∷ ys)
+
+-- tokens with no operator outside parentheses
+abbrev pub primary : (ℕ → List TokenKind → Tree) → List TokenKind → Tree
+primary tree [] = Missing
+primary tree (Number n ∷ xs) = Numeral n
+primary tree (Name n ∷ xs) = Named n
+primary tree (token.Sign OpenParen ∷ xs) = Parens (tree 5 (without_last xs))
+primary tree (token.Sign s ∷ xs) = Unary s (tree 0 xs)
+
+abbrev pub parted : (ℕ → List TokenKind → Tree) → ℕ → Option Parts → Tree → Tree
+parted tree k (Some p) tighter = Binary (tree (suc k) p.before) p.sign (tree k p.after)
+parted tree k None tighter = tighter
+
+-- the last operator of the loosest kind parts the tokens
+abbrev pub at_level : (ℕ → List TokenKind → Tree) → ℕ → List TokenKind → Tree
+at_level tree zero xs = primary tree xs
+at_level tree (suc k) xs = parted tree k (last_operator (suc k) 0 false xs) (at_level tree k xs)
+
+-- the tree of at most n tokens, whose operators outside parentheses are no looser than k
+unfoldable pub tree_within : ℕ → ℕ → List TokenKind → Tree
+tree_within zero k xs = Missing
+tree_within (suc n) k xs = at_level (tree_within n) k xs
+
+abbrev pub known : Option ℤ → Result ℤ ExprFault
+known (Some v) = Ok v
+known None = Err Unknown
+
+abbrev pub value : (ℕ → Option ℤ) → Tree → Result ℤ ExprFault
+value names (Numeral n) = Ok n
+value names (Named n) = known (names n)
+value names (Parens t) = value names t
+value names (Unary s t) = value names t >>= λ v. unary s v
+value names (Binary l s r) = value names l >>= λ a. value names r >>= λ b. binary s a b
+value names Missing = Err Syntax
+
+-- the value of an expression, or its first fault: the shape first
+unfoldable pub value_of : (ℕ → Option ℤ) → List TokenKind → Result ℤ ExprFault
+value_of names xs = shape start xs >>= λ _. value names (tree_within (length xs) 5 xs)

@@ -1,0 +1,4 @@
+pub mod Expression
+pub mod Climbing
+pub mod Positions
+pub mod Rows

@@ -1,0 +1,62 @@
+-- Worked examples: the values of expressions.
+use Rattle.std.specs.Prelude.{◌≡◌, ℕ, zero, suc, List, [], ◌∷◌, ◌++◌, ℤ, pos, negsuc, Option, None, Some, Result, Ok, Err, refl}
+use Rattle.redcode_text.specs.declared.token.TokenKind.{TokenKind}
+use Rattle.redcode_text.specs.declared.token.TokenKind.TheVariants.{Number, Name}
+use Rattle.redcode_text.specs.declared.token.TokenKind.TheVariants as token
+use Rattle.redcode_text.specs.declared.token.Sign.{Sign}
+use Rattle.redcode_text.specs.declared.token.Sign.TheVariants.{Equal, Or, And, Plus, Minus, Star, Slash, Percent, Bang, Less, OpenParen, CloseParen, Comma}
+use Rattle.redcode_text.specs.declared.fault.ExprFault.{ExprFault}
+use Rattle.redcode_text.specs.declared.fault.ExprFault.TheVariants.{Syntax, Unknown, DivideByZero, Range, Depth}
+use Rattle.redcode_text.specs.Expression.{value_of, tree_within}
+
+abbrev n : ℕ → TokenKind
+n k = Number (pos k)
+
+abbrev s : Sign → TokenKind
+s x = token.Sign x
+
+-- the name 0 stands for 5, and no other for anything
+abbrev names : ℕ → Option ℤ
+names zero = Some (pos 5)
+names (suc k) = None
+
+abbrev eval : List TokenKind → Result ℤ ExprFault
+eval xs = value_of names xs
+
+abbrev times : ℕ → TokenKind → List TokenKind
+times zero x = []
+times (suc k) x = x ∷ times k x
+
+-- operators of one level group to the left, tighter ones first; division truncates towards zero
+pub row_values :
+    (eval (n 2 ∷ s Plus ∷ n 3 ∷ s Star ∷ n 4 ∷ s Percent ∷ n 5 ∷ []) ≡ Ok (pos 4))
+    × (eval (n 10 ∷ s Minus ∷ n 3 ∷ s Minus ∷ n 2 ∷ []) ≡ Ok (pos 5))
+    × (eval (s Minus ∷ n 7 ∷ s Slash ∷ n 2 ∷ []) ≡ Ok (negsuc 2))
+    × (eval (s Minus ∷ n 7 ∷ s Percent ∷ n 2 ∷ []) ≡ Ok (negsuc 0))
+    × (eval (n 1 ∷ s Less ∷ n 2 ∷ s Equal ∷ n 1 ∷ []) ≡ Ok (pos 1))
+    × (eval (s Bang ∷ n 0 ∷ s And ∷ n 2 ∷ []) ≡ Ok (pos 1))
+    × (eval (n 2 ∷ s Star ∷ s OpenParen ∷ Name 0 ∷ s Plus ∷ n 1 ∷ s CloseParen ∷ []) ≡ Ok (pos 12))
+    × (eval (n 1 ∷ s Or ∷ n 0 ∷ s And ∷ n 0 ∷ []) ≡ Ok (pos 1))
+unfolding value_of tree_within
+row_values = (refl, refl, refl, refl, refl, refl, refl, refl)
+
+-- the shape comes first, then the values from the left
+pub row_faults :
+    (eval (n 9223372036854775807 ∷ s Plus ∷ n 1 ∷ []) ≡ Err Range)
+    × (eval (s OpenParen ∷ s Minus ∷ n 9223372036854775807 ∷ s Minus ∷ n 1 ∷ s CloseParen ∷ s Percent ∷ s Minus ∷ n 1 ∷ []) ≡ Err Range)
+    × (eval (n 1 ∷ s Slash ∷ n 0 ∷ s CloseParen ∷ []) ≡ Err Syntax)
+    × (eval (n 1 ∷ s Slash ∷ n 0 ∷ s Plus ∷ Name 1 ∷ []) ≡ Err DivideByZero)
+    × (eval (Name 1 ∷ s Plus ∷ n 1 ∷ s Slash ∷ n 0 ∷ []) ≡ Err Unknown)
+    × (eval [] ≡ Err Syntax)
+    × (eval (n 1 ∷ s Comma ∷ []) ≡ Err Syntax)
+unfolding value_of tree_within
+row_faults = (refl, refl, refl, refl, refl, refl, refl)
+
+-- 64 parentheses and 64 signs are allowed, one more of either isn't
+pub row_limits :
+    (eval (times 64 (s OpenParen) ++ n 1 ∷ times 64 (s CloseParen)) ≡ Ok (pos 1))
+    × (eval (times 65 (s OpenParen) ++ n 1 ∷ times 65 (s CloseParen)) ≡ Err Depth)
+    × (eval (times 64 (s Minus) ++ n 1 ∷ []) ≡ Ok (pos 1))
+    × (eval (times 65 (s Minus) ++ n 1 ∷ []) ≡ Err Depth)
+unfolding value_of tree_within
+row_limits = (refl, refl, refl, refl)

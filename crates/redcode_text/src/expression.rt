@@ -1,0 +1,40 @@
+//! Expressions over numbers and names.
+ghost use Rattle.std.specs.Prelude.{◌≡◌, Ok};
+ghost use Rattle.redcode_text.specs.Expression.{kinds, shape, start, value_of};
+
+use crate::evaluation::Reading;
+use crate::fault::ExprFault;
+use crate::shape::check_shape;
+use crate::token::Token;
+
+/// What names stand for.
+pub trait Env {
+    ghost use Rattle.std.specs.Prelude.{ℕ, ℤ, Option};
+
+    ghost value_of: { Self → ℕ → Option ℤ };
+
+    /// What the name of this index stands for, if it stands for anything.
+    fn value(&self, name: usize) -> Option<i64>
+        ensures { result ≡ value_of self.now name };
+}
+
+/// The value of tokens that have the shape of an expression, read from the left.
+fn evaluate<E: Env>(tokens: &[Token], env: &E) -> Result<i64, ExprFault>
+    requires { shape start (kinds tokens.now) ≡ Ok tt }
+    ensures { result ≡ value_of (E.value_of env.now) (kinds tokens.now) }
+{
+    let mut reading = Reading::new();
+    for at in 0..tokens.len() {
+        reading.advance(tokens, at, env)?;
+    }
+    reading.finish()
+}
+
+/// The value of an expression, or its first fault: those of the shape first, then those of the values from the left.
+/// It takes no memory.
+pub fn eval<E: Env>(tokens: &[Token], env: &E) -> Result<i64, ExprFault>
+    ensures { result ≡ value_of (E.value_of env.now) (kinds tokens.now) }
+{
+    check_shape(tokens)?;
+    evaluate(tokens, env)
+}

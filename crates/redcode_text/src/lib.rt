@@ -1,0 +1,19 @@
+//! The text of Redcode: its tokens and its expressions.
+//!
+//! The layers above may use: `eval` gives the value of an expression under what its names stand for, or its first
+//! fault, exactly as `specs/Expression` defines it, without memory.
+#![tactic(auto)]
+
+mod evaluation;
+mod expression;
+mod fault;
+mod operators;
+mod shape;
+mod token;
+
+pub use expression::{Env, eval};
+pub use fault::{ExprFault, TextFault, TextProblem};
+pub use token::{Sign, Token, TokenKind};
+
+#[cfg(test)]
+mod tests;
