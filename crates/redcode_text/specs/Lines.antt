@@ -176,22 +176,29 @@ parts_within ps st (suc k) labels before (t ∷ ts) =
 abbrev pub parts_of : Predefined → Reading → List Token → Result Parts TextProblem
 parts_of ps st ts = parts_within ps st (length ts) [] [] ts
 
-abbrev pub is_spelled : Reading → List ℕ → Option ℕ → Bool
-is_spelled st word (Some n) = str_eq_ignore_ascii_case (name_at st.names n) word
-is_spelled st word None = false
+-- whether an operation is this word in either case
+abbrev pub is_spelled : List (List ℕ) → List ℕ → Option ℕ → Bool
+is_spelled names word (Some n) = str_eq_ignore_ascii_case (name_at names n) word
+is_spelled names word None = false
+
+abbrev pub is_org : List (List ℕ) → Option ℕ → Bool
+is_org names operation = is_spelled names (codes "org") operation
+
+abbrev pub is_end : List (List ℕ) → Option ℕ → Bool
+is_end names operation = is_spelled names (codes "end") operation
 
 -- every line with an operation or a rest is an instruction, but for ORG and END
-abbrev pub is_instruction : Reading → Parts → Bool
-is_instruction st p = (is_some p.operation || nat_lt 0 (length p.rest)) && not (is_spelled st (codes "org") p.operation || is_spelled st (codes "end") p.operation)
+abbrev pub is_instruction : List (List ℕ) → Option ℕ → List Token → Bool
+is_instruction names operation rest = (is_some operation || nat_lt 0 (length rest)) && not (is_org names operation || is_end names operation)
 
 -- a line whose operation is no EQU name
 abbrev pub line_added : ℕ → Parts → Reading → Reading
 line_added number p st =
     record st {
       lines = st.lines ++ record { number = number; labels = p.labels; operation = p.operation; rest = p.rest } ∷ [];
-      instructions = elim (is_instruction st p) [ true ↦ st.instructions + 1 | false ↦ st.instructions ];
+      instructions = elim (is_instruction st.names p.operation p.rest) [ true ↦ st.instructions + 1 | false ↦ st.instructions ];
       equate_grows = false;
-      ended = is_spelled st (codes "end") p.operation;
+      ended = is_end st.names p.operation;
     }
 
 -- these tokens before the first line, and those behind the last
