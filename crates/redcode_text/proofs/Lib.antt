@@ -10,3 +10,5 @@ pub mod Linking
 pub mod Running
 pub mod WordSteps
 pub mod NameSteps
+pub mod Digits
+pub mod Joins

@@ -1,6 +1,6 @@
 //! The bytes of a line: blanks, and those of words.
 ghost use Rattle.std.specs.Prelude.{◌≡◌};
-ghost use Rattle.redcode_text.specs.Tokens.{is_blank, is_letter, is_word_byte, begins_word, word_len};
+ghost use Rattle.redcode_text.specs.Tokens.{is_blank, is_letter, is_word_byte, begins_name, begins_word, word_len};
 
 /// Whether a byte is one up to 32, other than LF.
 pub fn is_blank(byte: u8) -> bool
@@ -21,6 +21,16 @@ fn is_word_byte(byte: u8) -> bool
     ensures { result ≡ is_word_byte byte }
 {
     is_letter(byte) || byte.is_ascii_digit()
+}
+
+/// Whether the bytes begin with a letter or `_`.
+pub fn begins_name(bytes: &[u8]) -> bool
+    ensures { result ≡ begins_name bytes.now }
+{
+    match bytes {
+        [] => false,
+        [first, ..] => is_letter(*first),
+    }
 }
 
 /// Whether the bytes begin with a byte of a word, or with a join.

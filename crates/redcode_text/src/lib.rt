@@ -9,10 +9,12 @@ mod evaluation;
 mod expression;
 mod fault;
 mod names;
+mod open_loops;
 mod operators;
 mod shape;
 mod signs;
 mod token;
+mod words;
 
 pub use expression::{Env, eval};
 pub use fault::{ExprFault, TextFault, TextProblem};
