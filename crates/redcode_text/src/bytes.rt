@@ -1,5 +1,5 @@
 //! The bytes of a line: blanks, and those of words.
-ghost use Rattle.std.specs.Prelude.{◌≡◌};
+ghost use Rattle.std.specs.Prelude.{◌≡◌, ◌≤◌, length, take, true, IsAscii};
 ghost use Rattle.redcode_text.specs.Tokens.{is_blank, is_letter, is_word_byte, begins_name, begins_word, word_len};
 
 /// Whether a byte is one up to 32, other than LF.
@@ -46,7 +46,10 @@ pub fn begins_word(bytes: &[u8]) -> bool
 
 /// How many bytes the word at the front has, its joins too.
 pub fn word_len(bytes: &[u8]) -> usize
-    ensures { result ≡ word_len bytes.now }
+    ensures value { result ≡ word_len bytes.now }
+    ensures within { result ≤ length bytes.now }
+    ensures some { begins_word bytes.now ≡ true → 1 ≤ result }
+    ensures ascii { IsAscii (take result bytes.now) }
 {
     let mut len = 0;
     while begins_word(&bytes[len..]) {
