@@ -8,3 +8,7 @@ pub mod Reducing
 pub mod Standing
 pub mod Linking
 pub mod Running
+pub mod WordSteps
+pub mod NameSteps
+pub mod Digits
+pub mod Joins
