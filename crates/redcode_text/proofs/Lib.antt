@@ -12,3 +12,5 @@ pub mod WordSteps
 pub mod NameSteps
 pub mod Digits
 pub mod Joins
+pub mod EquateLookup
+pub mod Replacing
