@@ -14,3 +14,5 @@ pub mod Digits
 pub mod Joins
 pub mod Failing
 pub mod Scans
+pub mod EquateLookup
+pub mod Replacing

@@ -6,6 +6,7 @@
 #![tactic(auto)]
 
 mod bytes;
+mod equates;
 mod evaluation;
 mod expression;
 mod fault;
