@@ -1,0 +1,3 @@
+pub mod Ascending
+pub mod Draws
+pub mod Spacing

@@ -1,0 +1,3 @@
+pub mod Placement
+pub mod Laws
+pub mod Rows
