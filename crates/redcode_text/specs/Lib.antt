@@ -1,4 +1,11 @@
+pub mod Tokens
+pub mod TokenRows
 pub mod Expression
 pub mod Climbing
 pub mod Positions
 pub mod Rows
+pub mod Source
+pub mod Equates
+pub mod Lines
+pub mod Expansion
+pub mod ExpansionRows

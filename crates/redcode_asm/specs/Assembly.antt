@@ -1,0 +1,270 @@
+-- What a source is assembled to.
+use Rattle.std.specs.Prelude.{ℕ, zero, ◌+◌, ◌-◌, ◌%◌, List, [], ◌∷◌, length, drop, filter, Bool, true, false, ◌==◌, ℤ, pos, negsuc, ◌-ℤ◌, Option, Some, None, unwrap_or, option_map, Result, Ok, Err, if◌then◌else◌, nat_lt, codes}
+use Rattle.std.specs.List.{list_any, onto_first, last_or}
+use Rattle.mars_cell.specs.declared.instruction.Cell.{Cell}
+use Rattle.mars_cell.specs.declared.instruction.Mode.{Mode}
+use Rattle.mars_cell.specs.declared.instruction.Mode.TheVariants as mode
+use Rattle.mars_cell.specs.declared.instruction.Modifier.{Modifier}
+use Rattle.mars_cell.specs.declared.instruction.Op.{Op}
+use Rattle.mars_cell.specs.declared.instruction.Op.TheVariants as op
+use Rattle.mars_cell.specs.Grammar.{default_modifier}
+use Rattle.mars_cell.specs.Parameters.{Parameters}
+use Rattle.mars_cell.specs.Warriors.{WarriorValue}
+use Rattle.mars_cell.specs.Words.{op_of, modifier_of}
+use Rattle.redcode_text.specs.declared.fault.ExprFault.{ExprFault}
+use Rattle.redcode_text.specs.declared.fault.TextFault.{TextFault}
+use Rattle.redcode_text.specs.declared.fault.TextProblem.{TextProblem}
+use Rattle.redcode_text.specs.declared.token.Sign.{Sign}
+use Rattle.redcode_text.specs.declared.token.Sign.TheVariants as sign
+use Rattle.redcode_text.specs.declared.token.Token.{Token}
+use Rattle.redcode_text.specs.declared.token.TokenKind.{TokenKind}
+use Rattle.redcode_text.specs.declared.token.TokenKind.TheVariants.{Number, Name}
+use Rattle.redcode_text.specs.declared.token.TokenKind.TheVariants as token
+use Rattle.redcode_text.specs.Equates.{substituted}
+use Rattle.redcode_text.specs.Expansion.{expansion}
+use Rattle.redcode_text.specs.Expression.{kinds, value_of}
+use Rattle.redcode_text.specs.Lines.{Reading, Line, Assert, Predefined, predefined_value, with_current_line, name_at, is_instruction, is_org, is_end}
+use Rattle.redcode_asm.specs.declared.fault.AsmFault.{AsmFault}
+use Rattle.redcode_asm.specs.declared.fault.AsmProblem.{AsmProblem}
+use Rattle.redcode_asm.specs.declared.fault.AsmProblem.TheVariants.{Text, Operation, Operand, Expression, AssertFailed, BadOrigin, Empty, TooLong}
+
+infixl 10 ◌>>=◌
+abbrev pub ◌>>=◌ : {A B E : Type 0} → Result A E → (A → Result B E) → Result B E
+(Ok x) >>= f = f x
+(Err e) >>= f = Err e
+
+abbrev pub ok_or : {A : Type 0} → AsmProblem → Option A → Result A AsmProblem
+ok_or problem (Some x) = Ok x
+ok_or problem None = Err problem
+
+abbrev pub at_line : {A : Type 0} → ℕ → Result A AsmProblem → Result A AsmFault
+at_line line (Ok x) = Ok x
+at_line line (Err e) = Err (record { line = line; problem = e })
+
+-- ---- names
+
+-- the predefined names, for a number of rounds and of warriors
+abbrev pub predefined : Parameters → ℕ → ℕ → Predefined
+predefined p rounds warriors =
+    (codes "CORESIZE", pos p.core_size) ∷ (codes "MAXPROCESSES", pos p.processes) ∷ (codes "MAXCYCLES", pos p.cycles) ∷ (codes "MAXLENGTH", pos p.max_length)
+    ∷ (codes "MINDISTANCE", pos p.distance) ∷ (codes "ROUNDS", pos rounds) ∷ (codes "WARRIORS", pos warriors) ∷ (codes "VERSION", pos 80) ∷ []
+
+-- a line, and the number of instructions before it
+pub record Placed : Type 0 where
+  pub index : ℕ
+  pub line : Line
+
+abbrev pub placed_from : List (List ℕ) → ℕ → List Line → List Placed
+placed_from names index [] = []
+placed_from names index (l ∷ ls) =
+    record { index = index; line = l } ∷ placed_from names (elim (is_instruction names l.operation l.rest) [ true ↦ index + 1 | false ↦ index ]) ls
+
+abbrev pub placed : Reading → List Placed
+placed source = placed_from source.names 0 source.lines
+
+abbrev pub instructions : Reading → List Placed
+instructions source = filter (λ p. is_instruction source.names p.line.operation p.line.rest) (placed source)
+
+-- the index of the line on which a label stands
+abbrev pub label_among : List Placed → ℕ → Option ℕ
+label_among [] n = None
+label_among (p ∷ ps) n = elim (list_any (λ m. m == n) p.line.labels) [ true ↦ Some p.index | false ↦ label_among ps n ]
+
+abbrev pub value_or : Option ℤ → Option ℤ → Option ℤ
+value_or (Some v) other = Some v
+value_or None other = other
+
+-- what a name stands for behind so many instructions, where it is no label
+abbrev pub known_value : Predefined → Reading → ℕ → ℕ → Option ℤ
+known_value ps source index n = predefined_value (with_current_line ps index) (name_at source.names n)
+
+-- labels are counted from an index on
+abbrev pub name_value : Predefined → Reading → ℕ → ℕ → ℕ → Option ℤ
+name_value ps source origin index n = value_or (option_map (λ i. pos i -ℤ pos origin) (label_among (placed source) n)) (known_value ps source index n)
+
+abbrev pub expressed : Result ℤ ExprFault → Result ℤ AsmProblem
+expressed (Ok v) = Ok v
+expressed (Err e) = Err (Expression e)
+
+abbrev pub value_in : (ℕ → Option ℤ) → List Token → Result ℤ AsmProblem
+value_in names ts = expressed (value_of names (kinds ts))
+
+abbrev pub texted : {A : Type 0} → Result A TextProblem → Result A AsmProblem
+texted (Ok x) = Ok x
+texted (Err e) = Err (Text e)
+
+-- tokens with the EQU names replaced
+abbrev pub replaced : Reading → List Token → Result (List Token) AsmProblem
+replaced source ts = texted (substituted source.equates ts)
+
+-- ---- an instruction
+
+-- the number from 0 to m-1 that differs from a value by a multiple of m
+abbrev pub reduced : ℕ → ℤ → ℕ
+reduced m (pos n) = n % m
+reduced m (negsuc n) = (m - (n + 1) % m) % m
+
+abbrev pub mode_sign : Sign → Option Mode
+mode_sign sign.Hash = Some mode.Immediate
+mode_sign sign.Dollar = Some mode.Direct
+mode_sign sign.Star = Some mode.AIndirect
+mode_sign sign.At = Some mode.BIndirect
+mode_sign sign.OpenBrace = Some mode.APredecrement
+mode_sign sign.Less = Some mode.BPredecrement
+mode_sign sign.CloseBrace = Some mode.APostincrement
+mode_sign sign.Greater = Some mode.BPostincrement
+mode_sign _ = None
+
+abbrev pub mode_of : TokenKind → Option Mode
+mode_of (token.Sign s) = mode_sign s
+mode_of _ = None
+
+-- the mode of an operand, `$` where none stands there, and its expression
+abbrev pub split_mode : List Token → Mode × List Token
+split_mode [] = (mode.Direct, [])
+split_mode (t ∷ ts) = elim (mode_of t.kind) [ Some m ↦ (m, ts) | None ↦ (mode.Direct, t ∷ ts) ]
+
+abbrev pub is_comma : TokenKind → Bool
+is_comma (token.Sign sign.Comma) = true
+is_comma _ = false
+
+abbrev pub parts_at_commas : List Token → List (List Token)
+parts_at_commas [] = [] ∷ []
+parts_at_commas (t ∷ ts) = elim (is_comma t.kind) [ true ↦ [] ∷ parts_at_commas ts | false ↦ onto_first t (parts_at_commas ts) ]
+
+-- the parts between commas, each with a token; none where nothing stands there
+abbrev pub operand_parts : List Token → Result (List (List Token)) AsmProblem
+operand_parts [] = Ok []
+operand_parts (t ∷ ts) = if list_any (λ p. length p == 0) (parts_at_commas (t ∷ ts)) then Err Operand else Ok (parts_at_commas (t ∷ ts))
+
+-- the tokens of the A-operand and of the B-operand, where they are given
+pub record Operands : Type 0 where
+  pub a : Option (List Token)
+  pub b : Option (List Token)
+
+abbrev pub operands_of : Op → List (List Token) → Result Operands AsmProblem
+operands_of op.Dat [] = Ok (record { a = None; b = None })
+operands_of op.Nop [] = Ok (record { a = None; b = None })
+operands_of op.Dat (x ∷ []) = Ok (record { a = None; b = Some x })
+operands_of o (x ∷ []) = Ok (record { a = Some x; b = None })
+operands_of o (x ∷ y ∷ []) = Ok (record { a = Some x; b = Some y })
+operands_of o _ = Err Operand
+
+-- the mode and the number of an operand in a core of m cells: `$0` where it isn't given
+abbrev pub operand_value : ℕ → (ℕ → Option ℤ) → Option (List Token) → Result (Mode × ℕ) AsmProblem
+operand_value m names None = Ok (mode.Direct, 0)
+operand_value m names (Some ts) = value_in names (split_mode ts).1 >>= λ v. Ok ((split_mode ts).0, reduced m v)
+
+abbrev pub opcode_of : List (List ℕ) → Option ℕ → Result Op AsmProblem
+opcode_of names None = Err Operation
+opcode_of names (Some n) = ok_or Operation (op_of (name_at names n))
+
+abbrev pub modifier_in : List (List ℕ) → TokenKind → Result Modifier AsmProblem
+modifier_in names (Name n) = ok_or Operation (modifier_of (name_at names n))
+modifier_in names _ = Err Operation
+
+abbrev pub modifier_first : List (List ℕ) → List Token → Result (Option Modifier × List Token) AsmProblem
+modifier_first names [] = Err Operation
+modifier_first names (t ∷ ts) = modifier_in names t.kind >>= λ m. Ok (Some m, ts)
+
+abbrev pub is_dot : TokenKind → Bool
+is_dot (token.Sign sign.Dot) = true
+is_dot _ = false
+
+-- `.` and a modifier, or none, and what follows
+abbrev pub split_modifier : List (List ℕ) → List Token → Result (Option Modifier × List Token) AsmProblem
+split_modifier names [] = Ok (None, [])
+split_modifier names (t ∷ ts) = elim (is_dot t.kind) [ true ↦ modifier_first names ts | false ↦ Ok (None, t ∷ ts) ]
+
+abbrev pub cell_with : Op → Option Modifier → Mode × ℕ → Mode × ℕ → Cell
+cell_with o given a b = record { op = o; modifier = unwrap_or given (default_modifier o a.0 b.0); a_mode = a.0; a = a.1; b_mode = b.0; b = b.1 }
+
+-- the cell of an instruction in a core of m cells: a label counts from the instruction
+abbrev pub cell_of : Predefined → ℕ → Reading → Placed → Result Cell AsmProblem
+cell_of ps m source p =
+    opcode_of source.names p.line.operation >>= λ o.
+    split_modifier source.names p.line.rest >>= λ rest.
+    replaced source rest.1 >>= λ ts.
+    operand_parts ts >>= operands_of o >>= λ given.
+    operand_value m (name_value ps source p.index p.index) given.a >>= λ a.
+    operand_value m (name_value ps source p.index p.index) given.b >>= λ b.
+    Ok (cell_with o rest.0 a b)
+
+-- the cells of some instructions, or the first fault
+abbrev pub cells_of : Predefined → ℕ → Reading → List Placed → Result (List Cell) AsmFault
+cells_of ps m source [] = Ok []
+cells_of ps m source (p ∷ rest) = at_line p.line.number (cell_of ps m source p) >>= λ c. cells_of ps m source rest >>= λ cs. Ok (c ∷ cs)
+
+-- ---- length, start, asserts
+
+abbrev pub none_past : List Placed → Result (Unit {0}) AsmFault
+none_past [] = Ok tt
+none_past (p ∷ rest) = Err (record { line = p.line.number; problem = TooLong })
+
+abbrev pub not_empty : List Placed → Result (Unit {0}) AsmFault
+not_empty [] = Err (record { line = 0; problem = Empty })
+not_empty (p ∷ rest) = Ok tt
+
+abbrev pub length_checked : ℕ → List Placed → Result (Unit {0}) AsmFault
+length_checked longest is = none_past (drop longest is) >>= λ _. not_empty is
+
+abbrev pub as_start : ℕ → ℤ → Result ℕ AsmProblem
+as_start count (pos n) = if nat_lt n count then Ok n else Err BadOrigin
+as_start count (negsuc n) = Err BadOrigin
+
+-- the start that an expression on a line of ORG or END gives, where labels count from the first instruction
+abbrev pub start_at : Predefined → Reading → ℕ → Placed → List Token → Result ℕ AsmProblem
+start_at ps source count p ts = value_in (name_value ps source 0 p.index) ts >>= as_start count
+
+abbrev pub org_start : Predefined → Reading → ℕ → Placed → Result ℕ AsmProblem
+org_start ps source count p = replaced source p.line.rest >>= start_at ps source count p
+
+abbrev pub end_operand : Predefined → Reading → ℕ → Placed → List Token → Result ℕ AsmProblem
+end_operand ps source count p [] = Ok 0
+end_operand ps source count p (t ∷ ts) = start_at ps source count p (t ∷ ts)
+
+abbrev pub end_start : Predefined → Reading → ℕ → Placed → Result ℕ AsmProblem
+end_start ps source count p = replaced source p.line.rest >>= end_operand ps source count p
+
+abbrev pub last_where : (Line → Bool) → List Placed → Option Placed
+last_where keeps ps = last_or None (filter (λ p. keeps p.line) ps)
+
+-- the last ORG counts, else the operand of END, else the start is 0
+abbrev pub start_by : Predefined → Reading → ℕ → Option Placed → Option Placed → Result ℕ AsmFault
+start_by ps source count (Some p) end = at_line p.line.number (org_start ps source count p)
+start_by ps source count None (Some p) = at_line p.line.number (end_start ps source count p)
+start_by ps source count None None = Ok 0
+
+abbrev pub start_of : Predefined → Reading → ℕ → Result ℕ AsmFault
+start_of ps source count =
+    start_by ps source count (last_where (λ l. is_org source.names l.operation) (placed source)) (last_where (λ l. is_end source.names l.operation) (placed source))
+
+abbrev pub holds : ℤ → Result (Unit {0}) AsmProblem
+holds (pos zero) = Err AssertFailed
+holds _ = Ok tt
+
+abbrev pub assert_holds : Predefined → Reading → Assert → Result (Unit {0}) AsmProblem
+assert_holds ps source a = replaced source a.tokens >>= λ ts. value_in (known_value ps source a.current_line) ts >>= holds
+
+abbrev pub asserts_hold : Predefined → Reading → List Assert → Result (Unit {0}) AsmFault
+asserts_hold ps source [] = Ok tt
+asserts_hold ps source (a ∷ rest) = at_line a.number (assert_holds ps source a) >>= λ _. asserts_hold ps source rest
+
+-- ---- the whole
+
+-- the warrior of all that was read
+abbrev pub warrior_of : Predefined → Parameters → Reading → Result WarriorValue AsmFault
+warrior_of ps p source =
+    cells_of ps p.core_size source (instructions source) >>= λ cells.
+    length_checked p.max_length (instructions source) >>= λ _.
+    start_of ps source (length cells) >>= λ start.
+    asserts_hold ps source source.asserts >>= λ _.
+    Ok (record { name = source.name; author = source.author; cells = cells; start = start })
+
+abbrev pub text_read : Result Reading TextFault → Result Reading AsmFault
+text_read (Ok source) = Ok source
+text_read (Err e) = Err (record { line = e.line; problem = Text e.problem })
+
+-- the warrior of a source, or its first fault
+unfoldable pub assembly : Parameters → ℕ → ℕ → List ℕ → Result WarriorValue AsmFault
+assembly p rounds warriors source = text_read (expansion (predefined p rounds warriors) source) >>= warrior_of (predefined p rounds warriors) p

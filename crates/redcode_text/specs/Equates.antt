@@ -1,0 +1,73 @@
+-- EQU names, and tokens with EQU names replaced.
+use Rattle.std.specs.Prelude.{ℕ, zero, suc, ◌+◌, List, [], ◌∷◌, ◌++◌, length, true, false, Option, Some, None, Result, Ok, Err, nat_le, ◌==◌}
+use Rattle.redcode_text.specs.declared.token.Token.{Token}
+use Rattle.redcode_text.specs.declared.token.TokenKind.{TokenKind}
+use Rattle.redcode_text.specs.declared.token.TokenKind.TheVariants.{Name}
+use Rattle.redcode_text.specs.declared.fault.TextProblem.{TextProblem}
+use Rattle.redcode_text.specs.declared.fault.TextProblem.TheVariants.{BadToken, EquDepth, TooLong}
+use Rattle.redcode_text.specs.Tokens.{◌>>=◌}
+
+-- what the limits on lines, tokens and replacements have in common
+abbrev pub limit : ℕ
+limit = 65536
+
+-- how deep replacements may nest
+abbrev pub depth_limit : ℕ
+depth_limit = 32
+
+-- an EQU name, by its index among the names, and the lines that it stands for
+pub record Equate : Type 0 where
+  pub name : ℕ
+  pub lines : List (List Token)
+
+abbrev pub equate_of : List Equate → ℕ → Option Equate
+equate_of [] name = None
+equate_of (e ∷ es) name = elim (e.name == name) [ true ↦ Some e | false ↦ equate_of es name ]
+
+-- the EQU name that a token is
+abbrev pub equate_at : List Equate → TokenKind → Option Equate
+equate_at equates (Name n) = equate_of equates n
+equate_at equates _ = None
+
+-- the tokens that stand so far, and how many names were replaced
+pub record Replaced : Type 0 where
+  pub tokens : List Token
+  pub count : ℕ
+
+abbrev pub Replacing : Type 0
+Replacing = Replaced → List Token → Result Replaced TextProblem
+
+-- the one line of an EQU name
+abbrev pub one_line : List (List Token) → Result (List Token) TextProblem
+one_line [] = Ok []
+one_line (line ∷ []) = Ok line
+one_line (line ∷ next ∷ lines) = Err BadToken
+
+abbrev pub one_more : Replaced → Result Replaced TextProblem
+one_more r = elim (nat_le limit r.count) [ true ↦ Err TooLong | false ↦ Ok (record { tokens = r.tokens; count = r.count + 1 }) ]
+
+-- a name that is replaced by its line, in which names are replaced in turn; nothing stands for that where it is too deep
+abbrev pub replaced_name : Option Replacing → Replaced → Equate → Result Replaced TextProblem
+replaced_name None r e = Err EquDepth
+replaced_name (Some deeper) r e = one_line e.lines >>= λ line. one_more r >>= λ s. deeper s line
+
+abbrev pub kept : Replaced → Token → Result Replaced TextProblem
+kept r t = elim (nat_le limit (length r.tokens)) [ true ↦ Err TooLong | false ↦ Ok (record { tokens = r.tokens ++ t ∷ []; count = r.count }) ]
+
+abbrev pub replaced_token : Option Replacing → Replaced → Token → Option Equate → Result Replaced TextProblem
+replaced_token deeper r t (Some e) = replaced_name deeper r e
+replaced_token deeper r t None = kept r t
+
+-- the tokens one after another
+abbrev pub each_replaced : List Equate → Option Replacing → Replacing
+each_replaced equates deeper r [] = Ok r
+each_replaced equates deeper r (t ∷ ts) = replaced_token deeper r t (equate_at equates t.kind) >>= λ s. each_replaced equates deeper s ts
+
+-- how tokens are replaced where so many replacements may still nest
+abbrev pub replacing : ℕ → List Equate → Option Replacing
+replacing zero equates = None
+replacing (suc depth) equates = Some (each_replaced equates (replacing depth equates))
+
+-- tokens with each EQU name replaced
+abbrev pub substituted : List Equate → List Token → Result (List Token) TextProblem
+substituted equates ts = each_replaced equates (replacing depth_limit equates) (record { tokens = []; count = 0 }) ts >>= λ r. Ok r.tokens

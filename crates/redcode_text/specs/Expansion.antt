@@ -1,0 +1,119 @@
+-- What a source expands to.
+use Rattle.std.specs.Prelude.{ℕ, zero, suc, ◌+◌, List, [], ◌∷◌, length, Bool, true, false, not, ◌||◌, ℤ, pos, negsuc, Option, Some, None, Result, Ok, Err, nat_le, codes}
+use Rattle.redcode_text.specs.declared.token.Token.{Token}
+use Rattle.redcode_text.specs.declared.token.TokenKind.{TokenKind}
+use Rattle.redcode_text.specs.declared.token.TokenKind.TheVariants.{Name}
+use Rattle.redcode_text.specs.declared.fault.ExprFault.{ExprFault}
+use Rattle.redcode_text.specs.declared.fault.TextFault.{TextFault}
+use Rattle.redcode_text.specs.declared.fault.TextProblem.{TextProblem}
+use Rattle.redcode_text.specs.declared.fault.TextProblem.TheVariants.{UnclosedFor, RofAlone, BadCount, LabelInCount, TooLong, Expression}
+use Rattle.redcode_text.specs.Expression.{kinds, value_of}
+use Rattle.redcode_text.specs.Tokens.{◌>>=◌, at_line}
+use Rattle.redcode_text.specs.Source.{Row, Items, Plain, Loop, tree_of}
+use Rattle.redcode_text.specs.Source as source
+use Rattle.redcode_text.specs.Equates.{substituted}
+use Rattle.redcode_text.specs.Lines.{Reading, Predefined, predefined_value, with_current_line, name_at, is_predefined, line_read, row_tokens, tokens_before, tokens_after, name_in_front, plain_line}
+
+-- ---- the head of a loop
+
+-- whether a name that isn't predefined is among the tokens
+abbrev pub has_label : Predefined → Reading → List TokenKind → Bool
+has_label ps st [] = false
+has_label ps st (Name n ∷ ks) = not (is_predefined ps st n) || has_label ps st ks
+has_label ps st (_ ∷ ks) = has_label ps st ks
+
+-- a count is a value from 0 to 10,000
+abbrev pub as_count : Result ℤ ExprFault → Result ℕ TextProblem
+as_count (Ok (pos n)) = elim (nat_le n 10000) [ true ↦ Ok n | false ↦ Err BadCount ]
+as_count (Ok (negsuc n)) = Err BadCount
+as_count (Err e) = Err (Expression e)
+
+abbrev pub count_of : Predefined → Reading → List Token → Result ℕ TextProblem
+count_of ps st ts =
+    substituted st.equates ts >>= λ us. elim (has_label ps st (kinds us)) [
+      | true ↦ Err LabelInCount
+      | false ↦ as_count (value_of (λ n. predefined_value (with_current_line ps st.instructions) (name_at st.names n)) (kinds us))
+    ]
+
+-- the counter of a loop, how often its body is read, and all that was read up to there
+pub record Head : Type 0 where
+  pub counter : Option (List ℕ)
+  pub count : ℕ
+  pub reading : Reading
+
+abbrev pub counter_name : Reading → Option ℕ → Option (List ℕ)
+counter_name st (Some n) = Some (name_at st.names n)
+counter_name st None = None
+
+abbrev pub room_for_loop : Reading → Result Reading TextProblem
+room_for_loop st = elim (nat_le 32 (length st.loops)) [ true ↦ Err TooLong | false ↦ Ok st ]
+
+-- where the word FOR of a row begins in the source
+abbrev pub for_word_at : Row → ℕ
+for_word_at row = elim (source.line_kind row.bytes) [ source.ForLine at ↦ row.at + at | _ ↦ row.at ]
+
+abbrev pub head_line : Predefined → Row → Reading → Result Head TextProblem
+head_line ps row st =
+    line_read st >>= row_tokens row 0 >>= λ r.
+    name_in_front (kinds (tokens_before (for_word_at row) r.0)) >>= λ counter.
+    room_for_loop r.1 >>= λ _.
+    count_of ps r.1 (tokens_after (for_word_at row) r.0) >>= λ count.
+    Ok (record { counter = counter_name r.1 counter; count = count; reading = record (r.1) { equate_grows = false } })
+
+-- the tokens of a ROF line mean nothing
+abbrev pub rof_line : Row → Reading → Result Reading TextProblem
+rof_line row st = line_read st >>= row_tokens row 0 >>= λ r. Ok (record (r.1) { equate_grows = false })
+
+-- a FOR without its ROF, or a ROF without its FOR
+abbrev pub unpaired_line : TextProblem → Reading → Result Reading TextProblem
+unpaired_line problem st = line_read st >>= λ _. Err problem
+
+-- ---- the whole
+
+infixl 10 ◌>>>◌
+abbrev pub ◌>>>◌ : {A B : Type 0} → Result A TextFault → (A → Result B TextFault) → Result B TextFault
+(Ok x) >>> f = f x
+(Err e) >>> f = Err e
+
+abbrev pub unless_ended : Reading → (Reading → Result Reading TextFault) → Result Reading TextFault
+unless_ended st rest = elim st.ended [ true ↦ Ok st | false ↦ rest st ]
+
+abbrev pub in_turn : Option (List ℕ) → ℕ → Reading → Reading
+in_turn counter turn st = record st { loops = record { counter = counter; turn = turn } ∷ st.loops }
+
+-- a body so many times, from this turn on; between the turns the loop isn't open
+abbrev pub turns : (Reading → Result Reading TextFault) → Option (List ℕ) → ℕ → ℕ → Reading → Result Reading TextFault
+turns body counter turn zero st = Ok st
+turns body counter turn (suc n) st =
+    body (in_turn counter turn st) >>> λ a. unless_ended (record a { loops = st.loops }) (turns body counter (turn + 1) n)
+
+abbrev pub flat : Predefined → Items → Reading → Result Reading TextFault
+flat ps source.Nothing st = Ok st
+flat ps (Plain row rest) st = at_line row.number (plain_line ps row st) >>> λ a. unless_ended a (flat ps rest)
+flat ps (Loop head body rof rest) st =
+    at_line head.number (head_line ps head st) >>> λ h.
+    turns (flat ps body) h.counter 1 h.count h.reading >>> λ a.
+    unless_ended a (λ b. at_line rof.number (rof_line rof b) >>> flat ps rest)
+flat ps (source.UnclosedFor row rest) st = at_line row.number (unpaired_line UnclosedFor st)
+flat ps (source.LoneRof row rest) st = at_line row.number (unpaired_line RofAlone st)
+
+abbrev pub nothing_read : Reading
+nothing_read =
+    record {
+      loops = [];
+      names = [];
+      equates = [];
+      equate_grows = false;
+      lines = [];
+      instructions = 0;
+      lines_read = 0;
+      tokens_read = 0;
+      name = codes "Unknown";
+      author = codes "Anonymous";
+      asserts = [];
+      ended = false;
+    }
+
+-- all that is read of a source, or its first fault
+unfoldable pub expansion : Predefined → List ℕ → Result Reading TextFault
+expansion ps source = flat ps (tree_of source) nothing_read

@@ -1,0 +1,280 @@
+-- What a line adds to all that has been read.
+use Rattle.std.specs.Prelude.{ℕ, zero, suc, ◌+◌, ◌-◌, List, [], ◌∷◌, ◌++◌, length, drop, take, map, filter, reverse, Bool, true, false, not, ◌&&◌, ◌||◌, ℤ, pos, Option, Some, None, Result, Ok, Err, nat_lt, nat_le, ◌==◌, codes, is_some}
+use Rattle.std.specs.List.{list_any}
+use Rattle.std.specs.Str.{bytes_eq, str_eq_ignore_ascii_case}
+use Rattle.redcode_text.specs.declared.token.Token.{Token}
+use Rattle.redcode_text.specs.declared.token.TokenKind.{TokenKind}
+use Rattle.redcode_text.specs.declared.token.TokenKind.TheVariants.{Name}
+use Rattle.redcode_text.specs.declared.token.TokenKind.TheVariants as token
+use Rattle.redcode_text.specs.declared.token.Sign.TheVariants.{Colon}
+use Rattle.redcode_text.specs.declared.fault.TextProblem.{TextProblem}
+use Rattle.redcode_text.specs.declared.fault.TextProblem.TheVariants.{BadToken, Duplicate, EquDepth, TooLong}
+use Rattle.redcode_text.specs.Expression.{kinds}
+use Rattle.redcode_text.specs.Tokens.{◌>>=◌, OpenLoop, tokens}
+use Rattle.redcode_text.specs.Source.{Row, LineKind, EquLine, line_kind, is_comment, has_directive_word, directive_text, directive_text_at, without_blanks}
+use Rattle.redcode_text.specs.Equates.{Equate, equate_of, limit}
+
+-- ---- all that has been read
+
+-- a line that was read: the number of its row, its labels and its operation, by their indices among the names, and the tokens behind them
+pub record Line : Type 0 where
+  pub number : ℕ
+  pub labels : List ℕ
+  pub operation : Option ℕ
+  pub rest : List Token
+
+-- an assert: its row, the number of instructions before it, and its expression
+pub record Assert : Type 0 where
+  pub number : ℕ
+  pub current_line : ℕ
+  pub tokens : List Token
+
+pub record Reading : Type 0 where
+  -- the open loops, the innermost first
+  pub loops : List OpenLoop
+  pub names : List (List ℕ)
+  pub equates : List Equate
+  -- whether an EQU line without a name adds to the last EQU name
+  pub equate_grows : Bool
+  pub lines : List Line
+  pub instructions : ℕ
+  pub lines_read : ℕ
+  pub tokens_read : ℕ
+  pub name : List ℕ
+  pub author : List ℕ
+  pub asserts : List Assert
+  pub ended : Bool
+
+abbrev pub Step : Type 0
+Step = Reading → Result Reading TextProblem
+
+-- the names that have values before anything is read, without CURLINE
+abbrev pub Predefined : Type 0
+Predefined = List (List ℕ × ℤ)
+
+abbrev pub predefined_value : Predefined → List ℕ → Option ℤ
+predefined_value [] name = None
+predefined_value (p ∷ ps) name = elim (bytes_eq p.0 name) [ true ↦ Some p.1 | false ↦ predefined_value ps name ]
+
+-- the predefined names with CURLINE, the number of instructions so far
+abbrev pub with_current_line : Predefined → ℕ → Predefined
+with_current_line ps instructions = (codes "CURLINE", pos instructions) ∷ ps
+
+-- the bytes of a name, by its index
+abbrev pub name_at : List (List ℕ) → ℕ → List ℕ
+name_at [] n = []
+name_at (x ∷ xs) zero = x
+name_at (x ∷ xs) (suc n) = name_at xs n
+
+abbrev pub is_predefined : Predefined → Reading → ℕ → Bool
+is_predefined ps st n = is_some (predefined_value (with_current_line ps 0) (name_at st.names n))
+
+abbrev pub is_equate : Reading → ℕ → Bool
+is_equate st n = is_some (equate_of st.equates n)
+
+abbrev pub is_label : Reading → ℕ → Bool
+is_label st n = list_any (λ l. list_any (λ m. m == n) l.labels) st.lines
+
+-- ---- counts of lines and tokens
+
+abbrev pub line_read : Step
+line_read st = elim (nat_le limit st.lines_read) [ true ↦ Err TooLong | false ↦ Ok (record st { lines_read = st.lines_read + 1 }) ]
+
+abbrev pub tokens_counted : List Token → Step
+tokens_counted ts st = elim (nat_lt limit (st.tokens_read + length ts)) [ true ↦ Err TooLong | false ↦ Ok (record st { tokens_read = st.tokens_read + length ts }) ]
+
+-- the bytes up to a `;`, 59
+abbrev pub before_comment : List ℕ → List ℕ
+before_comment [] = []
+before_comment (b ∷ bs) = elim (b == 59) [ true ↦ [] | false ↦ b ∷ before_comment bs ]
+
+-- what was read with some tokens
+abbrev pub WithTokens : Type 0
+WithTokens = List Token × Reading
+
+-- the tokens of a row from a place on up to a comment, of which there may be as many as the limit leaves
+abbrev pub row_tokens : Row → ℕ → Reading → Result WithTokens TextProblem
+row_tokens row at st =
+    tokens st.loops row.number (row.at + at) (limit - st.tokens_read) st.names (before_comment (drop at row.bytes)) >>= λ s.
+    Ok (s.tokens, record st { names = s.names; tokens_read = st.tokens_read + length s.tokens })
+
+-- ---- FOR and EQU lines
+
+-- the tokens on each side of the word that begins at this byte of the source
+abbrev pub tokens_before : ℕ → List Token → List Token
+tokens_before at ts = filter (λ t. nat_lt t.from at) ts
+
+abbrev pub tokens_after : ℕ → List Token → List Token
+tokens_after at ts = filter (λ t. nat_lt at t.from) ts
+
+-- nothing, or one name and perhaps a colon
+abbrev pub name_in_front : List TokenKind → Result (Option ℕ) TextProblem
+name_in_front [] = Ok None
+name_in_front (Name n ∷ []) = Ok (Some n)
+name_in_front (Name n ∷ token.Sign Colon ∷ []) = Ok (Some n)
+name_in_front _ = Err BadToken
+
+-- one more line for the last EQU name
+abbrev pub with_line : List Equate → List Token → List Equate
+with_line [] ts = []
+with_line (e ∷ []) ts = record { name = e.name; lines = e.lines ++ ts ∷ [] } ∷ []
+with_line (e ∷ f ∷ es) ts = e ∷ with_line (f ∷ es) ts
+
+abbrev pub equated : Predefined → List Token → Option ℕ → Step
+equated ps ts None st = elim st.equate_grows [ true ↦ Ok (record st { equates = with_line st.equates ts }) | false ↦ Err BadToken ]
+equated ps ts (Some n) st =
+    elim (is_equate st n || is_label st n || is_predefined ps st n) [
+      | true ↦ Err Duplicate
+      | false ↦ Ok (record st { equates = st.equates ++ record { name = n; lines = ts ∷ [] } ∷ []; equate_grows = true })
+    ]
+
+-- an EQU line whose word EQU begins at this byte of the source
+abbrev pub equ_line : Predefined → ℕ → List Token → Step
+equ_line ps at ts st = name_in_front (kinds (tokens_before at ts)) >>= λ name. equated ps (tokens_after at ts) name st
+
+-- ---- ordinary lines
+
+-- labels, also as they stand with their colons, then the operation, then the rest
+pub record Parts : Type 0 where
+  pub labels : List ℕ
+  pub label_tokens : List Token
+  pub operation : Option ℕ
+  pub rest : List Token
+
+abbrev pub operations : List (List ℕ)
+operations =
+    codes "dat" ∷ codes "mov" ∷ codes "add" ∷ codes "sub" ∷ codes "mul" ∷ codes "div" ∷ codes "mod" ∷ codes "jmp" ∷ codes "jmz" ∷ codes "jmn" ∷ codes "djn" ∷ codes "seq" ∷ codes "sne" ∷ codes "slt" ∷ codes "spl" ∷ codes "nop" ∷ codes "cmp" ∷ codes "org" ∷ codes "end" ∷ codes "equ" ∷ codes "for" ∷ codes "rof" ∷ codes "ldp" ∷ codes "stp" ∷ codes "pin" ∷ []
+
+abbrev pub is_operation : Reading → ℕ → Bool
+is_operation st n = is_equate st n || list_any (str_eq_ignore_ascii_case (name_at st.names n)) operations
+
+-- a label isn't one already, also on this line, and isn't predefined
+abbrev pub may_label : Predefined → Reading → List ℕ → ℕ → Bool
+may_label ps st labels n = not (is_label st n || is_predefined ps st n || list_any (λ m. m == n) labels)
+
+-- a colon behind a label, and what follows
+abbrev pub split_colon : List Token → List Token × List Token
+split_colon [] = ([], [])
+split_colon (t ∷ ts) = elim t.kind [ token.Sign s ↦ elim s [ Colon ↦ (t ∷ [], ts) | _ ↦ ([], t ∷ ts) ] | _ ↦ ([], t ∷ ts) ]
+
+-- the parts of at most k tokens behind these labels
+abbrev pub parts_within : Predefined → Reading → ℕ → List ℕ → List Token → List Token → Result Parts TextProblem
+parts_within ps st zero labels before ts = Ok (record { labels = labels; label_tokens = before; operation = None; rest = ts })
+parts_within ps st (suc k) labels before [] = Ok (record { labels = labels; label_tokens = before; operation = None; rest = [] })
+parts_within ps st (suc k) labels before (t ∷ ts) =
+    elim t.kind [
+      | Name n ↦ elim (is_operation st n) [
+        | true ↦ Ok (record { labels = labels; label_tokens = before; operation = Some n; rest = ts })
+        | false ↦ elim (may_label ps st labels n) [
+          | true ↦ parts_within ps st k (labels ++ n ∷ []) (before ++ t ∷ (split_colon ts).0) (split_colon ts).1
+          | false ↦ Err Duplicate
+        ]
+      ]
+      | _ ↦ Ok (record { labels = labels; label_tokens = before; operation = None; rest = t ∷ ts })
+    ]
+
+abbrev pub parts_of : Predefined → Reading → List Token → Result Parts TextProblem
+parts_of ps st ts = parts_within ps st (length ts) [] [] ts
+
+-- whether an operation is this word in either case
+abbrev pub is_spelled : List (List ℕ) → List ℕ → Option ℕ → Bool
+is_spelled names word (Some n) = str_eq_ignore_ascii_case (name_at names n) word
+is_spelled names word None = false
+
+abbrev pub is_org : List (List ℕ) → Option ℕ → Bool
+is_org names operation = is_spelled names (codes "org") operation
+
+abbrev pub is_end : List (List ℕ) → Option ℕ → Bool
+is_end names operation = is_spelled names (codes "end") operation
+
+-- every line with an operation or a rest is an instruction, but for ORG and END
+abbrev pub is_instruction : List (List ℕ) → Option ℕ → List Token → Bool
+is_instruction names operation rest = (is_some operation || nat_lt 0 (length rest)) && not (is_org names operation || is_end names operation)
+
+-- a line whose operation is no EQU name
+abbrev pub line_added : ℕ → Parts → Reading → Reading
+line_added number p st =
+    record st {
+      lines = st.lines ++ record { number = number; labels = p.labels; operation = p.operation; rest = p.rest } ∷ [];
+      instructions = elim (is_instruction st.names p.operation p.rest) [ true ↦ st.instructions + 1 | false ↦ st.instructions ];
+      equate_grows = false;
+      ended = is_end st.names p.operation;
+    }
+
+-- these tokens before the first line, and those behind the last
+abbrev pub before_first : List Token → List (List Token) → List (List Token)
+before_first ts [] = ts ∷ []
+before_first ts (l ∷ ls) = (ts ++ l) ∷ ls
+
+abbrev pub behind_last : List (List Token) → List Token → List (List Token)
+behind_last [] ts = ts ∷ []
+behind_last (l ∷ []) ts = (l ++ ts) ∷ []
+behind_last (l ∷ m ∷ ls) ts = l ∷ behind_last (m ∷ ls) ts
+
+abbrev pub unless_ended : Step → Step
+unless_ended step st = elim st.ended [ true ↦ Ok st | false ↦ step st ]
+
+-- the lines that come from EQU, each by the same rules as an ordinary line
+abbrev pub each_line : (List Token → Step) → List (List Token) → Step
+each_line ordinary [] st = Ok st
+each_line ordinary (l ∷ ls) st = line_read st >>= tokens_counted l >>= ordinary l >>= unless_ended (each_line ordinary ls)
+
+abbrev pub operation_equate : Reading → Option ℕ → Option Equate
+operation_equate st (Some n) = equate_of st.equates n
+operation_equate st None = None
+
+-- a line in its parts: where its operation is an EQU name, the lines of that name take its place, unless they are too deep
+abbrev pub parts_read : Option (List Token → Step) → ℕ → Parts → Option Equate → Step
+parts_read deeper number p None st = Ok (line_added number p st)
+parts_read None number p (Some e) st = Err EquDepth
+parts_read (Some ordinary) number p (Some e) st = each_line ordinary (behind_last (before_first p.label_tokens e.lines) p.rest) st
+
+abbrev pub ordinary_with : Predefined → ℕ → Option (List Token → Step) → List Token → Step
+ordinary_with ps number deeper ts st = parts_of ps st ts >>= λ p. parts_read deeper number p (operation_equate st p.operation) st
+
+-- an ordinary line of this row, in which EQU names may nest so deep
+abbrev pub ordinary_line : Predefined → ℕ → ℕ → List Token → Step
+ordinary_line ps number zero = ordinary_with ps number None
+ordinary_line ps number (suc depth) = ordinary_with ps number (Some (ordinary_line ps number depth))
+
+-- ---- directives
+
+abbrev pub printable : ℕ → ℕ
+printable b = elim (nat_le 32 b && nat_le b 126) [ true ↦ b | false ↦ 63 ]
+
+-- the text of `;name` or `;author`: no blanks at both ends, `?` for what can't be printed, at most 60 bytes
+abbrev pub directive_value : List ℕ → List ℕ
+directive_value text = take 60 (map printable (reverse (without_blanks (reverse (without_blanks text)))))
+
+abbrev pub unless_empty : List ℕ → List ℕ → List ℕ
+unless_empty [] old = old
+unless_empty (b ∷ bs) old = b ∷ bs
+
+abbrev pub assert_line : Row → Step
+assert_line row st =
+    row_tokens row (directive_text_at (codes "assert") row.bytes) st >>= λ r.
+    Ok (record (r.1) { asserts = r.1.asserts ++ record { number = row.number; current_line = r.1.instructions; tokens = r.0 } ∷ [] })
+
+abbrev pub comment_line : Row → Step
+comment_line row st =
+    elim (has_directive_word (codes "name") row.bytes) [
+      | true ↦ Ok (record st { name = unless_empty (directive_value (directive_text (codes "name") row.bytes)) st.name })
+      | false ↦ elim (has_directive_word (codes "author") row.bytes) [
+        | true ↦ Ok (record st { author = unless_empty (directive_value (directive_text (codes "author") row.bytes)) st.author })
+        | false ↦ elim (has_directive_word (codes "assert") row.bytes) [ true ↦ assert_line row st | false ↦ Ok st ]
+      ]
+    ]
+
+-- ---- a line that is neither FOR nor ROF
+
+abbrev pub tokens_line : Predefined → LineKind → Row → List Token → Step
+tokens_line ps kind row [] st = Ok st
+tokens_line ps (EquLine at) row (t ∷ ts) st = equ_line ps (row.at + at) (t ∷ ts) st
+tokens_line ps kind row (t ∷ ts) st = ordinary_line ps row.number 32 (t ∷ ts) st
+
+abbrev pub plain_line : Predefined → Row → Step
+plain_line ps row st =
+    line_read st >>= λ a. elim (is_comment row.bytes) [
+      | true ↦ comment_line row a
+      | false ↦ row_tokens row 0 a >>= λ r. tokens_line ps (line_kind row.bytes) row r.0 r.1
+    ]
