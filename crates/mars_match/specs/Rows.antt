@@ -1,7 +1,10 @@
 -- Worked examples: the check computes each of them.
-use Rattle.std.specs.Prelude.{◌≡◌, ℕ, [], ◌∷◌, Some, refl}
+use Rattle.std.specs.Prelude.{◌≡◌, ℕ, ℤ, pos, negsuc, List, [], ◌∷◌, ◌++◌, Some, true, false, codes, refl}
 use Rattle.mars_cell.specs.Parameters.{Parameters}
 use Rattle.mars_match.specs.Placement.{drawn, starts_of, next_seed, place_fault}
+use Rattle.std.specs.Fmt.{digits}
+use Rattle.mars_match.specs.Tables.{RowValue}
+use Rattle.mars_match.specs.Results.{row_line, results_text}
 use Rattle.mars_match.specs.declared.placement.PlaceFault.TheVariants.{NoRoom, BadSeed}
 
 -- a core of m cells, with the least distance d
@@ -77,3 +80,40 @@ row_alone = refl
 pub row_alone_next : next_seed 1 1 ≡ 1
 unfolding next_seed
 row_alone_next = refl
+
+-- ---- results
+
+abbrev row_of : List ℕ → List ℕ → ℤ → ℕ → ℕ → ℕ → RowValue
+row_of name author points wins ties losses = record { name = name; author = author; points = points; wins = wins; ties = ties; losses = losses }
+
+abbrev imp : RowValue
+imp = row_of (codes "Imp") (codes "Dewdney") (pos 4) 1 1 0
+
+abbrev stay : RowValue
+stay = row_of (codes "Stay") (codes "Anonymous") (pos 4) 1 1 0
+
+abbrev dead : RowValue
+dead = row_of (codes "Dead") (codes "Anonymous") (pos 0) 0 0 2
+
+pub row_results : results_text (dead ∷ imp ∷ stay ∷ []) false ≡
+    codes "  points   wins   ties losses  warrior\n"
+    ++ codes "       0      0      0      2  Dead by Anonymous\n"
+    ++ codes "       4      1      1      0  Imp by Dewdney\n"
+    ++ codes "       4      1      1      0  Stay by Anonymous\n"
+unfolding results_text row_line digits
+row_results = refl
+
+pub row_sorted : results_text (dead ∷ imp ∷ stay ∷ []) true ≡
+    codes "  points   wins   ties losses  warrior\n"
+    ++ codes "       4      1      1      0  Imp by Dewdney\n"
+    ++ codes "       4      1      1      0  Stay by Anonymous\n"
+    ++ codes "       0      0      0      2  Dead by Anonymous\n"
+unfolding results_text row_line digits
+row_sorted = refl
+
+-- points wider than their places push the line to the right
+pub row_wide : results_text (row_of (codes "A") [] (negsuc 9223372036854775807) 1000000 0 0 ∷ []) false ≡
+    codes "  points   wins   ties losses  warrior\n"
+    ++ codes "-9223372036854775808 1000000      0      0  A by \n"
+unfolding results_text row_line digits
+row_wide = refl
