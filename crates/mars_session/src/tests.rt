@@ -1,8 +1,11 @@
 //! The worked cases, each call by itself and as one list of calls.
 
+mod poor_tape;
+
 use crate::{Call, Refusal, Reply, Session, Standing, WholeTape};
 use mars_cell::{Cell, Mode, Modifier, Op, Params, Warrior};
 use mars_core::Battle;
+use poor_tape::PoorTape;
 use std::alloc::Global;
 use std::process::Abort;
 use std::test::Fail;
@@ -31,13 +34,12 @@ fn one_cell(alloc: Global, cell: Cell) -> Result<Warrior, Fail> {
     Ok(warrior)
 }
 
-fn session_of(
+fn tape_of(
     alloc: Global,
     processes: u32,
-    limit: u64,
     warriors: &[Warrior],
     starts: &[u32],
-) -> Result<Session<WholeTape>, Fail> {
+) -> Result<WholeTape, Fail> {
     let params = Params::new(8, processes, 80000, 8, 8, 1, 1)
         .ok()
         .ok_or("parameters")?;
@@ -48,13 +50,17 @@ fn session_of(
         .ok()
         .ok_or("battle")?;
     let tape = WholeTape::new(alloc, battle).ok().ok_or("tape")?;
-    Ok(Session::new(tape, limit))
+    Ok(tape)
+}
+
+fn imp_tape(alloc: Global) -> Result<WholeTape, Fail> {
+    let warriors = vec![in alloc; one_cell(alloc, direct(Op::Mov, Modifier::I, 0, 1))?]?;
+    tape_of(alloc, 8, &warriors, &[0])
 }
 
 /// One warrior that copies itself to the next cell, over and over.
 fn imp(alloc: Global, limit: u64) -> Result<Session<WholeTape>, Fail> {
-    let warriors = vec![in alloc; one_cell(alloc, direct(Op::Mov, Modifier::I, 0, 1))?]?;
-    session_of(alloc, 8, limit, &warriors, &[0])
+    Ok(Session::new(imp_tape(alloc)?, limit))
 }
 
 /// Warriors that stand where they are.
@@ -63,7 +69,7 @@ fn stayers(alloc: Global, processes: u32, starts: &[u32]) -> Result<Session<Whol
     for _start in starts {
         warriors.push(one_cell(alloc, direct(Op::Jmp, Modifier::B, 0, 0))?)?;
     }
-    session_of(alloc, processes, 100, &warriors, starts)
+    Ok(Session::new(tape_of(alloc, processes, &warriors, starts)?, 100))
 }
 
 fn at(turns: u64, cycle: u64, next: u64, alive: u64, position: u64, last: u64) -> Reply {
@@ -162,6 +168,57 @@ fn steps_undone_and_redone(rt: HostRuntime) -> Result<(), Fail> {
         (Call::Redo, imp_at(2, 2, 2)),
     ];
     gives(&rt, alloc, imp(alloc, 100)?, imp(alloc, 100)?, &calls)
+}
+
+/// The tape may grow for the two steps alone: a longer run is refused, a run over the places that follow is not.
+#[test]
+fn refused_memory_keeps_what_follows(rt: HostRuntime) -> Result<(), Fail> {
+    let alloc = rt.alloc();
+    let mut session = Session::new(PoorTape::new(imp_tape(alloc)?, 2), 2000);
+    let steps = [Call::Step, Call::Step, Call::Undo, Call::Undo];
+    let refused = [
+        Call::Run(1000),
+        Call::Run(2),
+        Call::Undo,
+        Call::Run(3),
+        Call::Redo,
+    ];
+    let mut out = Vec::new(alloc);
+    session.apply_all(&steps, &mut out)?;
+    session.apply_all(&refused, &mut out)?;
+    let replies = [
+        imp_at(1, 1, 1),
+        imp_at(2, 2, 2),
+        imp_at(1, 1, 2),
+        imp_at(0, 0, 2),
+        Err(Refusal::OutOfMemory),
+        imp_at(2, 2, 2),
+        imp_at(0, 0, 2),
+        Err(Refusal::OutOfMemory),
+        imp_at(2, 2, 2),
+    ];
+    assert_eq!(rt; out.len(), replies.len());
+    for (made, reply) in out.iter().zip(&replies) {
+        assert_eq!(rt; *made, *reply);
+    }
+    Ok(())
+}
+
+/// The refused run changes nothing: both steps are still there to be redone.
+#[test]
+fn refused_run_is_no_run(rt: HostRuntime) -> Result<(), Fail> {
+    let alloc = rt.alloc();
+    let mut session = Session::new(PoorTape::new(imp_tape(alloc)?, 2), 2000);
+    assert_eq!(rt; session.step(), imp_at(1, 1, 1));
+    assert_eq!(rt; session.step(), imp_at(2, 2, 2));
+    assert_eq!(rt; session.undo(), imp_at(1, 1, 2));
+    assert_eq!(rt; session.undo(), imp_at(0, 0, 2));
+    assert_eq!(rt; session.run(1000), Err(Refusal::OutOfMemory));
+    assert_eq!(rt; Ok(session.standing()), imp_at(0, 0, 2));
+    assert_eq!(rt; session.redo(), imp_at(1, 1, 2));
+    assert_eq!(rt; session.redo(), imp_at(2, 2, 2));
+    assert_eq!(rt; session.redo(), Err(Refusal::NothingToRedo));
+    Ok(())
 }
 
 #[test]

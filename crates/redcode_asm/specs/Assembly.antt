@@ -21,9 +21,9 @@ use Rattle.redcode_text.specs.declared.token.TokenKind.{TokenKind}
 use Rattle.redcode_text.specs.declared.token.TokenKind.TheVariants.{Number, Name}
 use Rattle.redcode_text.specs.declared.token.TokenKind.TheVariants as token
 use Rattle.redcode_text.specs.Equates.{substituted}
-use Rattle.redcode_text.specs.Expansion.{expansion}
+use Rattle.redcode_text.specs.Expansion.{ProgramValue, expansion}
 use Rattle.redcode_text.specs.Expression.{kinds, value_of}
-use Rattle.redcode_text.specs.Lines.{Reading, Line, Assert, Predefined, predefined_value, with_current_line, name_at, is_instruction, is_org, is_end}
+use Rattle.redcode_text.specs.Lines.{Line, Assert, Predefined, predefined_value, with_current_line, name_at, is_instruction, is_org, is_end}
 use Rattle.redcode_asm.specs.declared.fault.AsmFault.{AsmFault}
 use Rattle.redcode_asm.specs.declared.fault.AsmProblem.{AsmProblem}
 use Rattle.redcode_asm.specs.declared.fault.AsmProblem.TheVariants.{Text, Operation, Operand, Expression, AssertFailed, BadOrigin, Empty, TooLong}
@@ -59,10 +59,10 @@ placed_from names index [] = []
 placed_from names index (l ∷ ls) =
     record { index = index; line = l } ∷ placed_from names (elim (is_instruction names l.operation l.rest) [ true ↦ index + 1 | false ↦ index ]) ls
 
-abbrev pub placed : Reading → List Placed
+abbrev pub placed : ProgramValue → List Placed
 placed source = placed_from source.names 0 source.lines
 
-abbrev pub instructions : Reading → List Placed
+abbrev pub instructions : ProgramValue → List Placed
 instructions source = filter (λ p. is_instruction source.names p.line.operation p.line.rest) (placed source)
 
 -- the index of the line on which a label stands
@@ -75,11 +75,11 @@ value_or (Some v) other = Some v
 value_or None other = other
 
 -- what a name stands for behind so many instructions, where it is no label
-abbrev pub known_value : Predefined → Reading → ℕ → ℕ → Option ℤ
+abbrev pub known_value : Predefined → ProgramValue → ℕ → ℕ → Option ℤ
 known_value ps source index n = predefined_value (with_current_line ps index) (name_at source.names n)
 
 -- labels are counted from an index on
-abbrev pub name_value : Predefined → Reading → ℕ → ℕ → ℕ → Option ℤ
+abbrev pub name_value : Predefined → ProgramValue → ℕ → ℕ → ℕ → Option ℤ
 name_value ps source origin index n = value_or (option_map (λ i. pos i -ℤ pos origin) (label_among (placed source) n)) (known_value ps source index n)
 
 abbrev pub expressed : Result ℤ ExprFault → Result ℤ AsmProblem
@@ -94,7 +94,7 @@ texted (Ok x) = Ok x
 texted (Err e) = Err (Text e)
 
 -- tokens with the EQU names replaced
-abbrev pub replaced : Reading → List Token → Result (List Token) AsmProblem
+abbrev pub replaced : ProgramValue → List Token → Result (List Token) AsmProblem
 replaced source ts = texted (substituted source.equates ts)
 
 -- ---- an instruction
@@ -180,7 +180,7 @@ abbrev pub cell_with : Op → Option Modifier → Mode × ℕ → Mode × ℕ �
 cell_with o given a b = record { op = o; modifier = unwrap_or given (default_modifier o a.0 b.0); a_mode = a.0; a = a.1; b_mode = b.0; b = b.1 }
 
 -- the cell of an instruction in a core of m cells: a label counts from the instruction
-abbrev pub cell_of : Predefined → ℕ → Reading → Placed → Result Cell AsmProblem
+abbrev pub cell_of : Predefined → ℕ → ProgramValue → Placed → Result Cell AsmProblem
 cell_of ps m source p =
     opcode_of source.names p.line.operation >>= λ o.
     split_modifier source.names p.line.rest >>= λ rest.
@@ -191,7 +191,7 @@ cell_of ps m source p =
     Ok (cell_with o rest.0 a b)
 
 -- the cells of some instructions, or the first fault
-abbrev pub cells_of : Predefined → ℕ → Reading → List Placed → Result (List Cell) AsmFault
+abbrev pub cells_of : Predefined → ℕ → ProgramValue → List Placed → Result (List Cell) AsmFault
 cells_of ps m source [] = Ok []
 cells_of ps m source (p ∷ rest) = at_line p.line.number (cell_of ps m source p) >>= λ c. cells_of ps m source rest >>= λ cs. Ok (c ∷ cs)
 
@@ -213,29 +213,29 @@ as_start count (pos n) = if nat_lt n count then Ok n else Err BadOrigin
 as_start count (negsuc n) = Err BadOrigin
 
 -- the start that an expression on a line of ORG or END gives, where labels count from the first instruction
-abbrev pub start_at : Predefined → Reading → ℕ → Placed → List Token → Result ℕ AsmProblem
+abbrev pub start_at : Predefined → ProgramValue → ℕ → Placed → List Token → Result ℕ AsmProblem
 start_at ps source count p ts = value_in (name_value ps source 0 p.index) ts >>= as_start count
 
-abbrev pub org_start : Predefined → Reading → ℕ → Placed → Result ℕ AsmProblem
+abbrev pub org_start : Predefined → ProgramValue → ℕ → Placed → Result ℕ AsmProblem
 org_start ps source count p = replaced source p.line.rest >>= start_at ps source count p
 
-abbrev pub end_operand : Predefined → Reading → ℕ → Placed → List Token → Result ℕ AsmProblem
+abbrev pub end_operand : Predefined → ProgramValue → ℕ → Placed → List Token → Result ℕ AsmProblem
 end_operand ps source count p [] = Ok 0
 end_operand ps source count p (t ∷ ts) = start_at ps source count p (t ∷ ts)
 
-abbrev pub end_start : Predefined → Reading → ℕ → Placed → Result ℕ AsmProblem
+abbrev pub end_start : Predefined → ProgramValue → ℕ → Placed → Result ℕ AsmProblem
 end_start ps source count p = replaced source p.line.rest >>= end_operand ps source count p
 
 abbrev pub last_where : (Line → Bool) → List Placed → Option Placed
 last_where keeps ps = last_or None (filter (λ p. keeps p.line) ps)
 
 -- the last ORG counts, else the operand of END, else the start is 0
-abbrev pub start_by : Predefined → Reading → ℕ → Option Placed → Option Placed → Result ℕ AsmFault
+abbrev pub start_by : Predefined → ProgramValue → ℕ → Option Placed → Option Placed → Result ℕ AsmFault
 start_by ps source count (Some p) end = at_line p.line.number (org_start ps source count p)
 start_by ps source count None (Some p) = at_line p.line.number (end_start ps source count p)
 start_by ps source count None None = Ok 0
 
-abbrev pub start_of : Predefined → Reading → ℕ → Result ℕ AsmFault
+abbrev pub start_of : Predefined → ProgramValue → ℕ → Result ℕ AsmFault
 start_of ps source count =
     start_by ps source count (last_where (λ l. is_org source.names l.operation) (placed source)) (last_where (λ l. is_end source.names l.operation) (placed source))
 
@@ -243,17 +243,17 @@ abbrev pub holds : ℤ → Result (Unit {0}) AsmProblem
 holds (pos zero) = Err AssertFailed
 holds _ = Ok tt
 
-abbrev pub assert_holds : Predefined → Reading → Assert → Result (Unit {0}) AsmProblem
+abbrev pub assert_holds : Predefined → ProgramValue → Assert → Result (Unit {0}) AsmProblem
 assert_holds ps source a = replaced source a.tokens >>= λ ts. value_in (known_value ps source a.current_line) ts >>= holds
 
-abbrev pub asserts_hold : Predefined → Reading → List Assert → Result (Unit {0}) AsmFault
+abbrev pub asserts_hold : Predefined → ProgramValue → List Assert → Result (Unit {0}) AsmFault
 asserts_hold ps source [] = Ok tt
 asserts_hold ps source (a ∷ rest) = at_line a.number (assert_holds ps source a) >>= λ _. asserts_hold ps source rest
 
 -- ---- the whole
 
 -- the warrior of all that was read
-abbrev pub warrior_of : Predefined → Parameters → Reading → Result WarriorValue AsmFault
+abbrev pub warrior_of : Predefined → Parameters → ProgramValue → Result WarriorValue AsmFault
 warrior_of ps p source =
     cells_of ps p.core_size source (instructions source) >>= λ cells.
     length_checked p.max_length (instructions source) >>= λ _.
@@ -261,7 +261,7 @@ warrior_of ps p source =
     asserts_hold ps source source.asserts >>= λ _.
     Ok (record { name = source.name; author = source.author; cells = cells; start = start })
 
-abbrev pub text_read : Result Reading TextFault → Result Reading AsmFault
+abbrev pub text_read : Result ProgramValue TextFault → Result ProgramValue AsmFault
 text_read (Ok source) = Ok source
 text_read (Err e) = Err (record { line = e.line; problem = Text e.problem })
 

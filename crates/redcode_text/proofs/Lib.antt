@@ -8,3 +8,9 @@ pub mod Reducing
 pub mod Standing
 pub mod Linking
 pub mod Running
+pub mod WordSteps
+pub mod NameSteps
+pub mod Digits
+pub mod Joins
+pub mod EquateLookup
+pub mod Replacing

@@ -20,14 +20,15 @@ pub record Equate : Type 0 where
   pub name : ℕ
   pub lines : List (List Token)
 
-abbrev pub equate_of : List Equate → ℕ → Option Equate
-equate_of [] name = None
-equate_of (e ∷ es) name = elim (e.name == name) [ true ↦ Some e | false ↦ equate_of es name ]
+-- the lines that an EQU name stands for
+abbrev pub equate_lines : List Equate → ℕ → Option (List (List Token))
+equate_lines [] name = None
+equate_lines (e ∷ es) name = elim (name == e.name) [ true ↦ Some e.lines | false ↦ equate_lines es name ]
 
--- the EQU name that a token is
-abbrev pub equate_at : List Equate → TokenKind → Option Equate
-equate_at equates (Name n) = equate_of equates n
-equate_at equates _ = None
+-- the same for a token that is an EQU name
+abbrev pub token_lines : List Equate → TokenKind → Option (List (List Token))
+token_lines equates (Name n) = equate_lines equates n
+token_lines equates _ = None
 
 -- the tokens that stand so far, and how many names were replaced
 pub record Replaced : Type 0 where
@@ -47,21 +48,21 @@ abbrev pub one_more : Replaced → Result Replaced TextProblem
 one_more r = elim (nat_le limit r.count) [ true ↦ Err TooLong | false ↦ Ok (record { tokens = r.tokens; count = r.count + 1 }) ]
 
 -- a name that is replaced by its line, in which names are replaced in turn; nothing stands for that where it is too deep
-abbrev pub replaced_name : Option Replacing → Replaced → Equate → Result Replaced TextProblem
-replaced_name None r e = Err EquDepth
-replaced_name (Some deeper) r e = one_line e.lines >>= λ line. one_more r >>= λ s. deeper s line
+abbrev pub replaced_name : Option Replacing → Replaced → List (List Token) → Result Replaced TextProblem
+replaced_name None r lines = Err EquDepth
+replaced_name (Some deeper) r lines = one_line lines >>= λ line. one_more r >>= λ s. deeper s line
 
 abbrev pub kept : Replaced → Token → Result Replaced TextProblem
 kept r t = elim (nat_le limit (length r.tokens)) [ true ↦ Err TooLong | false ↦ Ok (record { tokens = r.tokens ++ t ∷ []; count = r.count }) ]
 
-abbrev pub replaced_token : Option Replacing → Replaced → Token → Option Equate → Result Replaced TextProblem
-replaced_token deeper r t (Some e) = replaced_name deeper r e
+abbrev pub replaced_token : Option Replacing → Replaced → Token → Option (List (List Token)) → Result Replaced TextProblem
+replaced_token deeper r t (Some lines) = replaced_name deeper r lines
 replaced_token deeper r t None = kept r t
 
 -- the tokens one after another
 abbrev pub each_replaced : List Equate → Option Replacing → Replacing
 each_replaced equates deeper r [] = Ok r
-each_replaced equates deeper r (t ∷ ts) = replaced_token deeper r t (equate_at equates t.kind) >>= λ s. each_replaced equates deeper s ts
+each_replaced equates deeper r (t ∷ ts) = replaced_token deeper r t (token_lines equates t.kind) >>= λ s. each_replaced equates deeper s ts
 
 -- how tokens are replaced where so many replacements may still nest
 abbrev pub replacing : ℕ → List Equate → Option Replacing

@@ -11,8 +11,8 @@ use Rattle.redcode_text.specs.Expression.{kinds, value_of}
 use Rattle.redcode_text.specs.Tokens.{◌>>=◌, at_line}
 use Rattle.redcode_text.specs.Source.{Row, Items, Plain, Loop, tree_of}
 use Rattle.redcode_text.specs.Source as source
-use Rattle.redcode_text.specs.Equates.{substituted}
-use Rattle.redcode_text.specs.Lines.{Reading, Predefined, predefined_value, with_current_line, name_at, is_predefined, line_read, row_tokens, tokens_before, tokens_after, name_in_front, plain_line}
+use Rattle.redcode_text.specs.Equates.{Equate, substituted}
+use Rattle.redcode_text.specs.Lines.{Reading, Line, Assert, Predefined, predefined_value, with_current_line, name_at, is_predefined, line_read, row_tokens, tokens_before, tokens_after, name_in_front, plain_line}
 
 -- ---- the head of a loop
 
@@ -114,6 +114,18 @@ nothing_read =
       ended = false;
     }
 
--- all that is read of a source, or its first fault
-unfoldable pub expansion : Predefined → List ℕ → Result Reading TextFault
-expansion ps source = flat ps (tree_of source) nothing_read
+-- what is kept of all that was read
+pub record ProgramValue : Type 0 where
+  pub names : List (List ℕ)
+  pub equates : List Equate
+  pub lines : List Line
+  pub name : List ℕ
+  pub author : List ℕ
+  pub asserts : List Assert
+
+abbrev pub program_of : Reading → ProgramValue
+program_of st = record { names = st.names; equates = st.equates; lines = st.lines; name = st.name; author = st.author; asserts = st.asserts }
+
+-- the program of a source, or the first fault
+unfoldable pub expansion : Predefined → List ℕ → Result ProgramValue TextFault
+expansion ps source = flat ps (tree_of source) nothing_read >>> λ st. Ok (program_of st)

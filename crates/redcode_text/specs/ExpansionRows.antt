@@ -10,8 +10,8 @@ use Rattle.redcode_text.specs.declared.fault.TextFault.{TextFault}
 use Rattle.redcode_text.specs.declared.fault.TextProblem.{TextProblem}
 use Rattle.redcode_text.specs.declared.fault.TextProblem.TheVariants.{BadToken, UnclosedFor, RofAlone, BadCount, LabelInCount, Duplicate, EquDepth, Expression}
 use Rattle.redcode_text.specs.Expression.{kinds, value_of, tree_within}
-use Rattle.redcode_text.specs.Lines.{Reading, Predefined, name_at}
-use Rattle.redcode_text.specs.Expansion.{expansion}
+use Rattle.redcode_text.specs.Lines.{Predefined, name_at}
+use Rattle.redcode_text.specs.Expansion.{ProgramValue, expansion}
 
 abbrev pub text : List (List ℕ) → List ℕ
 text [] = []
@@ -41,7 +41,7 @@ abbrev pub shown_operation : List (List ℕ) → Option ℕ → List ℕ
 shown_operation names None = []
 shown_operation names (Some n) = name_at names n
 
-abbrev pub shown : Result Reading TextFault → Result (List ShownLine) TextFault
+abbrev pub shown : Result ProgramValue TextFault → Result (List ShownLine) TextFault
 shown (Ok st) = Ok (map (λ l. record { number = l.number; labels = map (name_at st.names) l.labels; operation = shown_operation st.names l.operation; rest = map (shown_token st.names) (kinds l.rest) }) st.lines)
 shown (Err e) = Err e
 

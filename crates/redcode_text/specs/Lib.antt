@@ -1,5 +1,6 @@
 pub mod Tokens
 pub mod TokenRows
+pub mod Outcomes
 pub mod Expression
 pub mod Climbing
 pub mod Positions

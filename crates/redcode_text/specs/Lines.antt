@@ -12,7 +12,7 @@ use Rattle.redcode_text.specs.declared.fault.TextProblem.TheVariants.{BadToken, 
 use Rattle.redcode_text.specs.Expression.{kinds}
 use Rattle.redcode_text.specs.Tokens.{◌>>=◌, OpenLoop, tokens}
 use Rattle.redcode_text.specs.Source.{Row, LineKind, EquLine, line_kind, is_comment, has_directive_word, directive_text, directive_text_at, without_blanks}
-use Rattle.redcode_text.specs.Equates.{Equate, equate_of, limit}
+use Rattle.redcode_text.specs.Equates.{Equate, equate_lines, limit}
 
 -- ---- all that has been read
 
@@ -70,7 +70,7 @@ abbrev pub is_predefined : Predefined → Reading → ℕ → Bool
 is_predefined ps st n = is_some (predefined_value (with_current_line ps 0) (name_at st.names n))
 
 abbrev pub is_equate : Reading → ℕ → Bool
-is_equate st n = is_some (equate_of st.equates n)
+is_equate st n = is_some (equate_lines st.equates n)
 
 abbrev pub is_label : Reading → ℕ → Bool
 is_label st n = list_any (λ l. list_any (λ m. m == n) l.labels) st.lines
@@ -219,18 +219,18 @@ abbrev pub each_line : (List Token → Step) → List (List Token) → Step
 each_line ordinary [] st = Ok st
 each_line ordinary (l ∷ ls) st = line_read st >>= tokens_counted l >>= ordinary l >>= unless_ended (each_line ordinary ls)
 
-abbrev pub operation_equate : Reading → Option ℕ → Option Equate
-operation_equate st (Some n) = equate_of st.equates n
-operation_equate st None = None
+abbrev pub operation_lines : Reading → Option ℕ → Option (List (List Token))
+operation_lines st (Some n) = equate_lines st.equates n
+operation_lines st None = None
 
 -- a line in its parts: where its operation is an EQU name, the lines of that name take its place, unless they are too deep
-abbrev pub parts_read : Option (List Token → Step) → ℕ → Parts → Option Equate → Step
+abbrev pub parts_read : Option (List Token → Step) → ℕ → Parts → Option (List (List Token)) → Step
 parts_read deeper number p None st = Ok (line_added number p st)
-parts_read None number p (Some e) st = Err EquDepth
-parts_read (Some ordinary) number p (Some e) st = each_line ordinary (behind_last (before_first p.label_tokens e.lines) p.rest) st
+parts_read None number p (Some lines) st = Err EquDepth
+parts_read (Some ordinary) number p (Some lines) st = each_line ordinary (behind_last (before_first p.label_tokens lines) p.rest) st
 
 abbrev pub ordinary_with : Predefined → ℕ → Option (List Token → Step) → List Token → Step
-ordinary_with ps number deeper ts st = parts_of ps st ts >>= λ p. parts_read deeper number p (operation_equate st p.operation) st
+ordinary_with ps number deeper ts st = parts_of ps st ts >>= λ p. parts_read deeper number p (operation_lines st p.operation) st
 
 -- an ordinary line of this row, in which EQU names may nest so deep
 abbrev pub ordinary_line : Predefined → ℕ → ℕ → List Token → Step

@@ -4,15 +4,22 @@
 //! fault, exactly as `specs/Expression` defines it, without memory.
 #![tactic(auto)]
 
+mod bytes;
+mod equates;
 mod evaluation;
 mod expression;
 mod fault;
+mod names;
+mod open_loops;
 mod operators;
 mod shape;
+mod signs;
 mod token;
+mod words;
 
 pub use expression::{Env, eval};
 pub use fault::{ExprFault, TextFault, TextProblem};
+pub use names::NameTable;
 pub use token::{Sign, Token, TokenKind};
 
 #[cfg(test)]

@@ -1,0 +1,108 @@
+//! A tape that is refused memory after so many growths.
+ghost use Rattle.std.specs.Prelude.{◌≡◌, ◌+◌, ◌≤◌, [], None, false, OnOk, IsOk};
+ghost use Rattle.mars_core.specs.State.{is_over_of};
+ghost use Rattle.mars_core.specs.Turn.{turn_of};
+ghost use Rattle.mars_core.specs.Edit.{edit_fault, edited};
+ghost use Rattle.mars_session.specs.History.{following, position_of, last_of, marked, cut, append, back, forward};
+
+use crate::{Tape, WholeTape};
+use mars_core::{Battle, Edit};
+use std::alloc::{AllocError, Global};
+use std::marker::Model;
+
+/// A tape of whole copies, of which `room` may still be appended, and which may grow so many times.
+#[derive(Drop)]
+pub struct PoorTape {
+    tape: WholeTape,
+    room: u64,
+    growths: u64,
+}
+
+impl Model for PoorTape {
+    ghost use Rattle.std.specs.Prelude.{◌≤◌};
+    ghost use Rattle.mars_session.specs.Whole.{Taped};
+
+    ghost Value = { Taped };
+
+    ghost view = { λ t. record { history = t.tape.history; room = t.room } };
+
+    ghost invariant = { λ t. t.room ≤ t.tape.room };
+}
+
+impl PoorTape {
+    /// The tape, with no room, and so many growths to come.
+    pub fn new(tape: WholeTape, growths: u64) -> PoorTape
+        ensures { result.history ≡ tape.history }
+    {
+        PoorTape {
+            tape,
+            room: 0,
+            growths,
+        }
+    }
+}
+
+impl Tape for PoorTape {
+    ghost history = { λ t. t.history };
+
+    ghost room = { λ t. t.room };
+
+    fn now(&self) -> &Battle {
+        self.tape.now()
+    }
+
+    fn position(&self) -> u64 {
+        self.tape.position()
+    }
+
+    fn len(&self) -> u64 {
+        self.tape.len()
+    }
+
+    fn is_marked(&self) -> bool {
+        self.tape.is_marked()
+    }
+
+    fn set_mark(&mut self) {
+        self.tape.set_mark();
+    }
+
+    fn reserve(&mut self, n: u64) -> Result<(), AllocError> {
+        if n <= self.room {
+            return Ok(());
+        }
+        if n > self.tape.len() - 1 - self.tape.position() {
+            if self.growths == 0 {
+                return Err(AllocError);
+            }
+            self.growths -= 1;
+        }
+        let reserved = self.tape.reserve(n);
+        self.room = if reserved.is_ok() { n } else { 0 };
+        reserved
+    }
+
+    fn cut(&mut self) {
+        self.tape.cut();
+    }
+
+    fn turn(&mut self) {
+        self.tape.turn();
+        self.room -= 1;
+    }
+
+    fn edit(&mut self, edit: Edit) {
+        self.tape.edit(edit);
+        self.room -= 1;
+    }
+
+    fn back(&mut self) {
+        self.tape.back();
+        self.room = 0;
+    }
+
+    fn forward(&mut self) {
+        self.tape.forward();
+        self.room = 0;
+    }
+}

@@ -1,0 +1,31 @@
+-- What a call answers that wants memory: what is defined, or want of memory.
+use Rattle.std.specs.Prelude.{◌≡◌, ⊤, ℕ, List, Result, Ok, Err}
+use Rattle.redcode_text.specs.declared.fault.TextFault.{TextFault}
+use Rattle.redcode_text.specs.declared.fault.TextProblem.{TextProblem}
+use Rattle.redcode_text.specs.declared.fault.TextProblem.TheVariants.{OutOfMemory}
+use Rattle.redcode_text.specs.declared.words.Spelled.{Spelled}
+use Rattle.redcode_text.specs.Tokens.{Found}
+
+-- a problem is the defined one, or want of memory
+abbrev pub Fails : {X : Type 0} → TextProblem → Result X TextProblem → Type 0
+Fails OutOfMemory defined = ⊤
+Fails problem defined = defined ≡ Err problem
+
+-- the result, seen by f, is the defined one, or want of memory
+abbrev pub Gives : {X Y : Type 0} → (Y → X) → Result Y TextProblem → Result X TextProblem → Type 0
+Gives f (Ok y) defined = defined ≡ Ok (f y)
+Gives f (Err problem) defined = Fails problem defined
+
+-- a fault is the defined one, or want of memory, which has no line
+abbrev pub FailsAt : {X : Type 0} → TextProblem → TextFault → Result X TextFault → Type 0
+FailsAt OutOfMemory fault defined = fault.line ≡ 0
+FailsAt problem fault defined = defined ≡ Err fault
+
+-- the same with the lines of faults
+abbrev pub Answers : {X Y : Type 0} → (Y → X) → Result Y TextFault → Result X TextFault → Type 0
+Answers f (Ok y) defined = defined ≡ Ok (f y)
+Answers f (Err fault) defined = FailsAt fault.problem fault defined
+
+-- what the code finds at the front of a text, with the names that it leaves
+abbrev pub with_names : List (List ℕ) → Spelled → Found
+with_names names s = record { kind = s.kind; len = s.len; names = names }

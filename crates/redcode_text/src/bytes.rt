@@ -1,0 +1,56 @@
+//! The bytes of a line: blanks, and those of words.
+ghost use Rattle.std.specs.Prelude.{◌≡◌};
+ghost use Rattle.redcode_text.specs.Tokens.{is_blank, is_letter, is_word_byte, begins_name, begins_word, word_len};
+
+/// Whether a byte is one up to 32, other than LF.
+pub fn is_blank(byte: u8) -> bool
+    ensures { result ≡ is_blank byte }
+{
+    byte <= b' ' && byte != b'\n'
+}
+
+/// Whether a byte is a letter or `_`.
+pub fn is_letter(byte: u8) -> bool
+    ensures { result ≡ is_letter byte }
+{
+    byte.is_ascii_alphabetic() || byte == b'_'
+}
+
+/// Whether a byte is a letter, a digit or `_`.
+fn is_word_byte(byte: u8) -> bool
+    ensures { result ≡ is_word_byte byte }
+{
+    is_letter(byte) || byte.is_ascii_digit()
+}
+
+/// Whether the bytes begin with a letter or `_`.
+pub fn begins_name(bytes: &[u8]) -> bool
+    ensures { result ≡ begins_name bytes.now }
+{
+    match bytes {
+        [] => false,
+        [first, ..] => is_letter(*first),
+    }
+}
+
+/// Whether the bytes begin with a byte of a word, or with a join.
+pub fn begins_word(bytes: &[u8]) -> bool
+    ensures { result ≡ begins_word bytes.now }
+{
+    match bytes {
+        [] => false,
+        [b'&', next, ..] => is_letter(*next),
+        [first, ..] => is_word_byte(*first),
+    }
+}
+
+/// How many bytes the word at the front has, its joins too.
+pub fn word_len(bytes: &[u8]) -> usize
+    ensures { result ≡ word_len bytes.now }
+{
+    let mut len = 0;
+    while begins_word(&bytes[len..]) {
+        len += 1;
+    }
+    len
+}

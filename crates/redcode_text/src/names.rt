@@ -1,0 +1,56 @@
+//! The names of a text.
+ghost use Rattle.std.specs.Prelude.{◌≡◌, [], IfOk, OnOk, IsAscii, slice_get, option_map};
+ghost use Rattle.redcode_text.specs.Tokens.{name_index, with_name};
+
+use indexmap::IndexSet;
+use std::alloc::{AllocError, Global};
+use std::marker::Model;
+
+/// Names, in the order of their first use.
+#[derive(Drop)]
+pub struct NameTable {
+    names: IndexSet<String>,
+}
+
+impl Model for NameTable {
+    ghost use Rattle.std.specs.Prelude.{List, ℕ, map, string_bytes};
+
+    ghost Value = { List (List ℕ) };
+
+    ghost view = { λ t. map (λ s. string_bytes s) t.names.keys };
+}
+
+impl NameTable {
+    /// No name.
+    pub(crate) fn new(alloc: Global) -> Self
+        ensures { result ≡ [] }
+    {
+        NameTable {
+            names: IndexSet::new(alloc),
+        }
+    }
+
+    /// The index of a name, which is added where it is new.
+    pub(crate) fn index_of(&mut self, alloc: Global, name: &[u8]) -> Result<usize, AllocError>
+        requires ascii { IsAscii name.now }
+        ensures index { IfOk result (λ n. n ≡ name_index self.old name.now) }
+        ensures names { OnOk result (self.new ≡ with_name self.old name.now) }
+    {
+        let Ok(name) = str::from_utf8(name) else {
+            unreachable!()
+        };
+        if let Some(index) = self.names.get_index_of(name) {
+            return Ok(index);
+        }
+        let (index, _) = self.names.insert_full(String::from_str(alloc, name)?)?;
+        Ok(index)
+    }
+
+    /// The name of an index.
+    pub fn name(&self, index: usize) -> Option<&str>
+        ensures { option_map (λ name. name.now) result ≡ slice_get self.now index }
+    {
+        let name = self.names.get_index(index)?;
+        Some(name.as_str())
+    }
+}

@@ -1,0 +1,86 @@
+//! The loops that are open where a line is read.
+ghost use Rattle.std.specs.Prelude.{◌≡◌, [], reverse};
+ghost use Rattle.redcode_text.specs.Tokens.{is_counter, turn_of};
+
+use std::alloc::Global;
+use std::marker::Model;
+
+/// An open loop.
+#[derive(Drop)]
+pub struct OpenLoop {
+    counter: Option<String>,
+    /// The number of its turn, from 1.
+    turn: u32,
+}
+
+impl Model for OpenLoop {
+    ghost use Rattle.std.specs.Prelude.{option_map, string_bytes};
+    ghost use Rattle.redcode_text.specs.Tokens.{OpenLoop};
+
+    ghost Value = { OpenLoop };
+
+    ghost view = { λ l. record { counter = option_map (λ s. string_bytes s) l.counter; turn = l.turn } };
+}
+
+impl OpenLoop {
+    fn has_counter(&self, name: &[u8]) -> bool
+        ensures { result ≡ is_counter name.now self.now.counter }
+    {
+        match &self.counter {
+            Some(counter) => counter.as_bytes() == name,
+            None => false,
+        }
+    }
+
+    fn turn(&self) -> u32
+        ensures { result ≡ self.now.turn }
+    {
+        self.turn
+    }
+}
+
+/// The turn of the loop, the last first, whose counter has this name. There are at most 32.
+fn find_turn(loops: &[OpenLoop], name: &[u8]) -> Option<u32>
+    ensures { result ≡ turn_of (reverse loops.now) name.now }
+{
+    let [outer @ .., innermost] = loops else {
+        return None;
+    };
+    if innermost.has_counter(name) {
+        return Some(innermost.turn());
+    }
+    find_turn(outer, name)
+}
+
+/// The open loops, the innermost first.
+#[derive(Drop)]
+pub struct OpenLoops {
+    loops: Vec<OpenLoop>,
+}
+
+impl Model for OpenLoops {
+    ghost use Rattle.std.specs.Prelude.{List, reverse};
+    ghost use Rattle.redcode_text.specs.Tokens.{OpenLoop};
+
+    ghost Value = { List OpenLoop };
+
+    ghost view = { λ s. reverse s.loops.items };
+}
+
+impl OpenLoops {
+    /// No loop.
+    pub fn new(alloc: Global) -> Self
+        ensures { result ≡ [] }
+    {
+        OpenLoops {
+            loops: Vec::new(alloc),
+        }
+    }
+
+    /// The turn of the loop whose counter has this name.
+    pub fn turn_of(&self, name: &[u8]) -> Option<u32>
+        ensures { result ≡ turn_of self.now name.now }
+    {
+        find_turn(&self.loops, name)
+    }
+}
