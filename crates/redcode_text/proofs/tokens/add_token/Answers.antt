@@ -1,4 +1,4 @@
-use Rattle.std.proofs.Common.{◌≤◌, ◌<◌, ◌+◌, ◌∙◌, ap, sym, arith, length}
+use Rattle.std.proofs.Common.{◌+◌, ◌∙◌, sym, arith}
 use Rattle.redcode_text.proofs.Scans.{measured, one-fails, one-full, one-ok}
 use Rattle.redcode_text.specs.Outcomes.{scan_of, with_names}
 use Rattle.redcode_text.proofs.tokens.add_token.Goals as goal

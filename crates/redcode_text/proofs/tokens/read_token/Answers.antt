@@ -1,4 +1,4 @@
-use Rattle.std.proofs.Common.{◌∙◌, sym, ap, arith}
+use Rattle.std.proofs.Common.{◌∙◌, sym}
 use Rattle.redcode_text.proofs.Scans.{sign-at}
 use Rattle.redcode_text.proofs.tokens.read_token.Goals as goal
 

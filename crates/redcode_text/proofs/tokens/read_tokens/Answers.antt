@@ -1,4 +1,4 @@
-use Rattle.std.proofs.Common.{◌≡◌, ◌≤◌, ◌<◌, ◌+◌, ◌∙◌, sym, arith, subst}
+use Rattle.std.proofs.Common.{◌∙◌, sym, subst}
 use Rattle.redcode_text.specs.Outcomes.{scan_of, Fails}
 use Rattle.redcode_text.proofs.Scans.{scan-token, scan-fails}
 use Rattle.redcode_text.proofs.tokens.read_tokens.Goals as goal

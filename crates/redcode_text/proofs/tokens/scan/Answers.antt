@@ -1,9 +1,8 @@
-use Rattle.std.proofs.Common.{◌≡◌, ◌∙◌, ℕ, List, length, ap, sym, subst, [], Result}
+use Rattle.std.proofs.Common.{◌≡◌, ◌∙◌, ℕ, List, length, ap, sym, subst, []}
 use Rattle.redcode_text.proofs.Failing.{fails-at}
-use Rattle.redcode_text.specs.declared.fault.TextProblem.{TextProblem}
 use Rattle.redcode_text.specs.declared.token.Token.{Token}
 use Rattle.redcode_text.specs.Outcomes.{Fails}
-use Rattle.redcode_text.specs.Tokens.{OpenLoop, Scanned, at_line, scan_from, scanned, tokens}
+use Rattle.redcode_text.specs.Tokens.{OpenLoop, at_line, scan_from, scanned, tokens}
 use Rattle.redcode_text.proofs.tokens.scan.Goals as goal
 
 -- nothing is read before, and no loop is open
