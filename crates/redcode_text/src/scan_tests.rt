@@ -2,7 +2,8 @@ use super::*;
 use crate::fault::TextProblem;
 use crate::names::NameTable;
 use crate::open_loops::{OpenLoop, OpenLoops};
-use crate::tokens::{Row, read_tokens};
+use crate::rows::Row;
+use crate::tokens::read_tokens;
 use std::test::Fail;
 
 /// What the tokens of a text are, outside loops.
