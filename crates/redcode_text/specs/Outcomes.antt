@@ -5,6 +5,9 @@ use Rattle.redcode_text.specs.declared.fault.TextProblem.{TextProblem}
 use Rattle.redcode_text.specs.declared.fault.TextProblem.TheVariants.{OutOfMemory}
 use Rattle.redcode_text.specs.declared.token.Token.{Token}
 use Rattle.redcode_text.specs.declared.words.Spelled.{Spelled}
+use Rattle.redcode_text.specs.declared.rows.LineKind as code
+use Rattle.redcode_text.specs.declared.rows.LineKind.TheVariants as line
+use Rattle.redcode_text.specs.Source.{LineKind, RofLine, ForLine, EquLine, OtherLine}
 use Rattle.redcode_text.specs.Tokens.{Found, Scanned}
 
 -- a problem is the defined one, or want of memory
@@ -44,3 +47,10 @@ found_alone (Err e) = Err e
 -- tokens and names as the code holds them
 abbrev pub scan_of : {A : Type 0} → Vec Token A → List (List ℕ) → Scanned
 scan_of tokens names = record { tokens = tokens.items; names = names }
+
+-- the kind of a line as the code holds it
+abbrev pub kind_of : code.LineKind → LineKind
+kind_of line.Rof = RofLine
+kind_of (line.For at) = ForLine at
+kind_of (line.Equ at) = EquLine at
+kind_of line.Other = OtherLine

@@ -13,6 +13,7 @@ mod fault;
 mod names;
 mod open_loops;
 mod operators;
+mod rows;
 mod shape;
 mod signs;
 mod token;

@@ -8,20 +8,11 @@ use crate::bytes::{begins_word, is_blank, word_len};
 use crate::fault::{TextFault, TextProblem};
 use crate::names::NameTable;
 use crate::open_loops::OpenLoops;
+use crate::rows::Row;
 use crate::signs::{one_byte_sign, two_byte_sign};
 use crate::token::{Token, TokenKind};
 use crate::words::{Spelled, read_word};
 use std::alloc::Global;
-
-/// A line of a source, without its LF.
-#[derive(Clone, Copy)]
-pub struct Row<'a> {
-    /// The number of the line, from 1.
-    pub number: usize,
-    /// The index of its first byte in the source.
-    pub at: usize,
-    pub bytes: &'a [u8],
-}
 
 /// The sign at the front of some bytes: one of two bytes goes before one of one byte.
 fn read_sign(bytes: &[u8]) -> Result<Spelled, TextProblem>
