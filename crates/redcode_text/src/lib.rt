@@ -6,6 +6,7 @@
 #![tactic(auto)]
 
 mod bytes;
+mod directives;
 mod equates;
 mod evaluation;
 mod expression;
