@@ -17,3 +17,4 @@ pub mod Scans
 pub mod EquateLookup
 pub mod Replacing
 pub mod SourceLines
+pub mod PairSteps

@@ -14,6 +14,7 @@ mod fault;
 mod names;
 mod open_loops;
 mod operators;
+mod pairs;
 mod rows;
 mod shape;
 mod signs;
