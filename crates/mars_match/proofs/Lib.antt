@@ -1,0 +1,5 @@
+pub mod Ascending
+pub mod Draws
+pub mod Spacing
+pub mod Writing
+pub mod Ranking

@@ -1,0 +1,27 @@
+-- Laws of the definitions.
+use Rattle.std.specs.Prelude.{◌≡◌, ℕ, ℤ, List, false, AllPairs}
+use Rattle.std.specs.Int.Signed.{lt_z}
+use Rattle.std.specs.List.{filter}
+use Rattle.std.specs.List.Sorted.{IsPermutation, IsNonDecreasing}
+use Rattle.mars_match.specs.Placement.{ascending}
+use Rattle.mars_match.specs.Results.{ranked, has_points}
+use Rattle.mars_match.specs.Tables.{RowValue}
+
+-- the ascending order of values has the same values, and doesn't fall; no other list does
+pub record IsTheOrder (values : List ℕ) : Type 0 where
+  pub same_values : IsPermutation values (ascending values)
+  pub rises : IsNonDecreasing (ascending values)
+  pub only : (others : List ℕ) → IsPermutation values others → IsNonDecreasing others → others ≡ ascending values
+
+-- each list of values has one ascending order
+abbrev pub EachHasOneOrder : Type 0
+EachHasOneOrder = (values : List ℕ) → IsTheOrder values
+
+-- ranked rows are the same rows, none has more points than one before it, and those of equal points keep their order
+pub record IsRanking (rows ranking : List RowValue) : Type 0 where
+  pub same_rows : IsPermutation rows ranking
+  pub falls : AllPairs (λ (a b : RowValue). lt_z a.points b.points ≡ false) ranking
+  pub ties : (points : ℤ) → filter (has_points points) ranking ≡ filter (has_points points) rows
+
+abbrev pub RanksByPoints : Type 0
+RanksByPoints = (rows : List RowValue) → IsRanking rows (ranked rows)

@@ -1,0 +1,119 @@
+-- Worked examples: the check computes each of them.
+use Rattle.std.specs.Prelude.{◌≡◌, ℕ, ℤ, pos, negsuc, List, [], ◌∷◌, ◌++◌, Some, true, false, codes, refl}
+use Rattle.mars_cell.specs.Parameters.{Parameters}
+use Rattle.mars_match.specs.Placement.{drawn, starts_of, next_seed, place_fault}
+use Rattle.std.specs.Fmt.{digits}
+use Rattle.mars_match.specs.Tables.{RowValue}
+use Rattle.mars_match.specs.Results.{row_line, results_text}
+use Rattle.mars_match.specs.declared.placement.PlaceFault.TheVariants.{NoRoom, BadSeed}
+
+-- a core of m cells, with the least distance d
+abbrev sizes : ℕ → ℕ → Parameters
+sizes m d = record {
+  core_size = m;
+  processes = 1;
+  cycles = 1;
+  read_limit = m;
+  write_limit = m;
+  max_length = 1;
+  distance = d;
+}
+
+pub row_two : starts_of (sizes 8000 100) 2 1 ≡ 0 ∷ 1305 ∷ []
+unfolding starts_of drawn
+row_two = refl
+
+pub row_two_next : next_seed 2 1 ≡ 16807
+unfolding next_seed drawn
+row_two_next = refl
+
+pub row_three : starts_of (sizes 8000 100) 3 1 ≡ 0 ∷ 1505 ∷ 2769 ∷ []
+unfolding starts_of drawn
+row_three = refl
+
+pub row_three_next : next_seed 3 1 ≡ 1622650073
+unfolding next_seed drawn
+row_three_next = refl
+
+-- there is one place alone, whatever the seed
+pub row_full : starts_of (sizes 200 100) 2 5 ≡ 0 ∷ 100 ∷ []
+unfolding starts_of drawn
+row_full = refl
+
+pub row_no_room : place_fault (sizes 199 100) 2 1 ≡ Some NoRoom
+row_no_room = refl
+
+pub row_bad_seed : place_fault (sizes 8000 100) 1 0 ≡ Some BadSeed
+row_bad_seed = refl
+
+pub row_seed_too_great : place_fault (sizes 8000 100) 1 2147483647 ≡ Some BadSeed
+row_seed_too_great = refl
+
+pub row_second_round : starts_of (sizes 8000 100) 2 16807 ≡ 0 ∷ 1139 ∷ []
+unfolding starts_of drawn
+row_second_round = refl
+
+pub row_second_next : next_seed 2 16807 ≡ 282475249
+unfolding next_seed drawn
+row_second_next = refl
+
+pub row_third_round : starts_of (sizes 8000 100) 2 282475249 ≡ 0 ∷ 3168 ∷ []
+unfolding starts_of drawn
+row_third_round = refl
+
+pub row_third_next : next_seed 2 282475249 ≡ 1622650073
+unfolding next_seed drawn
+row_third_next = refl
+
+pub row_four : starts_of (sizes 400 100) 4 1 ≡ 0 ∷ 200 ∷ 100 ∷ 300 ∷ []
+unfolding starts_of drawn
+row_four = refl
+
+pub row_four_next : next_seed 4 1 ≡ 1144108930
+unfolding next_seed drawn
+row_four_next = refl
+
+pub row_alone : starts_of (sizes 400 100) 1 1 ≡ 0 ∷ []
+unfolding starts_of drawn
+row_alone = refl
+
+pub row_alone_next : next_seed 1 1 ≡ 1
+unfolding next_seed
+row_alone_next = refl
+
+-- ---- results
+
+abbrev row_of : List ℕ → List ℕ → ℤ → ℕ → ℕ → ℕ → RowValue
+row_of name author points wins ties losses = record { name = name; author = author; points = points; wins = wins; ties = ties; losses = losses }
+
+abbrev imp : RowValue
+imp = row_of (codes "Imp") (codes "Dewdney") (pos 4) 1 1 0
+
+abbrev stay : RowValue
+stay = row_of (codes "Stay") (codes "Anonymous") (pos 4) 1 1 0
+
+abbrev dead : RowValue
+dead = row_of (codes "Dead") (codes "Anonymous") (pos 0) 0 0 2
+
+pub row_results : results_text (dead ∷ imp ∷ stay ∷ []) false ≡
+    codes "  points   wins   ties losses  warrior\n"
+    ++ codes "       0      0      0      2  Dead by Anonymous\n"
+    ++ codes "       4      1      1      0  Imp by Dewdney\n"
+    ++ codes "       4      1      1      0  Stay by Anonymous\n"
+unfolding results_text row_line digits
+row_results = refl
+
+pub row_sorted : results_text (dead ∷ imp ∷ stay ∷ []) true ≡
+    codes "  points   wins   ties losses  warrior\n"
+    ++ codes "       4      1      1      0  Imp by Dewdney\n"
+    ++ codes "       4      1      1      0  Stay by Anonymous\n"
+    ++ codes "       0      0      0      2  Dead by Anonymous\n"
+unfolding results_text row_line digits
+row_sorted = refl
+
+-- points wider than their places push the line to the right
+pub row_wide : results_text (row_of (codes "A") [] (negsuc 9223372036854775807) 1000000 0 0 ∷ []) false ≡
+    codes "  points   wins   ties losses  warrior\n"
+    ++ codes "-9223372036854775808 1000000      0      0  A by \n"
+unfolding results_text row_line digits
+row_wide = refl

@@ -1,0 +1,12 @@
+//! Laws of the definitions: they make no calls.
+ghost use Rattle.mars_match.specs.Laws.{EachHasOneOrder, RanksByPoints};
+
+/// Each list of values has one ascending order: the same values, none of them less than one before it.
+pub fn each_has_one_order()
+    ensures { EachHasOneOrder }
+{}
+
+/// Ranked rows are the same rows, none has more points than one before it, and those of equal points keep their order.
+pub fn ranks_by_points()
+    ensures { RanksByPoints }
+{}

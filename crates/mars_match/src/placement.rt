@@ -1,0 +1,130 @@
+//! Where the warriors of a battle are laid.
+ghost use Rattle.std.specs.Prelude.{◌≡◌, ℕ, ◌+◌, ◌-◌, ◌*◌, ◌%◌, ◌<◌, ◌≤◌, ◌^◌, ◌∷◌, [], All, length, IfOk, IfErr, IfSome};
+ghost use Rattle.mars_match.specs.Placement.{drawn as spec_drawn, seed_after, draws, ascending, spread, exchanged, room_for, starts_of, next_seed, place_fault, IsSpaced};
+
+use mars_cell::Params;
+use std::alloc::Global;
+use thiserror::Error;
+
+/// Why warriors can't be placed: the first that applies. It is displayed as its number and name.
+#[derive(Clone, Copy, Debug, PartialEq, Eq, Error)]
+pub enum PlaceFault {
+    /// The warriors' distances together are more than the core.
+    #[error("1 NoRoom")]
+    NoRoom,
+    /// The seed isn't from 1 to 2147483646.
+    #[error("2 BadSeed")]
+    BadSeed,
+    /// A growth was refused.
+    #[error("3 OutOfMemory")]
+    OutOfMemory,
+}
+
+/// One draw of the generator of Park and Miller.
+#[tactic(auto, unfolding(crate::specs::Placement::drawn))]
+fn drawn(seed: u32) -> u32
+    ensures { result ≡ spec_drawn seed }
+{
+    (16807 * u64::from(seed) % 2_147_483_647) as u32
+}
+
+/// Sets each start but start 0 to a draw modulo `room`. Gives the seed that is left.
+fn draw_values(starts: &mut [u32], room: u32, seed: u32) -> u32
+    requires room { 1 ≤ room }
+    requires some { 1 ≤ length starts.old }
+    ensures starts { starts.new ≡ 0 ∷ draws room (length starts.old - 1) seed }
+    ensures seed { result ≡ seed_after (length starts.old - 1) seed }
+{
+    let mut state = seed;
+    starts[0] = 0;
+    for i in 1..starts.len() {
+        state = drawn(state);
+        starts[i] = state % room;
+    }
+    state
+}
+
+/// Adds i times the distance to start i.
+fn spread(starts: &mut [u32], distance: u32)
+    requires few { length starts.old ≤ 16 }
+    requires distance { length starts.old * distance ≤ 1048576 }
+    requires below { All (λ s. s ≤ 1048576) starts.old }
+    ensures { starts.new ≡ spread distance 0 starts.old }
+{
+    for i in 0..starts.len() {
+        starts[i] += i as u32 * distance;
+    }
+}
+
+/// Exchanges each start from the last down to start 2 with a drawn one, which isn't start 0. Gives the seed that is left.
+fn exchange(starts: &mut [u32], seed: u32) -> u32
+    ensures starts { starts.new ≡ exchanged (length starts.old - 2) seed starts.old }
+    ensures seed { result ≡ seed_after (length starts.old - 2) seed }
+{
+    let mut state = seed;
+    for i in (2..starts.len()).rev() {
+        state = drawn(state);
+        starts.swap(i, 1 + state as usize % i);
+    }
+    state
+}
+
+/// Places as many warriors as there are starts, where there is room for them. Gives the seed that is left. It takes no
+/// memory.
+fn place_all(params: &Params, seed: u32, starts: &mut [u32]) -> u32
+    requires some { 1 ≤ length starts.old }
+    requires few { length starts.old ≤ 16 }
+    requires room { length starts.old * params.now.distance ≤ params.now.core_size }
+    ensures starts { starts.new ≡ starts_of params.now (length starts.old) seed }
+    ensures seed { result ≡ next_seed (length starts.old) seed }
+    ensures spaced { IsSpaced params.now.core_size params.now.distance starts.new }
+{
+    let core_size = params.core_size();
+    let distance = params.distance();
+    let room = core_size - starts.len() as u32 * distance + 1;
+    let seed = draw_values(starts, room, seed);
+    starts.sort_unstable();
+    spread(starts, distance);
+    exchange(starts, seed)
+}
+
+/// The first reason not to place so many warriors, but for memory.
+fn find_fault(params: &Params, warriors: u32, seed: u32) -> Option<PlaceFault>
+    requires { warriors ≤ 16 }
+    ensures { result ≡ place_fault params.now warriors seed }
+{
+    let core_size = params.core_size();
+    if warriors * params.distance() > core_size {
+        return Some(PlaceFault::NoRoom);
+    }
+    if seed < 1 || seed > 2_147_483_646 {
+        return Some(PlaceFault::BadSeed);
+    }
+    None
+}
+
+/// The starts of 1 to 16 warriors, in load order, and the seed for the next round; or the first fault.
+pub fn place(
+    alloc: Global,
+    params: &Params,
+    warriors: u32,
+    seed: u32,
+) -> Result<(Vec<u32>, u32), PlaceFault>
+    requires some { 1 ≤ warriors }
+    requires few { warriors ≤ 16 }
+    ensures fault { IfSome (place_fault params.now warriors seed) (λ fault. result ≡ Err fault) }
+    ensures only_memory { place_fault params.now warriors seed ≡ None → IfErr result (λ fault. fault ≡ PlaceFault.OutOfMemory) }
+    ensures starts { IfOk result (λ placed. placed.0.items ≡ starts_of params.now warriors seed) }
+    ensures seed { IfOk result (λ placed. placed.1 ≡ next_seed warriors seed) }
+    ensures many { IfOk result (λ placed. length placed.0.items ≡ warriors) }
+    ensures spaced { IfOk result (λ placed. IsSpaced params.now.core_size params.now.distance placed.0.items) }
+{
+    if let Some(fault) = find_fault(params, warriors, seed) {
+        return Err(fault);
+    }
+    let Ok(mut starts) = vec![in alloc; 0u32; warriors as usize] else {
+        return Err(PlaceFault::OutOfMemory);
+    };
+    let seed = place_all(params, seed, starts.as_mut_slice());
+    Ok((starts, seed))
+}
