@@ -16,3 +16,5 @@ pub mod Failing
 pub mod Scans
 pub mod EquateLookup
 pub mod Replacing
+pub mod SourceLines
+pub mod PairSteps

@@ -1,6 +1,7 @@
 pub mod Tokens
 pub mod TokenRows
 pub mod Outcomes
+pub mod Pairs
 pub mod Scanning
 pub mod Expression
 pub mod Climbing

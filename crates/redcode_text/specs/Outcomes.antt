@@ -1,13 +1,16 @@
 -- What a call answers that wants memory: what is defined, or want of memory.
-use Rattle.std.specs.Prelude.{◌≡◌, ⊤, ℕ, List, [], Result, Ok, Err, Vec}
+use Rattle.std.specs.Prelude.{◌≡◌, ⊤, ℕ, ◌+◌, ◌&&◌, List, [], Result, Ok, Err, Option, Some, None, Vec, length, drop, nat_eq, if◌then◌else◌}
 use Rattle.redcode_text.specs.declared.fault.TextFault.{TextFault}
 use Rattle.redcode_text.specs.declared.fault.TextProblem.{TextProblem}
 use Rattle.redcode_text.specs.declared.fault.TextProblem.TheVariants.{OutOfMemory}
 use Rattle.redcode_text.specs.declared.token.Token.{Token}
 use Rattle.redcode_text.specs.declared.words.Spelled.{Spelled}
+use Rattle.std.specs.List.{starts_with}
+use Rattle.std.specs.Str.{str_to_ascii_lowercase}
 use Rattle.redcode_text.specs.declared.rows.LineKind as code
+use Rattle.redcode_text.specs.declared.rows.Row as code_row
 use Rattle.redcode_text.specs.declared.rows.LineKind.TheVariants as line
-use Rattle.redcode_text.specs.Source.{LineKind, RofLine, ForLine, EquLine, OtherLine}
+use Rattle.redcode_text.specs.Source.{Row, LineKind, RofLine, ForLine, EquLine, OtherLine, blank_len, ends_word, without_blanks}
 use Rattle.redcode_text.specs.Tokens.{Found, Scanned}
 
 -- a problem is the defined one, or want of memory
@@ -54,3 +57,13 @@ kind_of line.Rof = RofLine
 kind_of (line.For at) = ForLine at
 kind_of (line.Equ at) = EquLine at
 kind_of line.Other = OtherLine
+
+-- where the text behind these first bytes of a directive begins, where a line is that directive
+abbrev pub text_found : List ℕ → List ℕ → Option ℕ
+text_found directive bytes =
+    if starts_with nat_eq (str_to_ascii_lowercase (without_blanks bytes)) directive && ends_word (drop (blank_len bytes + length directive) bytes)
+    then Some (blank_len bytes + length directive) else None
+
+-- a row as the code holds it
+abbrev pub row_of : code_row.Row → Row
+row_of row = record { number = row.number; at = row.at; bytes = row.bytes.now }

@@ -6,6 +6,7 @@
 #![tactic(auto)]
 
 mod bytes;
+mod directives;
 mod equates;
 mod evaluation;
 mod expression;
@@ -13,6 +14,7 @@ mod fault;
 mod names;
 mod open_loops;
 mod operators;
+mod pairs;
 mod rows;
 mod shape;
 mod signs;

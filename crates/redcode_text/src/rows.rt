@@ -1,9 +1,12 @@
 //! The lines of a source, and what kind each is of.
-ghost use Rattle.std.specs.Prelude.{◌≡◌, ◌≤◌, length, codes, IfSome};
-ghost use Rattle.redcode_text.specs.Outcomes.{kind_of};
-ghost use Rattle.redcode_text.specs.Source.{colon_len, first_word_at, has_word, leading_word_at, line_kind, past_blanks, past_colon, past_word, second_word_at};
+ghost use Rattle.std.specs.Prelude.{◌≡◌, ◌≤◌, ◌==◌, length, map, not, IfOk, IfSome};
+ghost use Rattle.std.specs.List.{prefix_len};
+ghost use Rattle.redcode_text.specs.Outcomes.{kind_of, row_of};
+ghost use Rattle.redcode_text.specs.Source.{colon_len, first_word_at, has_word, leading_word_at, line_kind, past_blanks, past_colon, past_word, read_rows, rows_of, second_word_at};
 
 use crate::bytes::{blank_len, is_word, word_len};
+use crate::directives::has_directive;
+use std::alloc::{AllocError, Global};
 
 /// A line of a source, without its LF.
 #[derive(Clone, Copy)]
@@ -106,4 +109,47 @@ pub fn line_kind(bytes: &[u8]) -> LineKind
         Some(at) => LineKind::Equ(at),
         None => LineKind::Other,
     }
+}
+
+/// How many bytes the first line has.
+fn line_len(bytes: &[u8]) -> usize
+    ensures value { result ≡ prefix_len (λ b. not (b == 10)) bytes.now }
+    ensures within { result ≤ length bytes.now }
+{
+    bytes.iter().take_while(|byte| **byte != b'\n').count()
+}
+
+/// The lines of a source.
+pub fn rows_of<'a>(alloc: Global, source: &'a [u8]) -> Result<Vec<Row<'a>>, AllocError>
+    ensures { IfOk result (λ rows. map row_of rows.items ≡ rows_of source.now) }
+{
+    let mut rows = Vec::new(alloc);
+    let mut number = 1;
+    let mut at = 0;
+    while at < source.len() {
+        let end = at + line_len(&source[at..]);
+        let row = Row {
+            number,
+            at,
+            bytes: &source[at..end],
+        };
+        let Ok(()) = rows.push(row) else {
+            return Err(AllocError);
+        };
+        number += 1;
+        at = end + 1;
+    }
+    Ok(rows)
+}
+
+/// The rows from the first `;redcode` on, or all where there is none.
+pub fn read_rows<'r, 'a>(rows: &'r [Row<'a>]) -> &'r [Row<'a>]
+    ensures { map row_of result.now ≡ read_rows (map row_of rows.now) }
+{
+    for at in 0..rows.len() {
+        if has_directive(b";redcode", rows[at].bytes) {
+            return &rows[at..];
+        }
+    }
+    rows
 }
