@@ -3,6 +3,7 @@ pub mod State
 pub mod LoggedCore
 pub mod Operand
 pub mod Effect
+pub mod Steps
 pub mod Turn
 pub mod Edit
 pub mod Validity

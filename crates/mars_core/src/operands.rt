@@ -1,113 +1,206 @@
 //! The evaluation of operands.
-ghost use Rattle.std.specs.Prelude.{◌≡◌, ℕ, ◌+◌, ◌<◌, ◌≤◌, length};
-ghost use Rattle.arrayvec.specs.ArrayVec.{array_vec_len};
+ghost use Rattle.std.specs.Prelude.{◌≡◌, ℕ, ◌+◌, ◌<◌, ◌≤◌, length, false, None};
 ghost use Rattle.mars_cell.specs.Cells.{FitsCore};
-ghost use Rattle.mars_core.specs.LoggedCore.{logged_core, IsCore};
-ghost use Rattle.mars_core.specs.Operand.{direct_operand, indirect_operand, evaluated, pointed_address, FitsOperand};
+ghost use Rattle.mars_core.specs.State.{cell_at as spec_cell_at};
+ghost use Rattle.mars_core.specs.LoggedCore.{address_after as spec_address_after, IsCore};
+ghost use Rattle.mars_core.specs.Operand.{direct_operand, indirect_operand, evaluated, pointed_address, predecremented, postincremented};
+ghost use Rattle.mars_core.specs.Steps.{IsUnlimited, IsPlace, located, unwritten, noted};
 
-use crate::addresses::{address_after, cell_at, folded, lower_field, raise_field};
+use crate::addresses::{
+    address_after, cell_at, folded, folded_number, lower_field, number_at, raise_field,
+};
 use crate::journal::CellChange;
-use arrayvec::ArrayVec;
 use mars_cell::{Cell, Field, Mode, Params};
 
-/// Where an operand reads and writes, relative to the instruction, and a copy of what it reads.
+/// Where an operand reads, relative to the instruction; the addresses where it reads and writes; and a copy of the cell that
+/// it reads.
 #[derive(Clone, Copy, Debug)]
-pub struct Operand {
+pub struct Place {
+    pub pointer: u32,
     pub read: u32,
     pub write: u32,
     pub copy: Cell,
 }
 
-/// Both pointers are folded, and the read one leads to the copy.
-#[tactic(auto, unfolding(crate::specs::Operand::direct_operand))]
-pub fn direct(params: &Params, core: &[Cell], pc: u32, read: u32, write: u32) -> Operand
-    requires core { IsCore params.now.core_size core.now }
-    requires pc { pc < params.now.core_size }
-    ensures value { result ≡ direct_operand params.now core.now pc read write }
-    ensures fits { FitsOperand params.now.core_size result }
+/// The place of an operand, and the write that its evaluation made, if it made one.
+#[derive(Clone, Copy, Debug)]
+pub struct Evaluation {
+    pub place: Place,
+    pub change: Option<CellChange>,
+}
+
+/// The place that two folded pointers lead to.
+#[inline(always)]
+fn place_at(core_size: u32, core: &[Cell], pc: u32, read: u32, write: u32) -> Place
+    requires core { IsCore core_size core.now }
+    requires size { core_size ≤ 1048576 }
+    requires pc { pc < core_size }
+    requires read { read < core_size }
+    requires write { write < core_size }
+    ensures value { result ≡ located core_size pc (record { read = read; write = write; copy = spec_cell_at core.now (spec_address_after core_size pc read) }) }
+    ensures fits { IsPlace core_size result }
 {
-    let core_size = params.core_size();
-    let rp = folded(core_size, params.read_limit(), read);
-    Operand {
-        read: rp,
-        write: folded(core_size, params.write_limit(), write),
-        copy: cell_at(core, address_after(core_size, pc, rp)),
+    let address = address_after(core_size, pc, read);
+    Place {
+        pointer: read,
+        read: address,
+        write: address_after(core_size, pc, write),
+        copy: cell_at(core, address),
     }
 }
 
-/// The folded pointers lead to cells, whose fields are added to them.
-#[tactic(auto, unfolding(crate::specs::Operand::indirect_operand))]
-pub fn indirect(params: &Params, core: &[Cell], field: Field, pc: u32, number: u32) -> Operand
+/// The folded number leads to the place.
+#[inline(always)]
+#[tactic(auto, unfolding(crate::specs::Operand::direct_operand))]
+fn direct<const LIMITED: bool>(params: &Params, core: &[Cell], pc: u32, number: u32) -> Place
     requires core { IsCore params.now.core_size core.now }
+    requires unlimited { LIMITED ≡ false → IsUnlimited params.now }
     requires pc { pc < params.now.core_size }
-    ensures value { result ≡ indirect_operand params.now field core.now pc number }
-    ensures fits { FitsOperand params.now.core_size result }
+    requires number { number < params.now.core_size }
+    ensures value { result ≡ located params.now.core_size pc (direct_operand params.now core.now pc number number) }
+    ensures fits { IsPlace params.now.core_size result }
 {
     let core_size = params.core_size();
-    let rp = folded(core_size, params.read_limit(), number);
-    let wp = folded(core_size, params.write_limit(), number);
-    let read_cell = cell_at(core, address_after(core_size, pc, rp));
-    let write_cell = cell_at(core, address_after(core_size, pc, wp));
-    direct(
-        params,
-        core,
-        pc,
-        rp + read_cell.field(field),
-        wp + write_cell.field(field),
-    )
+    let read = folded_number::<LIMITED>(core_size, params.read_limit(), number);
+    let write = folded_number::<LIMITED>(core_size, params.write_limit(), number);
+    place_at(core_size, core, pc, read, write)
+}
+
+/// The folded number leads to cells, whose fields are added to it.
+#[inline(always)]
+#[tactic(auto, unfolding(crate::specs::Operand::indirect_operand, crate::specs::Operand::direct_operand))]
+fn indirect<const LIMITED: bool>(
+    params: &Params,
+    core: &[Cell],
+    field: Field,
+    pc: u32,
+    number: u32,
+) -> Place
+    requires core { IsCore params.now.core_size core.now }
+    requires unlimited { LIMITED ≡ false → IsUnlimited params.now }
+    requires pc { pc < params.now.core_size }
+    requires number { number < params.now.core_size }
+    ensures value { result ≡ located params.now.core_size pc (indirect_operand params.now field core.now pc number) }
+    ensures fits { IsPlace params.now.core_size result }
+{
+    let core_size = params.core_size();
+    let rp = folded_number::<LIMITED>(core_size, params.read_limit(), number);
+    let wp = folded_number::<LIMITED>(core_size, params.write_limit(), number);
+    let from = number_at(core_size, core, field, address_after(core_size, pc, rp));
+    let to = number_at(core_size, core, field, address_after(core_size, pc, wp));
+    let read = folded::<LIMITED>(core_size, params.read_limit(), rp + from);
+    let write = folded::<LIMITED>(core_size, params.write_limit(), wp + to);
+    place_at(core_size, core, pc, read, write)
+}
+
+/// The address that the number leads to for writing.
+#[inline(always)]
+fn pointed<const LIMITED: bool>(params: &Params, pc: u32, number: u32) -> u32
+    requires unlimited { LIMITED ≡ false → IsUnlimited params.now }
+    requires pc { pc < params.now.core_size }
+    requires number { number < params.now.core_size }
+    ensures value { result ≡ pointed_address params.now pc number }
+    ensures inside { result < params.now.core_size }
+{
+    let core_size = params.core_size();
+    let pointer = folded_number::<LIMITED>(core_size, params.write_limit(), number);
+    address_after(core_size, pc, pointer)
+}
+
+/// First the field is lowered, then the operand is evaluated.
+#[inline(always)]
+#[tactic(auto, unfolding(crate::specs::Operand::predecremented))]
+fn predecrement<const LIMITED: bool>(
+    params: &Params,
+    core: &mut [Cell],
+    field: Field,
+    pc: u32,
+    number: u32,
+) -> Evaluation
+    requires core { IsCore params.now.core_size core.old }
+    requires unlimited { LIMITED ≡ false → IsUnlimited params.now }
+    requires pc { pc < params.now.core_size }
+    requires number { number < params.now.core_size }
+    ensures logged { noted core.new result.change ≡ (predecremented params.now field (unwritten core.old) pc number).logged }
+    ensures place { result.place ≡ located params.now.core_size pc (predecremented params.now field (unwritten core.old) pc number).operand }
+    ensures core { IsCore params.now.core_size core.new }
+    ensures fits { IsPlace params.now.core_size result.place }
+{
+    let address = pointed::<LIMITED>(params, pc, number);
+    let change = lower_field(params.core_size(), core, field, address);
+    Evaluation {
+        place: indirect::<LIMITED>(params, core, field, pc, number),
+        change: Some(change),
+    }
+}
+
+/// First the operand is evaluated, then the field is raised.
+#[inline(always)]
+#[tactic(auto, unfolding(crate::specs::Operand::postincremented))]
+fn postincrement<const LIMITED: bool>(
+    params: &Params,
+    core: &mut [Cell],
+    field: Field,
+    pc: u32,
+    number: u32,
+) -> Evaluation
+    requires core { IsCore params.now.core_size core.old }
+    requires unlimited { LIMITED ≡ false → IsUnlimited params.now }
+    requires pc { pc < params.now.core_size }
+    requires number { number < params.now.core_size }
+    ensures logged { noted core.new result.change ≡ (postincremented params.now field (unwritten core.old) pc number).logged }
+    ensures place { result.place ≡ located params.now.core_size pc (postincremented params.now field (unwritten core.old) pc number).operand }
+    ensures core { IsCore params.now.core_size core.new }
+    ensures fits { IsPlace params.now.core_size result.place }
+{
+    let place = indirect::<LIMITED>(params, core, field, pc, number);
+    let address = pointed::<LIMITED>(params, pc, number);
+    let change = raise_field(params.core_size(), core, field, address);
+    Evaluation {
+        place,
+        change: Some(change),
+    }
+}
+
+/// The evaluation of an operand that writes nothing.
+#[inline(always)]
+fn quiet(place: Place) -> Evaluation
+    ensures place { result.place ≡ place }
+    ensures change { result.change ≡ None }
+{
+    Evaluation {
+        place,
+        change: None,
+    }
 }
 
 /// Evaluates the operand of a mode and a number, for the instruction at `pc`.
-#[tactic(auto, unfolding(crate::specs::Operand::evaluated, crate::specs::Operand::predecremented, crate::specs::Operand::postincremented))]
-pub fn evaluate(
+#[inline(always)]
+#[tactic(auto, unfolding(crate::specs::Operand::evaluated))]
+pub fn evaluate<const LIMITED: bool>(
     params: &Params,
     core: &mut [Cell],
-    changes: &mut ArrayVec<CellChange, 3>,
     pc: u32,
     mode: Mode,
     number: u32,
-) -> Operand
+) -> Evaluation
     requires core { IsCore params.now.core_size core.old }
+    requires unlimited { LIMITED ≡ false → IsUnlimited params.now }
     requires pc { pc < params.now.core_size }
-    requires room { array_vec_len changes.old < 3 }
-    ensures logged { logged_core core.new changes.new ≡ (evaluated params.now (logged_core core.old changes.old) pc mode number).logged }
-    ensures operand { result ≡ (evaluated params.now (logged_core core.old changes.old) pc mode number).operand }
+    requires number { number < params.now.core_size }
+    ensures logged { noted core.new result.change ≡ (evaluated params.now (unwritten core.old) pc mode number).logged }
+    ensures place { result.place ≡ located params.now.core_size pc (evaluated params.now (unwritten core.old) pc mode number).operand }
     ensures core { IsCore params.now.core_size core.new }
-    ensures fits { FitsOperand params.now.core_size result }
-    ensures count { array_vec_len changes.new ≤ array_vec_len changes.old + 1 }
+    ensures fits { IsPlace params.now.core_size result.place }
 {
-    let core_size = params.core_size();
-    let pointed = address_after(
-        core_size,
-        pc,
-        folded(core_size, params.write_limit(), number),
-    );
     match mode {
-        Mode::Immediate => Operand {
-            read: 0,
-            write: 0,
-            copy: cell_at(core, address_after(core_size, pc, 0)),
-        },
-        Mode::Direct => direct(params, core, pc, number, number),
-        Mode::AIndirect => indirect(params, core, Field::ANumber, pc, number),
-        Mode::BIndirect => indirect(params, core, Field::BNumber, pc, number),
-        Mode::APredecrement => {
-            lower_field(core, changes, core_size, Field::ANumber, pointed);
-            indirect(params, core, Field::ANumber, pc, number)
-        }
-        Mode::BPredecrement => {
-            lower_field(core, changes, core_size, Field::BNumber, pointed);
-            indirect(params, core, Field::BNumber, pc, number)
-        }
-        Mode::APostincrement => {
-            let operand = indirect(params, core, Field::ANumber, pc, number);
-            raise_field(core, changes, core_size, Field::ANumber, pointed);
-            operand
-        }
-        Mode::BPostincrement => {
-            let operand = indirect(params, core, Field::BNumber, pc, number);
-            raise_field(core, changes, core_size, Field::BNumber, pointed);
-            operand
-        }
+        Mode::Immediate => quiet(place_at(params.core_size(), core, pc, 0, 0)),
+        Mode::Direct => quiet(direct::<LIMITED>(params, core, pc, number)),
+        Mode::AIndirect => quiet(indirect::<LIMITED>(params, core, Field::ANumber, pc, number)),
+        Mode::BIndirect => quiet(indirect::<LIMITED>(params, core, Field::BNumber, pc, number)),
+        Mode::APredecrement => predecrement::<LIMITED>(params, core, Field::ANumber, pc, number),
+        Mode::BPredecrement => predecrement::<LIMITED>(params, core, Field::BNumber, pc, number),
+        Mode::APostincrement => postincrement::<LIMITED>(params, core, Field::ANumber, pc, number),
+        Mode::BPostincrement => postincrement::<LIMITED>(params, core, Field::BNumber, pc, number),
     }
 }

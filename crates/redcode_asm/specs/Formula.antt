@@ -1,9 +1,11 @@
 -- Score formulas: expressions in W, the number of warriors, and S, the number of survivors.
-use Rattle.std.specs.Prelude.{ℕ, ℤ, List, length, Bool, ◌||◌, Option, Some, None, Result, Ok, Err, if◌then◌else◌, nat_lt, codes}
+use Rattle.std.specs.Prelude.{◌≡◌, ⊤, ℕ, ℤ, List, length, Bool, ◌||◌, Option, Some, None, Result, Ok, Err, if◌then◌else◌, nat_lt, codes}
 use Rattle.std.specs.List.{list_all}
 use Rattle.std.specs.Str.{bytes_eq}
 use Rattle.redcode_text.specs.declared.fault.ExprFault.{ExprFault}
 use Rattle.redcode_text.specs.declared.fault.ExprFault.TheVariants.{Syntax, Unknown}
+use Rattle.redcode_asm.specs.declared.fault.FormulaFault.{FormulaFault}
+use Rattle.redcode_asm.specs.declared.fault.FormulaFault.TheVariants.{Expression, OutOfMemory}
 use Rattle.redcode_text.specs.declared.fault.TextFault.{TextFault}
 use Rattle.redcode_text.specs.Expression.{◌>>=◌, kinds, shape, start, value_of}
 use Rattle.redcode_text.specs.Lines.{name_at}
@@ -21,12 +23,18 @@ scanned_formula (Ok f) = checked_formula f
 scanned_formula (Err e) = Err Syntax
 
 -- the formula of a text: at most 256 bytes that are tokens
-unfoldable pub formula_of : List ℕ → Result Scanned ExprFault
+abbrev pub formula_of : List ℕ → Result Scanned ExprFault
 formula_of text = if nat_lt 256 (length text) then Err Syntax else scanned_formula (scanned text)
 
 abbrev pub variable_value : ℤ → ℤ → List ℕ → Option ℤ
 variable_value w s name = if bytes_eq name (codes "W") then Some w else if bytes_eq name (codes "S") then Some s else None
 
 -- the value of a formula for so many warriors and survivors
-unfoldable pub score_of : Scanned → ℤ → ℤ → Result ℤ ExprFault
+abbrev pub score_of : Scanned → ℤ → ℤ → Result ℤ ExprFault
 score_of f w s = value_of (λ n. variable_value w s (name_at f.names n)) (kinds f.tokens)
+
+-- the result is the defined formula or the defined fault, unless memory ran out
+abbrev pub Checks : Result Scanned FormulaFault → Result Scanned ExprFault → Type 0
+Checks (Ok f) defined = defined ≡ Ok f
+Checks (Err (Expression e)) defined = defined ≡ Err e
+Checks (Err OutOfMemory) defined = ⊤

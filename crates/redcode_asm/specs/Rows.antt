@@ -116,7 +116,6 @@ row_small_core = (refl, refl)
 
 -- the value of the formula of a text
 abbrev pub scored : List ℕ → ℕ → ℕ → Result ℤ ExprFault
-unfolding formula_of
 scored t w s = elim (formula_of t) [ Ok f ↦ score_of f (pos w) (pos s) | Err e ↦ Err e ]
 
 -- the default formula, and formulas that have no value
@@ -128,7 +127,7 @@ pub row_scores :
     × (scored (codes "(W*W-1)/S") 3 3 ≡ Ok (pos 2))
     × (scored (codes "1/(S-2)") 2 2 ≡ Err DivideByZero)
     × (scored (codes "9223372036854775807+W") 1 1 ≡ Err Range)
-unfolding formula_of score_of scanned value_of tree_within
+unfolding scanned value_of tree_within
 row_scores = (refl, refl, refl, refl, refl, refl, refl)
 
 -- texts that are no formulas
@@ -139,5 +138,5 @@ pub row_no_formulas :
     × (scored (codes "x+") 2 1 ≡ Err Syntax)
     × (scored (codes "x+1") 2 1 ≡ Err Unknown)
     × (scored (codes "w") 2 1 ≡ Err Unknown)
-unfolding formula_of score_of scanned value_of tree_within
+unfolding scanned value_of tree_within
 row_no_formulas = (refl, refl, refl, refl, refl, refl)

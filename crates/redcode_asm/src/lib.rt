@@ -1,6 +1,15 @@
-//! The assembler: from a source in Redcode to a warrior, and the formulas of scores.
+//! The assembler, of which the score formulas stand today.
+//!
+//! The layers above may use: `Formula::new` gives the formula of a text, or its first fault, and `Formula::score` its
+//! value for so many warriors and survivors, exactly as `specs/Formula` defines them; a score takes no memory.
+//! `specs/Assembly` defines what a source is assembled to.
 #![tactic(auto)]
 
 mod fault;
+mod formula;
 
 pub use fault::{AsmFault, AsmProblem, FormulaFault};
+pub use formula::Formula;
+
+#[cfg(test)]
+mod tests;

@@ -9,7 +9,7 @@ module _ {T : Type 0} (f : T → List (List Token)) where
   equates es = map (λ e. record { name = e.0; lines = f e.1 }) es
 
   first : (b : Bool) (n : ℕ) (e : ℕ × T) (es : List (ℕ × T)) → option_map f (lookup (nat_eq n) es) ≡ equate_lines (equates es) n
-    → option_map f (cond b (Some e.1) (lookup (nat_eq n) es)) ≡ elim b as (λ _. Option (List (List Token))) [ true ↦ Some (f e.1) | false ↦ equate_lines (equates es) n ]
+      → option_map f (cond b (Some e.1) (lookup (nat_eq n) es)) ≡ elim b as (λ _. Option (List (List Token))) [ true ↦ Some (f e.1) | false ↦ equate_lines (equates es) n ]
   first true n e es rest = refl
   first false n e es rest = rest
 

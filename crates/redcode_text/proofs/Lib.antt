@@ -12,5 +12,7 @@ pub mod WordSteps
 pub mod NameSteps
 pub mod Digits
 pub mod Joins
+pub mod Failing
+pub mod Scans
 pub mod EquateLookup
 pub mod Replacing

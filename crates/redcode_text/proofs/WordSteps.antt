@@ -1,5 +1,7 @@
 -- Words, one byte further.
-use Rattle.std.proofs.Common.{◌≡◌, ℕ, ◌+◌, ◌<◌, List, [], ◌∷◌, length, drop, Bool, true, false, refl, ap, ◌∙◌, arith, length-drop, drop-drop}
+use Rattle.std.proofs.Common.{◌≡◌, ℕ, ◌+◌, ◌<◌, List, [], ◌∷◌, length, drop, Bool, true, false, refl, ap, ◌∙◌, arith, length-drop, drop-drop, ◌≤◌, take, IsAscii, add-one}
+use Rattle.std.proofs.lemmas.Bool.Decides.{nat_tests}
+use Rattle.std.proofs.lemmas.Str.Ascii.{IsAscii-nil, IsAscii-cons}
 use Rattle.redcode_text.specs.Tokens.{word_len, begins_word}
 
 pub word_len-more : (bs : List ℕ) → begins_word bs ≡ true → (0 < length bs) × (word_len bs ≡ word_len (drop 1 bs) + 1)
@@ -15,3 +17,25 @@ pub word_len-drop : (bs : List ℕ) (n : ℕ) → begins_word (drop n bs) ≡ tr
 word_len-drop bs n e =
     let m = word_len-more (drop n bs) e in
     (omega (arith, m.0, length-drop n bs), m.1 ∙ ap (λ l. word_len l + 1) (drop-drop 1 n bs))
+
+pub word_len-within : (bs : List ℕ) → word_len bs ≤ length bs
+word_len-within [] = omega arith
+word_len-within (b ∷ bs) = go (begins_word (b ∷ bs)) (word_len-within bs)
+  where
+    go : (t : Bool) → word_len bs ≤ length bs → elim t as (λ _. ℕ) [ true ↦ word_len bs + 1 | false ↦ 0 ] ≤ length (b ∷ bs)
+    go true h = omega arith
+    go false h = omega arith
+
+pub word_len-some : (bs : List ℕ) → begins_word bs ≡ true → 1 ≤ word_len bs
+word_len-some bs e = omega (arith, (word_len-more bs e).1)
+
+byte-ascii : (b : ℕ) (bs : List ℕ) → begins_word (b ∷ bs) ≡ true → b < 128
+byte-ascii b bs e = grind (arith, nat_tests)
+
+pub word-ascii : (bs : List ℕ) → IsAscii (take (word_len bs) bs)
+word-ascii [] = IsAscii-nil
+word-ascii (b ∷ bs) = go (begins_word (b ∷ bs)) (λ e. byte-ascii b bs e) (word-ascii bs)
+  where
+    go : (t : Bool) → (t ≡ true → b < 128) → IsAscii (take (word_len bs) bs) → IsAscii (take (elim t as (λ _. ℕ) [ true ↦ word_len bs + 1 | false ↦ 0 ]) (b ∷ bs))
+    go true small h = rw add-one (IsAscii-cons b (take (word_len bs) bs) (small refl) h)
+    go false small h = IsAscii-nil

@@ -1,6 +1,7 @@
 pub mod Tokens
 pub mod TokenRows
 pub mod Outcomes
+pub mod Scanning
 pub mod Expression
 pub mod Climbing
 pub mod Positions

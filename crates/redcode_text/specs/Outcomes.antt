@@ -1,10 +1,14 @@
 -- What a call answers that wants memory: what is defined, or want of memory.
-use Rattle.std.specs.Prelude.{◌≡◌, ⊤, ℕ, List, Result, Ok, Err}
+use Rattle.std.specs.Prelude.{◌≡◌, ⊤, ℕ, List, [], Result, Ok, Err, Vec}
 use Rattle.redcode_text.specs.declared.fault.TextFault.{TextFault}
 use Rattle.redcode_text.specs.declared.fault.TextProblem.{TextProblem}
 use Rattle.redcode_text.specs.declared.fault.TextProblem.TheVariants.{OutOfMemory}
+use Rattle.redcode_text.specs.declared.token.Token.{Token}
 use Rattle.redcode_text.specs.declared.words.Spelled.{Spelled}
-use Rattle.redcode_text.specs.Tokens.{Found}
+use Rattle.redcode_text.specs.declared.rows.LineKind as code
+use Rattle.redcode_text.specs.declared.rows.LineKind.TheVariants as line
+use Rattle.redcode_text.specs.Source.{LineKind, RofLine, ForLine, EquLine, OtherLine}
+use Rattle.redcode_text.specs.Tokens.{Found, Scanned}
 
 -- a problem is the defined one, or want of memory
 abbrev pub Fails : {X : Type 0} → TextProblem → Result X TextProblem → Type 0
@@ -15,6 +19,11 @@ Fails problem defined = defined ≡ Err problem
 abbrev pub Gives : {X Y : Type 0} → (Y → X) → Result Y TextProblem → Result X TextProblem → Type 0
 Gives f (Ok y) defined = defined ≡ Ok (f y)
 Gives f (Err problem) defined = Fails problem defined
+
+-- the line of a problem: want of memory has none
+abbrev pub line_of : ℕ → TextProblem → ℕ
+line_of n OutOfMemory = 0
+line_of n problem = n
 
 -- a fault is the defined one, or want of memory, which has no line
 abbrev pub FailsAt : {X : Type 0} → TextProblem → TextFault → Result X TextFault → Type 0
@@ -29,3 +38,19 @@ Answers f (Err fault) defined = FailsAt fault.problem fault defined
 -- what the code finds at the front of a text, with the names that it leaves
 abbrev pub with_names : List (List ℕ) → Spelled → Found
 with_names names s = record { kind = s.kind; len = s.len; names = names }
+
+-- a sign, which changes no names, of which there are none
+abbrev pub found_alone : Result Spelled TextProblem → Result Found TextProblem
+found_alone (Ok s) = Ok (with_names [] s)
+found_alone (Err e) = Err e
+
+-- tokens and names as the code holds them
+abbrev pub scan_of : {A : Type 0} → Vec Token A → List (List ℕ) → Scanned
+scan_of tokens names = record { tokens = tokens.items; names = names }
+
+-- the kind of a line as the code holds it
+abbrev pub kind_of : code.LineKind → LineKind
+kind_of line.Rof = RofLine
+kind_of (line.For at) = ForLine at
+kind_of (line.Equ at) = EquLine at
+kind_of line.Other = OtherLine

@@ -1,6 +1,6 @@
 -- The lines of a source, and the tree of its loops.
 use Rattle.std.specs.Prelude.{ℕ, ◌+◌, List, [], ◌∷◌, length, drop, take, Bool, true, false, ◌&&◌, Option, Some, None, ◌==◌, codes, nat_eq}
-use Rattle.std.specs.List.{starts_with, list_any, onto_first}
+use Rattle.std.specs.List.{starts_with, list_any, onto_first, prefix_len}
 use Rattle.std.specs.Str.{str_eq_ignore_ascii_case, str_to_ascii_lowercase}
 use Rattle.redcode_text.specs.Tokens.{is_blank, word_len}
 
@@ -28,8 +28,7 @@ rows_of source = rows_from 1 0 (lines_of source)
 
 -- how many blanks stand in front
 abbrev pub blank_len : List ℕ → ℕ
-blank_len [] = 0
-blank_len (b ∷ bs) = elim (is_blank b) [ true ↦ blank_len bs + 1 | false ↦ 0 ]
+blank_len bytes = prefix_len is_blank bytes
 
 -- the first place from a place on where no blank stands
 abbrev pub past_blanks : List ℕ → ℕ → ℕ

@@ -1,5 +1,7 @@
 //! The bytes of a line: blanks, and those of words.
-ghost use Rattle.std.specs.Prelude.{◌≡◌};
+ghost use Rattle.std.specs.Prelude.{◌≡◌, ◌≤◌, length, take, true, IsAscii};
+ghost use Rattle.std.specs.Str.{str_eq_ignore_ascii_case};
+ghost use Rattle.redcode_text.specs.Source.{blank_len};
 ghost use Rattle.redcode_text.specs.Tokens.{is_blank, is_letter, is_word_byte, begins_name, begins_word, word_len};
 
 /// Whether a byte is one up to 32, other than LF.
@@ -7,6 +9,14 @@ pub fn is_blank(byte: u8) -> bool
     ensures { result ≡ is_blank byte }
 {
     byte <= b' ' && byte != b'\n'
+}
+
+/// How many blanks stand in front.
+pub fn blank_len(bytes: &[u8]) -> usize
+    ensures value { result ≡ blank_len bytes.now }
+    ensures within { result ≤ length bytes.now }
+{
+    bytes.iter().take_while(|byte| is_blank(**byte)).count()
 }
 
 /// Whether a byte is a letter or `_`.
@@ -44,9 +54,19 @@ pub fn begins_word(bytes: &[u8]) -> bool
     }
 }
 
+/// Whether two words are the same but for the case of their letters.
+pub fn is_word(part: &[u8], word: &[u8]) -> bool
+    ensures { result ≡ str_eq_ignore_ascii_case part.now word.now }
+{
+    part.eq_ignore_ascii_case(word)
+}
+
 /// How many bytes the word at the front has, its joins too.
 pub fn word_len(bytes: &[u8]) -> usize
-    ensures { result ≡ word_len bytes.now }
+    ensures value { result ≡ word_len bytes.now }
+    ensures within { result ≤ length bytes.now }
+    ensures some { begins_word bytes.now ≡ true → 1 ≤ result }
+    ensures ascii { IsAscii (take result bytes.now) }
 {
     let mut len = 0;
     while begins_word(&bytes[len..]) {

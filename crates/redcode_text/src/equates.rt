@@ -122,12 +122,7 @@ impl Equates {
 
     /// Puts a token, or what it stands for, behind the tokens that stand.
     #[cycle(replacing)]
-    fn place(
-        &self,
-        depth: usize,
-        token: Token,
-        replaced: &mut Replaced,
-    ) -> Result<(), TextProblem>
+    fn place(&self, depth: usize, token: Token, replaced: &mut Replaced) -> Result<(), TextProblem>
         ensures { Gives (λ _. replaced.new) result (replaced_token (replacing depth self.now) replaced.old token (token_lines self.now token.kind)) }
     {
         let TokenKind::Name(name) = token.kind else {

@@ -1,4 +1,7 @@
 //! What is wrong with a text or an expression.
+ghost use Rattle.std.specs.Prelude.{◌≡◌};
+ghost use Rattle.redcode_text.specs.Outcomes.{line_of};
+
 use thiserror::Error;
 
 /// Why an expression has no value. It is displayed as its number and name.
@@ -66,4 +69,23 @@ pub struct TextFault {
     /// The number of the line, from 1; 0 for want of memory.
     pub line: usize,
     pub problem: TextProblem,
+}
+
+impl TextProblem {
+    /// The problem of a line; want of memory has none.
+    pub(crate) fn at_line(self, line: usize) -> TextFault
+        ensures problem { result.problem ≡ self }
+        ensures line { result.line ≡ line_of line self }
+    {
+        match self {
+            TextProblem::OutOfMemory => TextFault {
+                line: 0,
+                problem: self,
+            },
+            _ => TextFault {
+                line,
+                problem: self,
+            },
+        }
+    }
 }

@@ -1,6 +1,7 @@
 //! The text of Redcode: its tokens and its expressions.
 //!
-//! The layers above may use: `eval` gives the value of an expression under what its names stand for, or its first
+//! The layers above may use: `scan` gives the tokens and the names of a text of one line, or its first fault, exactly
+//! as `specs/Tokens` defines them; `check_shape` tells whether tokens have the shape of an expression, and `eval` gives the value of an expression under what its names stand for, or its first
 //! fault, exactly as `specs/Expression` defines it, without memory.
 #![tactic(auto)]
 
@@ -12,15 +13,21 @@ mod fault;
 mod names;
 mod open_loops;
 mod operators;
+mod rows;
 mod shape;
 mod signs;
 mod token;
+mod tokens;
 mod words;
 
 pub use expression::{Env, eval};
 pub use fault::{ExprFault, TextFault, TextProblem};
 pub use names::NameTable;
+pub use shape::check_shape;
 pub use token::{Sign, Token, TokenKind};
+pub use tokens::{LineTokens, scan};
 
+#[cfg(test)]
+mod scan_tests;
 #[cfg(test)]
 mod tests;

@@ -1,5 +1,5 @@
 //! The names of a text.
-ghost use Rattle.std.specs.Prelude.{◌≡◌, [], IfOk, OnOk, IsAscii, slice_get, option_map};
+ghost use Rattle.std.specs.Prelude.{◌≡◌, length, [], IfOk, OnOk, IsAscii, slice_get, option_map};
 ghost use Rattle.redcode_text.specs.Tokens.{name_index, with_name};
 
 use indexmap::IndexSet;
@@ -44,6 +44,13 @@ impl NameTable {
         }
         let (index, _) = self.names.insert_full(String::from_str(alloc, name)?)?;
         Ok(index)
+    }
+
+    /// How many names there are.
+    pub fn len(&self) -> usize
+        ensures { result ≡ length self.now }
+    {
+        self.names.len()
     }
 
     /// The name of an index.

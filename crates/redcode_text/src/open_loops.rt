@@ -1,8 +1,8 @@
 //! The loops that are open where a line is read.
-ghost use Rattle.std.specs.Prelude.{◌≡◌, [], reverse};
+ghost use Rattle.std.specs.Prelude.{◌≡◌, [], ◌∷◌, option_map, reverse, string_bytes, OnOk, OnErr};
 ghost use Rattle.redcode_text.specs.Tokens.{is_counter, turn_of};
 
-use std::alloc::Global;
+use std::alloc::{AllocError, Global};
 use std::marker::Model;
 
 /// An open loop.
@@ -23,6 +23,13 @@ impl Model for OpenLoop {
 }
 
 impl OpenLoop {
+    /// A loop with this counter, if it has one, in this turn.
+    pub fn new(counter: Option<String>, turn: u32) -> Self
+        ensures { result ≡ record { counter = option_map (λ s. string_bytes s) counter; turn = turn } }
+    {
+        OpenLoop { counter, turn }
+    }
+
     fn has_counter(&self, name: &[u8]) -> bool
         ensures { result ≡ is_counter name.now self.now.counter }
     {
@@ -75,6 +82,15 @@ impl OpenLoops {
         OpenLoops {
             loops: Vec::new(alloc),
         }
+    }
+
+    /// One more loop, which is now the innermost.
+    pub fn push(&mut self, innermost: OpenLoop) -> Result<(), AllocError>
+        ensures ok { OnOk result (self.new ≡ innermost ∷ self.old) }
+        ensures err { OnErr result (self.new ≡ self.old) }
+    {
+        self.loops.push(innermost)?;
+        Ok(())
     }
 
     /// The turn of the loop whose counter has this name.

@@ -60,7 +60,8 @@ fn plain_word(
     len: usize,
 ) -> Result<Spelled, TextProblem>
     requires { IsAscii word.now }
-    ensures { Gives (with_names names.new) result (plain_word_found names.old len word.now) }
+    ensures value { Gives (with_names names.new) result (plain_word_found names.old len word.now) }
+    ensures len { IfOk result (λ s. s.len ≡ len) }
 {
     if are_digits(word) {
         let kind = number_kind(word)?;
@@ -87,7 +88,8 @@ fn joined_word(
     len: usize,
 ) -> Result<Spelled, TextProblem>
     requires { IsAscii word.now }
-    ensures { Gives (with_names names.new) result (word_found names.old len word.now (turn_of loops.now word.now)) }
+    ensures value { Gives (with_names names.new) result (word_found names.old len word.now (turn_of loops.now word.now)) }
+    ensures len { IfOk result (λ s. s.len ≡ len) }
 {
     match loops.turn_of(word) {
         Some(turn) => Ok(Spelled {
@@ -151,7 +153,8 @@ pub fn read_word(
     word: &[u8],
 ) -> Result<Spelled, TextProblem>
     requires { IsAscii word.now }
-    ensures { Gives (with_names names.new) result (word_token loops.now names.old word.now) }
+    ensures value { Gives (with_names names.new) result (word_token loops.now names.old word.now) }
+    ensures len { IfOk result (λ s. s.len ≡ length word.now) }
 {
     if !word.contains(&b'&') {
         return joined_word(alloc, loops, names, word, word.len());

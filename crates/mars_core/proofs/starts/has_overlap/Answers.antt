@@ -1,4 +1,4 @@
-use Rattle.std.proofs.Common.{◌≡◌, true, false, sym, ◌∙◌, refl, arith}
+use Rattle.std.proofs.Common.{sym, ◌∙◌, refl, arith}
 use Rattle.std.proofs.lemmas.List.{take_rest}
 use Rattle.mars_core.proofs.Overlaps.{overlap_step, overlap_end}
 use Rattle.mars_core.proofs.starts.has_overlap.Goals as goal

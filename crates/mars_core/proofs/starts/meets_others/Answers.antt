@@ -1,6 +1,5 @@
-use Rattle.std.proofs.Common.{◌≡◌, true, false, length, sym, ◌∙◌, refl, arith}
+use Rattle.std.proofs.Common.{length, sym, ◌∙◌, refl, arith}
 use Rattle.mars_core.specs.Start.{addresses_from}
-use Rattle.mars_core.specs.Arcs.{share}
 use Rattle.mars_core.proofs.Overlaps.{shared_step, shared_end}
 use Rattle.mars_core.proofs.starts.meets_others.Goals as goal
 

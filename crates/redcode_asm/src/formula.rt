@@ -1,0 +1,115 @@
+//! Score formulas.
+ghost use Rattle.std.specs.Prelude.{◌≡◌, ◌≤◌};
+ghost use Rattle.std.specs.List.{list_all};
+ghost use Rattle.redcode_asm.specs.Formula.{Checks, formula_of, is_variable, score_of, variable_value};
+
+use crate::fault::FormulaFault;
+use redcode_text::{Env, ExprFault, LineTokens, NameTable, TextProblem, check_shape, eval, scan};
+use std::alloc::Global;
+use std::marker::Model;
+
+/// How many bytes a formula may have.
+const LONGEST: usize = 256;
+
+/// An expression in W, the number of warriors, and S, the number of survivors.
+#[derive(Drop)]
+pub struct Formula {
+    line: LineTokens,
+}
+
+impl Model for Formula {
+    ghost use Rattle.std.specs.Prelude.{◌≡◌, Ok};
+    ghost use Rattle.redcode_text.specs.Outcomes.{scan_of};
+    ghost use Rattle.redcode_text.specs.Tokens.{Scanned};
+    ghost use Rattle.redcode_asm.specs.Formula.{checked_formula};
+
+    ghost Value = { Scanned };
+
+    ghost view = { λ f. scan_of f.line.tokens f.line.names };
+
+    ghost invariant = { λ f. checked_formula (scan_of f.line.tokens f.line.names) ≡ Ok (scan_of f.line.tokens f.line.names) };
+}
+
+/// What W and S stand for.
+#[derive(Clone, Copy)]
+struct Variables<'a> {
+    names: &'a NameTable,
+    warriors: i64,
+    survivors: i64,
+}
+
+impl Env for Variables<'_> {
+    ghost use Rattle.redcode_text.specs.Lines.{name_at};
+    ghost use Rattle.redcode_asm.specs.Formula.{variable_value};
+
+    ghost value_of = { λ v n. variable_value v.warriors v.survivors (name_at v.names.now n) };
+
+    fn value(&self, name: usize) -> Option<i64> {
+        match self.names.name(name)? {
+            "W" => Some(self.warriors),
+            "S" => Some(self.survivors),
+            _ => None,
+        }
+    }
+}
+
+fn is_variable(name: &str) -> bool
+    ensures { result ≡ is_variable name.now }
+{
+    name == "W" || name == "S"
+}
+
+/// Whether each name is W or S.
+fn are_variables(names: &NameTable) -> bool
+    ensures { result ≡ list_all is_variable names.now }
+{
+    for index in 0..names.len() {
+        let Some(name) = names.name(index) else {
+            return false;
+        };
+        if !is_variable(name) {
+            return false;
+        }
+    }
+    true
+}
+
+impl Formula {
+    /// The formula of a text of at most 256 bytes, or its first fault: a text that is too long, or isn't tokens alone, is
+    /// no expression (Syntax); then comes the fault of the shape, then a name other than W and S (Unknown).
+    pub fn new(alloc: Global, text: &[u8]) -> Result<Formula, FormulaFault>
+        ensures { Checks result (formula_of text.now) }
+    {
+        if text.len() > LONGEST {
+            return Err(FormulaFault::Expression(ExprFault::Syntax));
+        }
+        let line = match scan(alloc, text) {
+            Ok(line) => line,
+            Err(fault) => {
+                return Err(match fault.problem {
+                    TextProblem::OutOfMemory => FormulaFault::OutOfMemory,
+                    _ => FormulaFault::Expression(ExprFault::Syntax),
+                });
+            }
+        };
+        if let Err(fault) = check_shape(&line.tokens) {
+            return Err(FormulaFault::Expression(fault));
+        }
+        if !are_variables(&line.names) {
+            return Err(FormulaFault::Expression(ExprFault::Unknown));
+        }
+        Ok(Formula { line })
+    }
+
+    /// The value for so many warriors and survivors, or DivideByZero or Range. It takes no memory.
+    pub fn score(&self, warriors: i64, survivors: i64) -> Result<i64, ExprFault>
+        ensures { result ≡ score_of self.now warriors survivors }
+    {
+        let variables = Variables {
+            names: &self.line.names,
+            warriors,
+            survivors,
+        };
+        eval(&self.line.tokens, &variables)
+    }
+}

@@ -1,0 +1,141 @@
+-- Tokens, one further.
+use Rattle.std.proofs.Common.{◌≡◌, ℕ, zero, suc, ◌+◌, ◌-◌, ◌<◌, ◌≤◌, List, [], ◌∷◌, length, drop, take, drop-drop, subst, get_or, Bool, true, false, not, ◌&&◌, cond, Some, None, Option, Result, Ok, Err, refl, ap, sym, ◌∙◌, arith, nat_lt}
+use Rattle.std.proofs.Math.Seq.{drop-cons}
+use Rattle.std.proofs.lemmas.Bool.Decides.{nat_tests}
+use Rattle.std.proofs.lemmas.List.{take_rest}
+use Rattle.std.specs.Char.{is_ascii}
+use Rattle.redcode_text.specs.declared.fault.TextProblem.{TextProblem}
+use Rattle.redcode_text.specs.declared.fault.TextProblem.TheVariants.{NotAscii, TooLong}
+use Rattle.redcode_text.specs.declared.token.Sign.{Sign}
+use Rattle.redcode_text.specs.declared.words.Spelled.{Spelled}
+use Rattle.redcode_text.proofs.Failing.{bind-ok, fails-bind, fails-itself}
+use Rattle.redcode_text.specs.Outcomes.{Gives, Fails, with_names, found_alone}
+use Rattle.redcode_text.specs.Scanning.{one_token}
+use Rattle.redcode_text.specs.Tokens.{◌>>=◌, OpenLoop, Found, Scanned, is_blank, begins_word, token_at, word_token, word_len, look_up, one_byte_signs, two_byte_signs, sign_found, sign_token, scan_from, with_room, with_token}
+
+-- ---- signs
+
+abbrev renamed : List (List ℕ) → Result Found TextProblem → Result Found TextProblem
+renamed names (Ok f) = Ok (record { kind = f.kind; len = f.len; names = names })
+renamed names (Err e) = Err e
+
+renamed-sign : (names : List (List ℕ)) (two one : Option Sign) → renamed names (sign_found [] two one) ≡ sign_found names two one
+renamed-sign names (Some s) one = refl
+renamed-sign names None (Some s) = refl
+renamed-sign names None None = refl
+
+gives-renamed : (names : List (List ℕ)) (r : Result Spelled TextProblem) → Gives (with_names names) r (renamed names (found_alone r))
+gives-renamed names (Ok x) = refl
+gives-renamed names (Err e) = fails-itself Found e
+
+-- a sign leaves the names
+sign-gives : (names : List (List ℕ)) (two one : Option Sign) (r : Result Spelled TextProblem) → found_alone r ≡ sign_found [] two one → Gives (with_names names) r (sign_found names two one)
+sign-gives names two one r e = subst (Gives (with_names names) r) (ap (renamed names) e ∙ renamed-sign names two one) (gives-renamed names r)
+
+token-is-sign : (loops : List OpenLoop) (names : List (List ℕ)) (b : ℕ) (bs : List ℕ) → is_ascii b ≡ true → begins_word (b ∷ bs) ≡ false → sign_token names (b ∷ bs) ≡ token_at loops names (b ∷ bs)
+token-is-sign loops names b bs a w = sym (λ i. cond (not (a i && true)) (Err NotAscii) (cond (w i) (word_token loops names (take (word_len (b ∷ bs)) (b ∷ bs))) (sign_token names (b ∷ bs))))
+
+pub sign-at : (loops : List OpenLoop) (names : List (List ℕ)) (bs : List ℕ) (r : Result Spelled TextProblem) → 0 < length bs → is_ascii (get_or bs 0 0) ≡ true → begins_word bs ≡ false
+    → found_alone r ≡ sign_token [] bs → Gives (with_names names) r (token_at loops names bs)
+sign-at loops names [] r some a w e = absurd (omega arith)
+sign-at loops names (b ∷ bs) r some a w e = subst (Gives (with_names names) r) (token-is-sign loops names b bs a w) (sign-gives names (look_up two_byte_signs (take 2 (b ∷ bs))) (look_up one_byte_signs (take 1 (b ∷ bs))) r e)
+
+-- ---- a line
+
+abbrev pub measured : ℕ → Scanned → Result (ℕ × Scanned) TextProblem
+measured len t = Ok (len, t)
+
+-- a token that is found, has room, and is followed by more
+one-then : {A : Type 0} (r : Result Found TextProblem) (w : Found → Result Scanned TextProblem) (rest : ℕ → Scanned → Result A TextProblem)
+    → (r >>= λ f. w f >>= λ t. rest f.len t) ≡ ((r >>= λ f. w f >>= measured f.len) >>= λ q. rest q.0 q.1)
+one-then {A} (Ok f) w rest = go (w f)
+  where
+    go : (x : Result Scanned TextProblem) → (x >>= λ t. rest f.len t) ≡ ((x >>= measured f.len) >>= λ q. rest q.0 q.1)
+    go (Ok t) = refl
+    go (Err e) = refl
+one-then (Err e) w rest = refl
+
+module _ (loops : List OpenLoop) (line room : ℕ) where
+  -- the rest of a token that was taken
+  skip : (k at : ℕ) (bs : List ℕ) (s : Scanned) → scan_from loops line room at k bs s ≡ scan_from loops line room (at + k) 0 (drop k bs) s
+  skip zero at bs s = let e : at ≡ at + 0 = omega arith in ap (λ a. scan_from loops line room a 0 bs s) e
+  skip (suc k) at [] s = refl
+  skip (suc k) at (b ∷ bs) s = let e : at + 1 + k ≡ at + suc k = omega arith in skip k (at + 1) bs s ∙ ap (λ a. scan_from loops line room a 0 (drop k bs) s) e
+
+  pub scan-end : (at : ℕ) (bs : List ℕ) (s : Scanned) → length bs ≡ 0 → scan_from loops line room at 0 bs s ≡ Ok s
+  scan-end at [] s e = refl
+  scan-end at (b ∷ bs) s e = absurd (omega arith)
+
+  abbrev from_token : ℕ → List ℕ → List ℕ → Scanned → Result Scanned TextProblem
+  from_token at bs rest s = token_at loops s.names bs >>= λ f. with_room room s line at f >>= λ t. scan_from loops line room (at + 1) (f.len - 1) rest t
+
+  at-byte : (at i : ℕ) (bs : List ℕ) (s : Scanned) (t : Bool) → i < length bs → is_blank (get_or bs i 0) ≡ t
+      → scan_from loops line room (at + i) 0 (drop i bs) s ≡ elim t as (λ _. Result Scanned TextProblem) [
+        | true ↦ scan_from loops line room (at + i + 1) 0 (drop (suc i) bs) s
+        | false ↦ from_token (at + i) (get_or bs i 0 ∷ drop (suc i) bs) (drop (suc i) bs) s
+      ]
+  at-byte at i bs s t h e =
+      ap (λ l. scan_from loops line room (at + i) 0 l s) (drop-cons bs i 0 h)
+      ∙ ap (λ t. elim t as (λ _. Result Scanned TextProblem) [
+        | true ↦ scan_from loops line room (at + i + 1) 0 (drop (suc i) bs) s
+        | false ↦ from_token (at + i) (get_or bs i 0 ∷ drop (suc i) bs) (drop (suc i) bs) s
+      ]) e
+
+  pub scan-blank : (at i : ℕ) (bs : List ℕ) (s : Scanned) → i < length bs → is_blank (get_or bs i 0) ≡ true
+      → scan_from loops line room (at + i) 0 (drop i bs) s ≡ scan_from loops line room (at + (i + 1)) 0 (drop (i + 1) bs) s
+  scan-blank at i bs s h e =
+      let a : at + i + 1 ≡ at + (i + 1) = omega arith in
+      let n : suc i ≡ i + 1 = omega arith in
+      at-byte at i bs s true h e ∙ (λ j. scan_from loops line room (a j) 0 (drop (n j) bs) s)
+
+  -- a token, and what follows
+  at-token : (at i : ℕ) (bs : List ℕ) (s : Scanned) → i < length bs → is_blank (get_or bs i 0) ≡ false
+      → scan_from loops line room (at + i) 0 (drop i bs) s ≡ (one_token loops line room (at + i) (drop i bs) s >>= λ q. scan_from loops line room (at + i + 1) (q.0 - 1) (drop (suc i) bs) q.1)
+  at-token at i bs s h e =
+      at-byte at i bs s false h e
+      ∙ ap (λ l. from_token (at + i) l (drop (suc i) bs) s) (sym (drop-cons bs i 0 h))
+      ∙ one-then (token_at loops s.names (drop i bs)) (with_room room s line (at + i)) (λ len t. scan_from loops line room (at + i + 1) (len - 1) (drop (suc i) bs) t)
+
+  pub scan-token : (at i : ℕ) (bs : List ℕ) (s t : Scanned) (len : ℕ) → i < length bs → is_blank (get_or bs i 0) ≡ false → 1 ≤ len → one_token loops line room (at + i) (drop i bs) s ≡ Ok (len, t)
+      → scan_from loops line room (at + i) 0 (drop i bs) s ≡ scan_from loops line room (at + (i + len)) 0 (drop (i + len) bs) t
+  scan-token at i bs s t len h b some e =
+      let a : at + i + 1 + (len - 1) ≡ at + (i + len) = omega arith in
+      let n : suc i + (len - 1) ≡ i + len = omega arith in
+      at-token at i bs s h b
+      ∙ bind-ok _ _ (λ q. scan_from loops line room (at + i + 1) (q.0 - 1) (drop (suc i) bs) q.1) e
+      ∙ skip (len - 1) (at + i + 1) (drop (suc i) bs) t
+      ∙ ap (λ l. scan_from loops line room (at + i + 1 + (len - 1)) 0 l t) (drop-drop (len - 1) (suc i) bs)
+      ∙ (λ j. scan_from loops line room (a j) 0 (drop (n j) bs) t)
+
+  pub scan-fails : (at i : ℕ) (bs : List ℕ) (s : Scanned) (e : TextProblem) → i < length bs → is_blank (get_or bs i 0) ≡ false → Fails e (one_token loops line room (at + i) (drop i bs) s)
+      → Fails e (scan_from loops line room (at + i) 0 (drop i bs) s)
+  scan-fails at i bs s e h b f =
+      subst (Fails e) (sym (at-token at i bs s h b)) (fails-bind e (one_token loops line room (at + i) (drop i bs) s) (λ q. scan_from loops line room (at + i + 1) (q.0 - 1) (drop (suc i) bs) q.1) f)
+
+pub room-none : (room line at : ℕ) (s : Scanned) (f : Found) → room ≤ length s.tokens → with_room room s line at f ≡ Err TooLong
+room-none room line at s f h = let e : nat_lt (length s.tokens) room ≡ false = grind (arith, nat_tests) in ap (λ b. cond b (Ok (with_token s line at f)) (Err TooLong)) e
+
+pub room-some : (room line at : ℕ) (s : Scanned) (f : Found) → length s.tokens < room → with_room room s line at f ≡ Ok (with_token s line at f)
+room-some room line at s f h = let e : nat_lt (length s.tokens) room ≡ true = grind (arith, nat_tests) in ap (λ b. cond b (Ok (with_token s line at f)) (Err TooLong)) e
+
+-- ---- one token, from a place of a line
+
+module _ (loops : List OpenLoop) (line room at i : ℕ) (bs : List ℕ) (s : Scanned) where
+  -- what the code looks at
+  abbrev looked_at : Result Found TextProblem
+  looked_at = token_at loops s.names (take (length bs - i) (drop i bs))
+
+  looks : token_at loops s.names (drop i bs) ≡ looked_at
+  looks = ap (token_at loops s.names) (sym (take_rest bs i))
+
+  abbrev then_added : Result Found TextProblem → Result (ℕ × Scanned) TextProblem
+  then_added r = r >>= λ f. with_room room s line at f >>= measured f.len
+
+  pub one-fails : (e : TextProblem) → Fails e looked_at → Fails e (one_token loops line room at (drop i bs) s)
+  one-fails e h = subst (Fails e) (ap then_added (sym looks)) (fails-bind e looked_at (λ f. with_room room s line at f >>= measured f.len) h)
+
+  pub one-full : (f : Found) → looked_at ≡ Ok f → room ≤ length s.tokens → one_token loops line room at (drop i bs) s ≡ Err TooLong
+  one-full f h full = ap then_added (looks ∙ h) ∙ ap (λ r. r >>= measured f.len) (room-none room line at s f full)
+
+  pub one-ok : (f : Found) → looked_at ≡ Ok f → length s.tokens < room → one_token loops line room at (drop i bs) s ≡ measured f.len (with_token s line at f)
+  one-ok f h some = ap then_added (looks ∙ h) ∙ ap (λ r. r >>= measured f.len) (room-some room line at s f some)
