@@ -18,3 +18,4 @@ pub mod EquateLookup
 pub mod Replacing
 pub mod SourceLines
 pub mod PairSteps
+pub mod RowTokens
