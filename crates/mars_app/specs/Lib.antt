@@ -1,5 +1,6 @@
 pub mod LineBuffer
 pub mod Lines
+pub mod Loading
 pub mod Options
 pub mod Readings
 pub mod Replies

@@ -1,21 +1,22 @@
 //! The program `mars`, over files and streams that are handed in.
-ghost use Rattle.std.specs.Prelude.{◌≡◌, ◌≤◌, IfOk, vec_len};
+ghost use Rattle.std.specs.Prelude.{◌≡◌, ◌≤◌, IfOk, length, vec_len};
+ghost use Rattle.mars_app.specs.Loading.{AllFit};
 
 use crate::debugger::{DebugFault, debug};
 use crate::files::{FileFault, WarriorFiles};
 use crate::options::{Options, WordsFault, read_options};
-use mars_cell::{LoadFault, ParamFault, Params, Warrior, read_load};
+use mars_cell::{LoadFault, ParamFault, Params, Warrior, read_load, write_load};
 use mars_core::{Battle, BattleFault};
+use mars_match::{MatchFault, PlaceFault, place};
 use mars_session::{Session, WholeTape};
+use redcode_asm::{Formula, FormulaFault};
+use redcode_text::ExprFault;
 use std::alloc::Global;
 use std::io::{Read, Write};
 use thiserror::Error;
 
 /// The most bytes of a warrior's file.
 const LARGEST_FILE: usize = 1_048_576;
-
-/// The most places of the debugger's history after its first.
-const HISTORY_LIMIT: u64 = 200_000;
 
 /// Why a run ends with another status than 0. It is displayed as the line for it.
 #[derive(Debug, Drop, Error)]
@@ -24,14 +25,20 @@ pub enum RunFault {
     Words,
     #[error("mars: parameters {0}")]
     Parameters(ParamFault),
+    #[error("mars: formula {0}")]
+    Formula(FormulaFault),
     #[error("mars: {0}: cannot read")]
     CannotRead(String),
     #[error("mars: {0}: too large")]
     TooLarge(String),
     #[error("mars: {0}: line {1}: load {2}")]
     Load(String, usize, LoadFault),
+    #[error("mars: placement {0}")]
+    Placement(PlaceFault),
     #[error("mars: battle {0}")]
     Battle(BattleFault),
+    #[error("mars: score {0}")]
+    Score(ExprFault),
     #[error("mars: out of memory")]
     OutOfMemory,
     #[error("mars: cannot write")]
@@ -48,7 +55,7 @@ impl RunFault {
         ensures { result ≡ status_of self.now }
     {
         match self {
-            RunFault::Words | RunFault::Parameters(_) => 2,
+            RunFault::Words | RunFault::Parameters(_) | RunFault::Formula(_) => 2,
             _ => 1,
         }
     }
@@ -87,29 +94,28 @@ fn run_words<F: WarriorFiles, R: Read, W: Write>(
         Ok(options) => options,
         Err(WordsFault::BadWords) => return Err(RunFault::Words),
         Err(WordsFault::OutOfMemory) => return Err(RunFault::OutOfMemory),
-        Err(WordsFault::Help(text)) => return write_help(output, text.as_str()),
+        Err(WordsFault::Help(text)) => return write_all(output, text.as_str().as_bytes()),
     };
     let params = match parameters(&options) {
         Ok(params) => params,
         Err(fault) => return Err(RunFault::Parameters(fault)),
     };
+    let formula = match Formula::new(alloc, options.score.as_bytes()) {
+        Ok(formula) => formula,
+        Err(FormulaFault::OutOfMemory) => return Err(RunFault::OutOfMemory),
+        Err(fault) => return Err(RunFault::Formula(fault)),
+    };
     let warriors = load_warriors(alloc, files, options.files.as_slice(), &params)?;
-    let starts = [0];
-    if warriors.len() != starts.len() {
-        return Err(RunFault::Words);
+    if options.load {
+        return write_load_files(alloc, &warriors, params.core_size(), output);
     }
-    match Battle::new(alloc, &params, warriors.as_slice(), &starts) {
-        Ok(battle) => debug_battle(alloc, battle, input, output),
-        Err(BattleFault::OutOfMemory) => Err(RunFault::OutOfMemory),
-        Err(fault) => Err(RunFault::Battle(fault)),
+    if options.debugger {
+        return debug_round(alloc, &options, &params, &warriors, input, output);
     }
-}
-
-fn write_help<W: Write>(output: &mut W, text: &str) -> Result<(), RunFault> {
-    match output.write_all(text.as_bytes()) {
-        Ok(()) => Ok(()),
-        Err(_) => Err(RunFault::Output),
+    if !options.brief {
+        write_listing(alloc, &warriors, params.core_size(), output)?;
     }
+    fight(alloc, &options, formula, &params, &warriors, output)
 }
 
 /// The parameters that the words ask for: a limit that isn't given is the core size.
@@ -131,7 +137,10 @@ fn load_warriors<F: WarriorFiles>(
     files: &F,
     names: &[String],
     params: &Params,
-) -> Result<Vec<Warrior>, RunFault> {
+) -> Result<Vec<Warrior>, RunFault>
+    ensures fit { IfOk result (λ warriors. AllFit params.now.core_size warriors.items) }
+    ensures many { IfOk result (λ warriors. vec_len warriors ≡ length names.now) }
+{
     let mut warriors = Vec::new(alloc);
     for name in names {
         let bytes = read_file(alloc, files, name.as_str())?;
@@ -176,17 +185,142 @@ fn load_fault(alloc: Global, name: &str, fault: LoadFault) -> RunFault {
     }
 }
 
-/// Debugs a battle by the lines of the input.
+/// Writes each warrior's load file.
+fn write_load_files<W: Write>(
+    alloc: Global,
+    warriors: &[Warrior],
+    core_size: u32,
+    output: &mut W,
+) -> Result<(), RunFault>
+    requires { AllFit core_size warriors.now }
+{
+    for warrior in warriors {
+        let Ok(text) = write_load(alloc, warrior, core_size) else {
+            return Err(RunFault::OutOfMemory);
+        };
+        write_all(output, &text)?;
+    }
+    Ok(())
+}
+
+/// Writes a line for each warrior, its load file, and an empty line.
+fn write_listing<W: Write>(
+    alloc: Global,
+    warriors: &[Warrior],
+    core_size: u32,
+    output: &mut W,
+) -> Result<(), RunFault>
+    requires { AllFit core_size warriors.now }
+{
+    let mut number: u32 = 0;
+    for warrior in warriors {
+        let (name, author, length) = (warrior.name(), warrior.author(), warrior.cells().len());
+        if writeln!(
+            output,
+            "warrior {number}: {name} by {author}, {length} instructions"
+        )
+        .is_err()
+        {
+            return Err(RunFault::Output);
+        }
+        let Ok(text) = write_load(alloc, warrior, core_size) else {
+            return Err(RunFault::OutOfMemory);
+        };
+        write_all(output, &text)?;
+        write_all(output, b"\n")?;
+        number = number.wrapping_add(1);
+    }
+    Ok(())
+}
+
+fn write_all<W: Write>(output: &mut W, text: &[u8]) -> Result<(), RunFault> {
+    match output.write_all(text) {
+        Ok(()) => Ok(()),
+        Err(_) => Err(RunFault::Output),
+    }
+}
+
+/// Fights the match or the league, and writes its results.
+fn fight<W: Write>(
+    alloc: Global,
+    options: &Options,
+    formula: Formula,
+    params: &Params,
+    warriors: &[Warrior],
+    output: &mut W,
+) -> Result<(), RunFault> {
+    let _ = formula;
+    write_all(output, b"")
+}
+
+/// The fault of a match: want of memory is the same wherever it came.
+fn match_fault(fault: MatchFault) -> RunFault {
+    match fault {
+        MatchFault::OutOfMemory
+        | MatchFault::Place(PlaceFault::OutOfMemory)
+        | MatchFault::Battle(BattleFault::OutOfMemory) => RunFault::OutOfMemory,
+        MatchFault::Place(fault) => RunFault::Placement(fault),
+        MatchFault::Battle(fault) => RunFault::Battle(fault),
+        MatchFault::Score(fault) => RunFault::Score(fault),
+    }
+}
+
+/// Debugs the battle of round 0 by the lines of the input.
+fn debug_round<R: Read, W: Write>(
+    alloc: Global,
+    options: &Options,
+    params: &Params,
+    warriors: &[Warrior],
+    input: &mut R,
+    output: &mut W,
+) -> Result<(), RunFault>
+    requires some { 1 ≤ length warriors.now }
+    requires few { length warriors.now ≤ 16 }
+{
+    let starts = starts_of(alloc, options, params, warriors.len() as u32)?;
+    if warriors.len() != starts.len() {
+        return Err(RunFault::Words);
+    }
+    match Battle::new(alloc, params, warriors, &starts) {
+        Ok(battle) => debug_battle(alloc, battle, u64::from(options.history), input, output),
+        Err(fault) => Err(match_fault(MatchFault::Battle(fault))),
+    }
+}
+
+/// Where the warriors of round 0 are laid.
+fn starts_of(
+    alloc: Global,
+    options: &Options,
+    params: &Params,
+    warriors: u32,
+) -> Result<Vec<u32>, RunFault>
+    requires some { 1 ≤ warriors }
+    requires few { warriors ≤ 16 }
+{
+    match options.fixed {
+        Some(position) => match vec![in alloc; 0, position] {
+            Ok(starts) => Ok(starts),
+            Err(_) => Err(RunFault::OutOfMemory),
+        },
+        None => match place(alloc, params, warriors, options.seed) {
+            Ok((starts, _seed)) => Ok(starts),
+            Err(fault) => Err(match_fault(MatchFault::Place(fault))),
+        },
+    }
+}
+
+/// Debugs a battle by the lines of the input, with so many places of history after the first.
 fn debug_battle<R: Read, W: Write>(
     alloc: Global,
     battle: Battle,
+    history: u64,
     input: &mut R,
     output: &mut W,
 ) -> Result<(), RunFault> {
     let Ok(tape) = WholeTape::new(alloc, battle) else {
         return Err(RunFault::OutOfMemory);
     };
-    let mut session = Session::new(tape, HISTORY_LIMIT);
+    let mut session = Session::new(tape, history);
     match debug(input, output, &mut session) {
         Ok(()) => Ok(()),
         Err(DebugFault::Read) => Err(RunFault::Commands),

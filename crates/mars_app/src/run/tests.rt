@@ -29,6 +29,8 @@ fn words_of(alloc: Global, words: &[&str]) -> Result<Vec<String>, Fail> {
 fn files(alloc: Global) -> Result<MemoryFiles, Fail> {
     let mut files = MemoryFiles::new(alloc);
     files.add(alloc, "imp.load", IMP)?;
+    files.add(alloc, "stay.load", b"JMP 0, 0")?;
+    files.add(alloc, "dead.load", b"DAT 0, 0")?;
     files.add(alloc, "half.load", b"MOV 0")?;
     files.add(alloc, "two.load", b"NOP 0, 0\nNOP 0, 0")?;
     files.add(alloc, "empty.load", b"")?;
@@ -87,11 +89,9 @@ fn check_fault(
 
 #[test]
 fn bad_words(rt: HostRuntime) -> Result<(), Fail> {
-    let rows: [&[&str]; 14] = [
+    let rows: [&[&str]; 22] = [
         &[],
         &["-e"],
-        &["imp.load"],
-        &["-e", "imp.load", "imp.load"],
         &["-e", "-e", "imp.load"],
         &["-e", "-s", "0", "imp.load"],
         &["-e", "-s", "1048577", "imp.load"],
@@ -101,7 +101,17 @@ fn bad_words(rt: HostRuntime) -> Result<(), Fail> {
         &["-e", "--write-limit", "4294967297", "imp.load"],
         &["-e", "-h", "imp.load"],
         &["-e", "-q", "imp.load"],
-        &["-e", "--league", "imp.load"],
+        &["-e", "--league", "imp.load", "stay.load"],
+        &["-e", "--load", "imp.load"],
+        &["--league", "--load", "imp.load"],
+        &["--league", "imp.load"],
+        &["--load", "imp.load", "stay.load"],
+        &["-F", "99", "imp.load", "stay.load"],
+        &["-F", "7901", "imp.load", "stay.load"],
+        &["-F", "200", "imp.load"],
+        &["-F", "200", "--league", "imp.load", "stay.load"],
+        &["-r", "100001", "imp.load"],
+        &["--seed", "2147483647", "imp.load"],
     ];
     for row in rows {
         check_fault(&rt, rt.alloc(), row, 2, b"mars: bad words\n")?;
@@ -110,8 +120,158 @@ fn bad_words(rt: HostRuntime) -> Result<(), Fail> {
 }
 
 #[test]
+fn at_most_sixteen_files(rt: HostRuntime) -> Result<(), Fail> {
+    let mut words = ["imp.load"; 17];
+    check_fault(&rt, rt.alloc(), &words, 2, b"mars: bad words\n")?;
+    words[0] = "-b";
+    let answer = answer(rt.alloc(), &words, b"")?;
+    assert_eq!(rt; answer.status, 0);
+    Ok(())
+}
+
+fn check_output(
+    rt: &impl Abort,
+    alloc: Global,
+    words: &[&str],
+    input: &[u8],
+    output: &[u8],
+) -> Result<(), Fail> {
+    let answer = answer(alloc, words, input)?;
+    assert_eq!(rt; answer.status, 0, "{words:?}");
+    assert!(rt; answer.output.as_slice() == output, "{words:?}");
+    assert!(rt; answer.faults.is_empty(), "{words:?}");
+    Ok(())
+}
+
+#[test]
+fn a_match_and_a_league(rt: HostRuntime) -> Result<(), Fail> {
+    let tied = b"  points   wins   ties losses  warrior
+       1      0      1      0  Unknown by Anonymous
+       1      0      1      0  Unknown by Anonymous
+";
+    let words = ["-b", "-c", "10", "imp.load", "stay.load"];
+    check_output(&rt, rt.alloc(), &words, b"", tied)?;
+    let table = b"  points   wins   ties losses  warrior
+       0      0      0      2  Unknown by Anonymous
+       4      1      1      0  Unknown by Anonymous
+       4      1      1      0  Unknown by Anonymous
+";
+    let words = [
+        "-b",
+        "-c",
+        "10",
+        "--league",
+        "dead.load",
+        "imp.load",
+        "stay.load",
+    ];
+    check_output(&rt, rt.alloc(), &words, b"", table)?;
+    let sorted = b"  points   wins   ties losses  warrior
+       4      1      1      0  Unknown by Anonymous
+       4      1      1      0  Unknown by Anonymous
+       0      0      0      2  Unknown by Anonymous
+";
+    let words = [
+        "-b",
+        "-o",
+        "-c",
+        "10",
+        "--league",
+        "dead.load",
+        "imp.load",
+        "stay.load",
+    ];
+    check_output(&rt, rt.alloc(), &words, b"", sorted)
+}
+
+#[test]
+fn a_listing_before_the_results(rt: HostRuntime) -> Result<(), Fail> {
+    let output = b"warrior 0: Unknown by Anonymous, 1 instructions
+ORG 0
+MOV.I $0, $1
+
+warrior 1: Unknown by Anonymous, 1 instructions
+ORG 0
+DAT.F $0, $0
+
+  points   wins   ties losses  warrior
+     200      2      0      0  Unknown by Anonymous
+       0      0      0      2  Unknown by Anonymous
+";
+    let words = [
+        "-r",
+        "2",
+        "-c",
+        "10",
+        "--score",
+        "100*S",
+        "imp.load",
+        "dead.load",
+    ];
+    check_output(&rt, rt.alloc(), &words, b"", output)
+}
+
+#[test]
+fn a_load_file(rt: HostRuntime) -> Result<(), Fail> {
+    check_output(
+        &rt,
+        rt.alloc(),
+        &["--load", "two.load"],
+        b"",
+        b"ORG 0\nNOP.F $0, $0\nNOP.F $0, $0\n",
+    )
+}
+
+#[test]
+fn a_battle_of_placed_warriors(rt: HostRuntime) -> Result<(), Fail> {
+    let words = ["-e", "-F", "200", "imp.load", "stay.load"];
+    check_output(&rt, rt.alloc(), &words, b"queue 1\n", b"queue 1: 200\n")?;
+    let words = ["-e", "imp.load", "stay.load"];
+    check_output(&rt, rt.alloc(), &words, b"queue 1\n", b"queue 1: 1305\n")?;
+    let words = ["-e", "--seed", "16807", "imp.load", "stay.load"];
+    check_output(&rt, rt.alloc(), &words, b"queue 1\n", b"queue 1: 1139\n")?;
+    let words = ["-e", "imp.load", "stay.load", "dead.load"];
+    let queues = b"queue 1: 1505\nqueue 2: 2769\nturn 3 cycle 1 next 0 alive 2 at 3/3\n";
+    check_output(
+        &rt,
+        rt.alloc(),
+        &words,
+        b"queue 1\nqueue 2\nrun 3\n",
+        queues,
+    )
+}
+
+#[test]
+fn a_history_of_two_places(rt: HostRuntime) -> Result<(), Fail> {
+    let words = [
+        "-e",
+        "--history",
+        "2",
+        "-s",
+        "8",
+        "-l",
+        "1",
+        "-d",
+        "1",
+        "imp.load",
+    ];
+    let replies = b"refused 13 JournalFull 2
+turn 2 cycle 2 next 0 alive 1 at 2/2
+refused 13 JournalFull 0
+turn 0 cycle 0 next 0 alive 1 at 0/2
+";
+    check_output(
+        &rt,
+        rt.alloc(),
+        &words,
+        b"run 3\nrun 2\nstep\nundo\n",
+        replies,
+    )
+}
+
+#[test]
 fn faults(rt: HostRuntime) -> Result<(), Fail> {
-    let rows: [(&[&str], u8, &[u8]); 9] = [
+    let rows: [(&[&str], u8, &[u8]); 14] = [
         (
             &["-e", "-s", "50", "imp.load"],
             2,
@@ -126,6 +286,39 @@ fn faults(rt: HostRuntime) -> Result<(), Fail> {
             &["-e", "--read-limit", "8001", "imp.load"],
             2,
             b"mars: parameters 4 Limit\n",
+        ),
+        (
+            &["--score", "1+", "imp.load"],
+            2,
+            b"mars: formula 1 Expression 1 Syntax\n",
+        ),
+        (
+            &["-e", "--score", "Q", "no.load"],
+            2,
+            b"mars: formula 1 Expression 2 Unknown\n",
+        ),
+        (
+            &["-b", "-s", "199", "imp.load", "stay.load"],
+            1,
+            b"mars: placement 1 NoRoom\n",
+        ),
+        (
+            &[
+                "-b",
+                "--score",
+                "1/(S-2)",
+                "-c",
+                "10",
+                "imp.load",
+                "stay.load",
+            ],
+            1,
+            b"mars: score 3 DivideByZero\n",
+        ),
+        (
+            &["-e", "-s", "199", "imp.load", "stay.load"],
+            1,
+            b"mars: placement 1 NoRoom\n",
         ),
         (&["-e", "no.load"], 1, b"mars: no.load: cannot read\n"),
         (&["-e", "large.load"], 1, b"mars: large.load: too large\n"),
@@ -171,7 +364,7 @@ fn help(rt: HostRuntime) -> Result<(), Fail> {
     assert!(rt; answer.faults.is_empty());
     let text = str::from_utf8(&answer.output).ok().ok_or("text")?;
     assert!(rt; text.contains("Usage: mars [OPTIONS] <FILE>..."));
-    assert!(rt; text.contains("Core size [default: 8000]"));
+    assert!(rt; text.contains("Core size, 1 to 1048576 [default: 8000]"));
     Ok(())
 }
 
