@@ -19,3 +19,4 @@ pub mod Replacing
 pub mod SourceLines
 pub mod PairSteps
 pub mod RowTokens
+pub mod PartSteps

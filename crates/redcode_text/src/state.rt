@@ -51,3 +51,16 @@ pub struct Reading {
     ghost few_lines: { lines_read ≤ 65536 },
     ghost few_tokens: { tokens_read ≤ 65536 },
 }
+
+/// The parts of a line, by their places among its tokens.
+#[derive(Drop)]
+pub struct Parts {
+    /// The labels, by their indices among the names.
+    pub labels: Vec<usize>,
+    /// Where the labels with their colons end.
+    pub labels_end: usize,
+    /// The operation, by its index among the names, if there is one.
+    pub operation: Option<usize>,
+    /// Where the rest begins.
+    pub rest_at: usize,
+}
