@@ -7,6 +7,7 @@
 
 mod bytes;
 mod directives;
+mod equ_lines;
 mod equates;
 mod evaluation;
 mod expression;
@@ -16,6 +17,7 @@ mod names;
 mod open_loops;
 mod operations;
 mod operators;
+mod ordinary;
 mod pairs;
 mod parts;
 mod predefined;
