@@ -20,3 +20,4 @@ pub mod SourceLines
 pub mod PairSteps
 pub mod RowTokens
 pub mod PartSteps
+pub mod UsedSteps

@@ -1,14 +1,16 @@
 //! Ordinary lines.
-ghost use Rattle.std.specs.Prelude.{◌≡◌, ◌<◌, [], vec_len, Ok};
+ghost use Rattle.std.specs.Prelude.{◌≡◌, ◌<◌, ◌≤◌, [], ◌∷◌, ◌++◌, length, map, vec_len, Ok};
 ghost use Rattle.redcode_text.specs.Held.{reading_of};
 ghost use Rattle.redcode_text.specs.Lines.{is_end, is_instruction, is_org, is_spelled, line_added};
 ghost use Rattle.redcode_text.specs.Outcomes.{Gives};
+ghost use Rattle.redcode_text.specs.Used.{used};
 
 use crate::bytes::is_word;
 use crate::fault::TextProblem;
 use crate::names::NameTable;
 use crate::state::{Line, Reading};
 use crate::token::Token;
+use std::alloc::Global;
 
 /// Whether an operation is this word, in either case.
 fn is_spelled(names: &NameTable, word: &[u8], operation: Option<usize>) -> bool
@@ -52,5 +54,66 @@ impl Reading {
         self.equate_grows = false;
         self.ended = ends;
         Ok(())
+    }
+}
+
+/// Tokens, and others behind them.
+fn joined(alloc: Global, front: &[Token], back: &[Token]) -> Result<Vec<Token>, TextProblem>
+    ensures { Gives (λ made. made.items) result (Ok (front.now ++ back.now)) }
+{
+    let Ok(mut made) = Vec::from_slice(alloc, front) else {
+        return Err(TextProblem::OutOfMemory);
+    };
+    match made.extend_from_slice(back) {
+        Ok(()) => Ok(made),
+        Err(_) => Err(TextProblem::OutOfMemory),
+    }
+}
+
+/// The last of the lines that take the place of an EQU name.
+fn last_line(
+    alloc: Global,
+    before: &[Token],
+    lines: &[Vec<Token>],
+    behind: &[Token],
+) -> Result<Vec<Token>, TextProblem>
+    requires { length lines.now ≤ 1 }
+    ensures { Gives (λ made. made.items ∷ []) result (Ok (used before.now (map (λ line. line.items) lines.now) behind.now)) }
+{
+    match lines {
+        [line, ..] => {
+            let front = joined(alloc, before, line)?;
+            joined(alloc, &front, behind)
+        }
+        [] => joined(alloc, before, behind),
+    }
+}
+
+/// The lines that take the place of an EQU name: labels go before the first, and the tokens behind the name after the
+/// last.
+fn used_lines(
+    alloc: Global,
+    before: &[Token],
+    lines: &[Vec<Token>],
+    behind: &[Token],
+) -> Result<Vec<Vec<Token>>, TextProblem>
+    ensures { Gives (λ made. map (λ line. line.items) made.items) result
+        (Ok (used before.now (map (λ line. line.items) lines.now) behind.now)) }
+{
+    let mut made = Vec::new(alloc);
+    let mut before = before;
+    let mut at = 0;
+    while at + 1 < lines.len() {
+        let line = joined(alloc, before, &lines[at])?;
+        let Ok(()) = made.push(line) else {
+            return Err(TextProblem::OutOfMemory);
+        };
+        before = &[];
+        at += 1;
+    }
+    let last = last_line(alloc, before, &lines[at..], behind)?;
+    match made.push(last) {
+        Ok(()) => Ok(made),
+        Err(_) => Err(TextProblem::OutOfMemory),
     }
 }
