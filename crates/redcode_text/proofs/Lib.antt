@@ -21,3 +21,4 @@ pub mod PairSteps
 pub mod RowTokens
 pub mod PartSteps
 pub mod UsedSteps
+pub mod OrdinarySteps

@@ -1,4 +1,4 @@
-use Rattle.std.proofs.Common.{◌≡◌, ◌∙◌, ◌++◌, ap, sym, arith, Ok}
+use Rattle.std.proofs.Common.{◌∙◌, ◌++◌, ap, sym, arith}
 use Rattle.redcode_text.proofs.UsedSteps.{ok, used-more}
 use Rattle.redcode_text.proofs.ordinary.used_lines.Goals as goal
 
