@@ -19,3 +19,6 @@ pub mod Replacing
 pub mod SourceLines
 pub mod PairSteps
 pub mod RowTokens
+pub mod PartSteps
+pub mod UsedSteps
+pub mod OrdinarySteps

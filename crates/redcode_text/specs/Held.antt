@@ -1,10 +1,12 @@
 -- What the code holds of all that has been read.
-use Rattle.std.specs.Prelude.{[], ◌∷◌, codes, map, string_bytes}
+use Rattle.std.specs.Prelude.{List, [], ◌∷◌, codes, drop, map, string_bytes, take}
 use Rattle.redcode_text.specs.declared.predefined.Names.{Names}
 use Rattle.redcode_text.specs.declared.state.Line as line
 use Rattle.redcode_text.specs.declared.state.Assert as assert
+use Rattle.redcode_text.specs.declared.state.Parts as parts
 use Rattle.redcode_text.specs.declared.state.Reading as code
-use Rattle.redcode_text.specs.Lines.{Line, Assert, Reading, Predefined}
+use Rattle.redcode_text.specs.declared.token.Token.{Token}
+use Rattle.redcode_text.specs.Lines.{Line, Assert, Parts, Reading, Predefined}
 
 abbrev pub predefined_of : Names → Predefined
 predefined_of n =
@@ -33,3 +35,7 @@ reading_of r =
       asserts = map assert_of r.asserts.items;
       ended = r.ended;
     }
+
+-- the parts of a line, by their places among its tokens
+abbrev pub parts_at : List Token → parts.Parts → Parts
+parts_at ts p = record { labels = p.labels.items; label_tokens = take p.labels_end ts; operation = p.operation; rest = drop p.rest_at ts }

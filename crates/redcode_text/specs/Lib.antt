@@ -11,5 +11,6 @@ pub mod Source
 pub mod Equates
 pub mod Lines
 pub mod Held
+pub mod Used
 pub mod Expansion
 pub mod ExpansionRows

@@ -7,14 +7,19 @@
 
 mod bytes;
 mod directives;
+mod equ_lines;
 mod equates;
 mod evaluation;
 mod expression;
 mod fault;
+mod heads;
 mod names;
 mod open_loops;
+mod operations;
 mod operators;
+mod ordinary;
 mod pairs;
+mod parts;
 mod predefined;
 mod reading;
 mod rows;

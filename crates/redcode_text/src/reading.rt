@@ -26,7 +26,8 @@ fn comment_at(bytes: &[u8]) -> usize
 impl Reading {
     /// One more line is read.
     pub fn count_line(&mut self) -> Result<(), TextProblem>
-        ensures { Gives (λ _. reading_of self.new) result (line_read (reading_of self.old)) }
+        ensures value { Gives (λ _. reading_of self.new) result (line_read (reading_of self.old)) }
+        ensures room { OnOk result (vec_len self.new.lines < self.new.lines_read) }
     {
         if self.lines_read >= LIMIT {
             return Err(TextProblem::TooLong);
@@ -37,7 +38,9 @@ impl Reading {
 
     /// These tokens of a line that comes from EQU are read.
     pub fn count_tokens(&mut self, tokens: &[Token]) -> Result<(), TextProblem>
-        ensures { Gives (λ _. reading_of self.new) result (tokens_counted tokens.now (reading_of self.old)) }
+        ensures value { Gives (λ _. reading_of self.new) result (tokens_counted tokens.now (reading_of self.old)) }
+        ensures lines { vec_len self.new.lines ≡ vec_len self.old.lines }
+        ensures lines_read { self.new.lines_read ≡ self.old.lines_read }
     {
         if tokens.len() > LIMIT - self.tokens_read {
             return Err(TextProblem::TooLong);

@@ -1,5 +1,5 @@
 //! All that has been read of a source.
-ghost use Rattle.std.specs.Prelude.{◌≤◌};
+ghost use Rattle.std.specs.Prelude.{◌≤◌, vec_len};
 
 use crate::equates::Equates;
 use crate::names::NameTable;
@@ -50,4 +50,19 @@ pub struct Reading {
     pub ended: bool,
     ghost few_lines: { lines_read ≤ 65536 },
     ghost few_tokens: { tokens_read ≤ 65536 },
+    ghost each_read: { vec_len lines ≤ lines_read },
+    ghost each_counted: { instructions ≤ vec_len lines },
+}
+
+/// The parts of a line, by their places among its tokens.
+#[derive(Drop)]
+pub struct Parts {
+    /// The labels, by their indices among the names.
+    pub labels: Vec<usize>,
+    /// Where the labels with their colons end.
+    pub labels_end: usize,
+    /// The operation, by its index among the names, if there is one.
+    pub operation: Option<usize>,
+    /// Where the rest begins.
+    pub rest_at: usize,
 }
