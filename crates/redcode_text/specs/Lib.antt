@@ -10,5 +10,7 @@ pub mod Rows
 pub mod Source
 pub mod Equates
 pub mod Lines
+pub mod Held
+pub mod Used
 pub mod Expansion
 pub mod ExpansionRows

@@ -1,7 +1,8 @@
 //! Directives: comments that say something.
-ghost use Rattle.std.specs.Prelude.{◌≡◌, ◌≤◌, ◌+◌, length, true, nat_eq, IfSome};
+ghost use Rattle.std.specs.Prelude.{◌≡◌, ◌≤◌, ◌<◌, ◌+◌, length, true, nat_eq, IfSome};
 ghost use Rattle.std.specs.List.{starts_with};
 ghost use Rattle.std.specs.Str.{str_to_ascii_lowercase};
+ghost use Rattle.redcode_text.specs.Lines.{printable};
 ghost use Rattle.redcode_text.specs.Outcomes.{text_found};
 ghost use Rattle.redcode_text.specs.Source.{blank_len, without_blanks};
 
@@ -33,5 +34,17 @@ pub fn directive_text_at(directive: &[u8], bytes: &[u8]) -> Option<usize>
     match &bytes[at..] {
         [first, ..] if !is_blank(*first) => None,
         _ => Some(at),
+    }
+}
+
+/// A byte as it stands in a name: `?` where it can't be printed.
+fn printable(byte: u8) -> u8
+    ensures value { result ≡ printable byte }
+    ensures ascii { result < 128 }
+{
+    if b' ' <= byte && byte <= b'~' {
+        byte
+    } else {
+        b'?'
     }
 }

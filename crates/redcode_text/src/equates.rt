@@ -2,6 +2,7 @@
 ghost use Rattle.std.specs.Prelude.{◌≡◌, ℕ, [], ◌∷◌, ◌++◌, ◌≤◌, length, map, Some, None, IfOk, OnOk, Ok, Err, MatchResult, option_map};
 ghost use Rattle.redcode_text.specs.Outcomes.{Gives};
 ghost use Rattle.redcode_text.specs.Equates.{Replaced, equate_lines, token_lines, one_line, one_more, kept, replaced_name, replaced_token, each_replaced, replacing, substituted};
+ghost use Rattle.redcode_text.specs.Lines.{with_line};
 
 use crate::fault::TextProblem;
 use crate::token::{Token, TokenKind};
@@ -163,5 +164,43 @@ impl Equates {
         self.replace_each(DEPTH_LIMIT, tokens, &mut replaced)?;
         let Replaced { tokens, count: _ } = replaced;
         Ok(tokens)
+    }
+}
+
+impl Equates {
+    /// One EQU name more, with its first line.
+    pub fn define(
+        &mut self,
+        alloc: Global,
+        name: usize,
+        line: Vec<Token>,
+    ) -> Result<(), TextProblem>
+        requires { equate_lines self.old name ≡ None }
+        ensures { Gives (λ _. self.new) result (Ok (self.old ++ record { name = name; lines = line.items ∷ [] } ∷ [])) }
+    {
+        let mut lines = Vec::new(alloc);
+        let Ok(()) = lines.push(line) else {
+            return Err(TextProblem::OutOfMemory);
+        };
+        match self.lines.insert(name, lines) {
+            Ok(_) => Ok(()),
+            Err(_) => Err(TextProblem::OutOfMemory),
+        }
+    }
+
+    /// One line more for the last EQU name.
+    pub fn add_line(&mut self, line: Vec<Token>) -> Result<(), TextProblem>
+        ensures { Gives (λ _. self.new) result (Ok (with_line self.old line.items)) }
+    {
+        let Some((name, mut lines)) = self.lines.pop() else {
+            return Ok(());
+        };
+        let Ok(()) = lines.push(line) else {
+            return Err(TextProblem::OutOfMemory);
+        };
+        match self.lines.insert(name, lines) {
+            Ok(_) => Ok(()),
+            Err(_) => Err(TextProblem::OutOfMemory),
+        }
     }
 }

@@ -7,17 +7,25 @@
 
 mod bytes;
 mod directives;
+mod equ_lines;
 mod equates;
 mod evaluation;
 mod expression;
 mod fault;
+mod heads;
 mod names;
 mod open_loops;
+mod operations;
 mod operators;
+mod ordinary;
 mod pairs;
+mod parts;
+mod predefined;
+mod reading;
 mod rows;
 mod shape;
 mod signs;
+mod state;
 mod token;
 mod tokens;
 mod words;
@@ -25,7 +33,9 @@ mod words;
 pub use expression::{Env, eval};
 pub use fault::{ExprFault, TextFault, TextProblem};
 pub use names::NameTable;
+pub use predefined::Names;
 pub use shape::check_shape;
+pub use state::{Assert, Line};
 pub use token::{Sign, Token, TokenKind};
 pub use tokens::{LineTokens, scan};
 

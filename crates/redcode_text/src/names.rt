@@ -1,5 +1,6 @@
 //! The names of a text.
 ghost use Rattle.std.specs.Prelude.{◌≡◌, length, [], IfOk, OnOk, IsAscii, slice_get, option_map};
+ghost use Rattle.redcode_text.specs.Lines.{name_at};
 ghost use Rattle.redcode_text.specs.Tokens.{name_index, with_name};
 
 use indexmap::IndexSet;
@@ -59,5 +60,15 @@ impl NameTable {
     {
         let name = self.names.get_index(index)?;
         Some(name.as_str())
+    }
+
+    /// The bytes of a name, by its index.
+    pub(crate) fn bytes_of(&self, index: usize) -> &[u8]
+        ensures { result.now ≡ name_at self.now index }
+    {
+        match self.name(index) {
+            Some(name) => name.as_bytes(),
+            None => &[],
+        }
     }
 }

@@ -1,5 +1,5 @@
 //! The tokens of a line.
-ghost use Rattle.std.specs.Prelude.{◌≡◌, ◌≤◌, ◌<◌, ◌+◌, ◌^◌, [], drop, length, IfOk};
+ghost use Rattle.std.specs.Prelude.{◌≡◌, ◌≤◌, ◌<◌, ◌+◌, ◌^◌, [], drop, length, vec_len, IfOk};
 ghost use Rattle.redcode_text.specs.Outcomes.{Answers, Gives, found_alone, scan_of, with_names};
 ghost use Rattle.redcode_text.specs.Scanning.{one_token};
 ghost use Rattle.redcode_text.specs.Tokens.{scan_from, scanned, sign_token, token_at};
@@ -76,6 +76,7 @@ fn add_token(
     ensures value { Gives (λ len. (len, scan_of tokens.new names.new)) result
         (one_token loops.now row.entry.number room (row.entry.at + at) (drop at row.entry.bytes.now) (scan_of tokens.old names.old)) }
     ensures len { IfOk result (λ len. (1 ≤ len) × (at + len ≤ length row.entry.bytes.now)) }
+    ensures room { vec_len tokens.old ≤ room → vec_len tokens.new ≤ room }
 {
     let Spelled { kind, len } = match read_token(alloc, loops, names, &row.bytes[at..]) {
         Ok(found) => found,
@@ -106,9 +107,11 @@ pub fn read_tokens(
     names: &mut NameTable,
     tokens: &mut Vec<Token>,
 ) -> Result<(), TextProblem>
-    requires { row.at + length row.bytes.now < 2 ^ 64 }
-    ensures { Gives (λ _. scan_of tokens.new names.new) result
+    requires fits { row.at + length row.bytes.now < 2 ^ 64 }
+    requires room { vec_len tokens.old ≤ room }
+    ensures value { Gives (λ _. scan_of tokens.new names.new) result
         (scan_from loops.now row.entry.number room row.entry.at 0 row.entry.bytes.now (scan_of tokens.old names.old)) }
+    ensures room { vec_len tokens.new ≤ room }
 {
     let mut at = 0;
     while at < row.bytes.len() {

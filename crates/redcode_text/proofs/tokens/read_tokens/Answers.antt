@@ -11,9 +11,10 @@ loop-at-preserved c =
       same =
           sym (scan-token c.args.loops.now row.number c.args.room row.at at row.bytes.now (scan_of c.loop-at.tokens c.loop-at.names) (scan_of c.add_token.new.tokens c.add_token.new.names) c.in-Ok.len c.loop-at-test.true (sym c.is_blank.ensures ∙ c.if-is_blank.false) c.in-Ok.ensures.len.0 c.in-Ok.ensures.value)
           ∙ c.loop-at.invariant.same;
+      room = c.in-Ok.ensures.room c.loop-at.invariant.room;
     }
 
-pub returns-in-Err : goal.returns-in-Err
-returns-in-Err c =
+pub returns-in-Err-clause-value : goal.returns-in-Err-clause-value
+returns-in-Err-clause-value c =
     let row = c.args.row in let at = c.loop-at.at in
     subst (Fails c.in-Err.problem) c.loop-at.invariant.same (scan-fails c.args.loops.now row.number c.args.room row.at at row.bytes.now (scan_of c.loop-at.tokens c.loop-at.names) c.in-Err.problem c.loop-at-test.true (sym c.is_blank.ensures ∙ c.if-is_blank.false) c.in-Err.ensures.value)

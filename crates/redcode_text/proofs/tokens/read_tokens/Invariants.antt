@@ -1,4 +1,4 @@
-use Rattle.std.proofs.Common.{length, ◌-◌, ◌≡◌, ◌≤◌, ◌+◌, drop}
+use Rattle.std.proofs.Common.{length, vec_len, ◌-◌, ◌≡◌, ◌≤◌, ◌+◌, drop}
 use Rattle.redcode_text.specs.Outcomes.{scan_of}
 use Rattle.redcode_text.specs.Tokens.{scan_from}
 use Rattle.redcode_text.proofs.tokens.read_tokens.Given as goal
@@ -8,6 +8,7 @@ invariant-loop-at l = record {
   within : l.at ≤ length l.row.bytes.now;
   same : scan_from l.loops l.row.number l.room (l.row.at + l.at) 0 (drop l.at l.row.bytes.now) (scan_of l.tokens l.names)
       ≡ scan_from l.loops l.row.number l.room l.row.at 0 l.row.bytes.now (scan_of l.fn.tokens l.fn.names);
+  room : vec_len l.tokens ≤ l.room;
 }
 
 abbrev pub decreases-loop-at : goal.decreases-loop-at

@@ -13,10 +13,10 @@ start text loops before names l b n = λ i. scan_from (l i) 1 (length text) 0 0 
 pub returns-in-Ok : goal.returns-in-Ok
 unfolding scanned
 returns-in-Ok c =
-    ap (at_line 1) (sym (start c.args.text.now c.new-loops.result c.new-tokens.result.items c.new-names.result c.new-loops.ensures c.new-tokens.ensures.items c.new-names.ensures) ∙ c.in-Ok.ensures)
+    ap (at_line 1) (sym (start c.args.text.now c.new-loops.result c.new-tokens.result.items c.new-names.result c.new-loops.ensures c.new-tokens.ensures.items c.new-names.ensures) ∙ c.in-Ok.ensures.value)
 
 pub returns-in-Err : goal.returns-in-Err
 unfolding scanned
 returns-in-Err c =
     fails-at 1 c.in-Err.problem c.at_line.result (tokens [] 1 0 (length c.args.text.now) [] c.args.text.now) c.at_line.ensures.problem c.at_line.ensures.line
-    (subst (Fails c.in-Err.problem) (start c.args.text.now c.new-loops.result c.new-tokens.result.items c.new-names.result c.new-loops.ensures c.new-tokens.ensures.items c.new-names.ensures) c.in-Err.ensures)
+    (subst (Fails c.in-Err.problem) (start c.args.text.now c.new-loops.result c.new-tokens.result.items c.new-names.result c.new-loops.ensures c.new-tokens.ensures.items c.new-names.ensures) c.in-Err.ensures.value)

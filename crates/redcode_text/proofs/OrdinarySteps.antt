@@ -1,0 +1,41 @@
+-- An ordinary line by its parts.
+use Rattle.std.proofs.Common.{◌≡◌, ℕ, zero, suc, ◌-◌, List, Option, None, Some, Result, Ok, refl, ap, sym, ◌∙◌, arith}
+use Rattle.redcode_text.specs.declared.fault.TextProblem.{TextProblem}
+use Rattle.redcode_text.specs.declared.token.Token.{Token}
+use Rattle.redcode_text.specs.Lines.{Parts, Predefined, Reading, Step, before_first, behind_last, each_line, line_added, operation_lines, ordinary_line, parts_of, parts_read}
+use Rattle.redcode_text.specs.Outcomes.{Fails}
+use Rattle.redcode_text.specs.Tokens.{◌>>=◌}
+use Rattle.redcode_text.specs.Used.{used}
+use Rattle.redcode_text.proofs.Failing.{fails-bind}
+use Rattle.redcode_text.proofs.UsedSteps.{used-is}
+
+abbrev ok : List (List Token) → Result (List (List Token)) TextProblem
+ok l = Ok l
+
+module _ (ps : Predefined) (number : ℕ) (ts : List Token) (st : Reading) where
+  abbrev then_read : Option (List Token → Step) → Parts → Result Reading TextProblem
+  then_read deeper p = parts_read deeper number p (operation_lines st p.operation) st
+
+  pub ordinary-fails : (depth : ℕ) (e : TextProblem) → Fails e (parts_of ps st ts) → Fails e (ordinary_line ps number depth ts st)
+  ordinary-fails zero e h = fails-bind e (parts_of ps st ts) (then_read None) h
+  ordinary-fails (suc depth) e h = fails-bind e (parts_of ps st ts) (then_read (Some (ordinary_line ps number depth))) h
+
+  pub ordinary-plain : (depth : ℕ) (p : Parts) → parts_of ps st ts ≡ Ok p → operation_lines st p.operation ≡ None → ordinary_line ps number depth ts st ≡ Ok (line_added number p st)
+  ordinary-plain zero p h none = ap (λ r. r >>= then_read None) h ∙ ap (λ o. parts_read None number p o st) none
+  ordinary-plain (suc depth) p h none = ap (λ r. r >>= then_read (Some (ordinary_line ps number depth))) h ∙ ap (λ o. parts_read (Some (ordinary_line ps number depth)) number p o st) none
+
+  pub ordinary-used : (depth : ℕ) (p : Parts) (lines : List (List Token)) → ¬ (depth ≡ 0) → parts_of ps st ts ≡ Ok p → operation_lines st p.operation ≡ Some lines
+      → ordinary_line ps number depth ts st ≡ each_line (ordinary_line ps number (depth - 1)) (behind_last (before_first p.label_tokens lines) p.rest) st
+  ordinary-used zero p lines positive h some = absurd (positive refl)
+  ordinary-used (suc depth) p lines positive h some =
+      let e : depth ≡ suc depth - 1 = omega arith in
+      ap (λ r. r >>= then_read (Some (ordinary_line ps number depth))) h
+      ∙ ap (λ o. parts_read (Some (ordinary_line ps number depth)) number p o st) some
+      ∙ ap (λ d. each_line (ordinary_line ps number d) (behind_last (before_first p.label_tokens lines) p.rest) st) e
+
+-- the lines that take the place of an EQU name, as they were made
+pub made-is : (before : List Token) (lines : List (List Token)) (behind looked : List Token) (made read : List (List Token)) → behind ≡ looked → ok (used before lines looked) ≡ ok made → made ≡ read
+    → behind_last (before_first before lines) behind ≡ read
+made-is before lines behind looked made read b m r =
+    let is : used before lines looked ≡ made = cc in
+    sym (used-is before lines behind) ∙ ap (used before lines) b ∙ is ∙ r

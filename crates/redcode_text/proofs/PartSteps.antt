@@ -1,0 +1,120 @@
+-- The parts of a line, one token further.
+use Rattle.std.proofs.Common.{◌≡◌, ℕ, zero, suc, ◌+◌, ◌<◌, ◌≤◌, List, [], ◌∷◌, ◌++◌, length, length-drop, drop, drop-drop, take, get_or, Bool, true, false, Option, Some, None, Result, Ok, Err, refl, ap, sym, ◌∙◌, arith}
+use Rattle.std.proofs.Math.Seq.{drop-cons}
+use Rattle.redcode_text.specs.declared.fault.TextProblem.{TextProblem}
+use Rattle.redcode_text.specs.declared.fault.TextProblem.TheVariants.{Duplicate}
+use Rattle.redcode_text.specs.declared.token.Token.{Token}
+use Rattle.redcode_text.specs.declared.token.TokenKind.{TokenKind}
+use Rattle.redcode_text.specs.declared.token.TokenKind.TheVariants.{Number, Name}
+use Rattle.redcode_text.specs.declared.token.TokenKind.TheVariants as token
+use Rattle.redcode_text.specs.Lines.{Parts, Reading, Predefined, is_operation, may_label, parts_within, split_colon}
+
+-- tokens up to a place, one more, and some behind it
+take-more : (ts : List Token) (i p : ℕ) (d : Token) → i < length ts → take i ts ++ get_or ts i d ∷ take p (drop (suc i) ts) ≡ take (i + suc p) ts
+take-more [] i p d h = absurd (omega arith)
+take-more (x ∷ xs) zero p d h = let e : suc p ≡ zero + suc p = omega arith in ap (λ n. take n (x ∷ xs)) e
+take-more (x ∷ xs) (suc i) p d h =
+    let e : suc (i + suc p) ≡ suc i + suc p = omega arith in
+    ap (λ l. x ∷ l) (take-more xs i p d (omega arith)) ∙ ap (λ n. take n (x ∷ xs)) e
+
+module _ (ps : Predefined) (st : Reading) where
+  abbrev parted : ℕ → List ℕ → List Token → List Token → Result Parts TextProblem
+  parted k labels before ts = parts_within ps st k labels before ts
+
+  abbrev found : List ℕ → List Token → Option ℕ → List Token → Result Parts TextProblem
+  found labels before operation rest = Ok (record { labels = labels; label_tokens = before; operation = operation; rest = rest })
+
+  abbrev at_kind : ℕ → List ℕ → List Token → Token → List Token → TokenKind → Result Parts TextProblem
+  at_kind k labels before t ts kind =
+      elim kind as (λ _. Result Parts TextProblem) [
+        | Name n ↦ elim (is_operation st n) as (λ _. Result Parts TextProblem) [
+          | true ↦ found labels before (Some n) ts
+          | false ↦ elim (may_label ps st labels n) as (λ _. Result Parts TextProblem) [
+            | true ↦ parted k (labels ++ n ∷ []) (before ++ t ∷ (split_colon ts).0) (split_colon ts).1
+            | false ↦ Err Duplicate
+          ]
+        ]
+        | _ ↦ found labels before None (t ∷ ts)
+      ]
+
+  head-operation : (k n : ℕ) (labels : List ℕ) (before : List Token) (t : Token) (ts : List Token) → t.kind ≡ Name n → is_operation st n ≡ true → parted (suc k) labels before (t ∷ ts) ≡ found labels before (Some n) ts
+  head-operation k n labels before t ts e o = rw (e, o) refl
+
+  head-duplicate : (k n : ℕ) (labels : List ℕ) (before : List Token) (t : Token) (ts : List Token) → t.kind ≡ Name n → is_operation st n ≡ false → may_label ps st labels n ≡ false → parted (suc k) labels before (t ∷ ts) ≡ Err Duplicate
+  head-duplicate k n labels before t ts e o m = rw (e, o, m) refl
+
+  head-label : (k n : ℕ) (labels : List ℕ) (before : List Token) (t : Token) (ts : List Token) → t.kind ≡ Name n → is_operation st n ≡ false → may_label ps st labels n ≡ true
+      → parted (suc k) labels before (t ∷ ts) ≡ parted k (labels ++ n ∷ []) (before ++ t ∷ (split_colon ts).0) (split_colon ts).1
+  head-label k n labels before t ts e o m =
+      ap (at_kind k labels before t ts) e
+      ∙ ap (λ (b : Bool). elim b as (λ _. Result Parts TextProblem) [
+        | true ↦ found labels before (Some n) ts
+        | false ↦ elim (may_label ps st labels n) as (λ _. Result Parts TextProblem) [
+          | true ↦ parted k (labels ++ n ∷ []) (before ++ t ∷ (split_colon ts).0) (split_colon ts).1
+          | false ↦ Err Duplicate
+        ]
+      ]) o
+      ∙ ap (λ (b : Bool). elim b as (λ _. Result Parts TextProblem) [
+        | true ↦ parted k (labels ++ n ∷ []) (before ++ t ∷ (split_colon ts).0) (split_colon ts).1
+        | false ↦ Err Duplicate
+      ]) m
+
+  head-other : (k : ℕ) (labels : List ℕ) (before : List Token) (t : Token) (ts : List Token) (kind : TokenKind) → t.kind ≡ kind → ((n : ℕ) → kind ≡ Name n → ⊥) → parted (suc k) labels before (t ∷ ts) ≡ found labels before None (t ∷ ts)
+  head-other k labels before t ts (Name n) e h = absurd (h n refl)
+  head-other k labels before t ts (Number z) e h = ap (at_kind k labels before t ts) e
+  head-other k labels before t ts (token.Sign s) e h = ap (at_kind k labels before t ts) e
+
+  -- ---- at a place
+
+  pub operation-at : (ts : List Token) (i k n : ℕ) (d : Token) (labels : List ℕ) → i < length ts → length (drop i ts) ≤ k → (get_or ts i d).kind ≡ Name n → is_operation st n ≡ true
+      → parted k labels (take i ts) (drop i ts) ≡ found labels (take i ts) (Some n) (drop (i + 1) ts)
+  operation-at ts i zero n d labels h fuel e o = absurd (omega (arith, length-drop i ts))
+  operation-at ts i (suc k) n d labels h fuel e o =
+      let s : suc i ≡ i + 1 = omega arith in
+      ap (parted (suc k) labels (take i ts)) (drop-cons ts i d h)
+      ∙ head-operation k n labels (take i ts) (get_or ts i d) (drop (suc i) ts) e o
+      ∙ ap (λ m. found labels (take i ts) (Some n) (drop m ts)) s
+
+  pub duplicate-at : (ts : List Token) (i k n : ℕ) (d : Token) (labels : List ℕ) → i < length ts → length (drop i ts) ≤ k → (get_or ts i d).kind ≡ Name n → is_operation st n ≡ false → may_label ps st labels n ≡ false
+      → parted k labels (take i ts) (drop i ts) ≡ Err Duplicate
+  duplicate-at ts i zero n d labels h fuel e o m = absurd (omega (arith, length-drop i ts))
+  duplicate-at ts i (suc k) n d labels h fuel e o m =
+      ap (parted (suc k) labels (take i ts)) (drop-cons ts i d h)
+      ∙ head-duplicate k n labels (take i ts) (get_or ts i d) (drop (suc i) ts) e o m
+
+  pub other-at : (ts : List Token) (i k : ℕ) (d : Token) (labels : List ℕ) → i < length ts → length (drop i ts) ≤ k → ((n : ℕ) → (get_or ts i d).kind ≡ Name n → ⊥)
+      → parted k labels (take i ts) (drop i ts) ≡ found labels (take i ts) None (drop i ts)
+  other-at ts i zero d labels h fuel e = absurd (omega (arith, length-drop i ts))
+  other-at ts i (suc k) d labels h fuel e =
+      ap (parted (suc k) labels (take i ts)) (drop-cons ts i d h)
+      ∙ head-other k labels (take i ts) (get_or ts i d) (drop (suc i) ts) (get_or ts i d).kind refl e
+      ∙ ap (found labels (take i ts) None) (sym (drop-cons ts i d h))
+
+  pub end-at : (ts : List Token) (i k : ℕ) (labels : List ℕ) → length ts ≤ i → parted k labels (take i ts) (drop i ts) ≡ found labels (take i ts) None (drop i ts)
+  end-at ts i k labels h = go k (drop i ts) (omega (arith, length-drop i ts))
+    where
+      go : (k : ℕ) (rest : List Token) → length rest ≤ 0 → parted k labels (take i ts) rest ≡ found labels (take i ts) None rest
+      go zero rest none = refl
+      go (suc k) [] none = refl
+      go (suc k) (x ∷ rest) none = absurd (omega arith)
+
+  -- a label, and the fuel that is left
+  pub label-at : (ts : List Token) (i k n p : ℕ) (d : Token) (labels : List ℕ) (whole : Result Parts TextProblem) → i < length ts → length (drop i ts) ≤ k → (get_or ts i d).kind ≡ Name n → is_operation st n ≡ false → may_label ps st labels n ≡ true
+      → split_colon (drop (i + 1) ts) ≡ (take p (drop (i + 1) ts), drop p (drop (i + 1) ts)) → parted k labels (take i ts) (drop i ts) ≡ whole
+      → (m : ℕ) × (length (drop (i + 1 + p) ts) ≤ m) × (parted m (labels ++ n ∷ []) (take (i + 1 + p) ts) (drop (i + 1 + p) ts) ≡ whole)
+  label-at ts i zero n p d labels whole h fuel e o m c is = absurd (omega (arith, length-drop i ts))
+  label-at ts i (suc k) n p d labels whole h fuel e o m c is =
+      let s : suc i ≡ i + 1 = omega arith in
+      let front : i + suc p ≡ i + 1 + p = omega arith in
+      let back : drop p (drop (i + 1) ts) ≡ drop (i + 1 + p) ts = drop-drop p (i + 1) ts in
+      let split : split_colon (drop (suc i) ts) ≡ (take p (drop (suc i) ts), drop p (drop (suc i) ts)) = rw s c in (
+        k,
+        omega (arith, length-drop i ts, length-drop (i + 1 + p) ts),
+        sym (
+            ap (parted (suc k) labels (take i ts)) (drop-cons ts i d h)
+            ∙ head-label k n labels (take i ts) (get_or ts i d) (drop (suc i) ts) e o m
+            ∙ ap (λ q. parted k (labels ++ n ∷ []) (take i ts ++ get_or ts i d ∷ q.0) q.1) split
+            ∙ ap (λ l. parted k (labels ++ n ∷ []) l (drop p (drop (suc i) ts))) (take-more ts i p d h ∙ ap (λ q. take q ts) front)
+            ∙ ap (parted k (labels ++ n ∷ []) (take (i + 1 + p) ts)) (ap (λ q. drop p (drop q ts)) s ∙ back)
+            ) ∙ is,
+      )

@@ -1,0 +1,221 @@
+//! Ordinary lines.
+ghost use Rattle.std.specs.Prelude.{◌≡◌, ◌<◌, ◌≤◌, [], ◌∷◌, ◌++◌, length, map, option_map, vec_len, Ok};
+ghost use Rattle.redcode_text.specs.Held.{predefined_of, reading_of};
+ghost use Rattle.redcode_text.specs.Lines.{each_line, is_end, is_instruction, is_spelled, line_added, operation_lines, ordinary_line};
+ghost use Rattle.redcode_text.specs.Outcomes.{Gives};
+ghost use Rattle.redcode_text.specs.Used.{used};
+
+use crate::bytes::is_word;
+use crate::fault::TextProblem;
+use crate::names::NameTable;
+use crate::predefined::Names;
+use crate::state::{Line, Parts, Reading};
+use crate::token::Token;
+use std::alloc::Global;
+
+/// Whether an operation is this word, in either case.
+fn is_spelled(names: &NameTable, word: &[u8], operation: Option<usize>) -> bool
+    ensures { result ≡ is_spelled names.now word.now operation }
+{
+    match operation {
+        Some(name) => is_word(names.bytes_of(name), word),
+        None => false,
+    }
+}
+
+/// Whether an operation is END.
+fn is_end(names: &NameTable, operation: Option<usize>) -> bool
+    ensures { result ≡ is_end names.now operation }
+{
+    is_spelled(names, b"end", operation)
+}
+
+/// Whether a line is an instruction: one with an operation or a rest, other than ORG and END.
+fn is_instruction(names: &NameTable, operation: Option<usize>, rest: &[Token]) -> bool
+    ensures { result ≡ is_instruction names.now operation rest.now }
+{
+    (operation.is_some() || !rest.is_empty())
+        && !(is_spelled(names, b"org", operation) || is_end(names, operation))
+}
+
+impl Reading {
+    /// A line whose operation is no EQU name.
+    fn add_line(&mut self, line: Line) -> Result<(), TextProblem>
+        requires { vec_len self.old.lines < self.old.lines_read }
+        ensures { Gives (λ _. reading_of self.new) result (Ok (line_added line.number (record { labels = line.labels.items; label_tokens = []; operation = line.operation; rest = line.rest.items }) (reading_of self.old))) }
+    {
+        let counts = is_instruction(&self.names, line.operation, &line.rest);
+        let ends = is_end(&self.names, line.operation);
+        let Ok(()) = self.lines.push(line) else {
+            return Err(TextProblem::OutOfMemory);
+        };
+        if counts {
+            self.instructions += 1;
+        }
+        self.equate_grows = false;
+        self.ended = ends;
+        Ok(())
+    }
+}
+
+/// Tokens, and others behind them.
+fn joined(alloc: Global, front: &[Token], back: &[Token]) -> Result<Vec<Token>, TextProblem>
+    ensures { Gives (λ made. made.items) result (Ok (front.now ++ back.now)) }
+{
+    let Ok(mut made) = Vec::from_slice(alloc, front) else {
+        return Err(TextProblem::OutOfMemory);
+    };
+    match made.extend_from_slice(back) {
+        Ok(()) => Ok(made),
+        Err(_) => Err(TextProblem::OutOfMemory),
+    }
+}
+
+/// The last of the lines that take the place of an EQU name.
+fn last_line(
+    alloc: Global,
+    before: &[Token],
+    lines: &[Vec<Token>],
+    behind: &[Token],
+) -> Result<Vec<Token>, TextProblem>
+    requires { length lines.now ≤ 1 }
+    ensures { Gives (λ made. made.items ∷ []) result (Ok (used before.now (map (λ line. line.items) lines.now) behind.now)) }
+{
+    match lines {
+        [line, ..] => {
+            let front = joined(alloc, before, line)?;
+            joined(alloc, &front, behind)
+        }
+        [] => joined(alloc, before, behind),
+    }
+}
+
+/// The lines that take the place of an EQU name: labels go before the first, and the tokens behind the name after the
+/// last.
+fn used_lines(
+    alloc: Global,
+    before: &[Token],
+    lines: &[Vec<Token>],
+    behind: &[Token],
+) -> Result<Vec<Vec<Token>>, TextProblem>
+    ensures { Gives (λ made. map (λ line. line.items) made.items) result
+        (Ok (used before.now (map (λ line. line.items) lines.now) behind.now)) }
+{
+    let mut made = Vec::new(alloc);
+    let mut before = before;
+    let mut at = 0;
+    while at + 1 < lines.len() {
+        let line = joined(alloc, before, &lines[at])?;
+        let Ok(()) = made.push(line) else {
+            return Err(TextProblem::OutOfMemory);
+        };
+        before = &[];
+        at += 1;
+    }
+    let last = last_line(alloc, before, &lines[at..], behind)?;
+    match made.push(last) {
+        Ok(()) => Ok(made),
+        Err(_) => Err(TextProblem::OutOfMemory),
+    }
+}
+
+/// A copy of tokens.
+fn copied(alloc: Global, tokens: &[Token]) -> Result<Vec<Token>, TextProblem>
+    ensures { Gives (λ made. made.items) result (Ok tokens.now) }
+{
+    match Vec::from_slice(alloc, tokens) {
+        Ok(made) => Ok(made),
+        Err(_) => Err(TextProblem::OutOfMemory),
+    }
+}
+
+impl Reading {
+    /// The lines of an operation that is an EQU name.
+    fn operation_lines(&self, operation: Option<usize>) -> Option<&[Vec<Token>]>
+        ensures { option_map (λ lines. map (λ line. line.items) lines.now) result ≡ operation_lines (reading_of self.now) operation }
+    {
+        match operation {
+            Some(name) => self.equates.lines_of(name),
+            None => None,
+        }
+    }
+
+    /// A line in its parts, whose operation is no EQU name.
+    fn add_plain(
+        &mut self,
+        alloc: Global,
+        number: usize,
+        parts: Parts,
+        rest: &[Token],
+    ) -> Result<(), TextProblem>
+        requires { vec_len self.old.lines < self.old.lines_read }
+        ensures { Gives (λ _. reading_of self.new) result
+            (Ok (line_added number (record { labels = parts.labels.items; label_tokens = []; operation = parts.operation; rest = rest.now }) (reading_of self.old))) }
+    {
+        let rest = copied(alloc, rest)?;
+        let Parts {
+            labels,
+            operation,
+            ..
+        } = parts;
+        self.add_line(Line {
+            number,
+            labels,
+            operation,
+            rest,
+        })
+    }
+
+    /// Reads the tokens of an ordinary line of this number. Where its operation is an EQU name, the lines of that name
+    /// take its place; they may nest so deep.
+    #[cycle(ordinary)]
+    pub fn read_ordinary(
+        &mut self,
+        alloc: Global,
+        names: &Names,
+        number: usize,
+        depth: usize,
+        tokens: &[Token],
+    ) -> Result<(), TextProblem>
+        requires { vec_len self.old.lines < self.old.lines_read }
+        ensures { Gives (λ _. reading_of self.new) result (ordinary_line (predefined_of names.now) number depth tokens.now (reading_of self.old)) }
+    {
+        let parts = match self.parts_of(alloc, names, tokens) {
+            Ok(parts) => parts,
+            Err(problem) => return Err(problem),
+        };
+        let rest = &tokens[parts.rest_at..];
+        let Some(lines) = self.operation_lines(parts.operation) else {
+            return self.add_plain(alloc, number, parts, rest);
+        };
+        if depth == 0 {
+            return Err(TextProblem::EquDepth);
+        }
+        let lines = used_lines(alloc, &tokens[..parts.labels_end], lines, rest)?;
+        self.read_each(alloc, names, number, depth - 1, &lines)
+    }
+
+    /// Reads lines that come from EQU, each as an ordinary line, up to END.
+    #[cycle(ordinary)]
+    fn read_each(
+        &mut self,
+        alloc: Global,
+        names: &Names,
+        number: usize,
+        depth: usize,
+        lines: &[Vec<Token>],
+    ) -> Result<(), TextProblem>
+        ensures { Gives (λ _. reading_of self.new) result
+            (each_line (ordinary_line (predefined_of names.now) number depth) (map (λ line. line.items) lines.now) (reading_of self.old)) }
+    {
+        for line in lines {
+            self.count_line()?;
+            self.count_tokens(line)?;
+            self.read_ordinary(alloc, names, number, depth, line)?;
+            if self.ended {
+                return Ok(());
+            }
+        }
+        Ok(())
+    }
+}
