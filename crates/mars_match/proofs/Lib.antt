@@ -5,3 +5,6 @@ pub mod Writing
 pub mod Ranking
 pub mod Rotations
 pub mod Ends
+pub mod Sums
+pub mod Outcomes
+pub mod Totals

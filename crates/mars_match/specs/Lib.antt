@@ -6,4 +6,6 @@ pub mod Results
 pub mod Levels
 pub mod Battles
 pub mod Answers
+pub mod Rounds
+pub mod Tallies
 pub mod Rows

@@ -71,7 +71,7 @@ fn exchange(starts: &mut [u32], seed: u32) -> u32
 
 /// Places as many warriors as there are starts, where there is room for them. Gives the seed that is left. It takes no
 /// memory.
-fn place_all(params: &Params, seed: u32, starts: &mut [u32]) -> u32
+pub fn place_all(params: &Params, seed: u32, starts: &mut [u32]) -> u32
     requires some { 1 ≤ length starts.old }
     requires few { length starts.old ≤ 16 }
     requires room { length starts.old * params.now.distance ≤ params.now.core_size }
@@ -89,7 +89,7 @@ fn place_all(params: &Params, seed: u32, starts: &mut [u32]) -> u32
 }
 
 /// The first reason not to place so many warriors, but for memory.
-fn find_fault(params: &Params, warriors: u32, seed: u32) -> Option<PlaceFault>
+pub fn find_fault(params: &Params, warriors: u32, seed: u32) -> Option<PlaceFault>
     requires { warriors ≤ 16 }
     ensures { result ≡ place_fault params.now warriors seed }
 {

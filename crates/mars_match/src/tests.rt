@@ -2,9 +2,13 @@
 ghost use Rattle.std.specs.Prelude.{Some};
 ghost use Rattle.mars_cell.specs.Warriors.{IsName};
 
-use crate::{MatchFault, PlaceFault, Row, Table, WriteFault, fight, place, write_results};
+use crate::{
+    MatchFault, PlaceFault, Plan, Row, Table, WriteFault, fight, place, rounds, write_results,
+};
 use mars_cell::{Cell, Params, Warrior, read_cell};
 use mars_core::BattleFault;
+use redcode_asm::Formula;
+use redcode_text::ExprFault;
 use std::alloc::Global;
 use std::io::{self, ErrorKind, Write};
 use std::process::Abort;
@@ -283,6 +287,188 @@ fn refused_fights(rt: HostRuntime) -> Result<(), Fail> {
             Some(MatchFault::Battle(fault)),
             "{count} warriors"
         );
+    }
+    Ok(())
+}
+
+fn formula(alloc: Global, text: &str) -> Result<Formula, Fail> {
+    let formula = Formula::new(alloc, text.as_bytes()).ok().ok_or("formula")?;
+    Ok(formula)
+}
+
+/// The table of a match, or its fault.
+fn held(
+    alloc: Global,
+    params: &Params,
+    warriors: &[Warrior],
+    plan: (u32, u32, Option<u32>, &str),
+) -> Result<Result<Table, MatchFault>, Fail> {
+    let (count, seed, fixed, text) = plan;
+    if let Some(position) = fixed {
+        let least = params.distance();
+        let most = params.core_size() - least;
+        if warriors.len() != 2 || position < least || position > most {
+            return Err("position".into());
+        }
+    }
+    let plan = Plan {
+        rounds: count,
+        seed,
+        fixed,
+        formula: formula(alloc, text)?,
+    };
+    Ok(rounds(alloc, params, warriors, &plan))
+}
+
+/// The results of a match, in load order.
+fn results_of(alloc: Global, table: Result<Table, MatchFault>) -> Result<Vec<u8>, Fail> {
+    let table = table.ok().ok_or("match")?;
+    let (text, _done) = written(alloc, &table, false, 1000, 1000, false);
+    Ok(text)
+}
+
+const HEADING: &str = "  points   wins   ties losses  warrior\n";
+
+const BY_DEFAULT: &str = "(W*W-1)/S";
+
+/// The imp and the one that stays.
+fn imp_and_stay(alloc: Global) -> Result<Vec<Warrior>, Fail> {
+    let mut warriors = Vec::new(alloc);
+    warriors.push(one_cell(alloc, "Imp", "Dewdney", 8000, "MOV.I $0, $1")?)?;
+    warriors.push(one_cell(alloc, "Stay", "Anonymous", 8000, "JMP.B $0, $0")?)?;
+    Ok(warriors)
+}
+
+#[test]
+fn matches(rt: HostRuntime) -> Result<(), Fail> {
+    let params = sizes(8000, 100)?;
+    let warriors = imp_and_stay(rt.alloc())?;
+    let table = held(
+        rt.alloc(),
+        &params,
+        warriors.as_slice(),
+        (1, 1, None, BY_DEFAULT),
+    )?;
+    let expected = "  points   wins   ties losses  warrior
+       1      0      1      0  Imp by Dewdney
+       1      0      1      0  Stay by Anonymous
+";
+    let text = results_of(rt.alloc(), table)?;
+    assert_eq!(rt; text.as_slice(), expected.as_bytes());
+    Ok(())
+}
+
+#[test]
+fn default_scores(rt: HostRuntime) -> Result<(), Fail> {
+    let params = sizes(8000, 100)?;
+    let (stay, dead) = ("JMP.B $0, $0", "DAT.F $0, $0");
+    let cases: [(&[&str], &str); 5] = [
+        (&[stay, dead], "       3      1      0      0  Test by \n"),
+        (&[stay, stay], "       1      0      1      0  Test by \n"),
+        (
+            &[stay, dead, dead],
+            "       8      1      0      0  Test by \n",
+        ),
+        (
+            &[stay, stay, dead],
+            "       4      0      1      0  Test by \n",
+        ),
+        (
+            &[stay, stay, stay],
+            "       2      0      1      0  Test by \n",
+        ),
+    ];
+    for (cells, line) in cases {
+        let warriors = one_cells(rt.alloc(), 8000, cells)?;
+        let table = held(
+            rt.alloc(),
+            &params,
+            warriors.as_slice(),
+            (1, 7, None, BY_DEFAULT),
+        )?;
+        let text = results_of(rt.alloc(), table)?;
+        let start = HEADING.len().min(text.len());
+        let end = (start + line.len()).min(text.len());
+        assert_eq!(rt; &text[start..end], line.as_bytes());
+    }
+    Ok(())
+}
+
+#[test]
+fn exact_sums(rt: HostRuntime) -> Result<(), Fail> {
+    // In a battle of one cycle the first kills the second only where it has the first turn. After three rounds its
+    // points are beyond 64 bits, after four they aren't.
+    let params = Params::new(8, 8, 1, 8, 8, 1, 1).ok().ok_or("parameters")?;
+    let duel = one_cells(rt.alloc(), 8, &["MOV.I $1, $4", "JMP.B $0, $0"])?;
+    let text = "3458764513820540928*(5-3*S)";
+    let table = held(rt.alloc(), &params, duel.as_slice(), (4, 0, Some(4), text))?;
+    let expected = "  points   wins   ties losses  warrior
+6917529027641081856      2      2      0  Test by \n-6917529027641081856      0      2      2  Test by \n";
+    assert_eq!(rt;
+        results_of(rt.alloc(), table)?.as_slice(),
+        expected.as_bytes()
+    );
+    let table = held(rt.alloc(), &params, duel.as_slice(), (3, 0, Some(4), text))?;
+    assert_eq!(rt; table.err(), Some(MatchFault::Score(ExprFault::Range)));
+    Ok(())
+}
+
+#[test]
+fn refused_matches(rt: HostRuntime) -> Result<(), Fail> {
+    let params = Params::new(1700, 8, 1, 8, 8, 1, 100)
+        .ok()
+        .ok_or("parameters")?;
+    let stays: [&str; 17] = ["JMP.B $0, $0"; 17];
+    let all = one_cells(rt.alloc(), 1700, &stays)?;
+    let cases: [(usize, u32, u32, &str, MatchFault); 6] = [
+        (
+            0,
+            0,
+            1,
+            BY_DEFAULT,
+            MatchFault::Battle(BattleFault::NoWarrior),
+        ),
+        (
+            17,
+            0,
+            0,
+            BY_DEFAULT,
+            MatchFault::Battle(BattleFault::TooMany),
+        ),
+        (2, 1, 0, BY_DEFAULT, MatchFault::Place(PlaceFault::BadSeed)),
+        (
+            2,
+            1,
+            1,
+            "1/(S-2)",
+            MatchFault::Score(ExprFault::DivideByZero),
+        ),
+        (
+            1,
+            2,
+            1,
+            "9223372036854775807",
+            MatchFault::Score(ExprFault::Range),
+        ),
+        (
+            2,
+            3,
+            1,
+            "9223372036854775807+S",
+            MatchFault::Score(ExprFault::Range),
+        ),
+    ];
+    for (count, rounds, seed, text, fault) in cases {
+        if count > all.len() {
+            return Err("count".into());
+        }
+        let table = held(
+            rt.alloc(),
+            &params,
+            &all[..count],
+            (rounds, seed, None, text),
+        )?;
+        assert_eq!(rt; table.err(), Some(fault), "{count} warriors");
     }
     Ok(())
 }

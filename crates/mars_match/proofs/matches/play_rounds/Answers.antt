@@ -1,0 +1,52 @@
+use Rattle.std.proofs.Common.{◌≡◌, ◌+◌, ◌-◌, ◌%◌, ◌<◌, ◌++◌, ◌∙◌, sym, ap, inl, inr, length, take, drop, w64, Ok, Err, rules, arith}
+use Rattle.std.proofs.lemmas.Grind.{common_steps}
+use Rattle.std.proofs.lemmas.Int.{to_z-of_z}
+use Rattle.std.proofs.lemmas.Result.{err_from_is_err_and}
+use Rattle.std.specs.Int.RustNames.{FitsSigned}
+use Rattle.mars_match.specs.Rounds.{placed_for, ended}
+use Rattle.mars_match.specs.Tallies.{outcome_by, tallied, all_added}
+use Rattle.mars_match.proofs.Outcomes.{tallied_place_err, tallied_round_err, tallied_more, fault_answer}
+use Rattle.mars_match.proofs.matches.play_rounds.Goals as goal
+
+pub returns-in_err-seed : goal.returns-in_err-seed
+returns-in_err-seed c =
+    let p = err_from_is_err_and c.from_residual.result c.from_residual.ensures.1 in
+    let plan = c.args.plan.now in
+    let many : length c.as_mut_slice.result.now ≡ length c.args.lineup.now = rw c.as_mut_slice.ensures.value c.loop-round.invariant.starts in
+    let bad : placed_for c.args.params.now (length c.args.lineup.now) plan.fixed c.loop-round.seed ≡ Err c.in_err-seed.field-0.0 = rw many at c.in_err-seed.ensures in
+    let more : c.loop-round.round < plan.rounds = omega arith in
+    fault_answer _ _ _ p.0 p.1 (inr (sym c.loop-round.invariant.sums ∙ tallied_place_err c.args.params.now c.args.lineup.now plan.formula plan.fixed plan.rounds c.loop-round.round c.loop-round.seed c.loop-round.tallies more p.0 (rw p.2 bad)))
+
+pub returns-in_err-battle : goal.returns-in_err-battle
+returns-in_err-battle c =
+    let p = err_from_is_err_and c.from_residual-in_err-battle.result c.from_residual-in_err-battle.ensures.1 in
+    let plan = c.args.plan.now in
+    let many : length c.as_mut_slice.result.now ≡ length c.args.lineup.now = rw c.as_mut_slice.ensures.value c.loop-round.invariant.starts in
+    let good : placed_for c.args.params.now (length c.args.lineup.now) plan.fixed c.loop-round.seed ≡ Ok (c.place_round.new.starts, c.in_ok-seed.seed) = rw many at c.in_ok-seed.ensures in
+    let more : c.loop-round.round < plan.rounds = omega arith in
+    let same : c.as_slice-starts.result.now ≡ c.place_round.new.starts = grind (arith, common_steps, c.as_slice-starts.ensures.value) in
+    fault_answer _ _ _ p.0 p.1 (elim c.in_err-battle.ensures.outcome [
+      | inl none ↦ inl (p.2 ∙ none)
+      | inr bad ↦ inr (sym c.loop-round.invariant.sums ∙ tallied_round_err c.args.params.now c.args.lineup.now plan.formula plan.fixed plan.rounds c.loop-round.round c.loop-round.seed c.loop-round.tallies more
+          c.place_round.new.starts c.in_ok-seed.seed p.0 good (rw (p.2, ← same) bad))
+    ])
+
+pub loop-round-preserved : goal.loop-round-preserved
+loop-round-preserved c =
+    let plan = c.args.plan.now in
+    let many : length c.as_mut_slice.result.now ≡ length c.args.lineup.now = rw c.as_mut_slice.ensures.value c.loop-round.invariant.starts in
+    let good : placed_for c.args.params.now (length c.args.lineup.now) plan.fixed c.loop-round.seed ≡ Ok (c.place_round.new.starts, c.in_ok-seed.seed) = rw many at c.in_ok-seed.ensures in
+    let more : c.loop-round.round < plan.rounds = omega arith in
+    let same : c.as_slice-starts.result.now ≡ c.place_round.new.starts = grind (arith, common_steps, c.as_slice-starts.ensures.value) in
+    let k = c.loop-round.round in
+    let count : length c.loop-round.tallies ≡ length c.args.lineup.now = omega arith in
+    let o = outcome_by (k % length c.args.lineup.now) c.in_ok-battle.battle c.in_ok-battle.score in
+    let fits : FitsSigned w64 c.in_ok-battle.score = search rules in
+    let score = to_z-of_z w64 c.in_ok-battle.score fits in
+    let played : ended c.args.params.now c.args.lineup.now plan.formula c.place_round.new.starts k ≡ Ok o = rw (← same) c.in_ok-battle.ensures.outcome in
+    let sums : c.add_round.new.tallies ≡ all_added o 0 c.loop-round.tallies = rw (score, count) at c.add_round.ensures.sums in
+    record {
+      sums = rw sums (tallied_more c.args.params.now c.args.lineup.now plan.formula plan.fixed plan.rounds k c.loop-round.seed c.loop-round.tallies more c.place_round.new.starts c.in_ok-seed.seed o good played ∙ c.loop-round.invariant.sums);
+      bounds = c.add_round.ensures.bounds;
+      starts = ap length (sym c.as_slice-starts.ensures.value ∙ same) ∙ c.place_round.auto.starts ∙ many;
+    }

@@ -1,0 +1,31 @@
+use Rattle.std.proofs.Common.{◌≡◌, ◌≤◌, ◌<◌, ◌^◌, ◌∙◌, sym, length, refl, pos, w64, arith, rules}
+use Rattle.std.proofs.lemmas.Int.{to_z_pos, to_z-of_z}
+use Rattle.std.specs.Int.RustNames.{FitsSigned}
+use Rattle.mars_core.specs.State.{survivors_of}
+use Rattle.mars_match.proofs.Sums.{survivors-le}
+use Rattle.mars_match.proofs.Outcomes.{score_is}
+use Rattle.mars_match.proofs.matches.score_round.Goals as goal
+
+pub overflow_cast-survivors : goal.overflow_cast-survivors
+overflow_cast-survivors c =
+    let few : c.survivors-survivors.result ≤ 16 = omega (arith, survivors-le c.args.battle.now.queues) in
+    search rules
+
+pub returns-in-Ok : goal.returns-in-Ok
+returns-in-Ok c =
+    let s = c.args.battle.now in
+    let fits : FitsSigned w64 c.in-Ok.score = search rules in
+    let few : c.survivors-survivors.result ≤ 16 = omega (arith, survivors-le s.queues) in
+    let w = to_z_pos w64 c.warriors.result (omega arith) in
+    let n = to_z_pos w64 c.survivors-survivors.result (omega arith) in
+    let value = rw (w, n, c.warriors.ensures, c.survivors-survivors.ensures, c.in-Ok.is) at c.score.ensures in
+    rw (score_is c.args.formula.now s (rw c.survivors-survivors.ensures at c.if-survivors-eq0.false), ← value, to_z-of_z w64 c.in-Ok.score fits) refl
+
+pub returns-in-Err : goal.returns-in-Err
+returns-in-Err c =
+    let s = c.args.battle.now in
+    let few : c.survivors-survivors.result ≤ 16 = omega (arith, survivors-le s.queues) in
+    let w = to_z_pos w64 c.warriors.result (omega arith) in
+    let n = to_z_pos w64 c.survivors-survivors.result (omega arith) in
+    let value = rw (w, n, c.warriors.ensures, c.survivors-survivors.ensures, c.in-Err.is) at c.score.ensures in
+    rw (score_is c.args.formula.now s (rw c.survivors-survivors.ensures at c.if-survivors-eq0.false), ← value) refl

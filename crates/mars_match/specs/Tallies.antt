@@ -1,0 +1,61 @@
+-- How the code adds the rounds up as they end: it serves the proof alone.
+use Rattle.std.specs.Prelude.{◌≡◌, ℕ, zero, suc, ◌+◌, ◌*◌, ◌≤◌, ◌^◌, ℤ, pos, ◌+ℤ◌, ◌≤ℤ◌, neg_ℤ, Bool, not, ◌&&◌, ◌==◌, if◌then◌else◌, List, [], ◌∷◌, length, Option, Result, Ok, Err}
+use Rattle.mars_cell.specs.Parameters.{Parameters}
+use Rattle.mars_cell.specs.Warriors.{WarriorValue}
+use Rattle.mars_core.specs.State.{State}
+use Rattle.mars_match.specs.Battles.{in_load_order}
+use Rattle.redcode_text.specs.Tokens.{Scanned}
+use Rattle.mars_match.specs.Rounds.{Outcome, ◌>>=◌, placed_for, ended, has_lived, how_many}
+use Rattle.mars_match.specs.Tables.{RowValue}
+use Rattle.mars_match.specs.declared.fault.MatchFault.{MatchFault}
+use Rattle.mars_match.specs.declared.tallies.Tally.{Tally}
+
+abbrev pub no_rounds : Tally
+no_rounds = record { points = pos 0; wins = 0; ties = 0; losses = 0 }
+
+-- how a round ended, whose battle is over and in which warrior `first` had the first turn
+abbrev pub outcome_by : ℕ → State → ℤ → Outcome
+outcome_by first s score = record { lived = in_load_order first s; score = score }
+
+-- a tally with one more round, by whether its warrior lived, and whether alone
+abbrev pub added_if : Bool → Bool → ℤ → Tally → Tally
+added_if lived alone score t = record {
+  points = t.points +ℤ (if lived then score else pos 0);
+  wins = t.wins + (if lived && alone then 1 else 0);
+  ties = t.ties + (if lived && not alone then 1 else 0);
+  losses = t.losses + (if not lived then 1 else 0);
+}
+
+-- the tally of warrior i, with one more round
+abbrev pub added : Outcome → ℕ → Tally → Tally
+added outcome i t = added_if (has_lived i outcome) (how_many outcome.lived == 1) outcome.score t
+
+-- the tallies from warrior i on, with one more round
+abbrev pub all_added : Outcome → ℕ → List Tally → List Tally
+all_added outcome i [] = []
+all_added outcome i (t ∷ tallies) = added outcome i t ∷ all_added outcome (i + 1) tallies
+
+-- the tallies after n more rounds
+abbrev pub tallied : Parameters → List WarriorValue → Scanned → Option ℕ → ℕ → ℕ → ℕ → List Tally → Result (List Tally) MatchFault
+tallied p warriors formula fixed zero k seed tallies = Ok tallies
+tallied p warriors formula fixed (suc n) k seed tallies =
+    placed_for p (length warriors) fixed seed >>= λ placed.
+    ended p warriors formula placed.0 k >>= λ outcome.
+    tallied p warriors formula fixed n (k + 1) placed.1 (all_added outcome 0 tallies)
+
+-- a tally of at most k rounds
+pub record IsOf (k : ℕ) (t : Tally) : Type 0 where
+  pub low : neg_ℤ (pos (k * 2 ^ 63)) ≤ℤ t.points
+  pub high : t.points ≤ℤ pos (k * 2 ^ 63)
+  pub wins : t.wins ≤ k
+  pub ties : t.ties ≤ k
+  pub losses : t.losses ≤ k
+
+-- the row of a warrior with its tally
+abbrev pub row_with : WarriorValue → Tally → RowValue
+row_with warrior t = record { name = warrior.name; author = warrior.author; points = t.points; wins = t.wins; ties = t.ties; losses = t.losses }
+
+abbrev pub rows_with : List WarriorValue → List Tally → List RowValue
+rows_with [] tallies = []
+rows_with (w ∷ warriors) [] = []
+rows_with (w ∷ warriors) (t ∷ tallies) = row_with w t ∷ rows_with warriors tallies

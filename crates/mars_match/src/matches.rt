@@ -1,0 +1,195 @@
+//! Rounds of a match.
+ghost use Rattle.std.specs.Prelude.{◌≡◌, ℕ, ◌+◌, ◌%◌, ◌<◌, ◌≤◌, All, List, length, pos, ℤ, ◌-◌, Some, None, Ok, Err, IfSome, IfOk, MatchOption, true, false, MatchResult, Vec, replicate};
+ghost use Rattle.mars_core.specs.State.{State};
+ghost use Rattle.mars_match.specs.Answers.{IsAnswer};
+ghost use Rattle.mars_match.specs.Battles.{in_load_order, lives, count_fault, fought};
+ghost use Rattle.mars_match.specs.Rounds.{Outcome, placed_for, round_score, ended, fits_in_64, checked_rows, table_of};
+ghost use Rattle.mars_match.specs.declared.table.Table.{Table};
+ghost use Rattle.mars_match.specs.Tables.{RowValue};
+ghost use Rattle.mars_match.specs.Tallies.{no_rounds as spec_no_rounds, outcome_by, tallied, IsOf, row_with, rows_with};
+ghost use Rattle.std.specs.Global.{Global};
+
+use crate::fault::MatchFault;
+use crate::fights::{check_count, fight_round};
+use crate::lineup::Lineup;
+use crate::placement::{find_fault, place_all};
+use crate::table::{Row, Table};
+use crate::tallies::{Tally, add_round, no_rounds};
+use mars_cell::{Params, Warrior};
+use mars_core::Battle;
+use redcode_asm::Formula;
+use redcode_text::ExprFault;
+use std::alloc::Global;
+
+/// How a match is held.
+#[derive(Drop)]
+pub struct Plan {
+    /// How many rounds, or for each pair of a league how many.
+    pub rounds: u32,
+    /// The seed of the first round, from 1 to 2147483646.
+    pub seed: u32,
+    /// Where the second of two warriors starts in each round, in place of a drawn position: from the least distance to the
+    /// core size less it.
+    pub fixed: Option<u32>,
+    /// What each survivor of a round gets.
+    pub formula: Formula,
+}
+
+/// The starts of a round. Gives the seed that is left.
+fn place_round(
+    params: &Params,
+    fixed: Option<u32>,
+    seed: u32,
+    starts: &mut [u32],
+) -> Result<u32, MatchFault>
+    requires some { 1 ≤ length starts.old }
+    requires few { length starts.old ≤ 16 }
+    requires fixed { IfSome fixed (λ position. length starts.old ≡ 2) }
+    ensures { MatchResult result (λ left. placed_for params.now (length starts.old) fixed seed ≡ Ok (starts.new, left)) (λ fault. placed_for params.now (length starts.old) fixed seed ≡ Err fault) }
+{
+    if let Some(position) = fixed {
+        starts[0] = 0;
+        starts[1] = position;
+        return Ok(seed);
+    }
+    if let Some(fault) = find_fault(params, starts.len() as u32, seed) {
+        return Err(MatchFault::Place(fault));
+    }
+    Ok(place_all(params, seed, starts))
+}
+
+/// What each survivor of a battle gets.
+fn score_round(formula: &Formula, battle: &Battle) -> Result<i64, MatchFault>
+    requires { length battle.now.queues ≤ 16 }
+    ensures { result ≡ round_score formula.now (lives battle.now) }
+{
+    let survivors = battle.survivors();
+    if survivors == 0 {
+        return Ok(0);
+    }
+    match formula.score(battle.warriors() as i64, survivors as i64) {
+        Ok(score) => Ok(score),
+        Err(fault) => Err(MatchFault::Score(fault)),
+    }
+}
+
+/// A tally for each of so many warriors.
+fn first_tallies(alloc: Global, count: usize) -> Result<Vec<Tally>, MatchFault>
+    ensures { MatchResult result (λ tallies. tallies.items ≡ replicate count spec_no_rounds) (λ fault. fault ≡ MatchFault.OutOfMemory) }
+{
+    let Ok(mut tallies) = Vec::with_capacity(alloc, count) else {
+        return Err(MatchFault::OutOfMemory);
+    };
+    for _warrior in 0..count {
+        if tallies.push(no_rounds()).is_err() {
+            return Err(MatchFault::OutOfMemory);
+        }
+    }
+    Ok(tallies)
+}
+
+/// The points in 64 bits, where they fit.
+fn fitting(points: i128) -> Option<i64>
+    ensures { MatchOption result (fits_in_64 points ≡ false) (λ same. (fits_in_64 points ≡ true) × (same ≡ points)) }
+{
+    i64::try_from(points).ok()
+}
+
+/// The row of a warrior with its tally, where its points fit 64 bits.
+fn row_of(warrior: &Warrior, tally: Tally) -> Result<Row, MatchFault>
+    ensures { MatchResult result (λ row. (fits_in_64 tally.points ≡ true) × (row ≡ row_with warrior.now tally)) (λ fault. (fault ≡ MatchFault.Score ExprFault.Range) × (fits_in_64 tally.points ≡ false)) }
+{
+    let Some(points) = fitting(tally.points) else {
+        return Err(MatchFault::Score(ExprFault::Range));
+    };
+    let (name, author) = (warrior.name(), warrior.author());
+    Ok(Row::new(name, author, points, tally.wins, tally.ties, tally.losses))
+}
+
+/// The row of each warrior with its tally, where all points fit 64 bits.
+fn rows_of(alloc: Global, warriors: &[Warrior], tallies: &[Tally]) -> Result<Vec<Row>, MatchFault>
+    requires { length tallies.now ≡ length warriors.now }
+    ensures { IsAnswer (λ (rows : Vec RowValue Global). rows.items) (checked_rows (rows_with warriors.now tallies.now)) result }
+{
+    let Ok(mut rows) = Vec::with_capacity(alloc, warriors.len()) else {
+        return Err(MatchFault::OutOfMemory);
+    };
+    for i in 0..warriors.len() {
+        let row = row_of(&warriors[i], tallies[i])?;
+        if rows.push(row).is_err() {
+            return Err(MatchFault::OutOfMemory);
+        }
+    }
+    Ok(rows)
+}
+
+/// The battle of a round, when it is over, and what each survivor gets.
+fn play_round(
+    alloc: Global,
+    params: &Params,
+    lineup: &Lineup,
+    starts: &[u32],
+    round: u32,
+    formula: &Formula,
+) -> Result<(Battle, i64), MatchFault>
+    requires starts { length starts.now ≡ length lineup.now }
+    requires some { 1 ≤ length lineup.now }
+    requires few { length lineup.now ≤ 16 }
+    ensures outcome { IsAnswer (λ (played : State × ℤ). outcome_by (round % length lineup.now) played.0 played.1) (ended params.now lineup.now formula.now starts.now round) result }
+    ensures many { IfOk result (λ played. length played.0.queues ≡ length lineup.now) }
+{
+    let battle = fight_round(alloc, params, lineup, starts, round)?;
+    let score = score_round(formula, &battle)?;
+    Ok((battle, score))
+}
+
+/// Plays the rounds of a match, and adds each to the tallies.
+fn play_rounds(
+    alloc: Global,
+    params: &Params,
+    lineup: &Lineup,
+    plan: &Plan,
+    tallies: &mut [Tally],
+) -> Result<(), MatchFault>
+    requires some { 1 ≤ length lineup.now }
+    requires few { length lineup.now ≤ 16 }
+    requires fixed { IfSome plan.now.fixed (λ position. length lineup.now ≡ 2) }
+    requires many { length tallies.old ≡ length lineup.now }
+    requires fresh { All (IsOf 0) tallies.old }
+    ensures { IsAnswer (λ _. tallies.new) (tallied params.now lineup.now plan.now.formula plan.now.fixed plan.now.rounds 0 plan.now.seed tallies.old) result }
+{
+    let Ok(mut starts) = vec![in alloc; 0u32; lineup.len()] else {
+        return Err(MatchFault::OutOfMemory);
+    };
+    let mut seed = plan.seed;
+    for round in 0..plan.rounds {
+        seed = place_round(params, plan.fixed, seed, starts.as_mut_slice())?;
+        let starts = starts.as_slice();
+        let (battle, score) = play_round(alloc, params, lineup, starts, round, &plan.formula)?;
+        add_round(tallies, &battle, round, score);
+    }
+    Ok(())
+}
+
+/// The table of a match: so many rounds between all warriors, each placed with the seed that the last one left, and
+/// begun by the next warrior in load order. Where a round can't be held, or a warrior's points don't fit 64 bits at the
+/// end, it answers the first fault. A round takes memory for its battle alone.
+pub fn rounds(
+    alloc: Global,
+    params: &Params,
+    warriors: &[Warrior],
+    plan: &Plan,
+) -> Result<Table, MatchFault>
+    requires fixed { IfSome plan.now.fixed (λ position. (length warriors.now ≡ 2) × (params.now.distance ≤ position) × (position ≤ params.now.core_size - params.now.distance)) }
+    ensures count { IfSome (count_fault (length warriors.now)) (λ fault. result ≡ Err (MatchFault.Battle fault)) }
+    ensures table { IsAnswer (λ (table : Table). table.rows.items) (table_of params.now warriors.now plan.now.formula plan.now.fixed plan.now.rounds plan.now.seed) result }
+{
+    check_count(warriors.len())?;
+    let Ok(lineup) = Lineup::new(alloc, warriors) else {
+        return Err(MatchFault::OutOfMemory);
+    };
+    let mut tallies = first_tallies(alloc, warriors.len())?;
+    play_rounds(alloc, params, &lineup, plan, tallies.as_mut_slice())?;
+    let rows = rows_of(alloc, warriors, tallies.as_slice())?;
+    Ok(Table { rows })
+}
