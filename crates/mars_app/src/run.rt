@@ -1,13 +1,13 @@
 //! The program `mars`, over files and streams that are handed in.
 ghost use Rattle.std.specs.Prelude.{◌≡◌, ◌≤◌, IfOk, length, vec_len};
-ghost use Rattle.mars_app.specs.Loading.{AllFit};
+ghost use Rattle.mars_app.specs.Loading.{AllFit, FitsTwo};
 
 use crate::debugger::{DebugFault, debug};
 use crate::files::{FileFault, WarriorFiles};
 use crate::options::{Options, WordsFault, read_options};
 use mars_cell::{LoadFault, ParamFault, Params, Warrior, read_load, write_load};
 use mars_core::{Battle, BattleFault};
-use mars_match::{MatchFault, PlaceFault, place};
+use mars_match::{MatchFault, PlaceFault, Plan, place, rounds, write_results};
 use mars_session::{Session, WholeTape};
 use redcode_asm::{Formula, FormulaFault};
 use redcode_text::ExprFault;
@@ -83,6 +83,7 @@ pub fn run<F: WarriorFiles, R: Read, W: Write, E: Write>(
     }
 }
 
+#[tactic(auto, using(crate::proofs::Positions::position_fits))]
 fn run_words<F: WarriorFiles, R: Read, W: Write>(
     alloc: Global,
     words: &[String],
@@ -119,7 +120,10 @@ fn run_words<F: WarriorFiles, R: Read, W: Write>(
 }
 
 /// The parameters that the words ask for: a limit that isn't given is the core size.
-fn parameters(options: &Options) -> Result<Params, ParamFault> {
+fn parameters(options: &Options) -> Result<Params, ParamFault>
+    ensures core { IfOk result (λ p. p.core_size ≡ options.now.core) }
+    ensures distance { IfOk result (λ p. p.distance ≡ options.now.distance) }
+{
     Params::new(
         options.core,
         options.processes,
@@ -240,7 +244,7 @@ fn write_all<W: Write>(output: &mut W, text: &[u8]) -> Result<(), RunFault> {
     }
 }
 
-/// Fights the match or the league, and writes its results.
+/// Fights the match, and writes its results.
 fn fight<W: Write>(
     alloc: Global,
     options: &Options,
@@ -248,9 +252,23 @@ fn fight<W: Write>(
     params: &Params,
     warriors: &[Warrior],
     output: &mut W,
-) -> Result<(), RunFault> {
-    let _ = formula;
-    write_all(output, b"")
+) -> Result<(), RunFault>
+    requires { FitsTwo params.now (length warriors.now) options.now.fixed }
+{
+    let plan = Plan {
+        rounds: options.rounds,
+        seed: options.seed,
+        fixed: options.fixed,
+        formula,
+    };
+    let fought = rounds(alloc, params, warriors, &plan);
+    match fought {
+        Ok(table) => match write_results(&table, options.sorted, output) {
+            Ok(()) => Ok(()),
+            Err(_) => Err(RunFault::Output),
+        },
+        Err(fault) => Err(match_fault(fault)),
+    }
 }
 
 /// The fault of a match: want of memory is the same wherever it came.

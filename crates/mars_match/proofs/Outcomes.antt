@@ -1,5 +1,5 @@
 -- One round more.
-use Rattle.std.proofs.Common.{◌≡◌, refl, sym, ◌∙◌, ap, ℕ, zero, suc, ◌+◌, ◌-◌, ◌<◌, ◌≤◌, ◌⊎◌, ℤ, Option, None, Some, Result, Ok, Err, List, [], ◌∷◌, length, get_or, pos, nat_eq, true, false, arith}
+use Rattle.std.proofs.Common.{◌≡◌, refl, ℕ, zero, suc, ◌+◌, ◌-◌, ◌<◌, ◌⊎◌, ℤ, Option, Result, Ok, Err, List, [], ◌∷◌, length, get_or, pos, nat_eq, true, false, arith}
 use Rattle.std.proofs.lemmas.List.{length-map}
 use Rattle.std.proofs.lemmas.List.Folds.{list_all_at}
 use Rattle.std.specs.List.{list_all}
@@ -13,7 +13,7 @@ use Rattle.std.specs.Prelude.{not, Bool}
 use Rattle.redcode_text.specs.Tokens.{Scanned}
 use Rattle.mars_match.specs.Answers.{IsAnswer}
 use Rattle.mars_match.specs.Battles.{lives, in_load_order, fought}
-use Rattle.mars_match.specs.Rounds.{Outcome, ◌>>=◌, placed_for, round_score, outcome_of, ended, as_score, fits_in_64, checked_rows}
+use Rattle.mars_match.specs.Rounds.{Outcome, placed_for, round_score, ended, as_score, fits_in_64, checked_rows}
 use Rattle.mars_match.specs.Tallies.{tallied, all_added, row_with, rows_with}
 use Rattle.mars_match.specs.declared.fault.MatchFault.{MatchFault}
 use Rattle.mars_match.specs.declared.fault.MatchFault.TheVariants.{OutOfMemory, Score}

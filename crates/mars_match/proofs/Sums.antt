@@ -1,15 +1,13 @@
 -- Sums of rounds.
-use Rattle.std.proofs.Common.{◌≡◌, refl, sym, ◌∙◌, ap, ℕ, zero, suc, ◌+◌, ◌*◌, ◌^◌, ◌<◌, ◌≤◌, ℤ, pos, ◌+ℤ◌, ◌≤ℤ◌, neg_ℤ, Bool, true, false, cond, List, [], ◌∷◌, ◌++◌, length, take, drop, get_or, set, All, map, append_assoc, take-append-drop, ◌-◌, arith}
+use Rattle.std.proofs.Common.{◌≡◌, refl, ◌∙◌, ap, ℕ, ◌+◌, ◌<◌, ◌≤◌, Bool, true, cond, List, [], ◌∷◌, ◌++◌, length, take, drop, get_or, set, All, map, append_assoc, take-append-drop, ◌-◌, arith}
 use Rattle.std.specs.Prelude.{not, if◌then◌else◌}
 use Rattle.std.proofs.lemmas.List.{take_more_set, drop_more, drop-set-lt}
 use Rattle.std.proofs.lemmas.List.Elements.{All-head, All-tail, All-push}
 use Rattle.std.proofs.lemmas.List.Sums.{sum_by-append, sum_by-cons}
 use Rattle.mars_core.specs.State.{State, is_empty, survivors_of}
 use Rattle.mars_match.specs.Battles.{rotated, lives, in_load_order}
-use Rattle.std.proofs.lemmas.Int.{ints}
-use Rattle.std.specs.Int.RustNames.{FitsSigned}
 use Rattle.mars_match.specs.Rounds.{Outcome, how_many}
-use Rattle.mars_match.specs.Tallies.{added_if, added, all_added, IsOf}
+use Rattle.mars_match.specs.Tallies.{added, all_added}
 use Rattle.mars_match.specs.declared.tallies.Tally.{Tally}
 
 -- one more tally has the round

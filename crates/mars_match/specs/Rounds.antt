@@ -1,5 +1,5 @@
 -- Rounds: who survives each, what a survivor gets, and the sums.
-use Rattle.std.specs.Prelude.{ℕ, zero, suc, ◌+◌, ◌^◌, ℤ, pos, negsuc, ◌+ℤ◌, Bool, true, false, not, ◌&&◌, ◌==◌, nat_lt, if◌then◌else◌, List, [], ◌∷◌, length, count_by, slice_index_or, Option, None, Some, Result, Ok, Err}
+use Rattle.std.specs.Prelude.{ℕ, zero, suc, ◌+◌, ◌^◌, ℤ, pos, negsuc, ◌+ℤ◌, Bool, false, not, ◌&&◌, ◌==◌, nat_lt, if◌then◌else◌, List, [], ◌∷◌, length, count_by, slice_index_or, Option, None, Some, Result, Ok, Err}
 use Rattle.std.specs.List.{list_all}
 use Rattle.mars_cell.specs.Parameters.{Parameters}
 use Rattle.mars_cell.specs.Warriors.{WarriorValue}

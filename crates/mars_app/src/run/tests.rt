@@ -89,7 +89,7 @@ fn check_fault(
 
 #[test]
 fn bad_words(rt: HostRuntime) -> Result<(), Fail> {
-    let rows: [&[&str]; 22] = [
+    let rows: [&[&str]; 19] = [
         &[],
         &["-e"],
         &["-e", "-e", "imp.load"],
@@ -101,15 +101,12 @@ fn bad_words(rt: HostRuntime) -> Result<(), Fail> {
         &["-e", "--write-limit", "4294967297", "imp.load"],
         &["-e", "-h", "imp.load"],
         &["-e", "-q", "imp.load"],
-        &["-e", "--league", "imp.load", "stay.load"],
         &["-e", "--load", "imp.load"],
-        &["--league", "--load", "imp.load"],
-        &["--league", "imp.load"],
+        &["--league", "imp.load", "stay.load"],
         &["--load", "imp.load", "stay.load"],
         &["-F", "99", "imp.load", "stay.load"],
         &["-F", "7901", "imp.load", "stay.load"],
         &["-F", "200", "imp.load"],
-        &["-F", "200", "--league", "imp.load", "stay.load"],
         &["-r", "100001", "imp.load"],
         &["--seed", "2147483647", "imp.load"],
     ];
@@ -144,43 +141,24 @@ fn check_output(
 }
 
 #[test]
-fn a_match_and_a_league(rt: HostRuntime) -> Result<(), Fail> {
+fn matches(rt: HostRuntime) -> Result<(), Fail> {
     let tied = b"  points   wins   ties losses  warrior
        1      0      1      0  Unknown by Anonymous
        1      0      1      0  Unknown by Anonymous
 ";
     let words = ["-b", "-c", "10", "imp.load", "stay.load"];
     check_output(&rt, rt.alloc(), &words, b"", tied)?;
-    let table = b"  points   wins   ties losses  warrior
+    let won = b"  points   wins   ties losses  warrior
        0      0      0      2  Unknown by Anonymous
-       4      1      1      0  Unknown by Anonymous
-       4      1      1      0  Unknown by Anonymous
+       6      2      0      0  Unknown by Anonymous
 ";
-    let words = [
-        "-b",
-        "-c",
-        "10",
-        "--league",
-        "dead.load",
-        "imp.load",
-        "stay.load",
-    ];
-    check_output(&rt, rt.alloc(), &words, b"", table)?;
+    let words = ["-b", "-r", "2", "dead.load", "stay.load"];
+    check_output(&rt, rt.alloc(), &words, b"", won)?;
     let sorted = b"  points   wins   ties losses  warrior
-       4      1      1      0  Unknown by Anonymous
-       4      1      1      0  Unknown by Anonymous
+       6      2      0      0  Unknown by Anonymous
        0      0      0      2  Unknown by Anonymous
 ";
-    let words = [
-        "-b",
-        "-o",
-        "-c",
-        "10",
-        "--league",
-        "dead.load",
-        "imp.load",
-        "stay.load",
-    ];
+    let words = ["-b", "-o", "-r", "2", "dead.load", "stay.load"];
     check_output(&rt, rt.alloc(), &words, b"", sorted)
 }
 

@@ -2,7 +2,7 @@ use Rattle.std.proofs.Common.{◌≡◌, ◌%◌, ◌∙◌, sym, inr, length, w
 use Rattle.std.proofs.lemmas.Int.{to_z-of_z}
 use Rattle.std.proofs.lemmas.Result.{err_from_is_err_and}
 use Rattle.std.specs.Int.RustNames.{FitsSigned}
-use Rattle.mars_match.specs.Battles.{in_load_order, lives}
+use Rattle.mars_match.specs.Battles.{in_load_order}
 use Rattle.mars_match.specs.Rounds.{round_score}
 use Rattle.mars_match.proofs.Outcomes.{ended_ok, ended_err, score-in_order, fault_answer}
 use Rattle.mars_match.proofs.matches.play_round.Goals as goal

@@ -1,10 +1,10 @@
-use Rattle.std.proofs.Common.{◌≡◌, ◌+◌, ◌-◌, ◌%◌, ◌<◌, ◌++◌, ◌∙◌, sym, ap, inl, inr, length, take, drop, w64, Ok, Err, rules, arith}
+use Rattle.std.proofs.Common.{◌≡◌, ◌%◌, ◌<◌, ◌∙◌, sym, ap, inl, inr, length, w64, Ok, Err, rules, arith}
 use Rattle.std.proofs.lemmas.Grind.{common_steps}
 use Rattle.std.proofs.lemmas.Int.{to_z-of_z}
 use Rattle.std.proofs.lemmas.Result.{err_from_is_err_and}
 use Rattle.std.specs.Int.RustNames.{FitsSigned}
 use Rattle.mars_match.specs.Rounds.{placed_for, ended}
-use Rattle.mars_match.specs.Tallies.{outcome_by, tallied, all_added}
+use Rattle.mars_match.specs.Tallies.{outcome_by, all_added}
 use Rattle.mars_match.proofs.Outcomes.{tallied_place_err, tallied_round_err, tallied_more, fault_answer}
 use Rattle.mars_match.proofs.matches.play_rounds.Goals as goal
 

@@ -1,9 +1,8 @@
-use Rattle.std.proofs.Common.{◌≡◌, ◌∙◌, sym, ap, inl, inr, length, replicate, Ok, Err, Some, None, arith}
+use Rattle.std.proofs.Common.{◌≡◌, ◌∙◌, inl, inr, length, replicate, Ok, Err, arith}
 use Rattle.std.proofs.lemmas.Grind.{common_steps}
 use Rattle.std.proofs.lemmas.Result.{err_from_is_err_and}
 use Rattle.mars_match.specs.Battles.{count_fault}
-use Rattle.mars_match.specs.Rounds.{table_of}
-use Rattle.mars_match.specs.Tallies.{no_rounds, tallied, rows_with}
+use Rattle.mars_match.specs.Tallies.{no_rounds, tallied}
 use Rattle.mars_match.proofs.Totals.{table_err, table_with, counted_err, refused_count, good_count}
 use Rattle.mars_match.proofs.Outcomes.{fault_answer}
 use Rattle.mars_match.proofs.matches.rounds.Goals as goal

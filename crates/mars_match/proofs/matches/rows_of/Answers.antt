@@ -1,9 +1,8 @@
-use Rattle.std.proofs.Common.{◌≡◌, ◌+◌, ◌<◌, ◌≤◌, ◌∙◌, sym, ap, inr, true, false, refl, length, take, get_or, Some, [], ◌∷◌, ◌++◌, rules, arith}
+use Rattle.std.proofs.Common.{◌≡◌, ◌+◌, ◌<◌, ◌∙◌, sym, ap, inr, true, refl, length, take, get_or, [], ◌∷◌, ◌++◌, rules, arith}
 use Rattle.std.proofs.lemmas.List.{take_all, take_more}
 use Rattle.std.proofs.lemmas.List.Folds.{list_all_more}
 use Rattle.std.proofs.lemmas.Result.{err_from_is_err_and}
 use Rattle.mars_match.specs.Rounds.{fits_in_64}
-use Rattle.mars_match.specs.Tables.{RowValue}
 use Rattle.mars_match.specs.Tallies.{no_rounds, rows_with, row_with}
 use Rattle.mars_match.proofs.Outcomes.{length-rows, row_at, unfit, fit, fault_answer}
 use Rattle.mars_match.proofs.matches.rows_of.Goals as goal

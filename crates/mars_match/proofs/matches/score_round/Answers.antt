@@ -1,7 +1,6 @@
-use Rattle.std.proofs.Common.{◌≡◌, ◌≤◌, ◌<◌, ◌^◌, ◌∙◌, sym, length, refl, pos, w64, arith, rules}
+use Rattle.std.proofs.Common.{◌≤◌, refl, w64, arith, rules}
 use Rattle.std.proofs.lemmas.Int.{to_z_pos, to_z-of_z}
 use Rattle.std.specs.Int.RustNames.{FitsSigned}
-use Rattle.mars_core.specs.State.{survivors_of}
 use Rattle.mars_match.proofs.Sums.{survivors-le}
 use Rattle.mars_match.proofs.Outcomes.{score_is}
 use Rattle.mars_match.proofs.matches.score_round.Goals as goal

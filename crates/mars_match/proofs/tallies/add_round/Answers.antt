@@ -1,10 +1,8 @@
-use Rattle.std.proofs.Common.{◌≡◌, ◌+◌, ◌%◌, ◌<◌, ◌∙◌, sym, ap, length, get_or, drop, All, w64, arith, nat_eq}
+use Rattle.std.proofs.Common.{◌≡◌, ◌+◌, ◌%◌, ◌<◌, ◌∙◌, length, get_or, w64, arith}
 use Rattle.std.proofs.lemmas.Int.{to_z-of_z}
-use Rattle.std.proofs.lemmas.List.{get_or-drop, length-drop}
 use Rattle.mars_match.specs.Battles.{in_load_order}
-use Rattle.mars_match.specs.Rounds.{Outcome, how_many}
+use Rattle.mars_match.specs.Rounds.{Outcome}
 use Rattle.mars_match.specs.Tallies.{IsOf, added, no_rounds}
-use Rattle.mars_match.specs.declared.tallies.Tally.{Tally}
 use Rattle.mars_match.proofs.Sums.{added_more, left_more, done_more, how_many-in_order, at_left}
 use Rattle.mars_match.proofs.tallies.add_round.Goals as goal
 
