@@ -29,23 +29,45 @@ pub struct Evaluation {
     pub change: Option<CellChange>,
 }
 
-/// The place that two folded pointers lead to.
+/// The place of a folded pointer, whose address is `read`, and of an address to write at.
 #[inline(always)]
-fn place_at(core_size: u32, core: &[Cell], pc: u32, read: u32, write: u32) -> Place
+fn place_at(core_size: u32, core: &[Cell], pointer: u32, read: u32, write: u32) -> Place
     requires core { IsCore core_size core.now }
-    requires size { core_size ≤ 1048576 }
-    requires pc { pc < core_size }
     requires read { read < core_size }
     requires write { write < core_size }
-    ensures value { result ≡ located core_size pc (record { read = read; write = write; copy = spec_cell_at core.now (spec_address_after core_size pc read) }) }
+    ensures value { result ≡ record { pointer = pointer; read = read; write = write; copy = spec_cell_at core.now read } }
     ensures fits { IsPlace core_size result }
 {
-    let address = address_after(core_size, pc, read);
     Place {
-        pointer: read,
-        read: address,
-        write: address_after(core_size, pc, write),
-        copy: cell_at(core, address),
+        pointer,
+        read,
+        write,
+        copy: cell_at(core, read),
+    }
+}
+
+/// The address of a folded pointer which is the sum of the pointer that led through a cell and of that cell's field.
+#[inline(always)]
+fn address_through<const LIMITED: bool>(
+    core_size: u32,
+    pc: u32,
+    pointer: u32,
+    through: u32,
+    number: u32,
+) -> u32
+    requires size { core_size ≤ 1048576 }
+    requires pc { pc < core_size }
+    requires pointer { pointer < core_size }
+    requires through { through < core_size }
+    requires number { number < core_size }
+    requires unlimited { LIMITED ≡ false → spec_address_after core_size through number ≡ spec_address_after core_size pc pointer }
+    ensures value { result ≡ spec_address_after core_size pc pointer }
+    ensures inside { result < core_size }
+{
+    if LIMITED {
+        address_after(core_size, pc, pointer)
+    } else {
+        address_after(core_size, through, number)
     }
 }
 
@@ -63,12 +85,19 @@ fn direct<const LIMITED: bool>(params: &Params, core: &[Cell], pc: u32, number: 
     let core_size = params.core_size();
     let read = folded_number::<LIMITED>(core_size, params.read_limit(), number);
     let write = folded_number::<LIMITED>(core_size, params.write_limit(), number);
-    place_at(core_size, core, pc, read, write)
+    let address = address_after(core_size, pc, read);
+    place_at(
+        core_size,
+        core,
+        read,
+        address,
+        address_after(core_size, pc, write),
+    )
 }
 
 /// The folded number leads to cells, whose fields are added to it.
 #[inline(always)]
-#[tactic(auto, unfolding(crate::specs::Operand::indirect_operand, crate::specs::Operand::direct_operand))]
+#[tactic(auto, using(crate::proofs::Folding::through), unfolding(crate::specs::Operand::indirect_operand, crate::specs::Operand::direct_operand))]
 fn indirect<const LIMITED: bool>(
     params: &Params,
     core: &[Cell],
@@ -86,11 +115,19 @@ fn indirect<const LIMITED: bool>(
     let core_size = params.core_size();
     let rp = folded_number::<LIMITED>(core_size, params.read_limit(), number);
     let wp = folded_number::<LIMITED>(core_size, params.write_limit(), number);
-    let from = number_at(core_size, core, field, address_after(core_size, pc, rp));
-    let to = number_at(core_size, core, field, address_after(core_size, pc, wp));
+    let read_through = address_after(core_size, pc, rp);
+    let write_through = address_after(core_size, pc, wp);
+    let from = number_at(core_size, core, field, read_through);
+    let to = number_at(core_size, core, field, write_through);
     let read = folded::<LIMITED>(core_size, params.read_limit(), rp + from);
     let write = folded::<LIMITED>(core_size, params.write_limit(), wp + to);
-    place_at(core_size, core, pc, read, write)
+    place_at(
+        core_size,
+        core,
+        read,
+        address_through::<LIMITED>(core_size, pc, read, read_through, from),
+        address_through::<LIMITED>(core_size, pc, write, write_through, to),
+    )
 }
 
 /// The address that the number leads to for writing.
@@ -162,6 +199,18 @@ fn postincrement<const LIMITED: bool>(
     }
 }
 
+/// The place of an immediate operand: the instruction itself.
+#[inline(always)]
+#[tactic(auto, using(crate::proofs::Folding::after_none))]
+fn here(core_size: u32, core: &[Cell], pc: u32) -> Place
+    requires core { IsCore core_size core.now }
+    requires pc { pc < core_size }
+    ensures value { result ≡ located core_size pc (record { read = 0; write = 0; copy = spec_cell_at core.now (spec_address_after core_size pc 0) }) }
+    ensures fits { IsPlace core_size result }
+{
+    place_at(core_size, core, 0, pc, pc)
+}
+
 /// The evaluation of an operand that writes nothing.
 #[inline(always)]
 fn quiet(place: Place) -> Evaluation
@@ -194,7 +243,7 @@ pub fn evaluate<const LIMITED: bool>(
     ensures fits { IsPlace params.now.core_size result.place }
 {
     match mode {
-        Mode::Immediate => quiet(place_at(params.core_size(), core, pc, 0, 0)),
+        Mode::Immediate => quiet(here(params.core_size(), core, pc)),
         Mode::Direct => quiet(direct::<LIMITED>(params, core, pc, number)),
         Mode::AIndirect => quiet(indirect::<LIMITED>(params, core, Field::ANumber, pc, number)),
         Mode::BIndirect => quiet(indirect::<LIMITED>(params, core, Field::BNumber, pc, number)),

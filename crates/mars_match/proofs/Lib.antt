@@ -3,3 +3,5 @@ pub mod Draws
 pub mod Spacing
 pub mod Writing
 pub mod Ranking
+pub mod Rotations
+pub mod Ends

@@ -4,4 +4,6 @@ pub mod Writing
 pub mod Tables
 pub mod Results
 pub mod Levels
+pub mod Battles
+pub mod Answers
 pub mod Rows

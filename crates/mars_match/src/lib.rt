@@ -1,17 +1,23 @@
-//! Matches: where warriors are laid, and the text of results.
+//! Matches: where warriors are laid, the battle of a round, and the text of results.
 //!
 //! The layers above may use: `place` gives exactly the defined starts and next seed (`specs/Placement`), or its first
-//! fault; any two of the starts lie at least the least distance apart, both ways round the core. `write_results` writes
+//! fault; any two of the starts lie at least the least distance apart, both ways round the core. `fight` tells who survives a
+//! round (`specs/Battles`), or its first fault, or want of memory (`specs/Answers`). `write_results` writes
 //! exactly the defined text of a table (`specs/Results`), or, where the writer fails, a beginning of it; it takes no memory.
 //! What ascending order and a ranking are stands in `laws`.
 #![tactic(auto)]
 
+mod fault;
+mod fights;
 pub mod laws;
+mod lineup;
 mod output;
 mod placement;
 mod report;
 mod table;
 
+pub use fault::MatchFault;
+pub use fights::fight;
 pub use output::WriteFault;
 pub use placement::{PlaceFault, place};
 pub use report::write_results;

@@ -1,8 +1,10 @@
 //! The worked cases, by calls.
 ghost use Rattle.std.specs.Prelude.{Some};
+ghost use Rattle.mars_cell.specs.Warriors.{IsName};
 
-use crate::{PlaceFault, Row, Table, WriteFault, place, write_results};
-use mars_cell::Params;
+use crate::{MatchFault, PlaceFault, Row, Table, WriteFault, fight, place, write_results};
+use mars_cell::{Cell, Params, Warrior, read_cell};
+use mars_core::BattleFault;
 use std::alloc::Global;
 use std::io::{self, ErrorKind, Write};
 use std::process::Abort;
@@ -183,5 +185,104 @@ fn failing_writers(rt: HostRuntime) -> Result<(), Fail> {
     let (text, done) = written(rt.alloc(), &table, false, 1000, all.len(), false);
     assert_eq!(rt; done, Ok(()));
     assert_eq!(rt; text.as_slice(), all);
+    Ok(())
+}
+
+/// A warrior of one cell.
+fn one_cell(
+    alloc: Global,
+    name: &str,
+    author: &str,
+    core_size: u32,
+    text: &str,
+) -> Result<Warrior, Fail>
+    requires name { IsName name.now }
+    requires author { IsName author.now }
+{
+    if core_size == 0 {
+        return Err("core size".into());
+    }
+    let mut cells = Vec::new(alloc);
+    cells.push(read_cell(text.as_bytes(), core_size).ok_or("cell")?)?;
+    let name = String::from_str(alloc, name)?;
+    let author = String::from_str(alloc, author)?;
+    let warrior = Warrior::new(name, author, cells, 0).ok().ok_or("warrior")?;
+    Ok(warrior)
+}
+
+/// Warriors of one cell each.
+fn one_cells(alloc: Global, core_size: u32, texts: &[&str]) -> Result<Vec<Warrior>, Fail> {
+    let mut warriors = Vec::new(alloc);
+    for text in texts {
+        warriors.push(one_cell(alloc, "Test", "", core_size, text)?)?;
+    }
+    Ok(warriors)
+}
+
+/// Who survives a round.
+fn fought(
+    alloc: Global,
+    params: &Params,
+    warriors: &[Warrior],
+    starts: &[u32],
+    round: u32,
+) -> Result<Vec<bool>, MatchFault> {
+    if starts.len() != warriors.len() {
+        return Err(MatchFault::OutOfMemory);
+    }
+    fight(alloc, params, warriors, starts, round)
+}
+
+#[test]
+fn fights(rt: HostRuntime) -> Result<(), Fail> {
+    let params = sizes(8, 1)?;
+    // Each writes an empty cell over the other, so the first to move survives.
+    let duel = one_cells(rt.alloc(), 8, &["MOV.I $1, $4", "MOV.I $1, $4"])?;
+    for (round, expected) in [(0, [true, false]), (1, [false, true]), (2, [true, false])] {
+        let alive = fought(rt.alloc(), &params, duel.as_slice(), &[0, 4], round).ok();
+        assert_eq!(rt;
+            alive.ok_or("fight")?.as_slice(),
+            expected.as_slice(),
+            "round {round}"
+        );
+    }
+    let three = one_cells(
+        rt.alloc(),
+        8,
+        &["JMP.B $0, $0", "DAT.F $0, $0", "JMP.B $0, $0"],
+    )?;
+    for round in 0..4 {
+        let alive = fought(rt.alloc(), &params, three.as_slice(), &[0, 2, 4], round).ok();
+        assert_eq!(rt;
+            alive.ok_or("fight")?.as_slice(),
+            [true, false, true].as_slice(),
+            "round {round}"
+        );
+    }
+    Ok(())
+}
+
+#[test]
+fn refused_fights(rt: HostRuntime) -> Result<(), Fail> {
+    let params = sizes(8, 1)?;
+    let stays: [&str; 17] = ["JMP.B $0, $0"; 17];
+    let all = one_cells(rt.alloc(), 8, &stays)?;
+    let starts: [u32; 17] = [0; 17];
+    let cases: [(usize, BattleFault); 3] = [
+        (0, BattleFault::NoWarrior),
+        (17, BattleFault::TooMany),
+        (2, BattleFault::Overlap),
+    ];
+    for (count, fault) in cases {
+        if count > all.len() || count > 17 {
+            return Err("count".into());
+        }
+        let refused = fought(rt.alloc(), &params, &all[..count], &starts[..count], 1).err();
+        assert_eq!(rt;
+            refused,
+            Some(MatchFault::Battle(fault)),
+            "{count} warriors"
+        );
+    }
     Ok(())
 }

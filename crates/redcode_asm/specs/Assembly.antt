@@ -132,23 +132,35 @@ abbrev pub parts_at_commas : List Token → List (List Token)
 parts_at_commas [] = [] ∷ []
 parts_at_commas (t ∷ ts) = elim (is_comma t.kind) [ true ↦ [] ∷ parts_at_commas ts | false ↦ onto_first t (parts_at_commas ts) ]
 
--- the parts between commas, each with a token; none where nothing stands there
-abbrev pub operand_parts : List Token → Result (List (List Token)) AsmProblem
-operand_parts [] = Ok []
-operand_parts (t ∷ ts) = if list_any (λ p. length p == 0) (parts_at_commas (t ∷ ts)) then Err Operand else Ok (parts_at_commas (t ∷ ts))
-
 -- the tokens of the A-operand and of the B-operand, where they are given
 pub record Operands : Type 0 where
   pub a : Option (List Token)
   pub b : Option (List Token)
 
+-- an opcode without operands
+abbrev pub no_operand : Op → Result Operands AsmProblem
+no_operand op.Dat = Ok (record { a = None; b = None })
+no_operand op.Nop = Ok (record { a = None; b = None })
+no_operand o = Err Operand
+
+-- an opcode with one operand
+abbrev pub one_operand : Op → List Token → Operands
+one_operand op.Dat x = record { a = None; b = Some x }
+one_operand o x = record { a = Some x; b = None }
+
 abbrev pub operands_of : Op → List (List Token) → Result Operands AsmProblem
-operands_of op.Dat [] = Ok (record { a = None; b = None })
-operands_of op.Nop [] = Ok (record { a = None; b = None })
-operands_of op.Dat (x ∷ []) = Ok (record { a = None; b = Some x })
-operands_of o (x ∷ []) = Ok (record { a = Some x; b = None })
+operands_of o [] = no_operand o
+operands_of o (x ∷ []) = Ok (one_operand o x)
 operands_of o (x ∷ y ∷ []) = Ok (record { a = Some x; b = Some y })
-operands_of o _ = Err Operand
+operands_of o (x ∷ y ∷ z ∷ rest) = Err Operand
+
+-- each operand has a token
+abbrev pub full_operands : Op → List (List Token) → Result Operands AsmProblem
+full_operands o parts = if list_any (λ p. length p == 0) parts then Err Operand else operands_of o parts
+
+abbrev pub given_operands : Op → List Token → Result Operands AsmProblem
+given_operands o [] = no_operand o
+given_operands o (t ∷ ts) = full_operands o (parts_at_commas (t ∷ ts))
 
 -- the mode and the number of an operand in a core of m cells: `$0` where it isn't given
 abbrev pub operand_value : ℕ → (ℕ → Option ℤ) → Option (List Token) → Result (Mode × ℕ) AsmProblem
@@ -179,16 +191,20 @@ split_modifier names (t ∷ ts) = elim (is_dot t.kind) [ true ↦ modifier_first
 abbrev pub cell_with : Op → Option Modifier → Mode × ℕ → Mode × ℕ → Cell
 cell_with o given a b = record { op = o; modifier = unwrap_or given (default_modifier o a.0 b.0); a_mode = a.0; a = a.1; b_mode = b.0; b = b.1 }
 
--- the cell of an instruction in a core of m cells: a label counts from the instruction
+-- the cell of an opcode, perhaps a modifier, and the tokens of the operands, in a core of m cells
+abbrev pub cell_from : ℕ → (ℕ → Option ℤ) → Op → Option Modifier → List Token → Result Cell AsmProblem
+cell_from m names o given ts =
+    given_operands o ts >>= λ operands.
+    operand_value m names operands.a >>= λ a.
+    operand_value m names operands.b >>= λ b.
+    Ok (cell_with o given a b)
+
+-- the cell of an instruction: a label counts from the instruction
 abbrev pub cell_of : Predefined → ℕ → ProgramValue → Placed → Result Cell AsmProblem
 cell_of ps m source p =
     opcode_of source.names p.line.operation >>= λ o.
     split_modifier source.names p.line.rest >>= λ rest.
-    replaced source rest.1 >>= λ ts.
-    operand_parts ts >>= operands_of o >>= λ given.
-    operand_value m (name_value ps source p.index p.index) given.a >>= λ a.
-    operand_value m (name_value ps source p.index p.index) given.b >>= λ b.
-    Ok (cell_with o rest.0 a b)
+    replaced source rest.1 >>= cell_from m (name_value ps source p.index p.index) o rest.0
 
 -- the cells of some instructions, or the first fault
 abbrev pub cells_of : Predefined → ℕ → ProgramValue → List Placed → Result (List Cell) AsmFault

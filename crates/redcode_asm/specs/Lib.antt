@@ -1,3 +1,4 @@
 pub mod Formula
 pub mod Assembly
+pub mod Outcomes
 pub mod Rows

@@ -7,6 +7,8 @@
 
 mod fault;
 mod formula;
+mod instruction;
+mod operands;
 
 pub use fault::{AsmFault, AsmProblem, FormulaFault};
 pub use formula::Formula;

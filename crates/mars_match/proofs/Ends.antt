@@ -1,0 +1,80 @@
+-- How a battle goes on to its end.
+use Rattle.std.proofs.Common.{◌≡◌, refl, sym, ◌∙◌, ap, ℕ, zero, suc, ◌+◌, ◌-◌, ◌*◌, ◌%◌, ◌<◌, ◌≤◌, inl, inr, true, List, [], ◌∷◌, length, Option, None, Some, Ok, Err, arith}
+use Rattle.std.specs.Prelude.{if◌then◌else◌}
+use Rattle.std.proofs.lemmas.Bool.{cases_Bool}
+use Rattle.std.proofs.lemmas.List.{length-map}
+use Rattle.mars_cell.specs.Parameters.{Parameters}
+use Rattle.mars_cell.specs.Warriors.{WarriorValue}
+use Rattle.mars_core.specs.State.{State, is_over_of}
+use Rattle.mars_core.specs.Start.{start_state, first_processes}
+use Rattle.mars_core.specs.Turn.{turn_of}
+use Rattle.mars_core.specs.Laws.{after_turns}
+use Rattle.mars_core.specs.Facts.{shape-turn_of}
+use Rattle.mars_core.specs.declared.starts.BattleFault.{BattleFault}
+use Rattle.mars_match.specs.Battles.{unless, end_of, started, fought, in_load_order, survivors_of_round, round_fault, round_start, rotated}
+use Rattle.mars_match.specs.declared.fault.MatchFault.{MatchFault}
+use Rattle.mars_match.proofs.Rotations.{length-rotated}
+
+-- a battle that is over stays
+pub after_over : (n : ℕ) (s : State) → is_over_of s ≡ true → after_turns n s ≡ s
+after_over zero s over = refl
+after_over (suc n) s over = rw over refl
+
+-- one turn of those that are left
+pub after_one : (n i : ℕ) (s t : State) → i < n → t ≡ (if is_over_of s then s else turn_of s) → after_turns (n - (i + 1)) t ≡ after_turns (n - i) s
+after_one n i s t h e =
+    let m : n - i ≡ suc (n - (i + 1)) = omega arith in
+    elim (cases_Bool (is_over_of s)) [
+      | inl over ↦
+          let same : t ≡ s = rw over at e in
+          rw (same, after_over (n - (i + 1)) s over) (sym (after_over (n - i) s over))
+      | inr on ↦
+          let turned : t ≡ turn_of s = rw on at e in
+          rw (turned, m, on) refl
+    ]
+
+length-after_turns : (n : ℕ) (s : State) → length (after_turns n s).queues ≡ length s.queues
+length-after_turns zero s = refl
+length-after_turns (suc n) s = elim (cases_Bool (is_over_of s)) [
+  | inl over ↦ rw over refl
+  | inr on ↦ rw on (length-after_turns n (turn_of s) ∙ (shape-turn_of s).warriors)
+]
+
+pub length-end : (s : State) → length (end_of s).queues ≡ length s.queues
+unfolding end_of
+length-end s = length-after_turns (s.params.cycles * length s.queues) s
+
+length-processes : (m : ℕ) (warriors : List WarriorValue) (starts : List ℕ) → length starts ≡ length warriors → length (first_processes m warriors starts) ≡ length warriors
+length-processes m [] starts e = refl
+length-processes m (w ∷ warriors) [] e = absurd (omega (arith, e))
+length-processes m (w ∷ warriors) (s ∷ starts) e = rw (length-processes m warriors starts (omega (arith, e))) refl
+
+pub length-start : (p : Parameters) (warriors : List WarriorValue) (starts : List ℕ) → length starts ≡ length warriors → length (start_state p warriors starts).queues ≡ length warriors
+unfolding start_state
+length-start p warriors starts e = length-map (first_processes p.core_size warriors starts) _ ∙ length-processes p.core_size warriors starts e
+
+-- ---- a round that starts
+
+pub unless_ok : {A : Type 0} (f : Option BattleFault) (a b : A) → unless f a ≡ Ok b → (f ≡ None) × (a ≡ b)
+unless_ok None a b e = (refl, cc)
+unless_ok (Some f) a b e = absurd (cc)
+
+pub unless_err : {A B : Type 0} (f : Option BattleFault) (a : A) (b : B) (e : MatchFault) → unless f a ≡ Err e → unless f b ≡ Err e
+unless_err None a b x e = absurd (cc)
+unless_err (Some f) a b x e = cc
+
+pub fought_from_started : (p : Parameters) (warriors : List WarriorValue) (starts : List ℕ) (k : ℕ) (s : State) → started p warriors starts k ≡ Ok s → fought p warriors starts k ≡ Ok (in_load_order (k % length warriors) (end_of s))
+unfolding survivors_of_round
+fought_from_started p warriors starts k s e =
+    let both = unless_ok (round_fault p warriors starts k) (round_start p warriors starts k) s e in
+    rw (both.0, both.1) refl
+
+-- the battle of a round has a queue for each warrior
+pub length-started : (p : Parameters) (warriors : List WarriorValue) (starts : List ℕ) (k : ℕ) (s : State) → length starts ≡ length warriors → 1 ≤ length warriors → started p warriors starts k ≡ Ok s → length (end_of s).queues ≡ length warriors
+length-started p warriors starts k s same some e =
+    let both = unless_ok (round_fault p warriors starts k) (round_start p warriors starts k) s e in
+    let first = k % length warriors in
+    let within : first < length warriors = omega arith in
+    let ws = length-rotated first warriors (omega arith) in
+    let ss = length-rotated first starts (omega arith) in
+    length-end s ∙ ap (λ (t : State). length t.queues) (sym both.1) ∙ length-start p (rotated first warriors) (rotated first starts) (omega arith) ∙ ws

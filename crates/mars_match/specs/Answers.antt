@@ -1,0 +1,8 @@
+-- What a call answers that may lack memory.
+use Rattle.std.specs.Prelude.{◌≡◌, ◌⊎◌, Result, Ok, Err, MatchResult}
+use Rattle.mars_match.specs.declared.fault.MatchFault.{MatchFault}
+use Rattle.mars_match.specs.declared.fault.MatchFault.TheVariants.{OutOfMemory}
+
+-- the answer is the defined one, or want of memory
+abbrev pub IsAnswer : {A B : Type 0} → (A → B) → Result B MatchFault → Result A MatchFault → Type 0
+IsAnswer view defined result = MatchResult result (λ value. defined ≡ Ok (view value)) (λ fault. (fault ≡ OutOfMemory) ⊎ (defined ≡ Err fault))

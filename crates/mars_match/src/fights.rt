@@ -1,0 +1,142 @@
+//! Battles of a round, turned until they are over.
+ghost use Rattle.std.specs.Prelude.{◌≡◌, ℕ, ◌+◌, ◌%◌, ◌<◌, ◌≤◌, length, Some, None, IfSome, Ok, Err, MatchOption, MatchResult, IfOk, IsOk, slice_index_or, false, Bool, Vec};
+ghost use Rattle.std.specs.Global.{Global};
+ghost use Rattle.mars_core.specs.State.{State};
+ghost use Rattle.mars_match.specs.Answers.{IsAnswer};
+ghost use Rattle.mars_match.specs.Battles.{rotated, lives, end_of, in_load_order, count_fault, started, fought};
+
+use crate::fault::MatchFault;
+use crate::lineup::Lineup;
+use arrayvec::ArrayVec;
+use mars_cell::{Params, Warrior};
+use mars_core::{Battle, BattleFault};
+use std::alloc::{AllocError, Global};
+
+/// Turns the battle until it is over.
+fn run_to_end(battle: &mut Battle)
+    ensures { battle.new ≡ end_of battle.old }
+{
+    let cycles = battle.params().cycles();
+    let most = u64::from(cycles) * battle.warriors() as u64;
+    for _turn in 0..most {
+        if battle.turn().is_err() {
+            break;
+        }
+    }
+}
+
+/// Too few or too many warriors.
+pub fn check_count(count: usize) -> Result<(), MatchFault>
+    ensures { MatchOption (count_fault count) (IsOk result) (λ fault. result ≡ Err (MatchFault.Battle fault)) }
+{
+    if count == 0 {
+        return Err(MatchFault::Battle(BattleFault::NoWarrior));
+    }
+    if count > 16 {
+        return Err(MatchFault::Battle(BattleFault::TooMany));
+    }
+    Ok(())
+}
+
+/// The starts from one on, and then those before it.
+fn rotated_starts(starts: &[u32], first: usize) -> ArrayVec<u32, 16>
+    requires few { length starts.now ≤ 16 }
+    requires first { first ≤ length starts.now }
+    ensures { result.items ≡ rotated first starts.now }
+{
+    let mut rotated = ArrayVec::new();
+    let _ = rotated.try_extend_from_slice(&starts[first..]);
+    let _ = rotated.try_extend_from_slice(&starts[..first]);
+    rotated
+}
+
+/// The battle of a round, when it starts.
+fn start_round(
+    alloc: Global,
+    params: &Params,
+    lineup: &Lineup,
+    starts: &[u32],
+    round: u32,
+) -> Result<Battle, MatchFault>
+    requires starts { length starts.now ≡ length lineup.now }
+    requires some { 1 ≤ length lineup.now }
+    requires few { length lineup.now ≤ 16 }
+    ensures { IsAnswer (λ (battle : State). battle) (started params.now lineup.now starts.now round) result }
+{
+    let first = round as usize % lineup.len();
+    let starts = rotated_starts(starts, first);
+    match Battle::new(alloc, params, lineup.from(first), starts.as_slice()) {
+        Ok(battle) => Ok(battle),
+        Err(BattleFault::OutOfMemory) => Err(MatchFault::OutOfMemory),
+        Err(fault) => Err(MatchFault::Battle(fault)),
+    }
+}
+
+/// Whether a warrior lives, by its place in load order, where warrior `first` has the first turn.
+pub fn is_alive(battle: &Battle, first: usize, warrior: usize) -> bool
+    requires first { first < length battle.now.queues }
+    requires warrior { warrior < length battle.now.queues }
+    ensures { result ≡ slice_index_or (in_load_order first battle.now) warrior false }
+{
+    if warrior >= first {
+        return battle.alive(warrior - first);
+    }
+    battle.alive(battle.warriors() - (first - warrior))
+}
+
+/// The battle of a round, when it is over.
+pub fn fight_round(
+    alloc: Global,
+    params: &Params,
+    lineup: &Lineup,
+    starts: &[u32],
+    round: u32,
+) -> Result<Battle, MatchFault>
+    requires starts { length starts.now ≡ length lineup.now }
+    requires some { 1 ≤ length lineup.now }
+    requires few { length lineup.now ≤ 16 }
+    ensures survivors { IsAnswer (λ (battle : State). in_load_order (round % length lineup.now) battle) (fought params.now lineup.now starts.now round) result }
+    ensures many { IfOk result (λ battle. length battle.queues ≡ length lineup.now) }
+{
+    let mut battle = start_round(alloc, params, lineup, starts, round)?;
+    run_to_end(&mut battle);
+    Ok(battle)
+}
+
+/// Who survives, in load order, where warrior `first` has the first turn.
+fn survivors_list(alloc: Global, battle: &Battle, first: usize) -> Result<Vec<bool>, MatchFault>
+    requires first { first < length battle.now.queues }
+    ensures { MatchResult result (λ list. list.items ≡ in_load_order first battle.now) (λ fault. fault ≡ MatchFault.OutOfMemory) }
+{
+    let count = battle.warriors();
+    let Ok(mut list) = Vec::with_capacity(alloc, count) else {
+        return Err(MatchFault::OutOfMemory);
+    };
+    for warrior in 0..count {
+        if list.push(is_alive(battle, first, warrior)).is_err() {
+            return Err(MatchFault::OutOfMemory);
+        }
+    }
+    Ok(list)
+}
+
+/// Who survives the battle of round `round`, in load order: that of the warriors rotated by the round's number, so that
+/// each has the first turn in its round. It takes memory for copies of the warriors and for the battle.
+pub fn fight(
+    alloc: Global,
+    params: &Params,
+    warriors: &[Warrior],
+    starts: &[u32],
+    round: u32,
+) -> Result<Vec<bool>, MatchFault>
+    requires { length starts.now ≡ length warriors.now }
+    ensures count { IfSome (count_fault (length warriors.now)) (λ fault. result ≡ Err (MatchFault.Battle fault)) }
+    ensures survivors { IsAnswer (λ (list : Vec Bool Global). list.items) (fought params.now warriors.now starts.now round) result }
+{
+    check_count(warriors.len())?;
+    let Ok(lineup) = Lineup::new(alloc, warriors) else {
+        return Err(MatchFault::OutOfMemory);
+    };
+    let battle = fight_round(alloc, params, &lineup, starts, round)?;
+    survivors_list(alloc, &battle, round as usize % warriors.len())
+}

@@ -1,0 +1,86 @@
+-- Tokens up to the first comma.
+use Rattle.std.proofs.Common.{◌≡◌, ℕ, suc, ◌+◌, ◌<◌, ◌≤◌, List, [], ◌∷◌, ◌++◌, take, drop, length, Bool, true, false, refl, ap, sym, ◌∙◌, ◌==◌, ◌||◌, if◌then◌else◌, Result, Err, arith, add-one, get_or}
+use Rattle.std.proofs.Math.Seq.{drop-cons}
+use Rattle.std.proofs.lemmas.List.{take_more, append_assoc, append-nil, drop_all, take-append-drop}
+use Rattle.std.specs.List.{list_any, onto_first}
+use Rattle.mars_cell.specs.declared.instruction.Op.{Op}
+use Rattle.redcode_asm.specs.declared.fault.AsmProblem.{AsmProblem}
+use Rattle.redcode_asm.specs.declared.fault.AsmProblem.TheVariants.{Operand}
+use Rattle.redcode_text.specs.declared.token.Token.{Token}
+use Rattle.redcode_asm.specs.Assembly.{Operands, full_operands, given_operands, is_comma, operands_of, parts_at_commas}
+
+-- tokens before the first part
+abbrev pub prepend : List Token → List (List Token) → List (List Token)
+prepend ts [] = ts ∷ []
+prepend ts (p ∷ ps) = (ts ++ p) ∷ ps
+
+-- the parts from a token on
+abbrev parts_by : Bool → Token → List (List Token) → List (List Token)
+parts_by b t ps = elim b [ true ↦ [] ∷ ps | false ↦ onto_first t ps ]
+
+whole-by : (b : Bool) (t : Token) (ps : List (List Token)) → parts_by b t ps ≡ prepend [] (parts_by b t ps)
+whole-by true t ps = refl
+whole-by false t [] = refl
+whole-by false t (p ∷ ps) = refl
+
+pub parts-whole : (ts : List Token) → parts_at_commas ts ≡ prepend [] (parts_at_commas ts)
+parts-whole [] = refl
+parts-whole (t ∷ ts) = whole-by (is_comma t.kind) t (parts_at_commas ts)
+
+prepend-next : (ts : List Token) (t : Token) (ps : List (List Token)) → prepend (ts ++ t ∷ []) ps ≡ prepend ts (onto_first t ps)
+prepend-next ts t [] = refl
+prepend-next ts t (p ∷ ps) = ap (λ front. front ∷ ps) (append_assoc ts (t ∷ []) p)
+
+parts-first : (t : Token) (ts : List Token) (b : Bool) → is_comma t.kind ≡ b → parts_at_commas (t ∷ ts) ≡ parts_by b t (parts_at_commas ts)
+parts-first t ts b e = ap (λ b. parts_by b t (parts_at_commas ts)) e
+
+-- at a comma
+pub parts-comma : (ts : List Token) (i : ℕ) (d : Token) → i < length ts → is_comma (get_or ts i d).kind ≡ true → prepend (take i ts) (parts_at_commas (drop i ts)) ≡ take i ts ∷ parts_at_commas (drop (i + 1) ts)
+parts-comma ts i d inside comma =
+    rw (drop-cons ts i d inside, add-one i)
+    (ap (prepend (take i ts)) (parts-first (get_or ts i d) (drop (suc i) ts) true comma) ∙ ap (λ front. front ∷ parts_at_commas (drop (suc i) ts)) (append-nil (take i ts)))
+
+-- at another token
+pub parts-next : (ts : List Token) (i : ℕ) (d : Token) → i < length ts → is_comma (get_or ts i d).kind ≡ false → prepend (take i ts) (parts_at_commas (drop i ts)) ≡ prepend (take (i + 1) ts) (parts_at_commas (drop (i + 1) ts))
+parts-next ts i d inside other =
+    rw (drop-cons ts i d inside, take_more ts i d inside, add-one i)
+    (ap (prepend (take i ts)) (parts-first (get_or ts i d) (drop (suc i) ts) false other) ∙ sym (prepend-next (take i ts) (get_or ts i d) (parts_at_commas (drop (suc i) ts))))
+
+-- at the end
+pub parts-end : (ts : List Token) (i : ℕ) → length ts ≤ i → prepend (take i ts) (parts_at_commas (drop i ts)) ≡ ts ∷ []
+parts-end ts i past =
+    let none = drop_all i ts past in
+    ap (λ rest. prepend (take i ts) (parts_at_commas rest)) none ∙ ap (λ front. front ∷ []) (ap (λ rest. take i ts ++ rest) (sym none) ∙ take-append-drop i ts)
+
+-- ---- operands
+
+abbrev refused : Result Operands AsmProblem
+refused = Err Operand
+
+pub given-full : (o : Op) (ts : List Token) → ¬ (length ts ≡ 0) → given_operands o ts ≡ full_operands o (parts_at_commas ts)
+given-full o [] full = absurd (full refl)
+given-full o (t ∷ ts) full = refl
+
+pub first-empty : (o : Op) (a : List Token) (ps : List (List Token)) → length a ≡ 0 → full_operands o (a ∷ ps) ≡ Err Operand
+first-empty o [] ps none = refl
+first-empty o (t ∷ a) ps none = absurd (omega (arith, none))
+
+rest-by : (b : Bool) (o : Op) (a : List Token) → (if b || true then refused else operands_of o (a ∷ [] ∷ [])) ≡ refused
+rest-by true o a = refl
+rest-by false o a = refl
+
+pub rest-empty : (o : Op) (a : List Token) (b : List Token) → length b ≡ 0 → full_operands o (a ∷ parts_at_commas b) ≡ Err Operand
+rest-empty o a [] none = rest-by (length a == 0) o a
+rest-empty o a (t ∷ b) none = absurd (omega (arith, none))
+
+three-by : (b : Bool) (o : Op) (x y p : List Token) (ps : List (List Token)) → (if b then refused else operands_of o (x ∷ y ∷ p ∷ ps)) ≡ refused
+three-by true o x y p ps = refl
+three-by false o x y p ps = refl
+
+three-or-more : (o : Op) (x y : List Token) (ps : List (List Token)) → ps ≡ prepend [] ps → full_operands o (x ∷ y ∷ ps) ≡ Err Operand
+three-or-more o x y [] whole = cc
+three-or-more o x y (p ∷ ps) whole = three-by (list_any (λ q. length q == 0) (x ∷ y ∷ p ∷ ps)) o x y p ps
+
+-- a second comma
+pub third-operand : (o : Op) (a b rest : List Token) (c : List Token) → parts_at_commas rest ≡ b ∷ parts_at_commas c → full_operands o (a ∷ parts_at_commas rest) ≡ Err Operand
+third-operand o a b rest c second = ap (λ ps. full_operands o (a ∷ ps)) second ∙ three-or-more o a b (parts_at_commas c) (parts-whole c)

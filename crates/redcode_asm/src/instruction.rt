@@ -1,0 +1,87 @@
+//! One instruction.
+ghost use Rattle.std.specs.Prelude.{◌≡◌, ◌<◌, Ok, Err, IfOk, MatchResult};
+ghost use Rattle.mars_cell.specs.Cells.{FitsCore};
+ghost use Rattle.redcode_asm.specs.Assembly.{cell_from, modifier_in, opcode_of, split_modifier};
+
+use crate::fault::AsmProblem;
+use crate::operands::{operand_value, split_operands};
+use mars_cell::{Cell, Modifier, Op, default_modifier, read_modifier, read_op};
+use redcode_text::{Env, NameTable, Sign, Token, TokenKind};
+
+/// The opcode of an operation, by its index among the names.
+#[tactic(auto, using(crate::proofs::Names::no_opcode))]
+pub fn read_opcode(names: &NameTable, operation: Option<usize>) -> Result<Op, AsmProblem>
+    ensures { result ≡ opcode_of names.now operation }
+{
+    let Some(index) = operation else {
+        return Err(AsmProblem::Operation);
+    };
+    match names.name(index) {
+        Some(name) => read_op(name.as_bytes()).ok_or(AsmProblem::Operation),
+        None => Err(AsmProblem::Operation),
+    }
+}
+
+/// The modifier behind the `.`.
+#[tactic(auto, using(crate::proofs::Names::no_modifier))]
+fn modifier_of(names: &NameTable, kind: TokenKind) -> Result<Modifier, AsmProblem>
+    ensures { result ≡ modifier_in names.now kind }
+{
+    let TokenKind::Name(index) = kind else {
+        return Err(AsmProblem::Operation);
+    };
+    match names.name(index) {
+        Some(name) => read_modifier(name.as_bytes()).ok_or(AsmProblem::Operation),
+        None => Err(AsmProblem::Operation),
+    }
+}
+
+/// The modifier that stands first behind an opcode, or none, and what follows.
+pub fn take_modifier<'a>(
+    names: &NameTable,
+    rest: &'a [Token],
+) -> Result<(Option<Modifier>, &'a [Token]), AsmProblem>
+    ensures { let defined = split_modifier names.now rest.now in
+        MatchResult result (λ r. defined ≡ Ok (r.0, r.1.now)) (λ problem. defined ≡ Err problem) }
+{
+    let [first, behind @ ..] = rest else {
+        return Ok((None, rest));
+    };
+    if first.kind != TokenKind::Sign(Sign::Dot) {
+        return Ok((None, rest));
+    }
+    let [modifier, operands @ ..] = behind else {
+        return Err(AsmProblem::Operation);
+    };
+    let modifier = modifier_of(names, modifier.kind)?;
+    Ok((Some(modifier), operands))
+}
+
+/// The cell of an opcode, perhaps a modifier, and the tokens of its operands.
+pub fn make_cell<E: Env>(
+    op: Op,
+    modifier: Option<Modifier>,
+    tokens: &[Token],
+    names: &E,
+    core_size: u32,
+) -> Result<Cell, AsmProblem>
+    requires { 0 < core_size }
+    ensures value { result ≡ cell_from core_size (E.value_of names.now) op modifier tokens.now }
+    ensures fits { IfOk result (FitsCore core_size) }
+{
+    let operands = split_operands(op, tokens)?;
+    let (a_mode, a) = operand_value(operands.a, names, core_size)?;
+    let (b_mode, b) = operand_value(operands.b, names, core_size)?;
+    let modifier = match modifier {
+        Some(modifier) => modifier,
+        None => default_modifier(op, a_mode, b_mode),
+    };
+    Ok(Cell {
+        op,
+        modifier,
+        a_mode,
+        b_mode,
+        a,
+        b,
+    })
+}

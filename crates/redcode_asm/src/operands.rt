@@ -1,0 +1,145 @@
+//! The operands of an instruction.
+ghost use Rattle.std.specs.Prelude.{◌≡◌, ◌<◌, ◌∷◌, [], Ok, Err, None, Some, MatchOption, MatchResult, IfOk, option_map};
+ghost use Rattle.redcode_asm.specs.Assembly.{reduced, mode_sign, mode_of, split_mode, is_comma, parts_at_commas, given_operands, operand_value as spec_operand_value};
+ghost use Rattle.redcode_asm.specs.Outcomes.{operands_in};
+
+use crate::fault::AsmProblem;
+use mars_cell::{Mode, Op};
+use redcode_text::{Env, Sign, Token, TokenKind, eval};
+
+/// The number from 0 to the size of the core, less one, that differs from a value by a multiple of that size.
+pub fn reduce(value: i64, core_size: u32) -> u32
+    requires { 0 < core_size }
+    ensures value { result ≡ reduced core_size value }
+    ensures below { result < core_size }
+{
+    let core_size = u64::from(core_size);
+    let rest = value.unsigned_abs() % core_size;
+    let number = if value < 0 {
+        (core_size - rest) % core_size
+    } else {
+        rest
+    };
+    number as u32
+}
+
+fn mode_sign(sign: Sign) -> Option<Mode>
+    ensures { result ≡ mode_sign sign }
+{
+    match sign {
+        Sign::Hash => Some(Mode::Immediate),
+        Sign::Dollar => Some(Mode::Direct),
+        Sign::Star => Some(Mode::AIndirect),
+        Sign::At => Some(Mode::BIndirect),
+        Sign::OpenBrace => Some(Mode::APredecrement),
+        Sign::Less => Some(Mode::BPredecrement),
+        Sign::CloseBrace => Some(Mode::APostincrement),
+        Sign::Greater => Some(Mode::BPostincrement),
+        _ => None,
+    }
+}
+
+fn mode_of(kind: TokenKind) -> Option<Mode>
+    ensures { result ≡ mode_of kind }
+{
+    match kind {
+        TokenKind::Sign(sign) => mode_sign(sign),
+        _ => None,
+    }
+}
+
+/// The mode of an operand, `$` where none stands there, and its expression.
+pub fn split_mode(tokens: &[Token]) -> (Mode, &[Token])
+    ensures { let r = result in (r.0, r.1.now) ≡ split_mode tokens.now }
+{
+    let [first, rest @ ..] = tokens else {
+        return (Mode::Direct, tokens);
+    };
+    match mode_of(first.kind) {
+        Some(mode) => (mode, rest),
+        None => (Mode::Direct, tokens),
+    }
+}
+
+fn is_comma(token: Token) -> bool
+    ensures { result ≡ is_comma token.kind }
+{
+    match token.kind {
+        TokenKind::Sign(Sign::Comma) => true,
+        _ => false,
+    }
+}
+
+/// What stands before the first comma, and what behind it.
+fn split_comma(tokens: &[Token]) -> Option<(&[Token], &[Token])>
+    ensures { MatchOption result (parts_at_commas tokens.now ≡ tokens.now ∷ []) (λ p. parts_at_commas tokens.now ≡ p.0.now ∷ parts_at_commas p.1.now) }
+{
+    for at in 0..tokens.len() {
+        if is_comma(tokens[at]) {
+            return Some((&tokens[..at], &tokens[at + 1..]));
+        }
+    }
+    None
+}
+
+/// The tokens of the A-operand and of the B-operand, where they are given.
+#[derive(Clone, Copy)]
+pub struct Operands<'a> {
+    pub a: Option<&'a [Token]>,
+    pub b: Option<&'a [Token]>,
+}
+
+/// The operands that stand behind an opcode: one alone is the B-operand of DAT, and else the A-operand.
+pub fn split_operands(op: Op, tokens: &[Token]) -> Result<Operands<'_>, AsmProblem>
+    ensures { let defined = given_operands op tokens.now in
+        MatchResult result (λ given. defined ≡ Ok (operands_in given)) (λ problem. defined ≡ Err problem) }
+{
+    if tokens.is_empty() {
+        return match op {
+            Op::Dat | Op::Nop => Ok(Operands { a: None, b: None }),
+            _ => Err(AsmProblem::Operand),
+        };
+    }
+    let Some((first, rest)) = split_comma(tokens) else {
+        return Ok(match op {
+            Op::Dat => Operands {
+                a: None,
+                b: Some(tokens),
+            },
+            _ => Operands {
+                a: Some(tokens),
+                b: None,
+            },
+        });
+    };
+    if first.is_empty() || rest.is_empty() {
+        return Err(AsmProblem::Operand);
+    }
+    match split_comma(rest) {
+        Some(_) => Err(AsmProblem::Operand),
+        None => Ok(Operands {
+            a: Some(first),
+            b: Some(rest),
+        }),
+    }
+}
+
+/// The mode and the number of an operand: `$0` where it isn't given.
+pub fn operand_value<E: Env>(
+    tokens: Option<&[Token]>,
+    names: &E,
+    core_size: u32,
+) -> Result<(Mode, u32), AsmProblem>
+    requires { 0 < core_size }
+    ensures value { result ≡ spec_operand_value core_size (E.value_of names.now) (option_map (λ ts. ts.now) tokens.entry) }
+    ensures below { IfOk result (λ operand. operand.1 < core_size) }
+{
+    let Some(tokens) = tokens else {
+        return Ok((Mode::Direct, 0));
+    };
+    let (mode, expression) = split_mode(tokens);
+    match eval(expression, names) {
+        Ok(value) => Ok((mode, reduce(value, core_size))),
+        Err(fault) => Err(AsmProblem::Expression(fault)),
+    }
+}
