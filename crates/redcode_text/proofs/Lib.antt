@@ -22,3 +22,5 @@ pub mod RowTokens
 pub mod PartSteps
 pub mod UsedSteps
 pub mod OrdinarySteps
+pub mod TextSteps
+pub mod AssertSteps

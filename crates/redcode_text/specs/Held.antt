@@ -1,12 +1,15 @@
 -- What the code holds of all that has been read.
-use Rattle.std.specs.Prelude.{List, [], ◌∷◌, codes, drop, map, string_bytes, take}
+use Rattle.std.specs.Prelude.{ℕ, ◌++◌, List, Result, Ok, true, false, [], ◌∷◌, codes, drop, map, string_bytes, take}
 use Rattle.redcode_text.specs.declared.predefined.Names.{Names}
 use Rattle.redcode_text.specs.declared.state.Line as line
 use Rattle.redcode_text.specs.declared.state.Assert as assert
 use Rattle.redcode_text.specs.declared.state.Parts as parts
 use Rattle.redcode_text.specs.declared.state.Reading as code
 use Rattle.redcode_text.specs.declared.token.Token.{Token}
-use Rattle.redcode_text.specs.Lines.{Line, Assert, Parts, Reading, Predefined}
+use Rattle.redcode_text.specs.Lines.{Line, Assert, Parts, Reading, Predefined, assert_line, directive_value, row_tokens, unless_empty}
+use Rattle.redcode_text.specs.declared.fault.TextProblem.{TextProblem}
+use Rattle.redcode_text.specs.Source.{Row, directive_text, has_directive_word}
+use Rattle.redcode_text.specs.Tokens.{◌>>=◌}
 
 abbrev pub predefined_of : Names → Predefined
 predefined_of n =
@@ -39,3 +42,21 @@ reading_of r =
 -- the parts of a line, by their places among its tokens
 abbrev pub parts_at : List Token → parts.Parts → Parts
 parts_at ts p = record { labels = p.labels.items; label_tokens = take p.labels_end ts; operation = p.operation; rest = drop p.rest_at ts }
+
+-- an assert whose expression begins at this place of its row
+abbrev pub assert_at : Row → ℕ → Reading → Result Reading TextProblem
+assert_at row at st =
+    row_tokens row at st >>= λ r.
+    Ok (record (r.1) { asserts = r.1.asserts ++ record { number = row.number; current_line = r.1.instructions; tokens = r.0 } ∷ [] })
+
+-- a comment line that is neither `;name` nor `;author`
+abbrev pub no_author : Row → Reading → Result Reading TextProblem
+no_author row st = elim (has_directive_word (codes "assert") row.bytes) [ true ↦ assert_line row st | false ↦ Ok st ]
+
+-- a comment line that isn't `;name`
+abbrev pub no_name : Row → Reading → Result Reading TextProblem
+no_name row st =
+    elim (has_directive_word (codes "author") row.bytes) [
+      | true ↦ Ok (record st { author = unless_empty (directive_value (directive_text (codes "author") row.bytes)) st.author })
+      | false ↦ no_author row st
+    ]

@@ -1,12 +1,14 @@
 //! Directives: comments that say something.
-ghost use Rattle.std.specs.Prelude.{◌≡◌, ◌≤◌, ◌<◌, ◌+◌, length, true, nat_eq, IfSome};
+ghost use Rattle.std.specs.Prelude.{◌≡◌, ◌≤◌, ◌<◌, ◌+◌, length, map, reverse, string_bytes, take, true, nat_eq, IfSome, Ok};
 ghost use Rattle.std.specs.List.{starts_with};
 ghost use Rattle.std.specs.Str.{str_to_ascii_lowercase};
-ghost use Rattle.redcode_text.specs.Lines.{printable};
-ghost use Rattle.redcode_text.specs.Outcomes.{text_found};
+ghost use Rattle.redcode_text.specs.Lines.{directive_value, printable};
+ghost use Rattle.redcode_text.specs.Outcomes.{Gives, text_found};
 ghost use Rattle.redcode_text.specs.Source.{blank_len, without_blanks};
 
 use crate::bytes::{blank_len, is_blank, is_word};
+use crate::fault::TextProblem;
+use std::alloc::Global;
 
 /// Whether a line begins, behind blanks, with these bytes in either case.
 pub fn has_directive(directive: &[u8], bytes: &[u8]) -> bool
@@ -47,4 +49,41 @@ fn printable(byte: u8) -> u8
     } else {
         b'?'
     }
+}
+
+/// How many bytes stand before the blanks at the end.
+fn trimmed_len(text: &[u8]) -> usize
+    ensures value { take result text.now ≡ reverse (without_blanks (reverse text.now)) }
+    ensures within { result ≤ length text.now }
+{
+    let mut len = text.len();
+    while len > 0 {
+        if !is_blank(text[len - 1]) {
+            return len;
+        }
+        len -= 1;
+    }
+    0
+}
+
+/// Bytes as they stand in a name.
+fn printed(alloc: Global, bytes: &[u8]) -> Result<String, TextProblem>
+    ensures { Gives (λ text. string_bytes text) result (Ok (map printable bytes.now)) }
+{
+    let mut text = String::new(alloc);
+    for byte in bytes {
+        let Ok(()) = text.push(char::from(printable(*byte))) else {
+            return Err(TextProblem::OutOfMemory);
+        };
+    }
+    Ok(text)
+}
+
+/// The text of `;name` or `;author`: without the blanks at both ends, in printable bytes, 60 of them at most.
+pub fn directive_value(alloc: Global, text: &[u8]) -> Result<String, TextProblem>
+    ensures { Gives (λ value. string_bytes value) result (Ok (directive_value text.now)) }
+{
+    let front = &text[blank_len(text)..];
+    let trimmed = &front[..trimmed_len(front)];
+    printed(alloc, &trimmed[..trimmed.len().min(60)])
 }

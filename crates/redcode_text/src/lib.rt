@@ -6,6 +6,7 @@
 #![tactic(auto)]
 
 mod bytes;
+mod comments;
 mod directives;
 mod equ_lines;
 mod equates;
