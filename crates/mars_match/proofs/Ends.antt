@@ -1,6 +1,5 @@
 -- How a battle goes on to its end.
-use Rattle.std.proofs.Common.{◌≡◌, refl, sym, ◌∙◌, ap, ℕ, zero, suc, ◌+◌, ◌-◌, ◌*◌, ◌%◌, ◌<◌, ◌≤◌, inl, inr, true, List, [], ◌∷◌, length, Option, None, Some, Ok, Err, arith}
-use Rattle.std.specs.Prelude.{if◌then◌else◌}
+use Rattle.std.proofs.Common.{◌≡◌, refl, sym, ◌∙◌, ap, ℕ, zero, suc, ◌*◌, ◌%◌, ◌<◌, ◌≤◌, inl, inr, List, [], ◌∷◌, length, Option, None, Some, Ok, Err, arith}
 use Rattle.std.proofs.lemmas.Bool.{cases_Bool}
 use Rattle.std.proofs.lemmas.List.{length-map}
 use Rattle.mars_cell.specs.Parameters.{Parameters}
@@ -14,24 +13,6 @@ use Rattle.mars_core.specs.declared.starts.BattleFault.{BattleFault}
 use Rattle.mars_match.specs.Battles.{unless, end_of, started, fought, in_load_order, survivors_of_round, round_fault, round_start, rotated}
 use Rattle.mars_match.specs.declared.fault.MatchFault.{MatchFault}
 use Rattle.mars_match.proofs.Rotations.{length-rotated}
-
--- a battle that is over stays
-pub after_over : (n : ℕ) (s : State) → is_over_of s ≡ true → after_turns n s ≡ s
-after_over zero s over = refl
-after_over (suc n) s over = rw over refl
-
--- one turn of those that are left
-pub after_one : (n i : ℕ) (s t : State) → i < n → t ≡ (if is_over_of s then s else turn_of s) → after_turns (n - (i + 1)) t ≡ after_turns (n - i) s
-after_one n i s t h e =
-    let m : n - i ≡ suc (n - (i + 1)) = omega arith in
-    elim (cases_Bool (is_over_of s)) [
-      | inl over ↦
-          let same : t ≡ s = rw over at e in
-          rw (same, after_over (n - (i + 1)) s over) (sym (after_over (n - i) s over))
-      | inr on ↦
-          let turned : t ≡ turn_of s = rw on at e in
-          rw (turned, m, on) refl
-    ]
 
 length-after_turns : (n : ℕ) (s : State) → length (after_turns n s).queues ≡ length s.queues
 length-after_turns zero s = refl

@@ -13,16 +13,11 @@ use mars_core::{Battle, BattleFault};
 use std::alloc::{AllocError, Global};
 
 /// Turns the battle until it is over.
-fn run_to_end(battle: &mut Battle)
+#[tactic(auto, unfolding(crate::specs::Battles::end_of))]
+fn end(battle: &mut Battle)
     ensures { battle.new ≡ end_of battle.old }
 {
-    let cycles = battle.params().cycles();
-    let most = u64::from(cycles) * battle.warriors() as u64;
-    for _turn in 0..most {
-        if battle.turn().is_err() {
-            break;
-        }
-    }
+    battle.run_to_end();
 }
 
 /// Too few or too many warriors.
@@ -99,7 +94,7 @@ pub fn fight_round(
     ensures many { IfOk result (λ battle. length battle.queues ≡ length lineup.now) }
 {
     let mut battle = start_round(alloc, params, lineup, starts, round)?;
-    run_to_end(&mut battle);
+    end(&mut battle);
     Ok(battle)
 }
 

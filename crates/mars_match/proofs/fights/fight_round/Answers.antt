@@ -2,7 +2,7 @@ use Rattle.mars_match.proofs.Ends.{fought_from_started, length-started}
 use Rattle.mars_match.proofs.fights.fight_round.Goals as goal
 
 pub returns-clause-survivors : goal.returns-clause-survivors
-returns-clause-survivors c = rw c.run_to_end.ensures (fought_from_started c.args.params.now c.args.lineup.now c.args.starts.now c.args.round c.in_ok-battle.battle c.in_ok-battle.ensures)
+returns-clause-survivors c = rw c.end.ensures (fought_from_started c.args.params.now c.args.lineup.now c.args.starts.now c.args.round c.in_ok-battle.battle c.in_ok-battle.ensures)
 
 pub returns-clause-many : goal.returns-clause-many
-returns-clause-many c = rw c.run_to_end.ensures (length-started c.args.params.now c.args.lineup.now c.args.starts.now c.args.round c.in_ok-battle.battle c.requires.starts c.requires.some c.in_ok-battle.ensures)
+returns-clause-many c = rw c.end.ensures (length-started c.args.params.now c.args.lineup.now c.args.starts.now c.args.round c.in_ok-battle.battle c.requires.starts c.requires.some c.in_ok-battle.ensures)
