@@ -24,3 +24,4 @@ pub mod UsedSteps
 pub mod OrdinarySteps
 pub mod TextSteps
 pub mod AssertSteps
+pub mod PlainSteps

@@ -1,5 +1,5 @@
 -- What a call answers that wants memory: what is defined, or want of memory.
-use Rattle.std.specs.Prelude.{◌≡◌, ⊤, ℕ, ◌+◌, ◌&&◌, List, [], Result, Ok, Err, Option, Some, None, Vec, length, drop, nat_eq, if◌then◌else◌}
+use Rattle.std.specs.Prelude.{◌≡◌, ⊤, ℕ, ◌≤◌, ◌+◌, ◌&&◌, List, [], Result, Ok, Err, Option, Some, None, Vec, length, drop, nat_eq, if◌then◌else◌}
 use Rattle.redcode_text.specs.declared.fault.TextFault.{TextFault}
 use Rattle.redcode_text.specs.declared.fault.TextProblem.{TextProblem}
 use Rattle.redcode_text.specs.declared.fault.TextProblem.TheVariants.{OutOfMemory}
@@ -67,3 +67,10 @@ text_found directive bytes =
 -- a row as the code holds it
 abbrev pub row_of : code_row.Row → Row
 row_of row = record { number = row.number; at = row.at; bytes = row.bytes.now }
+
+-- the word FOR or EQU of a line stands within its bytes
+abbrev pub kind_inside : code.LineKind → ℕ → Type 0
+kind_inside line.Rof len = ⊤
+kind_inside (line.For at) len = at ≤ len
+kind_inside (line.Equ at) len = at ≤ len
+kind_inside line.Other len = ⊤

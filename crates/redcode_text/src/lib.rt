@@ -21,6 +21,7 @@ mod operators;
 mod ordinary;
 mod pairs;
 mod parts;
+mod plain;
 mod predefined;
 mod reading;
 mod rows;

@@ -1,7 +1,7 @@
 //! The lines of a source, and what kind each is of.
 ghost use Rattle.std.specs.Prelude.{◌≡◌, ◌≤◌, ◌==◌, length, map, not, IfOk, IfSome};
 ghost use Rattle.std.specs.List.{prefix_len};
-ghost use Rattle.redcode_text.specs.Outcomes.{kind_of, row_of};
+ghost use Rattle.redcode_text.specs.Outcomes.{kind_inside, kind_of, row_of};
 ghost use Rattle.redcode_text.specs.Source.{colon_len, first_word_at, has_word, leading_word_at, line_kind, past_blanks, past_colon, past_word, read_rows, rows_of, second_word_at};
 
 use crate::bytes::{blank_len, is_word, word_len};
@@ -97,7 +97,8 @@ fn leading_word_at(word: &[u8], bytes: &[u8]) -> Option<usize>
 
 /// What kind a line is of, by its first two words.
 pub fn line_kind(bytes: &[u8]) -> LineKind
-    ensures { kind_of result ≡ line_kind bytes.now }
+    ensures value { kind_of result ≡ line_kind bytes.now }
+    ensures inside { kind_inside result (length bytes.now) }
 {
     if has_word(b"rof", bytes, first_word_at(bytes)) {
         return LineKind::Rof;
