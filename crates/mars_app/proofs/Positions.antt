@@ -1,5 +1,5 @@
 -- A position that fits the words fits the battle.
-use Rattle.std.proofs.Common.{◌≡◌, ℕ, ◌+◌, ◌≤◌, Option, Some, None, IfSome, vec_len, arith}
+use Rattle.std.proofs.Common.{◌≡◌, ℕ, Option, Some, None, IfSome, vec_len, arith}
 use Rattle.mars_cell.specs.Parameters.{Parameters}
 use Rattle.mars_app.specs.Loading.{FitsTwo}
 use Rattle.mars_app.specs.Options.{HaveFittingPosition, IsFittingPosition}
