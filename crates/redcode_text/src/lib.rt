@@ -7,6 +7,7 @@
 
 mod bytes;
 mod comments;
+mod counts;
 mod directives;
 mod equ_lines;
 mod equates;
