@@ -15,6 +15,7 @@ mod evaluation;
 mod expression;
 mod fault;
 mod heads;
+mod loop_heads;
 mod names;
 mod open_loops;
 mod operations;
