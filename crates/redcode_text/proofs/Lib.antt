@@ -25,3 +25,4 @@ pub mod OrdinarySteps
 pub mod TextSteps
 pub mod AssertSteps
 pub mod PlainSteps
+pub mod CountSteps

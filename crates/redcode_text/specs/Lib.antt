@@ -14,3 +14,4 @@ pub mod Held
 pub mod Used
 pub mod Expansion
 pub mod ExpansionRows
+pub mod Heads

@@ -7,6 +7,7 @@
 
 mod bytes;
 mod comments;
+mod counts;
 mod directives;
 mod equ_lines;
 mod equates;
@@ -14,6 +15,7 @@ mod evaluation;
 mod expression;
 mod fault;
 mod heads;
+mod loop_heads;
 mod names;
 mod open_loops;
 mod operations;

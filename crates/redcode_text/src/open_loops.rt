@@ -1,5 +1,5 @@
 //! The loops that are open where a line is read.
-ghost use Rattle.std.specs.Prelude.{◌≡◌, [], ◌∷◌, option_map, reverse, string_bytes, OnOk, OnErr};
+ghost use Rattle.std.specs.Prelude.{◌≡◌, [], ◌∷◌, length, option_map, reverse, string_bytes, OnOk, OnErr};
 ghost use Rattle.redcode_text.specs.Tokens.{is_counter, turn_of};
 
 use std::alloc::{AllocError, Global};
@@ -82,6 +82,13 @@ impl OpenLoops {
         OpenLoops {
             loops: Vec::new(alloc),
         }
+    }
+
+    /// How many loops are open.
+    pub fn len(&self) -> usize
+        ensures { result ≡ length self.now }
+    {
+        self.loops.len()
     }
 
     /// One more loop, which is now the innermost.

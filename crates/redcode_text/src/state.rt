@@ -66,3 +66,10 @@ pub struct Parts {
     /// Where the rest begins.
     pub rest_at: usize,
 }
+
+/// The head of a loop: its counter, if it has one, and how often its body is read.
+#[derive(Drop)]
+pub struct Head {
+    pub counter: Option<String>,
+    pub count: u32,
+}

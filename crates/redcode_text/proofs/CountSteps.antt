@@ -1,0 +1,32 @@
+-- A count, from what its tokens stand for.
+use Rattle.std.proofs.Common.{◌≡◌, ℕ, List, Bool, true, false, Result, Ok, Err, refl, ap, sym, subst, ◌∙◌}
+use Rattle.redcode_text.specs.declared.fault.TextProblem.{TextProblem}
+use Rattle.redcode_text.specs.declared.fault.TextProblem.TheVariants.{LabelInCount}
+use Rattle.redcode_text.specs.declared.token.Token.{Token}
+use Rattle.redcode_text.specs.Equates.{substituted}
+use Rattle.redcode_text.specs.Expansion.{as_count, count_of, has_label}
+use Rattle.redcode_text.specs.Expression.{kinds, value_of}
+use Rattle.redcode_text.specs.Lines.{Predefined, Reading, name_at, predefined_value, with_current_line}
+use Rattle.redcode_text.specs.Outcomes.{Gives}
+use Rattle.redcode_text.specs.Tokens.{◌>>=◌}
+use Rattle.redcode_text.proofs.Failing.{fails-itself}
+
+gives-itself : (r : Result ℕ TextProblem) → Gives (λ n. n) r r
+gives-itself (Ok n) = refl
+gives-itself (Err e) = fails-itself ℕ e
+
+module _ (ps : Predefined) (st : Reading) where
+  abbrev valued : List Token → Result ℕ TextProblem
+  valued us = as_count (value_of (λ n. predefined_value (with_current_line ps st.instructions) (name_at st.names n)) (kinds us))
+
+  abbrev judged : List Token → Result ℕ TextProblem
+  judged us = elim (has_label ps st (kinds us)) as (λ _. Result ℕ TextProblem) [ true ↦ Err LabelInCount | false ↦ valued us ]
+
+  pub count-is : (ts us read : List Token) (r : Result ℕ TextProblem) → substituted st.equates ts ≡ Ok us → read ≡ us → has_label ps st (kinds read) ≡ false → r ≡ valued read → Gives (λ n. n) r (count_of ps st ts)
+  count-is ts us read r h same none is =
+      let whole : r ≡ count_of ps st ts =
+      is
+      ∙ sym (ap (λ (b : Bool). elim b as (λ _. Result ℕ TextProblem) [ true ↦ Err LabelInCount | false ↦ valued read ]) none)
+      ∙ ap judged same
+      ∙ sym (ap (λ q. q >>= judged) h) in
+      subst (Gives (λ n. n) r) whole (gives-itself r)
