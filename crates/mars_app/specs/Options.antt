@@ -1,18 +1,20 @@
 -- What the options promise.
-use Rattle.std.specs.Prelude.{◌≡◌, ℕ, ◌+◌, ◌≤◌, false, true, ◌&&◌, IfSome, vec_len}
+use Rattle.std.specs.Prelude.{◌≡◌, ℕ, ◌+◌, ◌≤◌, Bool, false, true, ◌&&◌, IfSome, vec_len}
 use Rattle.mars_app.specs.declared.options.Options.{Options}
 
 abbrev pub IsBetween : ℕ → ℕ → ℕ → Type 0
 IsBetween least greatest n = (least ≤ n) × (n ≤ greatest)
 
--- from 1 to 16 files, one where the load file is written
+-- from 1 to 16 files, one of which the load file is written, or at least two that fight a league
 pub record HaveFiles (o : Options) : Type 0 where
   pub count : IsBetween 1 16 (vec_len o.files)
   pub load : o.load ≡ true → vec_len o.files ≡ 1
+  pub league : o.league ≡ true → 2 ≤ vec_len o.files
 
 -- a position is given for the second of two warriors, at least the least distance from the first one both ways round the core
 pub record IsFittingPosition (o : Options) (position : ℕ) : Type 0 where
   pub two_files : vec_len o.files ≡ 2
+  pub no_league : o.league ≡ false
   pub up : o.distance ≤ position
   pub down : position + o.distance ≤ o.core
 
@@ -34,6 +36,8 @@ pub record AreInRange (o : Options) : Type 0 where
   pub write_limit : IfSome o.write_limit (IsBetween 1 1048576)
   pub history : IsBetween 1 1000000 o.history
 
--- at most one of the debugger and a load file is asked for
-abbrev pub AreExclusive : Options → Type 0
-AreExclusive o = o.debugger && o.load ≡ false
+-- at most one of the debugger, a league and a load file is asked for
+pub record AreExclusive (o : Options) : Type 0 where
+  pub debugger_league : o.debugger && o.league ≡ false
+  pub debugger_load : o.debugger && o.load ≡ false
+  pub league_load : o.league && o.load ≡ false

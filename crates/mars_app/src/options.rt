@@ -58,6 +58,8 @@ pub struct Options {
     pub seed: u32,
     /// The text of the score formula.
     pub score: String,
+    /// Whether every pair of warriors fights.
+    pub league: bool,
     /// Whether the load file of the one warrior is written.
     pub load: bool,
     pub read_limit: Option<u32>,
@@ -89,6 +91,7 @@ pub fn read_options(alloc: Global, words: &[String]) -> Result<Options, WordsFau
         sorted: matches.get_flag("sorted"),
         seed: number(&matches, "seed", 1, 2_147_483_646, 1)?,
         score: String::from_str(alloc, matches.get_str("score").unwrap_or(DEFAULT_SCORE))?,
+        league: matches.get_flag("league"),
         load: matches.get_flag("load"),
         read_limit: given_number(&matches, "read-limit", 1, 1_048_576)?,
         write_limit: given_number(&matches, "write-limit", 1, 1_048_576)?,
@@ -101,19 +104,21 @@ pub fn read_options(alloc: Global, words: &[String]) -> Result<Options, WordsFau
     }
 }
 
-/// Whether there are from 1 to 16 files, and one to write the load file of.
+/// Whether there are from 1 to 16 files, one to write the load file of, and at least two for a league.
 fn has_number_of_files(options: &Options) -> bool
     ensures { IsTrue result → HaveFiles options.now }
 {
     let count = options.files.len();
-    1 <= count && count <= 16 && (!options.load || count == 1)
+    1 <= count && count <= 16 && (!options.load || count == 1) && (!options.league || count >= 2)
 }
 
-/// Whether at most one of the debugger and a load file is asked for.
+/// Whether at most one of the debugger, a league and a load file is asked for.
 fn has_one_mode(options: &Options) -> bool
     ensures { IsTrue result → AreExclusive options.now }
 {
-    !(options.debugger && options.load)
+    !(options.debugger && options.league)
+        && !(options.debugger && options.load)
+        && !(options.league && options.load)
 }
 
 /// Whether a position that is given is that of the second of two warriors, at least the least distance from the first one
@@ -125,6 +130,7 @@ fn has_fitting_position(options: &Options) -> bool
         None => true,
         Some(position) => {
             options.files.len() == 2
+                && !options.league
                 && options.distance <= position
                 && u64::from(position) + u64::from(options.distance) <= u64::from(options.core)
         }
@@ -189,7 +195,9 @@ fn fault_of(alloc: Global, error: &clap::Error) -> WordsFault {
 /// The command, as `clap` reads it: the help has no short word.
 fn command<'a>(alloc: Global) -> Result<Command<'a>, AllocError> {
     let command = Command::new(alloc, "mars")
-        .about("Core War: fights matches of warriors, and debugs battles forwards and backwards")
+        .about(
+            "Core War: fights matches and leagues of warriors, and debugs battles forwards and backwards",
+        )
         .no_binary_name(true)
         .disable_help_flag(true);
     files_arg(alloc, modes(alloc, limits(alloc, sizes(alloc, command)?)?)?)
@@ -280,6 +288,7 @@ fn modes<'a>(alloc: Global, command: Command<'a>) -> Result<Command<'a>, AllocEr
         .short('e'))?
         .arg(flag(alloc, "brief", "No listing of the warriors").short('b'))?
         .arg(flag(alloc, "sorted", "Results sorted by points").short('o'))?
+        .arg(flag(alloc, "league", "Every pair of warriors fights").long("league"))?
         .arg(flag(alloc, "load", "Writes the load file of the one warrior").long("load"))?
         .arg(
             Arg::new(alloc, "help")

@@ -7,7 +7,7 @@ use crate::files::{FileFault, WarriorFiles};
 use crate::options::{Options, WordsFault, read_options};
 use mars_cell::{LoadFault, ParamFault, Params, Warrior, read_load, write_load};
 use mars_core::{Battle, BattleFault};
-use mars_match::{MatchFault, PlaceFault, Plan, place, rounds, write_results};
+use mars_match::{MatchFault, PlaceFault, Plan, league, place, rounds, write_results};
 use mars_session::{Session, WholeTape};
 use redcode_asm::{Formula, FormulaFault};
 use redcode_text::ExprFault;
@@ -244,7 +244,7 @@ fn write_all<W: Write>(output: &mut W, text: &[u8]) -> Result<(), RunFault> {
     }
 }
 
-/// Fights the match, and writes its results.
+/// Fights the match or the league, and writes its results.
 fn fight<W: Write>(
     alloc: Global,
     options: &Options,
@@ -261,7 +261,11 @@ fn fight<W: Write>(
         fixed: options.fixed,
         formula,
     };
-    let fought = rounds(alloc, params, warriors, &plan);
+    let fought = if options.league {
+        league(alloc, params, warriors, &plan)
+    } else {
+        rounds(alloc, params, warriors, &plan)
+    };
     match fought {
         Ok(table) => match write_results(&table, options.sorted, output) {
             Ok(()) => Ok(()),

@@ -89,7 +89,7 @@ fn check_fault(
 
 #[test]
 fn bad_words(rt: HostRuntime) -> Result<(), Fail> {
-    let rows: [&[&str]; 19] = [
+    let rows: [&[&str]; 22] = [
         &[],
         &["-e"],
         &["-e", "-e", "imp.load"],
@@ -102,7 +102,10 @@ fn bad_words(rt: HostRuntime) -> Result<(), Fail> {
         &["-e", "-h", "imp.load"],
         &["-e", "-q", "imp.load"],
         &["-e", "--load", "imp.load"],
-        &["--league", "imp.load", "stay.load"],
+        &["--league", "imp.load"],
+        &["-e", "--league", "imp.load", "stay.load"],
+        &["--league", "--load", "imp.load"],
+        &["-F", "200", "--league", "imp.load", "stay.load"],
         &["--load", "imp.load", "stay.load"],
         &["-F", "99", "imp.load", "stay.load"],
         &["-F", "7901", "imp.load", "stay.load"],
@@ -160,6 +163,25 @@ fn matches(rt: HostRuntime) -> Result<(), Fail> {
 ";
     let words = ["-b", "-o", "-r", "2", "dead.load", "stay.load"];
     check_output(&rt, rt.alloc(), &words, b"", sorted)
+}
+
+#[test]
+fn a_league(rt: HostRuntime) -> Result<(), Fail> {
+    let table = b"  points   wins   ties losses  warrior
+       0      0      0      2  Unknown by Anonymous
+       4      1      1      0  Unknown by Anonymous
+       4      1      1      0  Unknown by Anonymous
+";
+    let words = [
+        "-b",
+        "-c",
+        "10",
+        "--league",
+        "dead.load",
+        "imp.load",
+        "stay.load",
+    ];
+    check_output(&rt, rt.alloc(), &words, b"", table)
 }
 
 #[test]
