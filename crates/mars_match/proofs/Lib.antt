@@ -8,3 +8,4 @@ pub mod Ends
 pub mod Sums
 pub mod Outcomes
 pub mod Totals
+pub mod Pairs

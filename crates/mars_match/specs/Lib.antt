@@ -8,4 +8,5 @@ pub mod Battles
 pub mod Answers
 pub mod Rounds
 pub mod Tallies
+pub mod Leagues
 pub mod Rows

@@ -1,9 +1,12 @@
 -- Worked examples: the check computes each of them.
-use Rattle.std.specs.Prelude.{◌≡◌, ℕ, ℤ, pos, negsuc, List, [], ◌∷◌, ◌++◌, Some, true, false, codes, refl}
+use Rattle.std.specs.Prelude.{◌≡◌, ℕ, ℤ, pos, negsuc, List, [], ◌∷◌, ◌++◌, map, Some, Ok, true, false, codes, refl}
 use Rattle.mars_cell.specs.Parameters.{Parameters}
 use Rattle.mars_match.specs.Placement.{drawn, starts_of, next_seed, place_fault}
 use Rattle.std.specs.Fmt.{digits}
 use Rattle.mars_match.specs.Tables.{RowValue}
+use Rattle.mars_cell.specs.Warriors.{WarriorValue}
+use Rattle.redcode_text.specs.Tokens.{Scanned}
+use Rattle.mars_match.specs.Leagues.{all_pairs, league_of}
 use Rattle.mars_match.specs.Results.{row_line, results_text}
 use Rattle.mars_match.specs.declared.placement.PlaceFault.TheVariants.{NoRoom, BadSeed}
 
@@ -117,3 +120,17 @@ pub row_wide : results_text (row_of (codes "A") [] (negsuc 9223372036854775807) 
     ++ codes "-9223372036854775808 1000000      0      0  A by \n"
 unfolding results_text row_line digits
 row_wide = refl
+
+-- ---- leagues
+
+-- fewer than two warriors play nothing, and so no seed is too small
+pub row_no_league : (formula : Scanned) → league_of (sizes 8000 100) [] formula 1 0 ≡ Ok []
+unfolding league_of
+row_no_league formula = refl
+
+pub row_league_of_one : (w : WarriorValue) (formula : Scanned) → league_of (sizes 8000 100) (w ∷ []) formula 1 0 ≡ Ok (row_of w.name w.author (pos 0) 0 0 0 ∷ [])
+unfolding league_of
+row_league_of_one w formula = refl
+
+pub row_pairs : (a b c : WarriorValue) → map {B = ℕ × ℕ} (λ pair. (pair.first, pair.second)) (all_pairs 0 (a ∷ b ∷ c ∷ [])) ≡ (0, 1) ∷ (0, 2) ∷ (1, 2) ∷ []
+row_pairs a b c = refl

@@ -2,14 +2,16 @@
 //!
 //! The layers above may use: `place` gives exactly the defined starts and next seed (`specs/Placement`), or its first
 //! fault; any two of the starts lie at least the least distance apart, both ways round the core. `fight` tells who survives a
-//! round (`specs/Battles`), and `rounds` gives the table of a match (`specs/Rounds`), each or its first fault, or want of
-//! memory (`specs/Answers`). `write_results` writes exactly the defined text of a table (`specs/Results`), or, where the
-//! writer fails, a beginning of it; it takes no memory. What ascending order and a ranking are stands in `laws`.
+//! round (`specs/Battles`), `rounds` gives the table of a match (`specs/Rounds`), and `league` that of a league
+//! (`specs/Leagues`), each or its first fault, or want of memory (`specs/Answers`). `write_results` writes exactly the
+//! defined text of a table (`specs/Results`), or, where the writer fails, a beginning of it; it takes no memory. What
+//! ascending order and a ranking are stands in `laws`.
 #![tactic(auto)]
 
 mod fault;
 mod fights;
 pub mod laws;
+mod leagues;
 mod lineup;
 mod matches;
 mod output;
@@ -20,6 +22,7 @@ mod tallies;
 
 pub use fault::MatchFault;
 pub use fights::fight;
+pub use leagues::league;
 pub use matches::{Plan, rounds};
 pub use output::WriteFault;
 pub use placement::{PlaceFault, place};

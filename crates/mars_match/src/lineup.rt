@@ -1,5 +1,5 @@
 //! Warriors in load order, to begin with any of them.
-ghost use Rattle.std.specs.Prelude.{◌≡◌, ◌+◌, ◌≤◌, ◌++◌, length, IfOk};
+ghost use Rattle.std.specs.Prelude.{◌≡◌, ◌+◌, ◌≤◌, ◌++◌, ◌∷◌, [], length, IfOk};
 ghost use Rattle.mars_match.specs.Battles.{rotated};
 
 use mars_cell::Warrior;
@@ -47,6 +47,18 @@ impl Lineup {
             twice,
             count: warriors.len(),
         })
+    }
+
+    /// Two warriors.
+    pub fn pair(alloc: Global, first: &Warrior, second: &Warrior) -> Result<Lineup, AllocError>
+        ensures { IfOk result (λ lineup. lineup ≡ first.now ∷ second.now ∷ []) }
+    {
+        let mut twice = Vec::new(alloc);
+        twice.push(first.copy()?)?;
+        twice.push(second.copy()?)?;
+        twice.push(first.copy()?)?;
+        twice.push(second.copy()?)?;
+        Ok(Lineup { twice, count: 2 })
     }
 
     /// How many warriors there are.

@@ -74,7 +74,7 @@ fn score_round(formula: &Formula, battle: &Battle) -> Result<i64, MatchFault>
 }
 
 /// A tally for each of so many warriors.
-fn first_tallies(alloc: Global, count: usize) -> Result<Vec<Tally>, MatchFault>
+pub fn first_tallies(alloc: Global, count: usize) -> Result<Vec<Tally>, MatchFault>
     ensures { MatchResult result (λ tallies. tallies.items ≡ replicate count spec_no_rounds) (λ fault. fault ≡ MatchFault.OutOfMemory) }
 {
     let Ok(mut tallies) = Vec::with_capacity(alloc, count) else {
@@ -107,7 +107,11 @@ fn row_of(warrior: &Warrior, tally: Tally) -> Result<Row, MatchFault>
 }
 
 /// The row of each warrior with its tally, where all points fit 64 bits.
-fn rows_of(alloc: Global, warriors: &[Warrior], tallies: &[Tally]) -> Result<Vec<Row>, MatchFault>
+pub fn rows_of(
+    alloc: Global,
+    warriors: &[Warrior],
+    tallies: &[Tally],
+) -> Result<Vec<Row>, MatchFault>
     requires { length tallies.now ≡ length warriors.now }
     ensures { IsAnswer (λ (rows : Vec RowValue Global). rows.items) (checked_rows (rows_with warriors.now tallies.now)) result }
 {
@@ -144,7 +148,7 @@ fn play_round(
 }
 
 /// Plays the rounds of a match, and adds each to the tallies.
-fn play_rounds(
+pub fn play_rounds(
     alloc: Global,
     params: &Params,
     lineup: &Lineup,
@@ -156,7 +160,8 @@ fn play_rounds(
     requires fixed { IfSome plan.now.fixed (λ position. length lineup.now ≡ 2) }
     requires many { length tallies.old ≡ length lineup.now }
     requires fresh { All (IsOf 0) tallies.old }
-    ensures { IsAnswer (λ _. tallies.new) (tallied params.now lineup.now plan.now.formula plan.now.fixed plan.now.rounds 0 plan.now.seed tallies.old) result }
+    ensures sums { IsAnswer (λ _. tallies.new) (tallied params.now lineup.now plan.now.formula plan.now.fixed plan.now.rounds 0 plan.now.seed tallies.old) result }
+    ensures bounds { IfOk result (λ _. All (IsOf 4294967295) tallies.new) }
 {
     let Ok(mut starts) = vec![in alloc; 0u32; lineup.len()] else {
         return Err(MatchFault::OutOfMemory);

@@ -3,7 +3,8 @@ ghost use Rattle.std.specs.Prelude.{Some};
 ghost use Rattle.mars_cell.specs.Warriors.{IsName};
 
 use crate::{
-    MatchFault, PlaceFault, Plan, Row, Table, WriteFault, fight, place, rounds, write_results,
+    MatchFault, PlaceFault, Plan, Row, Table, WriteFault, fight, league, place, rounds,
+    write_results,
 };
 use mars_cell::{Cell, Params, Warrior, read_cell};
 use mars_core::BattleFault;
@@ -469,6 +470,110 @@ fn refused_matches(rt: HostRuntime) -> Result<(), Fail> {
             (rounds, seed, None, text),
         )?;
         assert_eq!(rt; table.err(), Some(fault), "{count} warriors");
+    }
+    Ok(())
+}
+
+/// The table of a league, or its fault.
+fn league_held(
+    alloc: Global,
+    params: &Params,
+    warriors: &[Warrior],
+    (rounds, seed, text): (u32, u32, &str),
+) -> Result<Result<Table, MatchFault>, Fail> {
+    if warriors.len() > 65536 {
+        return Err("warriors".into());
+    }
+    let plan = Plan {
+        rounds,
+        seed,
+        fixed: None,
+        formula: formula(alloc, text)?,
+    };
+    Ok(league(alloc, params, warriors, &plan))
+}
+
+#[test]
+fn leagues(rt: HostRuntime) -> Result<(), Fail> {
+    let params = sizes(8000, 100)?;
+    let mut warriors = imp_and_stay(rt.alloc())?;
+    warriors.push(one_cell(rt.alloc(), "Dead", "Anonymous", 8000, "DAT.F $0, $0")?)?;
+    let table = league_held(rt.alloc(), &params, warriors.as_slice(), (1, 1, BY_DEFAULT))?;
+    assert_eq!(rt;
+        results_of(rt.alloc(), table)?.as_slice(),
+        LEAGUE.as_bytes()
+    );
+    // One warrior plays nothing, so no seed is too small.
+    let alone = one_cells(rt.alloc(), 8000, &["JMP.B $0, $0"])?;
+    let table = league_held(rt.alloc(), &params, alone.as_slice(), (1, 0, BY_DEFAULT))?;
+    let expected =
+        "  points   wins   ties losses  warrior\n       0      0      0      0  Test by \n";
+    assert_eq!(rt;
+        results_of(rt.alloc(), table)?.as_slice(),
+        expected.as_bytes()
+    );
+    let table = league_held(rt.alloc(), &params, &[], (1, 0, BY_DEFAULT))?;
+    assert_eq!(rt;
+        results_of(rt.alloc(), table)?.as_slice(),
+        HEADING.as_bytes()
+    );
+    Ok(())
+}
+
+#[test]
+fn sums_of_leagues(rt: HostRuntime) -> Result<(), Fail> {
+    // A pair of which one lives gives it the greatest number, one of which both live takes it from both. The sum of the
+    // first is beyond 64 bits after two matches, and zero in the end. Of two that die the one with the second turn lives.
+    let params = sizes(8000, 100)?;
+    let (stay, dead) = ("JMP.B $0, $0", "DAT.F $0, $0");
+    let text = "9223372036854775807*(3-2*S)";
+    let five = one_cells(rt.alloc(), 8000, &[stay, dead, dead, stay, stay])?;
+    let table = league_held(rt.alloc(), &params, five.as_slice(), (1, 1, text))?;
+    let expected = "  points   wins   ties losses  warrior
+       0      2      2      0  Test by \n       0      0      0      4  Test by \n9223372036854775807      1      0      3  Test by \n       0      2      2      0  Test by \n       0      2      2      0  Test by \n";
+    assert_eq!(rt;
+        results_of(rt.alloc(), table)?.as_slice(),
+        expected.as_bytes()
+    );
+    let three = one_cells(rt.alloc(), 8000, &[stay, dead, dead])?;
+    let table = league_held(rt.alloc(), &params, three.as_slice(), (1, 1, text))?;
+    assert_eq!(rt; table.err(), Some(MatchFault::Score(ExprFault::Range)));
+    Ok(())
+}
+
+#[test]
+fn refused_leagues(rt: HostRuntime) -> Result<(), Fail> {
+    let params = sizes(8000, 100)?;
+    let (stay, dead) = ("JMP.B $0, $0", "DAT.F $0, $0");
+    // Where both live the formula divides by zero. Where one lives in both rounds alone its points are too great. Of two
+    // that die each lives in one round.
+    let text = "9223372036854775807/(2-S)";
+    let cases: [([&str; 4], u32, MatchFault); 4] = [
+        (
+            [dead, dead, stay, stay],
+            1,
+            MatchFault::Score(ExprFault::Range),
+        ),
+        (
+            [stay, stay, dead, dead],
+            1,
+            MatchFault::Score(ExprFault::DivideByZero),
+        ),
+        (
+            [dead, stay, stay, dead],
+            1,
+            MatchFault::Score(ExprFault::Range),
+        ),
+        (
+            [stay, stay, dead, dead],
+            0,
+            MatchFault::Place(PlaceFault::BadSeed),
+        ),
+    ];
+    for (texts, seed, fault) in cases {
+        let all = one_cells(rt.alloc(), 8000, &texts)?;
+        let table = league_held(rt.alloc(), &params, all.as_slice(), (2, seed, text))?;
+        assert_eq!(rt; table.err(), Some(fault));
     }
     Ok(())
 }

@@ -6,10 +6,11 @@ use Rattle.std.specs.Int.RustNames.{FitsSigned}
 use Rattle.mars_match.specs.Rounds.{placed_for, ended}
 use Rattle.mars_match.specs.Tallies.{outcome_by, all_added}
 use Rattle.mars_match.proofs.Outcomes.{tallied_place_err, tallied_round_err, tallied_more, fault_answer}
+use Rattle.mars_match.proofs.Pairs.{all_more}
 use Rattle.mars_match.proofs.matches.play_rounds.Goals as goal
 
-pub returns-in_err-seed : goal.returns-in_err-seed
-returns-in_err-seed c =
+pub returns-in_err-seed-clause-sums : goal.returns-in_err-seed-clause-sums
+returns-in_err-seed-clause-sums c =
     let p = err_from_is_err_and c.from_residual.result c.from_residual.ensures.1 in
     let plan = c.args.plan.now in
     let many : length c.as_mut_slice.result.now ≡ length c.args.lineup.now = rw c.as_mut_slice.ensures.value c.loop-round.invariant.starts in
@@ -17,8 +18,8 @@ returns-in_err-seed c =
     let more : c.loop-round.round < plan.rounds = omega arith in
     fault_answer _ _ _ p.0 p.1 (inr (sym c.loop-round.invariant.sums ∙ tallied_place_err c.args.params.now c.args.lineup.now plan.formula plan.fixed plan.rounds c.loop-round.round c.loop-round.seed c.loop-round.tallies more p.0 (rw p.2 bad)))
 
-pub returns-in_err-battle : goal.returns-in_err-battle
-returns-in_err-battle c =
+pub returns-in_err-battle-clause-sums : goal.returns-in_err-battle-clause-sums
+returns-in_err-battle-clause-sums c =
     let p = err_from_is_err_and c.from_residual-in_err-battle.result c.from_residual-in_err-battle.ensures.1 in
     let plan = c.args.plan.now in
     let many : length c.as_mut_slice.result.now ≡ length c.args.lineup.now = rw c.as_mut_slice.ensures.value c.loop-round.invariant.starts in
@@ -50,3 +51,6 @@ loop-round-preserved c =
       bounds = c.add_round.ensures.bounds;
       starts = ap length (sym c.as_slice-starts.ensures.value ∙ same) ∙ c.place_round.auto.starts ∙ many;
     }
+
+pub returns-clause-bounds : goal.returns-clause-bounds
+returns-clause-bounds c = all_more c.loop-round.round 4294967295 c.loop-round.tallies (omega arith) c.loop-round.invariant.bounds

@@ -22,7 +22,7 @@ returns-in_err-play_rounds-clause-table c =
     let count = good_count (count_fault (length ws)) c.check_count.result c.in_ok-check_count.field-0 c.check_count.ensures c.in_ok-check_count.was in
     let same : c.in-Ok.lineup ≡ ws = c.in-Ok.ensures in
     let fresh : c.as_mut_slice.result.now ≡ replicate (length ws) no_rounds = c.as_mut_slice.ensures.value ∙ c.in_ok-tallies.ensures in
-    fault_answer _ _ _ p.0 p.1 (elim c.in_err-play_rounds.ensures [
+    fault_answer _ _ _ p.0 p.1 (elim c.in_err-play_rounds.ensures.sums [
       | inl none ↦ inl (p.2 ∙ none)
       | inr bad ↦
           let e : tallied c.args.params.now ws plan.formula plan.fixed plan.rounds 0 plan.seed (replicate (length ws) no_rounds) ≡ Err p.0 = rw (p.2, ← fresh, ← same) bad in
@@ -38,7 +38,7 @@ returns-in_err-rows-clause-table c =
     let same : c.in-Ok.lineup ≡ ws = c.in-Ok.ensures in
     let fresh : c.as_mut_slice.result.now ≡ replicate (length ws) no_rounds = c.as_mut_slice.ensures.value ∙ c.in_ok-tallies.ensures in
     let ts = c.play_rounds.new.tallies in
-    let e : tallied c.args.params.now ws plan.formula plan.fixed plan.rounds 0 plan.seed (replicate (length ws) no_rounds) ≡ Ok ts = rw (← fresh, ← same) c.in_ok-play_rounds.ensures in
+    let e : tallied c.args.params.now ws plan.formula plan.fixed plan.rounds 0 plan.seed (replicate (length ws) no_rounds) ≡ Ok ts = rw (← fresh, ← same) c.in_ok-play_rounds.ensures.sums in
     let there : c.as_slice.result.now ≡ ts = grind (arith, common_steps, c.as_slice.ensures.value) in
     fault_answer _ _ _ p.0 p.1 (elim c.in_err-rows.ensures [
       | inl none ↦ inl (p.2 ∙ none)
@@ -53,6 +53,6 @@ returns-clause-table c =
     let same : c.in-Ok.lineup ≡ ws = c.in-Ok.ensures in
     let fresh : c.as_mut_slice.result.now ≡ replicate (length ws) no_rounds = c.as_mut_slice.ensures.value ∙ c.in_ok-tallies.ensures in
     let ts = c.play_rounds.new.tallies in
-    let e : tallied c.args.params.now ws plan.formula plan.fixed plan.rounds 0 plan.seed (replicate (length ws) no_rounds) ≡ Ok ts = rw (← fresh, ← same) c.in_ok-play_rounds.ensures in
+    let e : tallied c.args.params.now ws plan.formula plan.fixed plan.rounds 0 plan.seed (replicate (length ws) no_rounds) ≡ Ok ts = rw (← fresh, ← same) c.in_ok-play_rounds.ensures.sums in
     let there : c.as_slice.result.now ≡ ts = grind (arith, common_steps, c.as_slice.ensures.value) in
     table_with c.args.params.now ws plan.formula plan.fixed plan.rounds plan.seed ts count e ∙ rw (← there) c.in_ok-rows.ensures
