@@ -26,3 +26,5 @@ pub mod TextSteps
 pub mod AssertSteps
 pub mod PlainSteps
 pub mod CountSteps
+pub mod Kept
+pub mod LoopSteps

@@ -15,3 +15,4 @@ pub mod Used
 pub mod Expansion
 pub mod ExpansionRows
 pub mod Heads
+pub mod Loops

@@ -16,6 +16,7 @@ mod expression;
 mod fault;
 mod heads;
 mod loop_heads;
+mod loops;
 mod names;
 mod open_loops;
 mod operations;

@@ -1,5 +1,6 @@
 //! The loops that are open where a line is read.
-ghost use Rattle.std.specs.Prelude.{◌≡◌, [], ◌∷◌, length, option_map, reverse, string_bytes, OnOk, OnErr};
+ghost use Rattle.std.specs.Prelude.{◌≡◌, [], ◌∷◌, drop, length, option_map, reverse, string_bytes, OnOk, OnErr};
+ghost use Rattle.redcode_text.specs.Heads.{innermost_counter};
 ghost use Rattle.redcode_text.specs.Tokens.{is_counter, turn_of};
 
 use std::alloc::{AllocError, Global};
@@ -37,6 +38,13 @@ impl OpenLoop {
             Some(counter) => counter.as_bytes() == name,
             None => false,
         }
+    }
+
+    fn into_counter(self) -> Option<String>
+        ensures { option_map (λ s. string_bytes s) result ≡ self.counter }
+    {
+        let OpenLoop { counter, turn: _ } = self;
+        counter
     }
 
     fn turn(&self) -> u32
@@ -98,6 +106,17 @@ impl OpenLoops {
     {
         self.loops.push(innermost)?;
         Ok(())
+    }
+
+    /// Closes the innermost loop, and gives its counter.
+    pub fn close(&mut self) -> Option<String>
+        ensures counter { option_map (λ s. string_bytes s) result ≡ innermost_counter self.old }
+        ensures loops { self.new ≡ drop 1 self.old }
+    {
+        match self.loops.pop() {
+            Some(innermost) => innermost.into_counter(),
+            None => None,
+        }
     }
 
     /// The turn of the loop whose counter has this name.
