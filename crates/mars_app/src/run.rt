@@ -244,6 +244,18 @@ fn write_all<W: Write>(output: &mut W, text: &[u8]) -> Result<(), RunFault> {
     }
 }
 
+/// How the match, or each match of the league, is held.
+fn plan(options: &Options, fixed: Option<u32>, formula: Formula) -> Plan
+    ensures { result.fixed ≡ fixed }
+{
+    Plan {
+        rounds: options.rounds,
+        seed: options.seed,
+        fixed,
+        formula,
+    }
+}
+
 /// Fights the match or the league, and writes its results.
 fn fight<W: Write>(
     alloc: Global,
@@ -253,17 +265,14 @@ fn fight<W: Write>(
     warriors: &[Warrior],
     output: &mut W,
 ) -> Result<(), RunFault>
-    requires { FitsTwo params.now (length warriors.now) options.now.fixed }
+    requires few { length warriors.now ≤ 16 }
+    requires position { FitsTwo params.now (length warriors.now) options.now.fixed }
 {
-    let plan = Plan {
-        rounds: options.rounds,
-        seed: options.seed,
-        fixed: options.fixed,
-        formula,
-    };
     let fought = if options.league {
+        let plan = plan(options, None, formula);
         league(alloc, params, warriors, &plan)
     } else {
+        let plan = plan(options, options.fixed, formula);
         rounds(alloc, params, warriors, &plan)
     };
     match fought {
