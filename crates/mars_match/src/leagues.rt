@@ -56,7 +56,7 @@ fn play_pair(
         return Err(MatchFault::OutOfMemory);
     };
     let mut tallies = [no_rounds(), no_rounds()];
-    play_rounds(alloc, params, &lineup, plan, &mut tallies)?;
+    play_rounds(alloc, params, &lineup, plan, plan.seed, &mut tallies)?;
     check_points(tallies[0])?;
     check_points(tallies[1])?;
     Ok((tallies[0], tallies[1]))

@@ -147,12 +147,13 @@ fn play_round(
     Ok((battle, score))
 }
 
-/// Plays the rounds of a match, and adds each to the tallies.
+/// Plays the rounds of a match from a seed on, and adds each to the tallies.
 pub fn play_rounds(
     alloc: Global,
     params: &Params,
     lineup: &Lineup,
     plan: &Plan,
+    first_seed: u32,
     tallies: &mut [Tally],
 ) -> Result<(), MatchFault>
     requires some { 1 ≤ length lineup.now }
@@ -160,13 +161,13 @@ pub fn play_rounds(
     requires fixed { IfSome plan.now.fixed (λ position. length lineup.now ≡ 2) }
     requires many { length tallies.old ≡ length lineup.now }
     requires fresh { All (IsOf 0) tallies.old }
-    ensures sums { IsAnswer (λ _. tallies.new) (tallied params.now lineup.now plan.now.formula plan.now.fixed plan.now.rounds 0 plan.now.seed tallies.old) result }
+    ensures sums { IsAnswer (λ _. tallies.new) (tallied params.now lineup.now plan.now.formula plan.now.fixed plan.now.rounds 0 first_seed tallies.old) result }
     ensures bounds { IfOk result (λ _. All (IsOf 4294967295) tallies.new) }
 {
     let Ok(mut starts) = vec![in alloc; 0u32; lineup.len()] else {
         return Err(MatchFault::OutOfMemory);
     };
-    let mut seed = plan.seed;
+    let mut seed = first_seed;
     for round in 0..plan.rounds {
         seed = place_round(params, plan.fixed, seed, starts.as_mut_slice())?;
         let starts = starts.as_slice();
@@ -194,7 +195,14 @@ pub fn rounds(
         return Err(MatchFault::OutOfMemory);
     };
     let mut tallies = first_tallies(alloc, warriors.len())?;
-    play_rounds(alloc, params, &lineup, plan, tallies.as_mut_slice())?;
+    play_rounds(
+        alloc,
+        params,
+        &lineup,
+        plan,
+        plan.seed,
+        tallies.as_mut_slice(),
+    )?;
     let rows = rows_of(alloc, warriors, tallies.as_slice())?;
     Ok(Table { rows })
 }

@@ -6,7 +6,7 @@ use Rattle.mars_match.proofs.matches.play_rounds.Given as goal
 abbrev pub invariant-loop-round : goal.invariant-loop-round
 invariant-loop-round l = record {
   sums : tallied l.params l.lineup l.plan.formula l.plan.fixed (l.plan.rounds - l.round) l.round l.seed l.tallies
-      ≡ tallied l.params l.lineup l.plan.formula l.plan.fixed l.plan.rounds 0 l.plan.seed l.initial.tallies;
+      ≡ tallied l.params l.lineup l.plan.formula l.plan.fixed l.plan.rounds 0 l.first_seed l.initial.tallies;
   bounds : All (IsOf l.round) l.tallies;
   starts : length l.starts.items ≡ length l.lineup;
 }
