@@ -28,3 +28,4 @@ pub mod PlainSteps
 pub mod CountSteps
 pub mod Kept
 pub mod LoopSteps
+pub mod LoneSteps

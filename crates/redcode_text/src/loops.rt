@@ -1,17 +1,18 @@
 //! The items of a source, with the turns of its loops.
-ghost use Rattle.std.specs.Prelude.{◌≡◌, ◌+◌, ◌<◌, ◌≤◌, ◌^◌, length, option_map, slice_index, string_bytes, OnOk};
+ghost use Rattle.std.specs.Prelude.{◌≡◌, ◌+◌, ◌<◌, ◌≤◌, ◌^◌, false, length, map, option_map, slice_index, string_bytes, OnOk};
 ghost use Rattle.redcode_text.specs.Expansion.{flat, head_line, rof_line, turns, unpaired_line};
-ghost use Rattle.redcode_text.specs.declared.fault.TextProblem.TheVariants.{UnclosedFor};
+ghost use Rattle.redcode_text.specs.declared.fault.TextProblem.TheVariants.{RofAlone, UnclosedFor};
 ghost use Rattle.redcode_text.specs.Heads.{head_of};
 ghost use Rattle.redcode_text.specs.Held.{predefined_of, reading_of};
 ghost use Rattle.redcode_text.specs.Loops.{IsFor, IsPlain, ReadTo, RowsFit};
 ghost use Rattle.redcode_text.specs.Outcomes.{Answers, Gives, row_of};
 ghost use Rattle.redcode_text.specs.Pairs.{AreEnds, here_from};
-ghost use Rattle.redcode_text.specs.Source.{ForLine, line_kind};
+ghost use Rattle.redcode_text.specs.Source.{ForLine, line_kind, tree_of_rows};
 ghost use Rattle.redcode_text.specs.Tokens.{at_line};
 
 use crate::fault::{TextFault, TextProblem};
 use crate::open_loops::OpenLoop;
+use crate::pairs::{end_from, ends_of};
 use crate::predefined::Names;
 use crate::rows::{LineKind, Row, line_kind};
 use crate::state::{Head, Reading};
@@ -77,6 +78,16 @@ fn refuse_for(row: Row<'_>, reading: &mut Reading) -> Result<(), TextFault>
 {
     match reading.count_line() {
         Ok(()) => Err(TextProblem::UnclosedFor.at_line(row.number)),
+        Err(problem) => Err(problem.at_line(row.number)),
+    }
+}
+
+/// Refuses a ROF without its FOR.
+fn refuse_rof(row: Row<'_>, reading: &mut Reading) -> Result<(), TextFault>
+    ensures { Answers (λ _. reading_of reading.new) result (at_line row.entry.number (unpaired_line RofAlone (reading_of reading.old))) }
+{
+    match reading.count_line() {
+        Ok(()) => Err(TextProblem::RofAlone.at_line(row.number)),
         Err(problem) => Err(problem.at_line(row.number)),
     }
 }
@@ -184,4 +195,30 @@ fn read_turns(
         }
     }
     Ok(())
+}
+
+/// Reads all rows, up to END.
+fn read_all(
+    alloc: Global,
+    names: &Names,
+    rows: &[Row<'_>],
+    reading: &mut Reading,
+) -> Result<(), TextFault>
+    requires fits { RowsFit rows.now }
+    requires depth { length reading.old.loops ≤ 32 }
+    requires going { reading.old.ended ≡ false }
+    ensures { Answers (λ _. reading_of reading.new) result (flat (predefined_of names.now) (tree_of_rows (map row_of rows.now)) (reading_of reading.old)) }
+{
+    let Ok(ends) = ends_of(alloc, rows) else {
+        return Err(TextProblem::OutOfMemory.at_line(0));
+    };
+    read_items(alloc, names, rows, &ends, 0, reading)?;
+    if reading.ended {
+        return Ok(());
+    }
+    let end = end_from(rows, &ends, 0);
+    if end >= rows.len() {
+        return Ok(());
+    }
+    refuse_rof(rows[end], reading)
 }

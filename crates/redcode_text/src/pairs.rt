@@ -6,7 +6,7 @@ use crate::rows::{LineKind, Row, line_kind};
 use std::alloc::{AllocError, Global};
 
 /// Where the items that begin at a place end, where that is known for each later place.
-fn end_from(rows: &[Row<'_>], ends: &[usize], first: usize) -> usize
+pub fn end_from(rows: &[Row<'_>], ends: &[usize], first: usize) -> usize
     requires within { first ≤ length rows.now }
     requires same_length { length ends.now ≡ length rows.now }
     requires known { (i : ℕ) → first ≤ i → i < length rows.now → EndsAt rows.now (i + 1) (slice_index ends.now i) }
