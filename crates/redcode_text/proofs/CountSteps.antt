@@ -3,12 +3,12 @@ use Rattle.std.proofs.Common.{◌≡◌, ℕ, List, Bool, true, false, Result, O
 use Rattle.redcode_text.specs.declared.fault.TextProblem.{TextProblem}
 use Rattle.redcode_text.specs.declared.fault.TextProblem.TheVariants.{LabelInCount}
 use Rattle.redcode_text.specs.declared.token.Token.{Token}
-use Rattle.redcode_text.specs.Equates.{substituted}
+use Rattle.redcode_text.specs.Equates.{substitution}
 use Rattle.redcode_text.specs.Expansion.{as_count, count_of, has_label}
 use Rattle.redcode_text.specs.Expression.{kinds, value_of}
 use Rattle.redcode_text.specs.Lines.{Predefined, Reading, name_at, predefined_value, with_current_line}
 use Rattle.redcode_text.specs.Outcomes.{Gives}
-use Rattle.redcode_text.specs.Tokens.{◌>>=◌}
+use Rattle.redcode_text.specs.Tokens.{◌>>=◌, without_line}
 use Rattle.redcode_text.proofs.Failing.{fails-itself}
 
 gives-itself : (r : Result ℕ TextProblem) → Gives (λ n. n) r r
@@ -22,7 +22,7 @@ module _ (ps : Predefined) (st : Reading) where
   abbrev judged : List Token → Result ℕ TextProblem
   judged us = elim (has_label ps st (kinds us)) as (λ _. Result ℕ TextProblem) [ true ↦ Err LabelInCount | false ↦ valued us ]
 
-  pub count-is : (ts us read : List Token) (r : Result ℕ TextProblem) → substituted st.equates ts ≡ Ok us → read ≡ us → has_label ps st (kinds read) ≡ false → r ≡ valued read → Gives (λ n. n) r (count_of ps st ts)
+  pub count-is : (ts us read : List Token) (r : Result ℕ TextProblem) → without_line (substitution st.equates ts) ≡ Ok us → read ≡ us → has_label ps st (kinds read) ≡ false → r ≡ valued read → Gives (λ n. n) r (count_of ps st ts)
   count-is ts us read r h same none is =
       let whole : r ≡ count_of ps st ts =
       is

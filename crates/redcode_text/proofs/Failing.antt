@@ -4,7 +4,7 @@ use Rattle.redcode_text.specs.declared.fault.TextFault.{TextFault}
 use Rattle.redcode_text.specs.declared.fault.TextProblem.{TextProblem}
 use Rattle.redcode_text.specs.declared.fault.TextProblem.TheVariants.{NotAscii, BadToken, UnclosedFor, RofAlone, BadCount, LabelInCount, Duplicate, EquDepth, TooLong, Expression, OutOfMemory}
 use Rattle.redcode_text.specs.Outcomes.{Fails, FailsAt, line_of}
-use Rattle.redcode_text.specs.Tokens.{◌>>=◌, at_line}
+use Rattle.redcode_text.specs.Tokens.{◌>>=◌, at_line, without_line}
 
 pub fails-bind : {A B : Type 0} (e : TextProblem) (r : Result A TextProblem) (f : A → Result B TextProblem) → Fails e r → Fails e (r >>= f)
 fails-bind NotAscii r f h = ap (λ r. r >>= f) h
@@ -54,3 +54,20 @@ at-problem n OutOfMemory f r e l h = l
 
 pub fails-at : {A : Type 0} (n : ℕ) (p : TextProblem) (f : TextFault) (r : Result A TextProblem) → f.problem ≡ p → f.line ≡ line_of n p → Fails p r → FailsAt f.problem f (at_line n r)
 fails-at n p f r e l h = subst (λ q. FailsAt q f (at_line n r)) (sym e) (at-problem n p f r e l h)
+
+-- a fault seen without its line
+bare-problem : {A B : Type 0} (p : TextProblem) (f : TextFault) (r : Result A TextFault) (k : A → Result B TextProblem) → f.problem ≡ p → FailsAt p f r → Fails p (without_line r >>= k)
+bare-problem NotAscii f r k e h = ap (λ r. without_line r >>= k) h ∙ ap Err e
+bare-problem BadToken f r k e h = ap (λ r. without_line r >>= k) h ∙ ap Err e
+bare-problem UnclosedFor f r k e h = ap (λ r. without_line r >>= k) h ∙ ap Err e
+bare-problem RofAlone f r k e h = ap (λ r. without_line r >>= k) h ∙ ap Err e
+bare-problem BadCount f r k e h = ap (λ r. without_line r >>= k) h ∙ ap Err e
+bare-problem LabelInCount f r k e h = ap (λ r. without_line r >>= k) h ∙ ap Err e
+bare-problem Duplicate f r k e h = ap (λ r. without_line r >>= k) h ∙ ap Err e
+bare-problem EquDepth f r k e h = ap (λ r. without_line r >>= k) h ∙ ap Err e
+bare-problem TooLong f r k e h = ap (λ r. without_line r >>= k) h ∙ ap Err e
+bare-problem (Expression x) f r k e h = ap (λ r. without_line r >>= k) h ∙ ap Err e
+bare-problem OutOfMemory f r k e h = tt
+
+pub fails_bare : {A B : Type 0} (f : TextFault) (r : Result A TextFault) (k : A → Result B TextProblem) → FailsAt f.problem f r → Fails f.problem (without_line r >>= k)
+fails_bare f r k h = bare-problem f.problem f r k refl h

@@ -29,3 +29,6 @@ pub mod CountSteps
 pub mod Kept
 pub mod LoopSteps
 pub mod LoneSteps
+pub mod SourceRows
+pub mod Printing
+pub mod NameSets

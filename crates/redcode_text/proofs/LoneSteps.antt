@@ -1,17 +1,17 @@
 -- A source whose items end at a ROF that closes nothing.
-use Rattle.std.proofs.Common.{◌≡◌, ◌∙◌, ℕ, zero, ◌+◌, ◌<◌, ◌≤◌, List, [], ◌∷◌, length, drop, map, Bool, true, false, Result, Ok, Err, ap, refl, subst, sym, arith, get_or}
+use Rattle.std.proofs.Common.{◌≡◌, ◌∙◌, ℕ, ◌<◌, List, [], ◌∷◌, length, map, Bool, true, false, Result, Ok, Err, ap, refl, subst, sym, get_or}
 use Rattle.redcode_text.specs.declared.fault.TextFault.{TextFault}
 use Rattle.redcode_text.specs.declared.fault.TextProblem.{TextProblem}
 use Rattle.redcode_text.specs.declared.fault.TextProblem.TheVariants.{UnclosedFor, RofAlone}
 use Rattle.redcode_text.specs.declared.rows.Row as code
-use Rattle.redcode_text.specs.Expansion.{◌>>>◌, Head, flat, head_line, rof_line, turns, unless_ended, unpaired_line}
+use Rattle.redcode_text.specs.Expansion.{flat, unless_ended, unpaired_line}
 use Rattle.redcode_text.specs.Lines.{Predefined, Reading, line_read, plain_line}
 use Rattle.redcode_text.specs.Loops.{one_loop}
 use Rattle.redcode_text.specs.Outcomes.{FailsAt, row_of}
-use Rattle.redcode_text.specs.Pairs.{here_from, paired_from, EndsAt}
+use Rattle.redcode_text.specs.Pairs.{here_from, EndsAt}
 use Rattle.redcode_text.specs.Source.{Items, Nothing, Plain, Loop, LoneRof, Row, paired, then_lone, tree_of_rows, with_lone}
 use Rattle.redcode_text.specs.Source as source
-use Rattle.redcode_text.specs.Tokens.{◌>>=◌, at_line}
+use Rattle.redcode_text.specs.Tokens.{◌>>>◌, ◌>>=◌, at_line}
 use Rattle.redcode_text.proofs.LoopSteps.{flat-loop, goes-on, no_row, stops, then-fails}
 use Rattle.redcode_text.proofs.PairSteps.{rof-at}
 

@@ -9,12 +9,12 @@ use Rattle.redcode_text.specs.declared.rows.LineKind.TheVariants as line
 use Rattle.redcode_text.specs.declared.fault.TextFault.{TextFault}
 use Rattle.redcode_text.specs.declared.fault.TextProblem.{TextProblem}
 use Rattle.redcode_text.specs.declared.fault.TextProblem.TheVariants.{NotAscii, BadToken, UnclosedFor, RofAlone, BadCount, LabelInCount, Duplicate, EquDepth, TooLong, Expression, OutOfMemory}
-use Rattle.redcode_text.specs.Expansion.{◌>>>◌, Head, flat, head_line, in_turn, rof_line, turns, unless_ended}
+use Rattle.redcode_text.specs.Expansion.{Head, flat, head_line, in_turn, rof_line, turns, unless_ended}
 use Rattle.redcode_text.specs.Lines.{Predefined, Reading, plain_line}
 use Rattle.redcode_text.specs.Loops.{IsFor, IsPlain, one_loop}
 use Rattle.redcode_text.specs.Outcomes.{FailsAt, kind_of, row_of}
 use Rattle.redcode_text.specs.Source.{Items, Nothing, Plain, Loop, Row, EquLine, OtherLine, line_kind}
-use Rattle.redcode_text.specs.Tokens.{OpenLoop, at_line}
+use Rattle.redcode_text.specs.Tokens.{◌>>>◌, OpenLoop, at_line}
 use Rattle.redcode_text.proofs.Kept.{Kept, rof-ended}
 
 -- ---- what fails at first fails as a whole

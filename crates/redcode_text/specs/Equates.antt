@@ -5,7 +5,8 @@ use Rattle.redcode_text.specs.declared.token.TokenKind.{TokenKind}
 use Rattle.redcode_text.specs.declared.token.TokenKind.TheVariants.{Name}
 use Rattle.redcode_text.specs.declared.fault.TextProblem.{TextProblem}
 use Rattle.redcode_text.specs.declared.fault.TextProblem.TheVariants.{BadToken, EquDepth, TooLong}
-use Rattle.redcode_text.specs.Tokens.{◌>>=◌}
+use Rattle.redcode_text.specs.declared.fault.TextFault.{TextFault}
+use Rattle.redcode_text.specs.Tokens.{◌>>=◌, ◌>>>◌, at_line}
 
 -- what the limits on lines, tokens and replacements have in common
 abbrev pub limit : ℕ
@@ -69,6 +70,12 @@ abbrev pub replacing : ℕ → List Equate → Option Replacing
 replacing zero equates = None
 replacing (suc depth) equates = Some (each_replaced equates (replacing depth equates))
 
+-- the same for tokens of a source: a fault has the line of the token at which it is met
+abbrev pub each_replaced_at_line : List Equate → Replaced → List Token → Result Replaced TextFault
+each_replaced_at_line equates r [] = Ok r
+each_replaced_at_line equates r (t ∷ ts) =
+    at_line t.line (replaced_token (replacing depth_limit equates) r t (token_lines equates t.kind)) >>> λ s. each_replaced_at_line equates s ts
+
 -- tokens with each EQU name replaced
-abbrev pub substituted : List Equate → List Token → Result (List Token) TextProblem
-substituted equates ts = each_replaced equates (replacing depth_limit equates) (record { tokens = []; count = 0 }) ts >>= λ r. Ok r.tokens
+abbrev pub substitution : List Equate → List Token → Result (List Token) TextFault
+substitution equates ts = each_replaced_at_line equates (record { tokens = []; count = 0 }) ts >>> λ r. Ok r.tokens

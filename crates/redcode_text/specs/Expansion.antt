@@ -8,10 +8,10 @@ use Rattle.redcode_text.specs.declared.fault.TextFault.{TextFault}
 use Rattle.redcode_text.specs.declared.fault.TextProblem.{TextProblem}
 use Rattle.redcode_text.specs.declared.fault.TextProblem.TheVariants.{UnclosedFor, RofAlone, BadCount, LabelInCount, TooLong, Expression}
 use Rattle.redcode_text.specs.Expression.{kinds, value_of}
-use Rattle.redcode_text.specs.Tokens.{◌>>=◌, at_line}
+use Rattle.redcode_text.specs.Tokens.{◌>>=◌, ◌>>>◌, at_line, without_line}
 use Rattle.redcode_text.specs.Source.{Row, Items, Plain, Loop, tree_of}
 use Rattle.redcode_text.specs.Source as source
-use Rattle.redcode_text.specs.Equates.{Equate, substituted}
+use Rattle.redcode_text.specs.Equates.{Equate, substitution}
 use Rattle.redcode_text.specs.Lines.{Reading, Line, Assert, Predefined, predefined_value, with_current_line, name_at, is_predefined, line_read, row_tokens, tokens_before, tokens_after, name_in_front, plain_line}
 
 -- ---- the head of a loop
@@ -30,7 +30,7 @@ as_count (Err e) = Err (Expression e)
 
 abbrev pub count_of : Predefined → Reading → List Token → Result ℕ TextProblem
 count_of ps st ts =
-    substituted st.equates ts >>= λ us. elim (has_label ps st (kinds us)) [
+    without_line (substitution st.equates ts) >>= λ us. elim (has_label ps st (kinds us)) [
       | true ↦ Err LabelInCount
       | false ↦ as_count (value_of (λ n. predefined_value (with_current_line ps st.instructions) (name_at st.names n)) (kinds us))
     ]
@@ -69,11 +69,6 @@ abbrev pub unpaired_line : TextProblem → Reading → Result Reading TextProble
 unpaired_line problem st = line_read st >>= λ _. Err problem
 
 -- ---- the whole
-
-infixl 10 ◌>>>◌
-abbrev pub ◌>>>◌ : {A B : Type 0} → Result A TextFault → (A → Result B TextFault) → Result B TextFault
-(Ok x) >>> f = f x
-(Err e) >>> f = Err e
 
 abbrev pub unless_ended : Reading → (Reading → Result Reading TextFault) → Result Reading TextFault
 unless_ended st rest = elim st.ended [ true ↦ Ok st | false ↦ rest st ]

@@ -12,7 +12,9 @@ pub mod Equates
 pub mod Lines
 pub mod Held
 pub mod Used
+pub mod Labels
 pub mod Expansion
+pub mod Programs
 pub mod ExpansionRows
 pub mod Heads
 pub mod Loops

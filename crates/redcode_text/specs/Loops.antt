@@ -2,12 +2,12 @@
 use Rattle.std.specs.Prelude.{◌≡◌, ℕ, ◌+◌, ◌<◌, ◌≤◌, ◌^◌, List, length, get_or, Result, Ok, Err}
 use Rattle.redcode_text.specs.declared.fault.TextFault.{TextFault}
 use Rattle.redcode_text.specs.declared.rows.Row as code
-use Rattle.redcode_text.specs.Expansion.{◌>>>◌, flat, head_line, rof_line, turns, unless_ended}
+use Rattle.redcode_text.specs.Expansion.{flat, head_line, rof_line, turns, unless_ended}
 use Rattle.redcode_text.specs.Lines.{Predefined, Reading}
 use Rattle.redcode_text.specs.Outcomes.{FailsAt, row_of}
 use Rattle.redcode_text.specs.Pairs.{here_from}
 use Rattle.redcode_text.specs.Source.{Items, Plain, Row, ForLine, line_kind}
-use Rattle.redcode_text.specs.Tokens.{at_line}
+use Rattle.redcode_text.specs.Tokens.{◌>>>◌, at_line}
 
 -- one loop, apart from what follows it
 abbrev pub one_loop : Predefined → Row → Items → Row → Reading → Result Reading TextFault

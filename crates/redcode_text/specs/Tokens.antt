@@ -25,6 +25,15 @@ abbrev pub at_line : {A : Type 0} → ℕ → Result A TextProblem → Result A 
 at_line n (Ok x) = Ok x
 at_line n (Err e) = Err (record { line = n; problem = e })
 
+infixl 10 ◌>>>◌
+abbrev pub ◌>>>◌ : {A B : Type 0} → Result A TextFault → (A → Result B TextFault) → Result B TextFault
+(Ok x) >>> f = f x
+(Err e) >>> f = Err e
+
+abbrev pub without_line : {A : Type 0} → Result A TextFault → Result A TextProblem
+without_line (Ok x) = Ok x
+without_line (Err e) = Err e.problem
+
 -- ---- bytes
 
 -- every byte up to 32 but LF

@@ -64,7 +64,7 @@ impl Reading {
         };
         let assert = Assert {
             number: row.number,
-            current_line: self.instructions,
+            current_line: self.instructions as u32,
             tokens,
         };
         match self.asserts.push(assert) {

@@ -30,7 +30,7 @@ impl<'a> Env for CountNames<'a> {
 
     fn value(&self, name: usize) -> Option<i64> {
         self.predefined
-            .value_at(self.current_line as usize, self.names.bytes_of(name))
+            .value_at(self.current_line, self.names.bytes_of(name))
     }
 }
 
@@ -61,6 +61,7 @@ impl Reading {
     }
 
     /// How often the body of a loop is read.
+    #[tactic(auto, using(crate::proofs::Failing::fails_bare))]
     pub fn count_of(
         &self,
         alloc: Global,
@@ -69,7 +70,10 @@ impl Reading {
     ) -> Result<u32, TextProblem>
         ensures { Gives (λ count. count) result (count_of (predefined_of names.now) (reading_of self.now) tokens.now) }
     {
-        let tokens = self.equates.substitute(alloc, tokens)?;
+        let tokens = match self.equates.substitute(alloc, tokens) {
+            Ok(tokens) => tokens,
+            Err(fault) => return Err(fault.problem),
+        };
         if self.has_label(names, &tokens) {
             return Err(TextProblem::LabelInCount);
         }

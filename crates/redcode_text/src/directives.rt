@@ -1,9 +1,10 @@
 //! Directives: comments that say something.
-ghost use Rattle.std.specs.Prelude.{◌≡◌, ◌≤◌, ◌<◌, ◌+◌, length, map, reverse, string_bytes, take, true, nat_eq, IfSome, Ok};
+ghost use Rattle.std.specs.Prelude.{◌≡◌, ◌≤◌, ◌<◌, ◌+◌, length, map, reverse, string_bytes, take, true, nat_eq, IfOk, IfSome, Ok};
 ghost use Rattle.std.specs.List.{starts_with};
 ghost use Rattle.std.specs.Str.{str_to_ascii_lowercase};
 ghost use Rattle.redcode_text.specs.Lines.{directive_value, printable};
 ghost use Rattle.redcode_text.specs.Outcomes.{Gives, text_found};
+ghost use Rattle.redcode_text.specs.Programs.{IsPrinted};
 ghost use Rattle.redcode_text.specs.Source.{blank_len, without_blanks};
 
 use crate::bytes::{blank_len, is_blank, is_word};
@@ -81,7 +82,8 @@ fn printed(alloc: Global, bytes: &[u8]) -> Result<String, TextProblem>
 
 /// The text of `;name` or `;author`: without the blanks at both ends, in printable bytes, 60 of them at most.
 pub fn directive_value(alloc: Global, text: &[u8]) -> Result<String, TextProblem>
-    ensures { Gives (λ value. string_bytes value) result (Ok (directive_value text.now)) }
+    ensures value { Gives (λ value. string_bytes value) result (Ok (directive_value text.now)) }
+    ensures printed { IfOk result (λ value. IsPrinted (string_bytes value)) }
 {
     let front = &text[blank_len(text)..];
     let trimmed = &front[..trimmed_len(front)];

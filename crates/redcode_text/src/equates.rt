@@ -1,10 +1,11 @@
 //! EQU names, and tokens with EQU names replaced.
 ghost use Rattle.std.specs.Prelude.{◌≡◌, ℕ, [], ◌∷◌, ◌++◌, ◌≤◌, length, map, Some, None, IfOk, OnOk, Ok, Err, MatchResult, option_map};
-ghost use Rattle.redcode_text.specs.Outcomes.{Gives};
-ghost use Rattle.redcode_text.specs.Equates.{Replaced, equate_lines, token_lines, one_line, one_more, kept, replaced_name, replaced_token, each_replaced, replacing, substituted};
+ghost use Rattle.redcode_text.specs.Outcomes.{Answers, Gives};
+ghost use Rattle.redcode_text.specs.Equates.{Replaced, equate_lines, token_lines, one_line, one_more, kept, replaced_name, replaced_token, each_replaced, replacing, depth_limit, each_replaced_at_line, substitution};
 ghost use Rattle.redcode_text.specs.Lines.{with_line};
+ghost use Rattle.redcode_text.specs.Tokens.{at_line};
 
-use crate::fault::TextProblem;
+use crate::fault::{TextFault, TextProblem};
 use crate::token::{Token, TokenKind};
 use indexmap::IndexMap;
 use std::alloc::{AllocError, Global};
@@ -153,15 +154,35 @@ impl Equates {
 }
 
 impl Equates {
+    /// Puts a token of a source, or what it stands for, behind the tokens that stand; a fault has its line.
+    fn place_at_line(&self, token: Token, replaced: &mut Replaced) -> Result<(), TextFault>
+        ensures { Answers (λ _. replaced.new) result (at_line token.line (replaced_token (replacing depth_limit self.now) replaced.old token (token_lines self.now token.kind))) }
+    {
+        match self.place(DEPTH_LIMIT, token, replaced) {
+            Ok(()) => Ok(()),
+            Err(problem) => Err(problem.at_line(token.line)),
+        }
+    }
+
+    /// The same for tokens, one after another.
+    fn place_each(&self, tokens: &[Token], replaced: &mut Replaced) -> Result<(), TextFault>
+        ensures { Answers (λ _. replaced.new) result (each_replaced_at_line self.now replaced.old tokens.now) }
+    {
+        for token in tokens {
+            self.place_at_line(*token, replaced)?;
+        }
+        Ok(())
+    }
+
     /// Tokens with each EQU name replaced by its line, and the names in it in turn, at most 32 deep.
-    pub fn substitute(&self, alloc: Global, tokens: &[Token]) -> Result<Vec<Token>, TextProblem>
-        ensures { Gives (λ made. made.items) result (substituted self.now tokens.now) }
+    pub fn substitute(&self, alloc: Global, tokens: &[Token]) -> Result<Vec<Token>, TextFault>
+        ensures { Answers (λ made. made.items) result (substitution self.now tokens.now) }
     {
         let mut replaced = Replaced {
             tokens: Vec::new(alloc),
             count: 0,
         };
-        self.replace_each(DEPTH_LIMIT, tokens, &mut replaced)?;
+        self.place_each(tokens, &mut replaced)?;
         let Replaced { tokens, count: _ } = replaced;
         Ok(tokens)
     }

@@ -198,7 +198,7 @@ fn read_turns(
 }
 
 /// Reads all rows, up to END.
-fn read_all(
+pub fn read_all(
     alloc: Global,
     names: &Names,
     rows: &[Row<'_>],

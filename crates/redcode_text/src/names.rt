@@ -62,8 +62,8 @@ impl NameTable {
         Some(name.as_str())
     }
 
-    /// The bytes of a name, by its index.
-    pub(crate) fn bytes_of(&self, index: usize) -> &[u8]
+    /// The bytes of a name, by its index; none where there is no such name.
+    pub fn bytes_of(&self, index: usize) -> &[u8]
         ensures { result.now ≡ name_at self.now index }
     {
         match self.name(index) {

@@ -7,7 +7,7 @@ ghost use Rattle.redcode_text.specs.Lines.{is_equate, is_label, is_operation, is
 
 use crate::bytes::is_word;
 use crate::predefined::Names;
-use crate::state::{Line, Reading};
+use crate::state::Reading;
 
 /// Whether a word is an operation by itself, in either case.
 fn is_operation_word(name: &[u8]) -> bool
@@ -40,25 +40,6 @@ fn is_operation_word(name: &[u8]) -> bool
         || is_word(name, b"pin")
 }
 
-/// Whether a name is among some names.
-pub fn is_among(names: &[usize], name: usize) -> bool
-    ensures { result ≡ list_any (λ m. m == name) names.now }
-{
-    names.contains(&name)
-}
-
-/// Whether a name is a label of one of these lines.
-fn labels_any(lines: &[Line], name: usize) -> bool
-    ensures { result ≡ list_any (λ l. list_any (λ m. m == name) l.labels) (map line_of lines.now) }
-{
-    for line in lines {
-        if is_among(&line.labels, name) {
-            return true;
-        }
-    }
-    false
-}
-
 impl Reading {
     /// Whether a name is an EQU name.
     pub fn is_equate(&self, name: usize) -> bool
@@ -68,10 +49,11 @@ impl Reading {
     }
 
     /// Whether a name is a label.
+    #[tactic(auto, using(crate::proofs::NameSets::label_known))]
     pub fn is_label(&self, name: usize) -> bool
         ensures { result ≡ is_label (reading_of self.now) name }
     {
-        labels_any(&self.lines, name)
+        self.labels.contains(name)
     }
 
     /// Whether a name is predefined.

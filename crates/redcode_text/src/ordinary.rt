@@ -1,41 +1,31 @@
 //! Ordinary lines.
-ghost use Rattle.std.specs.Prelude.{◌≡◌, ◌<◌, ◌≤◌, [], ◌∷◌, ◌++◌, length, map, option_map, vec_len, Ok};
+ghost use Rattle.std.specs.Prelude.{◌≡◌, ◌<◌, ◌≤◌, ◌+◌, [], ◌∷◌, ◌++◌, length, map, option_map, vec_len, Ok, OnErr, OnOk};
 ghost use Rattle.redcode_text.specs.Held.{predefined_of, reading_of};
-ghost use Rattle.redcode_text.specs.Lines.{each_line, is_end, is_instruction, is_spelled, line_added, operation_lines, ordinary_line};
+ghost use Rattle.redcode_text.specs.Labels.{AreLabels};
+ghost use Rattle.redcode_text.specs.Lines.{each_line, line_added, operation_lines, ordinary_line};
 ghost use Rattle.redcode_text.specs.Outcomes.{Gives};
 ghost use Rattle.redcode_text.specs.Used.{used};
 
-use crate::bytes::is_word;
 use crate::fault::TextProblem;
-use crate::names::NameTable;
+use crate::instructions::{is_end, is_instruction};
+use crate::name_set::NameSet;
 use crate::predefined::Names;
 use crate::state::{Line, Parts, Reading};
 use crate::token::Token;
-use std::alloc::Global;
+use std::alloc::{AllocError, Global};
 
-/// Whether an operation is this word, in either case.
-fn is_spelled(names: &NameTable, word: &[u8], operation: Option<usize>) -> bool
-    ensures { result ≡ is_spelled names.now word.now operation }
+/// Adds a line to the lines, and its labels to the labels of all lines.
+fn add_labelled(lines: &mut Vec<Line>, labels: &mut NameSet, line: Line) -> Result<(), AllocError>
+    requires { AreLabels (λ l. l.labels.items) labels.old lines.old.items }
+    ensures known { AreLabels (λ l. l.labels.items) labels.new lines.new.items }
+    ensures lines { OnOk result (lines.new.items ≡ lines.old.items ++ line ∷ []) }
+    ensures len { OnOk result (vec_len lines.new ≡ vec_len lines.old + 1) }
+    ensures err { OnErr result (vec_len lines.new ≡ vec_len lines.old) }
 {
-    match operation {
-        Some(name) => is_word(names.bytes_of(name), word),
-        None => false,
-    }
-}
-
-/// Whether an operation is END.
-fn is_end(names: &NameTable, operation: Option<usize>) -> bool
-    ensures { result ≡ is_end names.now operation }
-{
-    is_spelled(names, b"end", operation)
-}
-
-/// Whether a line is an instruction: one with an operation or a rest, other than ORG and END.
-fn is_instruction(names: &NameTable, operation: Option<usize>, rest: &[Token]) -> bool
-    ensures { result ≡ is_instruction names.now operation rest.now }
-{
-    (operation.is_some() || !rest.is_empty())
-        && !(is_spelled(names, b"org", operation) || is_end(names, operation))
+    lines.reserve(1)?;
+    labels.insert_all(&line.labels)?;
+    lines.push_reserved(line);
+    Ok(())
 }
 
 impl Reading {
@@ -46,7 +36,7 @@ impl Reading {
     {
         let counts = is_instruction(&self.names, line.operation, &line.rest);
         let ends = is_end(&self.names, line.operation);
-        let Ok(()) = self.lines.push(line) else {
+        let Ok(()) = add_labelled(&mut self.lines, &mut self.labels, line) else {
             return Err(TextProblem::OutOfMemory);
         };
         if counts {

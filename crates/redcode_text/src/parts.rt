@@ -5,7 +5,7 @@ ghost use Rattle.redcode_text.specs.Lines.{may_label, parts_of, split_colon};
 ghost use Rattle.redcode_text.specs.Outcomes.{Gives};
 
 use crate::fault::TextProblem;
-use crate::operations::is_among;
+use crate::name_set::NameSet;
 use crate::predefined::Names;
 use crate::state::{Parts, Reading};
 use crate::token::{Sign, Token, TokenKind};
@@ -24,10 +24,10 @@ fn colons(tokens: &[Token]) -> usize
 
 impl Reading {
     /// Whether a name may be a label of a line that has these labels so far.
-    fn may_label(&self, names: &Names, labels: &[usize], name: usize) -> bool
+    fn may_label(&self, names: &Names, labels: &NameSet, name: usize) -> bool
         ensures { result ≡ may_label (predefined_of names.now) (reading_of self.now) labels.now name }
     {
-        !(self.is_label(name) || self.is_predefined(names, name) || is_among(labels, name))
+        !(self.is_label(name) || self.is_predefined(names, name) || labels.contains(name))
     }
 
     /// The parts of a line.
@@ -41,6 +41,7 @@ impl Reading {
         ensures within { IfOk result (λ parts. (parts.labels_end ≤ length tokens.now) × (parts.rest_at ≤ length tokens.now)) }
     {
         let mut labels = Vec::new(alloc);
+        let mut known = NameSet::new(alloc);
         let mut at = 0;
         while at < tokens.len() {
             let TokenKind::Name(name) = tokens[at].kind else {
@@ -59,10 +60,13 @@ impl Reading {
                     rest_at: at + 1,
                 });
             }
-            if !self.may_label(names, &labels, name) {
+            if !self.may_label(names, &known, name) {
                 return Err(TextProblem::Duplicate);
             }
             let Ok(()) = labels.push(name) else {
+                return Err(TextProblem::OutOfMemory);
+            };
+            let Ok(()) = known.insert(name) else {
                 return Err(TextProblem::OutOfMemory);
             };
             at = at + 1 + colons(&tokens[at + 1..]);

@@ -1,5 +1,5 @@
 //! The names that have values before anything is read.
-ghost use Rattle.std.specs.Prelude.{◌≡◌, ◌<◌, ◌^◌, is_some};
+ghost use Rattle.std.specs.Prelude.{◌≡◌};
 ghost use Rattle.std.specs.Str.{bytes_eq};
 ghost use Rattle.redcode_text.specs.Held.{predefined_of};
 ghost use Rattle.redcode_text.specs.Lines.{predefined_value, with_current_line};
@@ -58,12 +58,11 @@ impl Names {
     }
 
     /// The value of a predefined name, where CURLINE has this one.
-    pub(crate) fn value_at(&self, current_line: usize, name: &[u8]) -> Option<i64>
-        requires { current_line < 2 ^ 63 }
+    pub fn value_at(&self, current_line: u32, name: &[u8]) -> Option<i64>
         ensures { result ≡ predefined_value (with_current_line (predefined_of self.now) current_line) name.now }
     {
         if is_same(b"CURLINE", name) {
-            return Some(current_line as i64);
+            return Some(i64::from(current_line));
         }
         self.value(name)
     }

@@ -1,7 +1,10 @@
 //! All that has been read of a source.
-ghost use Rattle.std.specs.Prelude.{◌≤◌, vec_len};
+ghost use Rattle.std.specs.Prelude.{◌≤◌, string_bytes, vec_len};
+ghost use Rattle.redcode_text.specs.Labels.{AreLabels};
+ghost use Rattle.redcode_text.specs.Programs.{IsPrinted};
 
 use crate::equates::Equates;
+use crate::name_set::NameSet;
 use crate::names::NameTable;
 use crate::open_loops::OpenLoops;
 use crate::token::Token;
@@ -25,7 +28,7 @@ pub struct Assert {
     /// The number of its line in the source, from 1.
     pub number: usize,
     /// The number of instructions before it.
-    pub current_line: usize,
+    pub current_line: u32,
     /// Its expression.
     pub tokens: Vec<Token>,
 }
@@ -40,6 +43,8 @@ pub struct Reading {
     /// Whether an EQU line without a name adds to the last EQU name.
     pub equate_grows: bool,
     pub lines: Vec<Line>,
+    /// The labels of all lines.
+    pub labels: NameSet,
     pub instructions: usize,
     pub lines_read: usize,
     pub tokens_read: usize,
@@ -52,6 +57,9 @@ pub struct Reading {
     ghost few_tokens: { tokens_read ≤ 65536 },
     ghost each_read: { vec_len lines ≤ lines_read },
     ghost each_counted: { instructions ≤ vec_len lines },
+    ghost known_labels: { AreLabels (λ l. l.labels.items) labels lines.items },
+    ghost printed_name: { IsPrinted (string_bytes name) },
+    ghost printed_author: { IsPrinted (string_bytes author) },
 }
 
 /// The parts of a line, by their places among its tokens.

@@ -1,4 +1,3 @@
-use Rattle.std.proofs.Common.{◌≡◌, arith, map}
 use Rattle.std.proofs.lemmas.Result.{err_from_is_err_and}
 use Rattle.redcode_text.specs.Held.{predefined_of, reading_of}
 use Rattle.redcode_text.specs.Pairs.{here_from, paired_from}

@@ -1,0 +1,108 @@
+//! The program of a source.
+ghost use Rattle.std.specs.Prelude.{◌≡◌, [], false, IfOk};
+ghost use Rattle.redcode_text.specs.Expansion.{expansion, flat, nothing_read, program_of};
+ghost use Rattle.redcode_text.specs.Held.{predefined_of, reading_of};
+ghost use Rattle.redcode_text.specs.Outcomes.{Answers};
+ghost use Rattle.redcode_text.specs.Source.{tree_of};
+
+use crate::equates::Equates;
+use crate::fault::{TextFault, TextProblem};
+use crate::loops::read_all;
+use crate::name_set::NameSet;
+use crate::names::NameTable;
+use crate::open_loops::OpenLoops;
+use crate::predefined::Names;
+use crate::program::Program;
+use crate::rows::{read_rows, rows_of};
+use crate::state::Reading;
+use std::alloc::{AllocError, Global};
+
+/// A reading of nothing.
+fn nothing_read(alloc: Global) -> Result<Reading, AllocError>
+    ensures value { IfOk result (λ reading. reading_of reading ≡ nothing_read) }
+    ensures loops { IfOk result (λ reading. reading.loops ≡ []) }
+    ensures going { IfOk result (λ reading. reading.ended ≡ false) }
+{
+    let name = String::from_str(alloc, "Unknown")?;
+    let author = String::from_str(alloc, "Anonymous")?;
+    Ok(Reading {
+        loops: OpenLoops::new(alloc),
+        names: NameTable::new(alloc),
+        equates: Equates::new(alloc),
+        equate_grows: false,
+        lines: Vec::new(alloc),
+        labels: NameSet::new(alloc),
+        instructions: 0,
+        lines_read: 0,
+        tokens_read: 0,
+        name,
+        author,
+        asserts: Vec::new(alloc),
+        ended: false,
+    })
+}
+
+/// What is kept of all that was read.
+fn program_of(reading: Reading) -> Program
+    ensures { result ≡ program_of (reading_of reading) }
+{
+    let Reading {
+        names,
+        equates,
+        lines,
+        name,
+        author,
+        asserts,
+        ..
+    } = reading;
+    Program {
+        names,
+        equates,
+        lines,
+        name,
+        author,
+        asserts,
+    }
+}
+
+/// Reads a source.
+#[tactic(auto, using(crate::proofs::SourceRows::rows_fit))]
+fn read_source(alloc: Global, bytes: &[u8], names: &Names) -> Result<Reading, TextFault>
+    ensures { Answers (λ reading. reading_of reading) result (flat (predefined_of names.now) (tree_of bytes.now) nothing_read) }
+{
+    let Ok(rows) = rows_of(alloc, bytes) else {
+        return Err(TextProblem::OutOfMemory.at_line(0));
+    };
+    let Ok(mut reading) = nothing_read(alloc) else {
+        return Err(TextProblem::OutOfMemory.at_line(0));
+    };
+    read_all(alloc, names, read_rows(&rows), &mut reading)?;
+    Ok(reading)
+}
+
+/// Reads a source, with what FOR and EQU mean done: from its first `;redcode` line on, if it has one, up to END.
+///
+/// A fault is the first in the order of reading, with the number of its line in the source, from 1. The faults of one
+/// line come in this order:
+///
+/// - TooLong, where 65,536 lines were read before it.
+/// - UnclosedFor and RofAlone.
+/// - Those of its tokens from the left: NotAscii, BadToken, or TooLong for the 65,537th token of all.
+/// - In a FOR line: BadToken for what stands before FOR, TooLong for the 33rd open loop, those of replacing EQU names
+///   in the count (EquDepth, BadToken, TooLong), LabelInCount, Expression, BadCount.
+/// - In an EQU line: BadToken for what stands before EQU, or where there is no name for the line to belong to, then
+///   Duplicate.
+/// - In any other line: Duplicate for its labels from the left. Where its operation is an EQU name, EquDepth, and then
+///   those of the lines that take its place, in turn.
+///
+/// OutOfMemory, with the line 0, comes only where a growth was refused, in place of what would have come later.
+///
+/// The time is linear in the length of the source and of the lines that are read, those of a loop once for each turn,
+/// and in the replacements in counts, of which each count has at most 65,536.
+#[tactic(auto, unfolding(crate::specs::Expansion::expansion))]
+pub fn expand(alloc: Global, bytes: &[u8], names: &Names) -> Result<Program, TextFault>
+    ensures { Answers (λ program. program) result (expansion (predefined_of names.now) bytes.now) }
+{
+    let reading = read_source(alloc, bytes, names)?;
+    Ok(program_of(reading))
+}
