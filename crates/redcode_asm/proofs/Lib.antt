@@ -1,2 +1,7 @@
-pub mod Names
 pub mod Commas
+pub mod Tables
+pub mod Failing
+pub mod Makes
+pub mod Past
+pub mod Counts
+pub mod Scores

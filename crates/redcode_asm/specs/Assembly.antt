@@ -20,7 +20,8 @@ use Rattle.redcode_text.specs.declared.token.Token.{Token}
 use Rattle.redcode_text.specs.declared.token.TokenKind.{TokenKind}
 use Rattle.redcode_text.specs.declared.token.TokenKind.TheVariants.{Number, Name}
 use Rattle.redcode_text.specs.declared.token.TokenKind.TheVariants as token
-use Rattle.redcode_text.specs.Equates.{substituted}
+use Rattle.redcode_text.specs.Equates.{substitution}
+use Rattle.redcode_text.specs.Tokens.{without_line}
 use Rattle.redcode_text.specs.Expansion.{ProgramValue, expansion}
 use Rattle.redcode_text.specs.Expression.{kinds, value_of}
 use Rattle.redcode_text.specs.Lines.{Line, Assert, Predefined, predefined_value, with_current_line, name_at, is_instruction, is_org, is_end}
@@ -54,10 +55,13 @@ pub record Placed : Type 0 where
   pub index : ℕ
   pub line : Line
 
+-- the number of instructions up to behind a line
+abbrev pub index_after : List (List ℕ) → ℕ → Line → ℕ
+index_after names index l = elim (is_instruction names l.operation l.rest) [ true ↦ index + 1 | false ↦ index ]
+
 abbrev pub placed_from : List (List ℕ) → ℕ → List Line → List Placed
 placed_from names index [] = []
-placed_from names index (l ∷ ls) =
-    record { index = index; line = l } ∷ placed_from names (elim (is_instruction names l.operation l.rest) [ true ↦ index + 1 | false ↦ index ]) ls
+placed_from names index (l ∷ ls) = record { index = index; line = l } ∷ placed_from names (index_after names index l) ls
 
 abbrev pub placed : ProgramValue → List Placed
 placed source = placed_from source.names 0 source.lines
@@ -93,9 +97,9 @@ abbrev pub texted : {A : Type 0} → Result A TextProblem → Result A AsmProble
 texted (Ok x) = Ok x
 texted (Err e) = Err (Text e)
 
--- tokens with the EQU names replaced
+-- tokens with the EQU names replaced; a fault has the line of the use
 abbrev pub replaced : ProgramValue → List Token → Result (List Token) AsmProblem
-replaced source ts = texted (substituted source.equates ts)
+replaced source ts = texted (without_line (substitution source.equates ts))
 
 -- ---- an instruction
 

@@ -1,5 +1,5 @@
 -- Score formulas: expressions in W, the number of warriors, and S, the number of survivors.
-use Rattle.std.specs.Prelude.{◌≡◌, ⊤, ℕ, ℤ, List, length, Bool, ◌||◌, Option, Some, None, Result, Ok, Err, if◌then◌else◌, nat_lt, codes}
+use Rattle.std.specs.Prelude.{◌≡◌, ⊤, true, ℕ, ℤ, List, length, Bool, ◌||◌, Option, Some, None, Result, Ok, Err, if◌then◌else◌, nat_lt, codes}
 use Rattle.std.specs.List.{list_all}
 use Rattle.std.specs.Str.{bytes_eq}
 use Rattle.redcode_text.specs.declared.fault.ExprFault.{ExprFault}
@@ -7,6 +7,8 @@ use Rattle.redcode_text.specs.declared.fault.ExprFault.TheVariants.{Syntax, Unkn
 use Rattle.redcode_asm.specs.declared.fault.FormulaFault.{FormulaFault}
 use Rattle.redcode_asm.specs.declared.fault.FormulaFault.TheVariants.{Expression, OutOfMemory}
 use Rattle.redcode_text.specs.declared.fault.TextFault.{TextFault}
+use Rattle.redcode_text.specs.declared.token.TokenKind.{TokenKind}
+use Rattle.redcode_text.specs.declared.token.TokenKind.TheVariants.{Name}
 use Rattle.redcode_text.specs.Expression.{◌>>=◌, kinds, shape, start, value_of}
 use Rattle.redcode_text.specs.Lines.{name_at}
 use Rattle.redcode_text.specs.Tokens.{Scanned, scanned}
@@ -14,9 +16,14 @@ use Rattle.redcode_text.specs.Tokens.{Scanned, scanned}
 abbrev pub is_variable : List ℕ → Bool
 is_variable name = bytes_eq name (codes "W") || bytes_eq name (codes "S")
 
+-- a token of a formula isn't a name other than W and S
+abbrev pub may_occur : List (List ℕ) → TokenKind → Bool
+may_occur names (Name n) = is_variable (name_at names n)
+may_occur names _ = true
+
 -- tokens and names that make a formula, or the fault: the shape before a name that is neither W nor S
 abbrev pub checked_formula : Scanned → Result Scanned ExprFault
-checked_formula f = shape start (kinds f.tokens) >>= λ _. if list_all is_variable f.names then Ok f else Err Unknown
+checked_formula f = shape start (kinds f.tokens) >>= λ _. if list_all (may_occur f.names) (kinds f.tokens) then Ok f else Err Unknown
 
 abbrev pub scanned_formula : Result Scanned TextFault → Result Scanned ExprFault
 scanned_formula (Ok f) = checked_formula f

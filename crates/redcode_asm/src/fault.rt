@@ -1,5 +1,8 @@
 //! What is wrong with a source or a formula.
-use redcode_text::{ExprFault, TextProblem};
+ghost use Rattle.std.specs.Prelude.{◌≡◌};
+ghost use Rattle.redcode_asm.specs.Outcomes.{fault_line, problem_of_text};
+
+use redcode_text::{ExprFault, TextFault, TextProblem};
 use thiserror::Error;
 
 /// What is wrong with a line of a source. It is displayed as its number and name, and a fault inside it after it.
@@ -41,6 +44,59 @@ pub struct AsmFault {
     /// The number of the line, from 1; 0 for a source without an instruction and for want of memory.
     pub line: usize,
     pub problem: AsmProblem,
+}
+
+impl AsmProblem {
+    /// The problem of a line; want of memory has none.
+    pub(crate) fn at_line(self, line: usize) -> AsmFault
+        ensures problem { result.problem ≡ self }
+        ensures line { result.line ≡ fault_line line self }
+    {
+        match self {
+            AsmProblem::OutOfMemory => AsmFault {
+                line: 0,
+                problem: self,
+            },
+            _ => AsmFault {
+                line,
+                problem: self,
+            },
+        }
+    }
+
+    /// The problem of a text; want of memory there is want of memory here.
+    pub(crate) fn of_text(problem: TextProblem) -> AsmProblem
+        ensures { result ≡ problem_of_text problem }
+    {
+        match problem {
+            TextProblem::OutOfMemory => AsmProblem::OutOfMemory,
+            _ => AsmProblem::Text(problem),
+        }
+    }
+}
+
+impl AsmFault {
+    /// The fault of a text.
+    pub(crate) fn of_text(fault: TextFault) -> AsmFault
+        ensures problem { result.problem ≡ problem_of_text fault.problem }
+        ensures line { result.line ≡ fault.line }
+    {
+        AsmFault {
+            line: fault.line,
+            problem: AsmProblem::of_text(fault.problem),
+        }
+    }
+
+    /// Want of memory.
+    pub(crate) fn out_of_memory() -> AsmFault
+        ensures problem { result.problem ≡ AsmProblem.OutOfMemory }
+        ensures line { result.line ≡ 0 }
+    {
+        AsmFault {
+            line: 0,
+            problem: AsmProblem::OutOfMemory,
+        }
+    }
 }
 
 /// Why a text is no formula. It is displayed as its number and name, and the fault of the expression after it.

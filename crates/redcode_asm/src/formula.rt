@@ -1,10 +1,13 @@
 //! Score formulas.
 ghost use Rattle.std.specs.Prelude.{◌≡◌, ◌≤◌};
+ghost use Rattle.redcode_text.specs.Expression.{kinds};
 ghost use Rattle.std.specs.List.{list_all};
-ghost use Rattle.redcode_asm.specs.Formula.{Checks, formula_of, is_variable, score_of, variable_value};
+ghost use Rattle.redcode_asm.specs.Formula.{Checks, formula_of, is_variable, may_occur, score_of, variable_value};
 
 use crate::fault::FormulaFault;
-use redcode_text::{Env, ExprFault, LineTokens, NameTable, TextProblem, check_shape, eval, scan};
+use redcode_text::{
+    Env, ExprFault, LineTokens, NameTable, TextProblem, Token, TokenKind, check_shape, eval, scan,
+};
 use std::alloc::Global;
 use std::marker::Model;
 
@@ -53,21 +56,28 @@ impl Env for Variables<'_> {
     }
 }
 
-fn is_variable(name: &str) -> bool
+fn is_variable(name: &[u8]) -> bool
     ensures { result ≡ is_variable name.now }
 {
-    name == "W" || name == "S"
+    name == b"W".as_slice() || name == b"S".as_slice()
 }
 
-/// Whether each name is W or S.
-fn are_variables(names: &NameTable) -> bool
-    ensures { result ≡ list_all is_variable names.now }
+/// Whether a token isn't a name other than W and S.
+fn may_occur(names: &NameTable, kind: TokenKind) -> bool
+    ensures { result ≡ may_occur names.now kind }
 {
-    for index in 0..names.len() {
-        let Some(name) = names.name(index) else {
-            return false;
-        };
-        if !is_variable(name) {
+    match kind {
+        TokenKind::Name(index) => is_variable(names.bytes_of(index)),
+        _ => true,
+    }
+}
+
+/// Whether each name among tokens is W or S.
+fn are_variables(names: &NameTable, tokens: &[Token]) -> bool
+    ensures { result ≡ list_all (may_occur names.now) (kinds tokens.now) }
+{
+    for token in tokens {
+        if !may_occur(names, token.kind) {
             return false;
         }
     }
@@ -95,7 +105,7 @@ impl Formula {
         if let Err(fault) = check_shape(&line.tokens) {
             return Err(FormulaFault::Expression(fault));
         }
-        if !are_variables(&line.names) {
+        if !are_variables(&line.names, &line.tokens) {
             return Err(FormulaFault::Expression(ExprFault::Unknown));
         }
         Ok(Formula { line })

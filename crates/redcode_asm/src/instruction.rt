@@ -9,31 +9,23 @@ use mars_cell::{Cell, Modifier, Op, default_modifier, read_modifier, read_op};
 use redcode_text::{Env, NameTable, Sign, Token, TokenKind};
 
 /// The opcode of an operation, by its index among the names.
-#[tactic(auto, using(crate::proofs::Names::no_opcode))]
 pub fn read_opcode(names: &NameTable, operation: Option<usize>) -> Result<Op, AsmProblem>
     ensures { result ≡ opcode_of names.now operation }
 {
     let Some(index) = operation else {
         return Err(AsmProblem::Operation);
     };
-    match names.name(index) {
-        Some(name) => read_op(name.as_bytes()).ok_or(AsmProblem::Operation),
-        None => Err(AsmProblem::Operation),
-    }
+    read_op(names.bytes_of(index)).ok_or(AsmProblem::Operation)
 }
 
 /// The modifier behind the `.`.
-#[tactic(auto, using(crate::proofs::Names::no_modifier))]
 fn modifier_of(names: &NameTable, kind: TokenKind) -> Result<Modifier, AsmProblem>
     ensures { result ≡ modifier_in names.now kind }
 {
     let TokenKind::Name(index) = kind else {
         return Err(AsmProblem::Operation);
     };
-    match names.name(index) {
-        Some(name) => read_modifier(name.as_bytes()).ok_or(AsmProblem::Operation),
-        None => Err(AsmProblem::Operation),
-    }
+    read_modifier(names.bytes_of(index)).ok_or(AsmProblem::Operation)
 }
 
 /// The modifier that stands first behind an opcode, or none, and what follows.

@@ -1,17 +1,30 @@
-//! The assembler, of which the score formulas stand today.
+//! The assembler, and score formulas.
 //!
-//! The layers above may use: `Formula::new` gives the formula of a text, or its first fault, and `Formula::score` its
-//! value for so many warriors and survivors, exactly as `specs/Formula` defines them; a score takes no memory.
-//! `specs/Assembly` defines what a source is assembled to.
+//! The layers above may use: `assemble` gives the warrior of a source, with numbers below the core size, or its first
+//! fault with its line, exactly as `specs/Assembly` defines them, or want of memory, which has the line 0. `Formula::new`
+//! gives the formula of a text, or its first fault, and `Formula::score` its value for so many warriors and survivors,
+//! exactly as `specs/Formula` defines them; a score takes no memory, and is refused for its values alone (`laws`).
 #![tactic(auto)]
 
+mod assembler;
+mod asserts;
+mod cells;
 mod fault;
 mod formula;
 mod instruction;
+mod labels;
+pub mod laws;
 mod operands;
+mod places;
+mod sources;
+mod starts;
+mod warriors;
 
+pub use assembler::assemble;
 pub use fault::{AsmFault, AsmProblem, FormulaFault};
 pub use formula::Formula;
 
+#[cfg(test)]
+mod assemble_tests;
 #[cfg(test)]
 mod tests;

@@ -1,0 +1,65 @@
+//! The asserts of a source.
+ghost use Rattle.std.specs.Prelude.{◌≡◌, map};
+ghost use Rattle.redcode_text.specs.Held.{assert_of, predefined_of};
+ghost use Rattle.redcode_asm.specs.Assembly.{assert_holds, asserts_hold, at_line, holds};
+ghost use Rattle.redcode_asm.specs.Outcomes.{Answers, Gives};
+
+use crate::fault::{AsmFault, AsmProblem};
+use crate::sources::{AssertNames, Source};
+use redcode_text::{Assert, eval};
+use std::alloc::Global;
+
+/// An assert holds where its value isn't 0.
+fn holds(value: i64) -> Result<(), AsmProblem>
+    ensures { result ≡ holds value }
+{
+    if value == 0 {
+        Err(AsmProblem::AssertFailed)
+    } else {
+        Ok(())
+    }
+}
+
+impl<'a> Source<'a> {
+    /// Whether an assert holds.
+    fn check_assert(&self, alloc: Global, assert: &Assert) -> Result<(), AsmProblem>
+        ensures { Gives (λ done. done) result (assert_holds (predefined_of self.now.predefined.now) self.now.program.now (assert_of assert.now)) }
+    {
+        let tokens = self.replace(alloc, &assert.tokens)?;
+        let names = AssertNames {
+            source: *self,
+            index: assert.current_line,
+        };
+        match eval(&tokens, &names) {
+            Ok(value) => holds(value),
+            Err(fault) => Err(AsmProblem::Expression(fault)),
+        }
+    }
+
+    /// The same, with the line of a fault.
+    fn check_assert_at(&self, alloc: Global, assert: &Assert) -> Result<(), AsmFault>
+        ensures { let a = assert_of assert.now in Answers (λ done. done) result (at_line a.number (assert_holds (predefined_of self.now.predefined.now) self.now.program.now a)) }
+    {
+        match self.check_assert(alloc, assert) {
+            Ok(()) => Ok(()),
+            Err(problem) => Err(problem.at_line(assert.number)),
+        }
+    }
+
+    /// Whether asserts hold, in their order.
+    fn check_each(&self, alloc: Global, asserts: &[Assert]) -> Result<(), AsmFault>
+        ensures { Answers (λ done. done) result (asserts_hold (predefined_of self.now.predefined.now) self.now.program.now (map assert_of asserts.now)) }
+    {
+        for assert in asserts {
+            self.check_assert_at(alloc, assert)?;
+        }
+        Ok(())
+    }
+
+    /// Whether all asserts hold, in their order.
+    pub fn check_asserts(&self, alloc: Global) -> Result<(), AsmFault>
+        ensures { Answers (λ done. done) result (asserts_hold (predefined_of self.now.predefined.now) self.now.program.now self.now.program.now.asserts) }
+    {
+        self.check_each(alloc, self.program.asserts())
+    }
+}

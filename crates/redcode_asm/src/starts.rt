@@ -1,0 +1,107 @@
+//! The start of a warrior.
+ghost use Rattle.std.specs.Prelude.{◌≡◌, ◌<◌, ◌≤◌, IfOk, option_map};
+ghost use Rattle.redcode_text.specs.Held.{predefined_of};
+ghost use Rattle.redcode_asm.specs.Assembly.{as_start, at_line, end_operand, end_start, org_start, start_at, start_by, start_of};
+ghost use Rattle.redcode_asm.specs.Outcomes.{Answers, Gives, placed_of};
+
+use crate::fault::{AsmFault, AsmProblem};
+use crate::places::Place;
+use crate::sources::Source;
+use redcode_text::{Token, eval};
+use std::alloc::Global;
+
+/// A start is the index of one of so many instructions.
+fn as_start(value: i64, count: u32) -> Result<u32, AsmProblem>
+    ensures value { result ≡ as_start count value }
+    ensures below { IfOk result (λ start. start < count) }
+{
+    if 0 <= value && value < i64::from(count) {
+        Ok(value as u32)
+    } else {
+        Err(AsmProblem::BadOrigin)
+    }
+}
+
+impl<'a> Source<'a> {
+    /// The start that an expression gives, where there are so many instructions.
+    fn start_at(&self, count: u32, place: Place<'_>, tokens: &[Token]) -> Result<u32, AsmProblem>
+        ensures value { result ≡ start_at (predefined_of self.now.predefined.now) self.now.program.now count (placed_of place.entry) tokens.now }
+        ensures below { IfOk result (λ start. start < count) }
+    {
+        let line_names = self.start_names(place.index);
+        match eval(tokens, &line_names) {
+            Ok(value) => as_start(value, count),
+            Err(fault) => Err(AsmProblem::Expression(fault)),
+        }
+    }
+
+    /// The start of an ORG.
+    fn org_start(&self, alloc: Global, count: u32, place: Place<'_>) -> Result<u32, AsmProblem>
+        ensures value { Gives (λ start. start) result (org_start (predefined_of self.now.predefined.now) self.now.program.now count (placed_of place.entry)) }
+        ensures below { IfOk result (λ start. start < count) }
+    {
+        let tokens = self.replace(alloc, &place.line.rest)?;
+        self.start_at(count, place, &tokens)
+    }
+
+    /// The start of an END, which is 0 without an operand.
+    fn end_start(&self, alloc: Global, count: u32, place: Place<'_>) -> Result<u32, AsmProblem>
+        ensures value { Gives (λ start. start) result (end_start (predefined_of self.now.predefined.now) self.now.program.now count (placed_of place.entry)) }
+        ensures below { 0 < count → IfOk result (λ start. start < count) }
+    {
+        let tokens = self.replace(alloc, &place.line.rest)?;
+        if tokens.is_empty() {
+            return Ok(0);
+        }
+        self.start_at(count, place, &tokens)
+    }
+
+    /// The start of an ORG, with the line of a fault.
+    fn org_start_at(&self, alloc: Global, count: u32, place: Place<'_>) -> Result<u32, AsmFault>
+        ensures below { IfOk result (λ start. start < count) }
+        ensures value { let placed = placed_of place.entry in Answers (λ start. start) result (at_line placed.line.number (org_start (predefined_of self.now.predefined.now) self.now.program.now count placed)) }
+    {
+        match self.org_start(alloc, count, place) {
+            Ok(start) => Ok(start),
+            Err(problem) => Err(problem.at_line(place.line.number)),
+        }
+    }
+
+    /// The start of an END, with the line of a fault.
+    fn end_start_at(&self, alloc: Global, count: u32, place: Place<'_>) -> Result<u32, AsmFault>
+        ensures below { 0 < count → IfOk result (λ start. start < count) }
+        ensures value { let placed = placed_of place.entry in Answers (λ start. start) result (at_line placed.line.number (end_start (predefined_of self.now.predefined.now) self.now.program.now count placed)) }
+    {
+        match self.end_start(alloc, count, place) {
+            Ok(start) => Ok(start),
+            Err(problem) => Err(problem.at_line(place.line.number)),
+        }
+    }
+
+    /// The start of this ORG, or else of this END, or else 0.
+    fn start_by(
+        &self,
+        alloc: Global,
+        count: u32,
+        org: Option<Place<'_>>,
+        end: Option<Place<'_>>,
+    ) -> Result<u32, AsmFault>
+        ensures below { 0 < count → IfOk result (λ start. start < count) }
+        ensures value { Answers (λ start. start) result
+            (start_by (predefined_of self.now.predefined.now) self.now.program.now count (option_map placed_of org.entry) (option_map placed_of end.entry)) }
+    {
+        match (org, end) {
+            (Some(place), _) => self.org_start_at(alloc, count, place),
+            (None, Some(place)) => self.end_start_at(alloc, count, place),
+            (None, None) => Ok(0),
+        }
+    }
+
+    /// The start of the last ORG, or else of END, or else 0, where there are so many instructions.
+    pub fn start(&self, alloc: Global, count: u32) -> Result<u32, AsmFault>
+        ensures value { Answers (λ start. start) result (start_of (predefined_of self.now.predefined.now) self.now.program.now count) }
+        ensures below { 0 < count → IfOk result (λ start. start < count) }
+    {
+        self.start_by(alloc, count, self.last_line(b"org"), self.last_line(b"end"))
+    }
+}

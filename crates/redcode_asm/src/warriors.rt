@@ -1,0 +1,86 @@
+//! The warrior of a program.
+ghost use Rattle.std.specs.Prelude.{◌≡◌, ◌<◌, length, All, IfOk, Ok};
+ghost use Rattle.mars_cell.specs.Cells.{FitsCore};
+ghost use Rattle.redcode_text.specs.Held.{predefined_of};
+ghost use Rattle.redcode_asm.specs.Assembly.{instructions, length_checked, warrior_of};
+ghost use Rattle.redcode_asm.specs.Outcomes.{Answers, warrior_from};
+
+use crate::fault::{AsmFault, AsmProblem};
+use crate::labels::Labels;
+use crate::places::check_length;
+use crate::sources::Source;
+use mars_cell::{Cell, Params, Warrior};
+use redcode_text::{Names, Program};
+use std::alloc::Global;
+
+/// The warrior of these cells, with the name and the author of a program.
+fn named_warrior(
+    alloc: Global,
+    program: &Program,
+    cells: Vec<Cell>,
+    start: u32,
+) -> Result<Warrior, AsmFault>
+    requires { start < length cells.items }
+    ensures { Answers (λ warrior. warrior) result (Ok (warrior_from program.now cells.items start)) }
+{
+    let Ok(name) = String::from_str(alloc, program.name()) else {
+        return Err(AsmFault::out_of_memory());
+    };
+    let Ok(author) = String::from_str(alloc, program.author()) else {
+        return Err(AsmFault::out_of_memory());
+    };
+    match Warrior::new(name, author, cells, start) {
+        Ok(warrior) => Ok(warrior),
+        Err(_) => unreachable!(),
+    }
+}
+
+impl<'a> Source<'a> {
+    /// TooLong or Empty, where there are too many instructions or none. `count` is how many there are.
+    fn check_count(&self, count: usize, longest: u32) -> Result<(), AsmFault>
+        requires { count ≡ length (instructions self.now.program.now) }
+        ensures { result ≡ length_checked longest (instructions self.now.program.now) }
+    {
+        check_length(self.program.names(), self.program.lines(), longest)?;
+        if count == 0 {
+            return Err(AsmFault {
+                line: 0,
+                problem: AsmProblem::Empty,
+            });
+        }
+        Ok(())
+    }
+
+    /// The warrior of the source, or its first fault.
+    fn warrior(&self, alloc: Global, params: &Params) -> Result<Warrior, AsmFault>
+        ensures value { Answers (λ warrior. warrior) result (warrior_of (predefined_of self.now.predefined.now) params.now self.now.program.now) }
+        ensures fits { IfOk result (λ warrior. All (FitsCore params.now.core_size) warrior.cells) }
+    {
+        let cells = self.cells(alloc, params.core_size())?;
+        self.check_count(cells.len(), params.max_length())?;
+        let start = self.start(alloc, cells.len() as u32)?;
+        self.check_asserts(alloc)?;
+        named_warrior(alloc, self.program, cells, start)
+    }
+}
+
+/// The warrior of a program, or its first fault.
+pub fn program_warrior(
+    alloc: Global,
+    program: &Program,
+    predefined: &Names,
+    params: &Params,
+) -> Result<Warrior, AsmFault>
+    ensures value { Answers (λ warrior. warrior) result (warrior_of (predefined_of predefined.now) params.now program.now) }
+    ensures fits { IfOk result (λ warrior. All (FitsCore params.now.core_size) warrior.cells) }
+{
+    let Ok(labels) = Labels::of_lines(alloc, program.names(), program.lines()) else {
+        return Err(AsmFault::out_of_memory());
+    };
+    let source = Source {
+        program,
+        labels: &labels,
+        predefined,
+    };
+    source.warrior(alloc, params)
+}
