@@ -8,6 +8,7 @@ pub mod Turn
 pub mod Edit
 pub mod Validity
 pub mod Leads
+pub mod Journal
 pub mod Rows
 pub mod Laws
 pub mod Start
