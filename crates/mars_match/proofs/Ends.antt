@@ -8,22 +8,26 @@ use Rattle.mars_core.specs.State.{State, is_over_of}
 use Rattle.mars_core.specs.Start.{start_state, first_processes}
 use Rattle.mars_core.specs.Turn.{turn_of}
 use Rattle.mars_core.specs.Laws.{after_turns}
+use Rattle.mars_core.specs.Shape.{SameShape}
 use Rattle.mars_core.specs.Facts.{shape-turn_of}
 use Rattle.mars_core.specs.declared.starts.BattleFault.{BattleFault}
-use Rattle.mars_match.specs.Battles.{unless, end_of, started, fought, in_load_order, survivors_of_round, round_fault, round_start, rotated}
+use Rattle.mars_match.specs.Battles.{unless, end_of, started, fought, in_load_order, survivors_of_round, round_fault, round_start, rotated, HasRoom}
 use Rattle.mars_match.specs.declared.fault.MatchFault.{MatchFault}
 use Rattle.mars_match.proofs.Rotations.{length-rotated}
 
-length-after_turns : (n : ℕ) (s : State) → length (after_turns n s).queues ≡ length s.queues
-length-after_turns zero s = refl
-length-after_turns (suc n) s = elim (cases_Bool (is_over_of s)) [
-  | inl over ↦ rw over refl
-  | inr on ↦ rw on (length-after_turns n (turn_of s) ∙ (shape-turn_of s).warriors)
+shape-after_turns : (n : ℕ) (s : State) → SameShape (after_turns n s) s
+shape-after_turns zero s = record { params = refl; warriors = refl }
+shape-after_turns (suc n) s = elim (cases_Bool (is_over_of s)) [
+  | inl over ↦ rw over (record { params = refl; warriors = refl })
+  | inr on ↦
+      let rest = shape-after_turns n (turn_of s) in
+      let one = shape-turn_of s in
+      rw on (record { params = rest.params ∙ one.params; warriors = rest.warriors ∙ one.warriors })
 ]
 
-pub length-end : (s : State) → length (end_of s).queues ≡ length s.queues
+shape-end : (s : State) → SameShape (end_of s) s
 unfolding end_of
-length-end s = length-after_turns (s.params.cycles * length s.queues) s
+shape-end s = shape-after_turns (s.params.cycles * length s.queues) s
 
 length-processes : (m : ℕ) (warriors : List WarriorValue) (starts : List ℕ) → length starts ≡ length warriors → length (first_processes m warriors starts) ≡ length warriors
 length-processes m [] starts e = refl
@@ -33,6 +37,10 @@ length-processes m (w ∷ warriors) (s ∷ starts) e = rw (length-processes m wa
 pub length-start : (p : Parameters) (warriors : List WarriorValue) (starts : List ℕ) → length starts ≡ length warriors → length (start_state p warriors starts).queues ≡ length warriors
 unfolding start_state
 length-start p warriors starts e = length-map (first_processes p.core_size warriors starts) _ ∙ length-processes p.core_size warriors starts e
+
+params-start : (p : Parameters) (warriors : List WarriorValue) (starts : List ℕ) → (start_state p warriors starts).params ≡ p
+unfolding start_state
+params-start p warriors starts = refl
 
 -- ---- a round that starts
 
@@ -50,12 +58,16 @@ fought_from_started p warriors starts k s e =
     let both = unless_ok (round_fault p warriors starts k) (round_start p warriors starts k) s e in
     rw (both.0, both.1) refl
 
--- the battle of a round has a queue for each warrior
-pub length-started : (p : Parameters) (warriors : List WarriorValue) (starts : List ℕ) (k : ℕ) (s : State) → length starts ≡ length warriors → 1 ≤ length warriors → started p warriors starts k ≡ Ok s → length (end_of s).queues ≡ length warriors
-length-started p warriors starts k s same some e =
+-- the battle of a round has its parameters, and a queue for each warrior
+pub room_started : (p : Parameters) (warriors : List WarriorValue) (starts : List ℕ) (k : ℕ) (s : State) → length starts ≡ length warriors → 1 ≤ length warriors → started p warriors starts k ≡ Ok s → HasRoom p (length warriors) (end_of s)
+room_started p warriors starts k s same some e =
     let both = unless_ok (round_fault p warriors starts k) (round_start p warriors starts k) s e in
     let first = k % length warriors in
     let within : first < length warriors = omega arith in
     let ws = length-rotated first warriors (omega arith) in
     let ss = length-rotated first starts (omega arith) in
-    length-end s ∙ ap (λ (t : State). length t.queues) (sym both.1) ∙ length-start p (rotated first warriors) (rotated first starts) (omega arith) ∙ ws
+    let shape = shape-end s in
+    record {
+      params = shape.params ∙ ap (λ (t : State). t.params) (sym both.1) ∙ params-start p (rotated first warriors) (rotated first starts);
+      warriors = shape.warriors ∙ ap (λ (t : State). length t.queues) (sym both.1) ∙ length-start p (rotated first warriors) (rotated first starts) (omega arith) ∙ ws;
+    }

@@ -9,3 +9,4 @@ pub mod Sums
 pub mod Outcomes
 pub mod Totals
 pub mod Pairs
+pub mod LeagueTotals

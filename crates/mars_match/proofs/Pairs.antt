@@ -1,5 +1,5 @@
 -- Leagues: one match more, and one warrior more.
-use Rattle.std.proofs.Common.{◌≡◌, refl, sym, ◌∙◌, ap, ℕ, zero, suc, ◌+◌, ◌<◌, ◌≤◌, List, [], ◌∷◌, ◌++◌, length, drop, get_or, set, All, replicate, true, false, None, Result, Ok, Err, arith}
+use Rattle.std.proofs.Common.{◌≡◌, refl, sym, ◌∙◌, ap, ℕ, zero, suc, ◌+◌, ◌<◌, ◌≤◌, List, [], ◌∷◌, ◌++◌, length, drop, get_or, set, All, true, false, None, Result, Ok, Err, arith}
 use Rattle.std.proofs.lemmas.Int.{ints}
 use Rattle.std.proofs.lemmas.List.{drop_more, length-set, get_or-set_other}
 use Rattle.std.proofs.lemmas.List.Elements.{All-nil, All-cons, All-head, All-tail, All-get_or, All-set}
@@ -10,7 +10,8 @@ use Rattle.redcode_text.specs.declared.fault.ExprFault.TheVariants.{Range}
 use Rattle.mars_match.specs.Rounds.{◌>>=◌, table_of, checked_rows, fits_in_64}
 use Rattle.mars_match.specs.Tables.{RowValue}
 use Rattle.mars_match.specs.Tallies.{IsOf, no_rounds, tallied, row_with, rows_with}
-use Rattle.mars_match.specs.Leagues.{Pair, pairs_with, pairs_of_first, all_pairs, joined, joined_at, with_table, after_matches, league_of}
+use Rattle.mars_match.specs.Leagues.{Pair, pairs_with, all_pairs, placed_rows}
+use Rattle.mars_match.specs.LeagueSteps.{pairs_of_first, joined, joined_at, with_rows, after_matches}
 use Rattle.mars_match.specs.declared.fault.MatchFault.{MatchFault}
 use Rattle.mars_match.specs.declared.fault.MatchFault.TheVariants.{Score}
 use Rattle.mars_match.specs.declared.tallies.Tally.{Tally}
@@ -96,8 +97,8 @@ module _ (p : Parameters) (f : Scanned) (n seed : ℕ) where
 
   joined_after : (table : Result (List RowValue) MatchFault) (x : Pair) (xs ys : List Pair) (ts : List Tally) →
       ((us : List Tally) → after_matches p f n seed (xs ++ ys) us ≡ (after_matches p f n seed xs us >>= λ us. after_matches p f n seed ys us)) →
-      (table >>= λ rows. after_matches p f n seed (xs ++ ys) (with_table x rows ts)) ≡ ((table >>= λ rows. after_matches p f n seed xs (with_table x rows ts)) >>= λ us. after_matches p f n seed ys us)
-  joined_after (Ok rows) x xs ys ts h = h (with_table x rows ts)
+      (table >>= λ rows. after_matches p f n seed (xs ++ ys) (with_rows (placed_rows (x.first ∷ x.second ∷ []) rows) ts)) ≡ ((table >>= λ rows. after_matches p f n seed xs (with_rows (placed_rows (x.first ∷ x.second ∷ []) rows) ts)) >>= λ us. after_matches p f n seed ys us)
+  joined_after (Ok rows) x xs ys ts h = h (with_rows (placed_rows (x.first ∷ x.second ∷ []) rows) ts)
   joined_after (Err e) x xs ys ts h = refl
 
   after-append : (xs ys : List Pair) (ts : List Tally) → after_matches p f n seed (xs ++ ys) ts ≡ (after_matches p f n seed xs ts >>= λ us. after_matches p f n seed ys us)
@@ -145,14 +146,3 @@ module _ (p : Parameters) (a b : WarriorValue) (f : Scanned) (n seed : ℕ) wher
       fits_in_64 (get_or ts 0 d).points ≡ true → fits_in_64 (get_or ts 1 d).points ≡ true →
       table_of p (a ∷ b ∷ []) f None n seed ≡ Ok (row_with a (get_or ts 0 d) ∷ row_with b (get_or ts 1 d) ∷ [])
   both_fit ts d two e one other = pair_table ts d two e ∙ fit _ (rw (one, other) refl)
-
--- ---- the league
-
-module _ (p : Parameters) (ws : List WarriorValue) (f : Scanned) (n seed : ℕ) where
-  pub league_err : (x : MatchFault) → after_matches p f n seed (all_pairs 0 ws) (replicate (length ws) no_rounds) ≡ Err x → league_of p ws f n seed ≡ Err x
-  unfolding league_of
-  league_err x e = rw e refl
-
-  pub league_with : (ts : List Tally) → after_matches p f n seed (all_pairs 0 ws) (replicate (length ws) no_rounds) ≡ Ok ts → league_of p ws f n seed ≡ checked_rows (rows_with ws ts)
-  unfolding league_of
-  league_with ts e = rw e refl

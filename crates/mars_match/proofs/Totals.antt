@@ -73,7 +73,7 @@ folded_is (o ∷ os) tallies = folded_is os (all_added o 0 tallies) ∙ all_each
 tally_of : ℤ → ℕ → ℕ → ℕ → Tally
 tally_of p w t l = record { points = p; wins = w; ties = t; losses = l }
 
-same_tally : (a b : Tally) → a.points ≡ b.points → a.wins ≡ b.wins → a.ties ≡ b.ties → a.losses ≡ b.losses → a ≡ b
+pub same_tally : (a b : Tally) → a.points ≡ b.points → a.wins ≡ b.wins → a.ties ≡ b.ties → a.losses ≡ b.losses → a ≡ b
 unfolding tally_of
 same_tally a b p w t l =
     ap (λ x. tally_of x a.wins a.ties a.losses) p ∙ ap (λ x. tally_of b.points x a.ties a.losses) w

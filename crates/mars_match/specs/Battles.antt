@@ -59,3 +59,8 @@ started p warriors starts k = unless (round_fault p warriors starts k) (round_st
 -- who survives round k, in load order, or why it can't start
 abbrev pub fought : Parameters → List WarriorValue → List ℕ → ℕ → Result (List Bool) MatchFault
 fought p warriors starts k = unless (round_fault p warriors starts k) (survivors_of_round p warriors starts k)
+
+-- a battle in whose memory one of so many warriors can start
+pub record HasRoom (p : Parameters) (count : ℕ) (s : State) : Type 0 where
+  pub params : s.params ≡ p
+  pub warriors : length s.queues ≡ count

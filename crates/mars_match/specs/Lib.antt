@@ -9,4 +9,5 @@ pub mod Answers
 pub mod Rounds
 pub mod Tallies
 pub mod Leagues
+pub mod LeagueSteps
 pub mod Rows

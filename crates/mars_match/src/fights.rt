@@ -1,9 +1,10 @@
 //! Battles of a round, turned until they are over.
-ghost use Rattle.std.specs.Prelude.{◌≡◌, ℕ, ◌+◌, ◌%◌, ◌<◌, ◌≤◌, length, Some, None, IfSome, Ok, Err, MatchOption, MatchResult, IfOk, IsOk, slice_index_or, false, Bool, Vec};
+ghost use Rattle.std.specs.Prelude.{◌≡◌, ℕ, ◌+◌, ◌%◌, ◌<◌, ◌≤◌, length, Some, None, IfSome, Ok, Err, MatchOption, MatchResult, IfOk, IfErr, IsOk, ◌≢◌, slice_index_or, false, Bool, Vec};
 ghost use Rattle.std.specs.Global.{Global};
 ghost use Rattle.mars_core.specs.State.{State};
 ghost use Rattle.mars_match.specs.Answers.{IsAnswer};
-ghost use Rattle.mars_match.specs.Battles.{rotated, lives, end_of, in_load_order, count_fault, started, fought};
+ghost use Rattle.mars_match.specs.Battles.{rotated, lives, end_of, in_load_order, count_fault, unless, started, fought, HasRoom};
+ghost use Rattle.mars_core.specs.Start.{start_state, start_fault};
 
 use crate::fault::MatchFault;
 use crate::lineup::Lineup;
@@ -45,24 +46,46 @@ fn rotated_starts(starts: &[u32], first: usize) -> ArrayVec<u32, 16>
     rotated
 }
 
-/// The battle of a round, when it starts.
+/// A new battle, when it starts.
+fn new_battle(
+    alloc: Global,
+    params: &Params,
+    warriors: &[Warrior],
+    starts: &[u32],
+) -> Result<Battle, MatchFault>
+    requires { length starts.now ≡ length warriors.now }
+    ensures { IsAnswer (λ (battle : State). battle) (unless (start_fault params.now warriors.now starts.now) (start_state params.now warriors.now starts.now)) result }
+{
+    match Battle::new(alloc, params, warriors, starts) {
+        Ok(battle) => Ok(battle),
+        Err(BattleFault::OutOfMemory) => Err(MatchFault::OutOfMemory),
+        Err(fault) => Err(MatchFault::Battle(fault)),
+    }
+}
+
+/// The battle of a round, when it starts, in the memory of the last one, if there is one; then it takes none.
 fn start_round(
     alloc: Global,
     params: &Params,
     lineup: &Lineup,
     starts: &[u32],
     round: u32,
+    last: Option<Battle>,
 ) -> Result<Battle, MatchFault>
     requires starts { length starts.now ≡ length lineup.now }
     requires some { 1 ≤ length lineup.now }
     requires few { length lineup.now ≤ 16 }
-    ensures { IsAnswer (λ (battle : State). battle) (started params.now lineup.now starts.now round) result }
+    requires last { IfSome last (λ battle. HasRoom params.now (length lineup.now) battle) }
+    ensures state { IsAnswer (λ (battle : State). battle) (started params.now lineup.now starts.now round) result }
+    ensures no_memory { IfSome last (λ _. IfErr result (λ fault. fault ≢ MatchFault.OutOfMemory)) }
 {
     let first = round as usize % lineup.len();
     let starts = rotated_starts(starts, first);
-    match Battle::new(alloc, params, lineup.from(first), starts.as_slice()) {
-        Ok(battle) => Ok(battle),
-        Err(BattleFault::OutOfMemory) => Err(MatchFault::OutOfMemory),
+    let Some(mut battle) = last else {
+        return new_battle(alloc, params, lineup.from(first), starts.as_slice());
+    };
+    match battle.restart(lineup.from(first), starts.as_slice()) {
+        Ok(()) => Ok(battle),
         Err(fault) => Err(MatchFault::Battle(fault)),
     }
 }
@@ -79,21 +102,24 @@ pub fn is_alive(battle: &Battle, first: usize, warrior: usize) -> bool
     battle.alive(battle.warriors() - (first - warrior))
 }
 
-/// The battle of a round, when it is over.
+/// The battle of a round, when it is over, in the memory of the last one, if there is one; then it takes none.
 pub fn fight_round(
     alloc: Global,
     params: &Params,
     lineup: &Lineup,
     starts: &[u32],
     round: u32,
+    last: Option<Battle>,
 ) -> Result<Battle, MatchFault>
     requires starts { length starts.now ≡ length lineup.now }
     requires some { 1 ≤ length lineup.now }
     requires few { length lineup.now ≤ 16 }
+    requires last { IfSome last (λ battle. HasRoom params.now (length lineup.now) battle) }
     ensures survivors { IsAnswer (λ (battle : State). in_load_order (round % length lineup.now) battle) (fought params.now lineup.now starts.now round) result }
-    ensures many { IfOk result (λ battle. length battle.queues ≡ length lineup.now) }
+    ensures room { IfOk result (λ battle. HasRoom params.now (length lineup.now) battle) }
+    ensures no_memory { IfSome last (λ _. IfErr result (λ fault. fault ≢ MatchFault.OutOfMemory)) }
 {
-    let mut battle = start_round(alloc, params, lineup, starts, round)?;
+    let mut battle = start_round(alloc, params, lineup, starts, round, last)?;
     end(&mut battle);
     Ok(battle)
 }
@@ -132,6 +158,6 @@ pub fn fight(
     let Ok(lineup) = Lineup::new(alloc, warriors) else {
         return Err(MatchFault::OutOfMemory);
     };
-    let battle = fight_round(alloc, params, &lineup, starts, round)?;
+    let battle = fight_round(alloc, params, &lineup, starts, round, None)?;
     survivors_list(alloc, &battle, round as usize % warriors.len())
 }

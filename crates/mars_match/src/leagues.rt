@@ -3,7 +3,8 @@ ghost use Rattle.std.specs.Prelude.{◌≡◌, ◌+◌, ◌*◌, ◌<◌, ◌≤
 ghost use Rattle.mars_match.specs.Answers.{IsAnswer};
 ghost use Rattle.mars_match.specs.Rounds.{table_of, fits_in_64};
 ghost use Rattle.mars_match.specs.Tallies.{IsOf, row_with};
-ghost use Rattle.mars_match.specs.Leagues.{joined as spec_joined, pairs_of_first, all_pairs, after_matches, league_of};
+ghost use Rattle.mars_match.specs.Leagues.{all_pairs, league_of};
+ghost use Rattle.mars_match.specs.LeagueSteps.{joined as spec_joined, pairs_of_first, after_matches};
 ghost use Rattle.mars_match.specs.declared.table.Table.{Table};
 ghost use Rattle.mars_match.specs.declared.tallies.Tally.{Tally};
 

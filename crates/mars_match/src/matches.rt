@@ -1,8 +1,8 @@
 //! Rounds of a match.
-ghost use Rattle.std.specs.Prelude.{◌≡◌, ℕ, ◌+◌, ◌%◌, ◌<◌, ◌≤◌, All, List, length, pos, ℤ, ◌-◌, Some, None, Ok, Err, IfSome, IfOk, MatchOption, true, false, MatchResult, Vec, replicate};
+ghost use Rattle.std.specs.Prelude.{◌≡◌, ℕ, ◌+◌, ◌%◌, ◌<◌, ◌≤◌, All, List, length, pos, ℤ, ◌-◌, Some, None, Ok, Err, IfSome, IfOk, IfErr, ◌≢◌, MatchOption, true, false, MatchResult, Vec, replicate};
 ghost use Rattle.mars_core.specs.State.{State};
 ghost use Rattle.mars_match.specs.Answers.{IsAnswer};
-ghost use Rattle.mars_match.specs.Battles.{in_load_order, lives, count_fault, fought};
+ghost use Rattle.mars_match.specs.Battles.{in_load_order, lives, count_fault, fought, HasRoom};
 ghost use Rattle.mars_match.specs.Rounds.{Outcome, placed_for, round_score, ended, fits_in_64, checked_rows, table_of};
 ghost use Rattle.mars_match.specs.declared.table.Table.{Table};
 ghost use Rattle.mars_match.specs.Tables.{RowValue};
@@ -61,7 +61,8 @@ fn place_round(
 /// What each survivor of a battle gets.
 fn score_round(formula: &Formula, battle: &Battle) -> Result<i64, MatchFault>
     requires { length battle.now.queues ≤ 16 }
-    ensures { result ≡ round_score formula.now (lives battle.now) }
+    ensures value { result ≡ round_score formula.now (lives battle.now) }
+    ensures no_memory { IfErr result (λ fault. fault ≢ MatchFault.OutOfMemory) }
 {
     let survivors = battle.survivors();
     if survivors == 0 {
@@ -127,7 +128,7 @@ pub fn rows_of(
     Ok(rows)
 }
 
-/// The battle of a round, when it is over, and what each survivor gets.
+/// The battle of a round, when it is over, and what each survivor gets. Where there is a last one, it takes no memory.
 fn play_round(
     alloc: Global,
     params: &Params,
@@ -135,14 +136,17 @@ fn play_round(
     starts: &[u32],
     round: u32,
     formula: &Formula,
+    last: Option<Battle>,
 ) -> Result<(Battle, i64), MatchFault>
     requires starts { length starts.now ≡ length lineup.now }
     requires some { 1 ≤ length lineup.now }
     requires few { length lineup.now ≤ 16 }
+    requires last { IfSome last (λ battle. HasRoom params.now (length lineup.now) battle) }
     ensures outcome { IsAnswer (λ (played : State × ℤ). outcome_by (round % length lineup.now) played.0 played.1) (ended params.now lineup.now formula.now starts.now round) result }
-    ensures many { IfOk result (λ played. length played.0.queues ≡ length lineup.now) }
+    ensures room { IfOk result (λ played. HasRoom params.now (length lineup.now) played.0) }
+    ensures no_memory { IfSome last (λ _. IfErr result (λ fault. fault ≢ MatchFault.OutOfMemory)) }
 {
-    let battle = fight_round(alloc, params, lineup, starts, round)?;
+    let battle = fight_round(alloc, params, lineup, starts, round, last)?;
     let score = score_round(formula, &battle)?;
     Ok((battle, score))
 }
@@ -168,18 +172,27 @@ pub fn play_rounds(
         return Err(MatchFault::OutOfMemory);
     };
     let mut seed = first_seed;
+    let mut last = None;
     for round in 0..plan.rounds {
         seed = place_round(params, plan.fixed, seed, starts.as_mut_slice())?;
-        let starts = starts.as_slice();
-        let (battle, score) = play_round(alloc, params, lineup, starts, round, &plan.formula)?;
+        let (battle, score) = play_round(
+            alloc,
+            params,
+            lineup,
+            starts.as_slice(),
+            round,
+            &plan.formula,
+            last.take(),
+        )?;
         add_round(tallies, &battle, round, score);
+        last = Some(battle);
     }
     Ok(())
 }
 
 /// The table of a match: so many rounds between all warriors, each placed with the seed that the last one left, and
 /// begun by the next warrior in load order. Where a round can't be held, or a warrior's points don't fit 64 bits at the
-/// end, it answers the first fault. A round takes memory for its battle alone.
+/// end, it answers the first fault. It takes the memory of one battle, however many rounds there are.
 pub fn rounds(
     alloc: Global,
     params: &Params,

@@ -1,5 +1,6 @@
 use Rattle.std.proofs.Common.{◌≡◌, ◌*◌, All, drop}
-use Rattle.mars_match.specs.Leagues.{all_pairs, after_matches}
+use Rattle.mars_match.specs.Leagues.{all_pairs}
+use Rattle.mars_match.specs.LeagueSteps.{after_matches}
 use Rattle.mars_match.specs.Tallies.{IsOf}
 use Rattle.mars_match.proofs.leagues.play_all.Given as goal
 

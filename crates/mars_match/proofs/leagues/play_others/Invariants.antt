@@ -1,5 +1,5 @@
 use Rattle.std.proofs.Common.{◌≡◌, ◌+◌, ◌*◌, All, drop}
-use Rattle.mars_match.specs.Leagues.{pairs_of_first, after_matches}
+use Rattle.mars_match.specs.LeagueSteps.{pairs_of_first, after_matches}
 use Rattle.mars_match.specs.Tallies.{IsOf}
 use Rattle.mars_match.proofs.Pairs.{pairs_left}
 use Rattle.mars_match.proofs.leagues.play_others.Given as goal

@@ -25,7 +25,7 @@ returns-in_err-battle-clause-sums c =
     let many : length c.as_mut_slice.result.now ≡ length c.args.lineup.now = rw c.as_mut_slice.ensures.value c.loop-round.invariant.starts in
     let good : placed_for c.args.params.now (length c.args.lineup.now) plan.fixed c.loop-round.seed ≡ Ok (c.place_round.new.starts, c.in_ok-seed.seed) = rw many at c.in_ok-seed.ensures in
     let more : c.loop-round.round < plan.rounds = omega arith in
-    let same : c.as_slice-starts.result.now ≡ c.place_round.new.starts = grind (arith, common_steps, c.as_slice-starts.ensures.value) in
+    let same : c.as_slice.result.now ≡ c.place_round.new.starts = grind (arith, common_steps, c.as_slice.ensures.value) in
     fault_answer _ _ _ p.0 p.1 (elim c.in_err-battle.ensures.outcome [
       | inl none ↦ inl (p.2 ∙ none)
       | inr bad ↦ inr (sym c.loop-round.invariant.sums ∙ tallied_round_err c.args.params.now c.args.lineup.now plan.formula plan.fixed plan.rounds c.loop-round.round c.loop-round.seed c.loop-round.tallies more
@@ -38,9 +38,9 @@ loop-round-preserved c =
     let many : length c.as_mut_slice.result.now ≡ length c.args.lineup.now = rw c.as_mut_slice.ensures.value c.loop-round.invariant.starts in
     let good : placed_for c.args.params.now (length c.args.lineup.now) plan.fixed c.loop-round.seed ≡ Ok (c.place_round.new.starts, c.in_ok-seed.seed) = rw many at c.in_ok-seed.ensures in
     let more : c.loop-round.round < plan.rounds = omega arith in
-    let same : c.as_slice-starts.result.now ≡ c.place_round.new.starts = grind (arith, common_steps, c.as_slice-starts.ensures.value) in
+    let same : c.as_slice.result.now ≡ c.place_round.new.starts = grind (arith, common_steps, c.as_slice.ensures.value) in
     let k = c.loop-round.round in
-    let count : length c.loop-round.tallies ≡ length c.args.lineup.now = omega arith in
+    let count : length c.loop-round.tallies ≡ length c.args.lineup.now = omega (arith, c.in_ok-battle.ensures.room.warriors) in
     let o = outcome_by (k % length c.args.lineup.now) c.in_ok-battle.battle c.in_ok-battle.score in
     let fits : FitsSigned w64 c.in_ok-battle.score = search rules in
     let score = to_z-of_z w64 c.in_ok-battle.score fits in
@@ -49,7 +49,8 @@ loop-round-preserved c =
     record {
       sums = rw sums (tallied_more c.args.params.now c.args.lineup.now plan.formula plan.fixed plan.rounds k c.loop-round.seed c.loop-round.tallies more c.place_round.new.starts c.in_ok-seed.seed o good played ∙ c.loop-round.invariant.sums);
       bounds = c.add_round.ensures.bounds;
-      starts = ap length (sym c.as_slice-starts.ensures.value ∙ same) ∙ c.place_round.auto.starts ∙ many;
+      room = c.in_ok-battle.ensures.room;
+      starts = ap length (sym c.as_slice.ensures.value ∙ same) ∙ c.place_round.auto.starts ∙ many;
     }
 
 pub returns-clause-bounds : goal.returns-clause-bounds

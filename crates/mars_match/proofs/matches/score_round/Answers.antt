@@ -10,8 +10,8 @@ overflow_cast-survivors c =
     let few : c.survivors-survivors.result ≤ 16 = omega (arith, survivors-le c.args.battle.now.queues) in
     search rules
 
-pub returns-in-Ok : goal.returns-in-Ok
-returns-in-Ok c =
+pub returns-in-Ok-clause-value : goal.returns-in-Ok-clause-value
+returns-in-Ok-clause-value c =
     let s = c.args.battle.now in
     let fits : FitsSigned w64 c.in-Ok.score = search rules in
     let few : c.survivors-survivors.result ≤ 16 = omega (arith, survivors-le s.queues) in
@@ -20,8 +20,8 @@ returns-in-Ok c =
     let value = rw (w, n, c.warriors.ensures, c.survivors-survivors.ensures, c.in-Ok.is) at c.score.ensures in
     rw (score_is c.args.formula.now s (rw c.survivors-survivors.ensures at c.if-survivors-eq0.false), ← value, to_z-of_z w64 c.in-Ok.score fits) refl
 
-pub returns-in-Err : goal.returns-in-Err
-returns-in-Err c =
+pub returns-in-Err-clause-value : goal.returns-in-Err-clause-value
+returns-in-Err-clause-value c =
     let s = c.args.battle.now in
     let few : c.survivors-survivors.result ≤ 16 = omega (arith, survivors-le s.queues) in
     let w = to_z_pos w64 c.warriors.result (omega arith) in
