@@ -12,7 +12,7 @@ use Rattle.mars_app.specs.declared.request.Request.{Request}
 use Rattle.mars_app.specs.declared.request.Request.TheVariants.{Quit}
 use Rattle.mars_app.specs.LineBuffer.{Holds}
 use Rattle.mars_app.specs.Lines.{IsLine, ended, line_asks, lines_of}
-use Rattle.mars_app.specs.Writing.{CutShort}
+use Rattle.mars_match.specs.Writing.{CutShort}
 use Rattle.mars_app.specs.Transcript.{Transcript, GoesOn, Completes, WriteFails, answer, until_quit}
 use Rattle.mars_app.specs.Transcript.EndsIn.{at_newline, at_end}
 use Rattle.mars_app.specs.Transcript.Transcript.{none, line}

@@ -1,3 +1,4 @@
+pub mod Contests
 pub mod LineBuffer
 pub mod Lines
 pub mod Loading
@@ -8,5 +9,5 @@ pub mod Requests
 pub mod Status
 pub mod Steps
 pub mod Transcript
+pub mod Waiting
 pub mod Words
-pub mod Writing

@@ -1,5 +1,5 @@
 -- What the options promise.
-use Rattle.std.specs.Prelude.{◌≡◌, ℕ, ◌+◌, ◌≤◌, Bool, false, true, ◌&&◌, IfSome, vec_len}
+use Rattle.std.specs.Prelude.{◌≡◌, ℕ, ◌+◌, ◌≤◌, false, true, ◌&&◌, IfSome, vec_len}
 use Rattle.mars_app.specs.declared.options.Options.{Options}
 
 abbrev pub IsBetween : ℕ → ℕ → ℕ → Type 0

@@ -1,15 +1,15 @@
 //! The debugger: it reads lines, makes their calls and writes what they answer.
 ghost use Rattle.std.specs.Prelude.{◌≡◌, Bool, [], ◌∷◌, ◌<◌, OnOk, OnErr};
 ghost use Rattle.std.specs.Io.KnownBytes.{Appends};
-ghost use Rattle.mars_app.specs.Writing.{CutShort};
+ghost use Rattle.mars_match.specs.Writing.{CutShort};
 ghost use Rattle.mars_app.specs.Transcript.{answer, core_size_of, Completes, NothingDone, ReadFails, WriteFails};
 ghost use Rattle.mars_app.specs.Steps.{Breaks, BreaksAtEnd, Finishes, GoesThrough, Quits};
 
 use crate::line_buffer::LineBuffer;
-use crate::output::{WriteFailed, write_text};
 use crate::readings::{write_list, write_queue, write_show};
 use crate::replies::reply_line;
 use crate::request::Request;
+use mars_match::{WriteFault, write_text};
 use mars_session::{Session, Tape};
 use std::io::{Read, Write};
 
@@ -35,7 +35,7 @@ fn execute<W: Write, T: Tape>(
     request: Request,
     writer: &mut W,
     session: &mut Session<T>,
-) -> Result<(), WriteFailed>
+) -> Result<(), WriteFault>
     ensures ok { OnOk result ((poor : Bool)
         × (session.new ≡ (answer poor session.old request).0)
         × Appends (W.contents writer.old) (W.contents writer.new) (answer poor session.old request).1) }
@@ -63,7 +63,7 @@ fn take_byte<W: Write, T: Tape>(
     core_size: u32,
     writer: &mut W,
     session: &mut Session<T>,
-) -> Result<Flow, WriteFailed>
+) -> Result<Flow, WriteFault>
     requires { 0 < core_size }
     ensures more { result ≡ Ok Flow.More → GoesThrough core_size (byte ∷ []) line.old session.old (W.contents writer.old)
         line.new session.new (W.contents writer.new) }
@@ -93,7 +93,7 @@ fn take_bytes<W: Write, T: Tape>(
     core_size: u32,
     writer: &mut W,
     session: &mut Session<T>,
-) -> Result<Flow, WriteFailed>
+) -> Result<Flow, WriteFault>
     requires { 0 < core_size }
     ensures more { result ≡ Ok Flow.More → GoesThrough core_size chunk.now line.old session.old (W.contents writer.old)
         line.new session.new (W.contents writer.new) }
@@ -118,7 +118,7 @@ fn take_last_line<W: Write, T: Tape>(
     core_size: u32,
     writer: &mut W,
     session: &mut Session<T>,
-) -> Result<(), WriteFailed>
+) -> Result<(), WriteFault>
     requires { 0 < core_size }
     ensures ok { OnOk result (Finishes core_size line.old session.old (W.contents writer.old)
         session.new (W.contents writer.new)) }
@@ -171,13 +171,13 @@ pub fn debug_within<R: Read, W: Write, T: Tape>(
         if count == 0 {
             return match take_last_line(&mut line, core_size, writer, session) {
                 Ok(()) => Ok(()),
-                Err(WriteFailed) => Err(DebugFault::Write),
+                Err(WriteFault) => Err(DebugFault::Write),
             };
         }
         match take_bytes(&chunk[..count], &mut line, core_size, writer, session) {
             Ok(Flow::More) => {}
             Ok(Flow::Quit) => return Ok(()),
-            Err(WriteFailed) => return Err(DebugFault::Write),
+            Err(WriteFault) => return Err(DebugFault::Write),
         }
     }
     Err(DebugFault::Read)

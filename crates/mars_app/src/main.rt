@@ -1,11 +1,14 @@
 //! The program `mars`: a debugger for battles of Core War that steps backwards as well as forwards.
 #![tactic(auto)]
 
+mod contest;
 mod debugger;
+mod fault;
 mod files;
 mod line_buffer;
+mod loading;
 mod options;
-mod output;
+mod pending;
 mod readings;
 mod replies;
 mod request;
@@ -14,8 +17,9 @@ mod run;
 mod tests;
 mod words;
 
+use crate::fault::RunFault;
 use crate::files::SystemFiles;
-use crate::run::{RunFault, run};
+use crate::run::run;
 use std::env;
 use std::io::{ErrorKind, Write};
 use std::process::ExitCode;

@@ -301,10 +301,9 @@ fn modes<'a>(alloc: Global, command: Command<'a>) -> Result<Command<'a>, AllocEr
 /// The warriors' files.
 fn files_arg<'a>(alloc: Global, command: Command<'a>) -> Result<Command<'a>, AllocError> {
     command.arg(
-        Arg::new(alloc, "FILE")
-            .required(true)
-            .num_args(1..)
-            .help("1 to 16 warriors' load files"),
+        Arg::new(alloc, "FILE").required(true).num_args(1..).help(
+            "1 to 16 warriors: sources of Redcode, and load files, whose names end in .load",
+        ),
     )
 }
 

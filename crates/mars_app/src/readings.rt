@@ -2,14 +2,15 @@
 ghost use Rattle.std.specs.Prelude.{◌≡◌, ◌<◌, ◌≤◌, ◌++◌, length, OnOk, OnErr};
 ghost use Rattle.std.specs.Io.KnownBytes.{Appends};
 ghost use Rattle.std.specs.List.{flat_map};
-ghost use Rattle.mars_app.specs.Writing.{CutShort};
+ghost use Rattle.mars_match.specs.Writing.{CutShort};
 ghost use Rattle.mars_core.specs.State.{cell_at, queue_of};
 ghost use Rattle.arrayvec.specs.ArrayString.{array_string_len};
 ghost use Rattle.mars_app.specs.Readings.{cell_line, line_at, list_text, most_listed, texts, queue_text, process_text, warrior_text, life_text, death_of, show_text, end_text};
 
-use crate::output::{WriteFailed, write_text};
+use crate::pending::Pending;
 use crate::replies::{Line, fixed, numbered, push_number, refusal_line, standing_line};
 use mars_core::{Battle, Death};
+use mars_match::{WriteFault, write_text};
 use mars_session::{Refusal, Standing};
 use std::io::Write;
 
@@ -32,18 +33,22 @@ fn write_cells<W: Write>(
     battle: &Battle,
     address: u64,
     count: u64,
-) -> Result<(), WriteFailed>
+) -> Result<(), WriteFault>
     requires address { address < battle.now.params.core_size }
     requires count { count ≤ most_listed }
     ensures ok { OnOk result (Appends (W.contents writer.old) (W.contents writer.new) (texts (line_at battle.now address) count)) }
     ensures err { OnErr result (CutShort (W.contents writer.old) (W.contents writer.new) (texts (line_at battle.now address) count)) }
 {
     let core_size = u64::from(battle.params().core_size());
+    let mut pending = Pending::new();
     for i in 0..count {
         let line = cell_line(battle, ((address + i) % core_size) as u32);
-        write_text(writer, line.as_str().as_bytes())?;
+        match pending.push(writer, &line) {
+            Ok(()) => {}
+            Err(fault) => return Err(fault),
+        }
     }
-    Ok(())
+    pending.write(writer)
 }
 
 /// The most cells of one list.
@@ -56,7 +61,7 @@ pub fn write_list<W: Write>(
     battle: &Battle,
     address: u64,
     count: u64,
-) -> Result<(), WriteFailed>
+) -> Result<(), WriteFault>
     ensures ok { OnOk result (Appends (W.contents writer.old) (W.contents writer.new) (list_text battle.now address count)) }
     ensures err { OnErr result (CutShort (W.contents writer.old) (W.contents writer.new) (list_text battle.now address count)) }
 {
@@ -81,16 +86,19 @@ fn write_processes<W: Write>(
     writer: &mut W,
     battle: &Battle,
     warrior: usize,
-) -> Result<(), WriteFailed>
+) -> Result<(), WriteFault>
     ensures ok { OnOk result (Appends (W.contents writer.old) (W.contents writer.new) (flat_map process_text (queue_of battle.now.queues warrior))) }
     ensures err { OnErr result (CutShort (W.contents writer.old) (W.contents writer.new) (flat_map process_text (queue_of battle.now.queues warrior))) }
 {
+    let mut pending = Pending::new();
     for place in 0..battle.queue_len(warrior) {
         let address = battle.process(warrior, place).unwrap();
-        let part = process_part(address);
-        write_text(writer, part.as_str().as_bytes())?;
+        match pending.push(writer, &process_part(address)) {
+            Ok(()) => {}
+            Err(fault) => return Err(fault),
+        }
     }
-    Ok(())
+    pending.write(writer)
 }
 
 /// Writes the addresses of a warrior's processes, the front first.
@@ -99,7 +107,7 @@ pub fn write_queue<W: Write>(
     writer: &mut W,
     battle: &Battle,
     warrior: u64,
-) -> Result<(), WriteFailed>
+) -> Result<(), WriteFault>
     ensures ok { OnOk result (Appends (W.contents writer.old) (W.contents writer.new) (queue_text battle.now warrior)) }
     ensures err { OnErr result (CutShort (W.contents writer.old) (W.contents writer.new) (queue_text battle.now warrior)) }
 {
@@ -155,7 +163,7 @@ fn warrior_line(battle: &Battle, warrior: usize) -> Line
 }
 
 /// Writes the line of each warrior.
-fn write_warriors<W: Write>(writer: &mut W, battle: &Battle) -> Result<(), WriteFailed>
+fn write_warriors<W: Write>(writer: &mut W, battle: &Battle) -> Result<(), WriteFault>
     ensures ok { OnOk result (Appends (W.contents writer.old) (W.contents writer.new) (texts (warrior_text battle.now) (length battle.now.queues))) }
     ensures err { OnErr result (CutShort (W.contents writer.old) (W.contents writer.new) (texts (warrior_text battle.now) (length battle.now.queues))) }
 {
@@ -183,7 +191,7 @@ pub fn write_show<W: Write>(
     writer: &mut W,
     standing: Standing,
     battle: &Battle,
-) -> Result<(), WriteFailed>
+) -> Result<(), WriteFault>
     ensures ok { OnOk result (Appends (W.contents writer.old) (W.contents writer.new) (show_text standing battle.now)) }
     ensures err { OnErr result (CutShort (W.contents writer.old) (W.contents writer.new) (show_text standing battle.now)) }
 {

@@ -10,6 +10,8 @@ use std::test::Fail;
 
 const IMP: &[u8] = b"ORG 0\nMOV.I $0, $1\n";
 
+const DWARF: &[u8] = b"ADD #4, 3\nMOV 2, @2\nJMP -2\nDAT #0, #0\n";
+
 /// What a run answered: the status, and what it wrote.
 #[derive(Drop)]
 struct Outcome {
@@ -35,9 +37,31 @@ fn files(alloc: Global) -> Result<MemoryFiles, Fail> {
     files.add(alloc, "two.load", b"NOP 0, 0\nNOP 0, 0")?;
     files.add(alloc, "empty.load", b"")?;
     files.add(alloc, "far.load", b"ORG 1\nNOP 0, 0")?;
-    let large = vec![in alloc; b' '; 1_048_577]?;
-    files.add(alloc, "large.load", &large)?;
+    add_sources(alloc, &mut files)?;
     Ok(files)
+}
+
+fn add_sources(alloc: Global, files: &mut MemoryFiles) -> Result<(), Fail> {
+    let imp = b";name Imp\n;author Dewdney\nMOV 0, 1\n";
+    files.add(alloc, "imp.red", imp)?;
+    files.add(alloc, "stay.red", b";name Stay\nJMP 0\n")?;
+    files.add(alloc, "dead.red", b";name Dead\nDAT 0, 0\n")?;
+    files.add(alloc, "dwarf.red", DWARF)?;
+    let sized = b";assert CORESIZE==8000\nADD.F }0, {0\n";
+    files.add(alloc, "sized.red", sized)?;
+    let pair = b";assert WARRIORS == 2 && ROUNDS == 3\nNOP\n";
+    files.add(alloc, "pair.red", pair)?;
+    files.add(alloc, "open.red", b"NOP\nFOR 2\nNOP\n")?;
+    files.add(alloc, "zero.red", b"FOR 1/0\nROF\n")?;
+    files.add(alloc, "far.red", b"ORG 4\nNOP\n")?;
+    files.add(alloc, "words.red", b"NOP\nNOP\nHOP 1\n")?;
+    files.add(alloc, "bare.red", b"JMP")?;
+    files.add(alloc, "sum.red", b"JMP 1+")?;
+    files.add(alloc, "none.red", b"; nothing")?;
+    files.add(alloc, "two.red", b"NOP\nNOP")?;
+    let large = vec![in alloc; b' '; 1_048_577]?;
+    files.add(alloc, "large.red", &large)?;
+    Ok(())
 }
 
 fn answer(alloc: Global, words: &[&str], input: &[u8]) -> Result<Outcome, Fail> {
@@ -321,7 +345,7 @@ fn faults(rt: HostRuntime) -> Result<(), Fail> {
             b"mars: placement 1 NoRoom\n",
         ),
         (&["-e", "no.load"], 1, b"mars: no.load: cannot read\n"),
-        (&["-e", "large.load"], 1, b"mars: large.load: too large\n"),
+        (&["-e", "large.red"], 1, b"mars: large.red: too large\n"),
         (
             &["-e", "half.load"],
             1,
@@ -347,6 +371,101 @@ fn faults(rt: HostRuntime) -> Result<(), Fail> {
         check_fault(&rt, rt.alloc(), words, status, line)?;
     }
     Ok(())
+}
+
+#[test]
+fn faults_of_sources(rt: HostRuntime) -> Result<(), Fail> {
+    let rows: [(&[&str], &[u8]); 11] = [
+        (
+            &["open.red"],
+            b"mars: open.red: line 2: 1 Text 3 UnclosedFor\n",
+        ),
+        (
+            &["zero.red"],
+            b"mars: zero.red: line 1: 1 Text 10 Expression 3 DivideByZero\n",
+        ),
+        (&["words.red"], b"mars: words.red: line 3: 2 Operation\n"),
+        (&["bare.red"], b"mars: bare.red: line 1: 3 Operand\n"),
+        (
+            &["sum.red"],
+            b"mars: sum.red: line 1: 4 Expression 1 Syntax\n",
+        ),
+        (
+            &["-s", "1", "-l", "1", "-d", "1", "sized.red"],
+            b"mars: sized.red: line 1: 5 AssertFailed\n",
+        ),
+        (&["far.red"], b"mars: far.red: line 1: 6 BadOrigin\n"),
+        (&["none.red"], b"mars: none.red: line 0: 7 Empty\n"),
+        (
+            &["-l", "1", "two.red"],
+            b"mars: two.red: line 2: 8 TooLong\n",
+        ),
+        (
+            &["-r", "3", "pair.red"],
+            b"mars: pair.red: line 1: 5 AssertFailed\n",
+        ),
+        (
+            &["-r", "2", "pair.red", "pair.red"],
+            b"mars: pair.red: line 1: 5 AssertFailed\n",
+        ),
+    ];
+    for (words, line) in rows {
+        check_fault(&rt, rt.alloc(), words, 1, line)?;
+    }
+    Ok(())
+}
+
+#[test]
+fn the_first_fault_of_several_files(rt: HostRuntime) -> Result<(), Fail> {
+    let rows: [(&[&str], &[u8]); 3] = [
+        (&["imp.red", "no.red"], b"mars: no.red: cannot read\n"),
+        (
+            &["bare.red", "no.red"],
+            b"mars: bare.red: line 1: 3 Operand\n",
+        ),
+        (&["no.red", "bare.red"], b"mars: no.red: cannot read\n"),
+    ];
+    for (words, line) in rows {
+        check_fault(&rt, rt.alloc(), words, 1, line)?;
+    }
+    Ok(())
+}
+
+#[test]
+fn sources_know_the_contest(rt: HostRuntime) -> Result<(), Fail> {
+    let alloc = rt.alloc();
+    let pair = ["-b", "-r", "3", "pair.red", "pair.red"];
+    assert_eq!(rt; answer(alloc, &pair, b"")?.status, 0);
+    let league = ["--league", "-r", "3", "pair.red", "imp.red", "pair.red"];
+    assert_eq!(rt; answer(alloc, &league, b"")?.status, 0);
+    let debugger = ["-e", "-r", "3", "pair.red", "imp.red"];
+    assert_eq!(rt; answer(alloc, &debugger, b"")?.status, 0);
+    Ok(())
+}
+
+#[test]
+fn the_load_file_of_a_source(rt: HostRuntime) -> Result<(), Fail> {
+    let text = b"ORG 0\nADD.AB #4, $3\nMOV.I $2, @2\nJMP.B $-2, $0\nDAT.F #0, #0\n";
+    check_output(&rt, rt.alloc(), &["--load", "dwarf.red"], b"", text)
+}
+
+#[test]
+fn a_match_of_named_warriors(rt: HostRuntime) -> Result<(), Fail> {
+    let table = b"  points   wins   ties losses  warrior
+       1      0      1      0  Imp by Dewdney
+       1      0      1      0  Stay by Anonymous
+";
+    let words = ["-b", "-c", "10", "imp.red", "stay.red"];
+    check_output(&rt, rt.alloc(), &words, b"", table)?;
+    let table = b"  points   wins   ties losses  warrior
+       4      1      1      0  Imp by Dewdney
+       4      1      1      0  Stay by Anonymous
+       0      0      0      2  Dead by Anonymous
+";
+    let words = [
+        "-b", "-c", "10", "--league", "imp.red", "stay.red", "dead.red",
+    ];
+    check_output(&rt, rt.alloc(), &words, b"", table)
 }
 
 #[test]

@@ -1,0 +1,61 @@
+-- What a match or a league writes.
+use Rattle.std.specs.Prelude.{◌≡◌, ◌⊎◌, ℕ, ◌+◌, Bool, if◌then◌else◌, List, [], ◌∷◌, ◌++◌, length, vec_len, decimal, codes, Option, Result, Err}
+use Rattle.std.specs.Io.KnownBytes.{Appends}
+use Rattle.mars_cell.specs.Parameters.{Parameters}
+use Rattle.mars_cell.specs.Warriors.{WarriorValue}
+use Rattle.mars_cell.specs.Written.{load_text}
+use Rattle.mars_match.specs.Leagues.{league_of}
+use Rattle.mars_match.specs.Rounds.{table_of}
+use Rattle.mars_match.specs.Tables.{RowValue}
+use Rattle.mars_core.specs.declared.starts.BattleFault.TheVariants as battle
+use Rattle.mars_match.specs.declared.fault.MatchFault.{MatchFault}
+use Rattle.mars_match.specs.declared.fault.MatchFault.TheVariants as match
+use Rattle.mars_match.specs.declared.placement.PlaceFault.TheVariants as place
+use Rattle.redcode_text.specs.Tokens.{Scanned}
+use Rattle.mars_app.specs.declared.fault.RunFault.{RunFault}
+use Rattle.mars_app.specs.declared.fault.RunFault.TheVariants.{Placement, Battle, Score, OutOfMemory, Output}
+use Rattle.mars_app.specs.declared.options.Options.{Options}
+
+-- as `warrior 0: Imp by Dewdney, 1 instructions`
+unfoldable pub listing_head : ℕ → WarriorValue → List ℕ
+listing_head number w =
+    codes "warrior " ++ decimal number ++ codes ": " ++ w.name ++ codes " by " ++ w.author ++ codes ", " ++ decimal (length w.cells) ++ codes " instructions\n"
+
+-- the line of a warrior, its load file, and an empty line
+abbrev pub listed : ℕ → ℕ → WarriorValue → List ℕ
+listed core_size number w = listing_head number w ++ load_text core_size w ++ codes "\n"
+
+-- the warriors in load order, from one of this number on
+abbrev pub listing_from : ℕ → ℕ → List WarriorValue → List ℕ
+listing_from core_size number [] = []
+listing_from core_size number (w ∷ warriors) = listed core_size number w ++ listing_from core_size (number + 1) warriors
+
+abbrev pub listing : ℕ → Bool → List WarriorValue → List ℕ
+listing core_size brief warriors = if brief then [] else listing_from core_size 0 warriors
+
+-- how many warriors meet: in a league two, else all
+abbrev pub contest_size : Options → ℕ
+contest_size o = if o.league then 2 else vec_len o.files
+
+-- the rows of the match, or of the league, that the options ask for
+abbrev pub contest : Options → Parameters → Scanned → List WarriorValue → Result (List RowValue) MatchFault
+contest o p formula warriors =
+    if o.league then league_of p warriors formula o.rounds o.seed
+    else table_of p warriors formula o.fixed o.rounds o.seed
+
+-- the fault of a match, as the program tells it: want of memory is the same wherever it came
+abbrev pub fault_of : MatchFault → RunFault
+fault_of match.OutOfMemory = OutOfMemory
+fault_of (match.Place place.OutOfMemory) = OutOfMemory
+fault_of (match.Place fault) = Placement fault
+fault_of (match.Battle battle.OutOfMemory) = OutOfMemory
+fault_of (match.Battle fault) = Battle fault
+fault_of (match.Score fault) = Score fault
+
+-- memory is wanted, or the output fails
+abbrev pub StopsWriting : RunFault → Type 0
+StopsWriting fault = (fault ≡ OutOfMemory) ⊎ (fault ≡ Output)
+
+-- a contest fails for want of memory, or where its output does, or by its own fault, and then its listing was written
+abbrev pub ContestFails : RunFault → Result (List RowValue) MatchFault → Option (List ℕ) → Option (List ℕ) → List ℕ → Type 0
+ContestFails fault rows old new text = StopsWriting fault ⊎ ((f : MatchFault) × (rows ≡ Err f) × (fault ≡ fault_of f) × Appends old new text)

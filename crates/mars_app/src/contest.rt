@@ -1,0 +1,178 @@
+//! Matches and leagues: the listing of the warriors, the fight, and its results.
+ghost use Rattle.std.specs.Prelude.{◌≡◌, ◌≤◌, ◌++◌, All, IfErr, List, Ok, OnOk, length};
+ghost use Rattle.std.specs.Io.KnownBytes.{Appends};
+ghost use Rattle.mars_cell.specs.Cells.{FitsCore};
+ghost use Rattle.mars_cell.specs.Written.{load_text};
+ghost use Rattle.mars_match.specs.Answers.{IsAnswer};
+ghost use Rattle.mars_match.specs.Results.{results_text};
+ghost use Rattle.mars_match.specs.Tables.{RowValue};
+ghost use Rattle.mars_match.specs.declared.table.Table.{Table};
+ghost use Rattle.mars_app.specs.Contests.{ContestFails, StopsWriting, contest, fault_of, listed, listing, listing_from, listing_head};
+ghost use Rattle.mars_app.specs.Loading.{AllFit, FitsTwo};
+
+use crate::fault::RunFault;
+use crate::options::Options;
+use crate::replies::{Line, numbered, push_number};
+use mars_cell::{Params, Warrior, write_load};
+use mars_core::BattleFault;
+use mars_match::{MatchFault, PlaceFault, Plan, Table, league, rounds, write_results, write_text};
+use redcode_asm::Formula;
+use std::alloc::Global;
+use std::io::Write;
+
+/// Fights the match or the league, and writes the listing of the warriors, where it is wanted, and then the results.
+pub fn run_contest<W: Write>(
+    alloc: Global,
+    options: &Options,
+    formula: Formula,
+    params: &Params,
+    warriors: &[Warrior],
+    output: &mut W,
+) -> Result<(), RunFault>
+    requires fit { AllFit params.now.core_size warriors.now }
+    requires few { length warriors.now ≤ 16 }
+    requires position { FitsTwo params.now (length warriors.now) options.now.fixed }
+    ensures ok { OnOk result ((rows : List RowValue)
+        × (contest options.now params.now formula warriors.now ≡ Ok rows)
+        × Appends (W.contents output.old) (W.contents output.new) (listing params.now.core_size options.now.brief warriors.now ++ results_text rows options.now.sorted)) }
+    ensures err { IfErr result (λ fault. ContestFails fault (contest options.now params.now formula warriors.now) (W.contents output.old) (W.contents output.new) (listing params.now.core_size options.now.brief warriors.now)) }
+{
+    if !options.brief {
+        write_listing(alloc, warriors, params.core_size(), output)?;
+    }
+    let table = match hold_contest(alloc, options, formula, params, warriors) {
+        Ok(table) => table,
+        Err(fault) => return Err(match_fault(fault)),
+    };
+    match write_results(&table, options.sorted, output) {
+        Ok(()) => Ok(()),
+        Err(_) => Err(RunFault::Output),
+    }
+}
+
+/// Fights the match or the league.
+fn hold_contest(
+    alloc: Global,
+    options: &Options,
+    formula: Formula,
+    params: &Params,
+    warriors: &[Warrior],
+) -> Result<Table, MatchFault>
+    requires few { length warriors.now ≤ 16 }
+    requires position { FitsTwo params.now (length warriors.now) options.now.fixed }
+    ensures { IsAnswer (λ (table : Table). table.rows.items) (contest options.now params.now formula warriors.now) result }
+{
+    if options.league {
+        let plan = plan(options, None, formula);
+        return league(alloc, params, warriors, &plan);
+    }
+    let plan = plan(options, options.fixed, formula);
+    rounds(alloc, params, warriors, &plan)
+}
+
+/// How the match, or each match of the league, is held.
+fn plan(options: &Options, fixed: Option<u32>, formula: Formula) -> Plan
+    ensures rounds { result.rounds ≡ options.now.rounds }
+    ensures seed { result.seed ≡ options.now.seed }
+    ensures fixed { result.fixed ≡ fixed }
+    ensures formula { result.formula ≡ formula }
+{
+    Plan {
+        rounds: options.rounds,
+        seed: options.seed,
+        fixed,
+        formula,
+    }
+}
+
+/// The fault of a match: want of memory is the same wherever it came.
+pub fn match_fault(fault: MatchFault) -> RunFault
+    ensures { result ≡ fault_of fault }
+{
+    match fault {
+        MatchFault::OutOfMemory
+        | MatchFault::Place(PlaceFault::OutOfMemory)
+        | MatchFault::Battle(BattleFault::OutOfMemory) => RunFault::OutOfMemory,
+        MatchFault::Place(fault) => RunFault::Placement(fault),
+        MatchFault::Battle(fault) => RunFault::Battle(fault),
+        MatchFault::Score(fault) => RunFault::Score(fault),
+    }
+}
+
+/// Writes a line for each warrior, its load file, and an empty line.
+fn write_listing<W: Write>(
+    alloc: Global,
+    warriors: &[Warrior],
+    core_size: u32,
+    output: &mut W,
+) -> Result<(), RunFault>
+    requires { AllFit core_size warriors.now }
+    ensures ok { OnOk result (Appends (W.contents output.old) (W.contents output.new) (listing_from core_size 0 warriors.now)) }
+    ensures err { IfErr result StopsWriting }
+{
+    for number in 0..warriors.len() {
+        write_warrior(alloc, number as u64, &warriors[number], core_size, output)?;
+    }
+    Ok(())
+}
+
+/// Writes the line of a warrior, its load file, and an empty line.
+fn write_warrior<W: Write>(
+    alloc: Global,
+    number: u64,
+    warrior: &Warrior,
+    core_size: u32,
+    output: &mut W,
+) -> Result<(), RunFault>
+    requires { All (FitsCore core_size) warrior.now.cells }
+    ensures ok { OnOk result (Appends (W.contents output.old) (W.contents output.new) (listed core_size number warrior.now)) }
+    ensures err { IfErr result StopsWriting }
+{
+    let head = listing_head(number, warrior);
+    write_part(output, head.as_str().as_bytes())?;
+    write_load_file(alloc, warrior, core_size, output)?;
+    write_part(output, b"\n")
+}
+
+/// The line before a warrior's load file.
+#[tactic(auto, unfolding(crate::specs::Contests::listing_head))]
+fn listing_head(number: u64, warrior: &Warrior) -> Line
+    ensures { result.bytes ≡ listing_head number warrior.now }
+{
+    let mut line = numbered("warrior ", number, ": ");
+    line.push_str(warrior.name());
+    line.push_str(" by ");
+    line.push_str(warrior.author());
+    line.push_str(", ");
+    push_number(&mut line, warrior.cells().len() as u64);
+    line.push_str(" instructions\n");
+    line
+}
+
+/// Writes a warrior's load file.
+pub fn write_load_file<W: Write>(
+    alloc: Global,
+    warrior: &Warrior,
+    core_size: u32,
+    output: &mut W,
+) -> Result<(), RunFault>
+    requires { All (FitsCore core_size) warrior.now.cells }
+    ensures ok { OnOk result (Appends (W.contents output.old) (W.contents output.new) (load_text core_size warrior.now)) }
+    ensures err { IfErr result StopsWriting }
+{
+    let Ok(text) = write_load(alloc, warrior, core_size) else {
+        return Err(RunFault::OutOfMemory);
+    };
+    write_part(output, &text)
+}
+
+/// Writes a text.
+pub fn write_part<W: Write>(output: &mut W, text: &[u8]) -> Result<(), RunFault>
+    ensures ok { OnOk result (Appends (W.contents output.old) (W.contents output.new) text.now) }
+    ensures err { IfErr result StopsWriting }
+{
+    match write_text(output, text) {
+        Ok(()) => Ok(()),
+        Err(_) => Err(RunFault::Output),
+    }
+}

@@ -1,0 +1,113 @@
+//! Warriors from their files.
+ghost use Rattle.std.specs.Prelude.{◌≡◌, ◌≤◌, All, IfOk, Some, length, vec_len};
+ghost use Rattle.mars_cell.specs.Cells.{FitsCore};
+ghost use Rattle.mars_app.specs.Loading.{AllFit, is_load_file, warrior_of_file};
+
+use crate::fault::RunFault;
+use crate::files::{FileFault, WarriorFiles};
+use mars_cell::{LoadFault, Params, Warrior, read_load};
+use redcode_asm::{AsmFault, AsmProblem, assemble};
+use std::alloc::Global;
+
+/// The most bytes of a warrior's file.
+const LARGEST_FILE: usize = 1_048_576;
+
+/// The contest that warriors are assembled for.
+#[derive(Clone, Copy)]
+pub struct Contest<'p> {
+    pub params: &'p Params,
+    pub rounds: u32,
+    /// How many warriors meet.
+    pub warriors: u32,
+}
+
+/// The warriors of the files, in order; each file is read once those before it are.
+pub fn load_warriors<F: WarriorFiles>(
+    alloc: Global,
+    files: &F,
+    names: &[String],
+    contest: Contest<'_>,
+) -> Result<Vec<Warrior>, RunFault>
+    ensures fit { IfOk result (λ warriors. AllFit contest.entry.params.now.core_size warriors.items) }
+    ensures many { IfOk result (λ warriors. vec_len warriors ≡ length names.now) }
+{
+    let mut warriors = Vec::new(alloc);
+    for name in names {
+        let bytes = read_file(alloc, files, name.as_str())?;
+        let warrior = read_warrior(alloc, name.as_str(), &bytes, contest)?;
+        let Ok(()) = warriors.push(warrior) else {
+            return Err(RunFault::OutOfMemory);
+        };
+    }
+    Ok(warriors)
+}
+
+fn read_file<F: WarriorFiles>(alloc: Global, files: &F, name: &str) -> Result<Vec<u8>, RunFault>
+    ensures { IfOk result (λ bytes. vec_len bytes ≤ 1048576) }
+{
+    let fault = match files.read(alloc, name, LARGEST_FILE) {
+        Ok(bytes) => return Ok(bytes),
+        Err(fault) => fault,
+    };
+    let Ok(name) = String::from_str(alloc, name) else {
+        return Err(RunFault::OutOfMemory);
+    };
+    Err(match fault {
+        FileFault::OutOfMemory => RunFault::OutOfMemory,
+        FileFault::CannotRead => RunFault::CannotRead(name),
+        FileFault::TooLarge => RunFault::TooLarge(name),
+    })
+}
+
+fn is_load_file(name: &str) -> bool
+    ensures { result ≡ is_load_file name.now }
+{
+    name.as_bytes().ends_with(b".load")
+}
+
+/// The warrior of a file: where its name ends in `.load` a load file, else a source.
+fn read_warrior(
+    alloc: Global,
+    name: &str,
+    bytes: &[u8],
+    contest: Contest<'_>,
+) -> Result<Warrior, RunFault>
+    ensures value { let c = contest.entry in IfOk result (λ warrior. warrior_of_file c.params.now c.rounds c.warriors name.now bytes.now ≡ Some warrior) }
+    ensures fits { IfOk result (λ warrior. All (FitsCore contest.entry.params.now.core_size) warrior.cells) }
+{
+    let Contest {
+        params,
+        rounds,
+        warriors,
+    } = contest;
+    if is_load_file(name) {
+        return match read_load(alloc, bytes, params) {
+            Ok(warrior) => Ok(warrior),
+            Err(fault) => Err(load_fault(alloc, name, fault)),
+        };
+    }
+    match assemble(alloc, bytes, params, rounds, warriors) {
+        Ok(warrior) => Ok(warrior),
+        Err(fault) => Err(assembly_fault(alloc, name, fault)),
+    }
+}
+
+/// The fault of a load file: its line is 0 where the fault has none.
+fn load_fault(alloc: Global, name: &str, fault: LoadFault) -> RunFault {
+    let line = match fault {
+        LoadFault::Syntax(line) => line,
+        _ => 0,
+    };
+    match (fault, String::from_str(alloc, name)) {
+        (LoadFault::OutOfMemory, _) | (_, Err(_)) => RunFault::OutOfMemory,
+        (fault, Ok(name)) => RunFault::Load(name, line, fault),
+    }
+}
+
+/// The fault of a source.
+fn assembly_fault(alloc: Global, name: &str, fault: AsmFault) -> RunFault {
+    match (fault.problem, String::from_str(alloc, name)) {
+        (AsmProblem::OutOfMemory, _) | (_, Err(_)) => RunFault::OutOfMemory,
+        (_, Ok(name)) => RunFault::Assembly(name, fault.line, fault),
+    }
+}
