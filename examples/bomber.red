@@ -1,0 +1,15 @@
+;redcode
+;name Hail
+;author The Core War kit
+; A stone: bombs the core in great steps until it hits its own loop, and then clears what is left.
+
+step    EQU     2365
+first   EQU     (stone + step)
+
+stone   SPL     #0, <-100       ; one process more each time, all of which throw
+        MOV     bomb, @aim
+        ADD     #step, aim
+        DJN.F   stone + 1, <-200
+bomb    DAT     <2, <4
+aim     DAT     #0, first
+        END     stone
