@@ -5,6 +5,7 @@ pub mod Keeping
 pub mod Limits
 pub mod Places
 pub mod Scripts
+pub mod Stepping
 pub mod Turns
 pub mod Undoing
 pub mod Valid

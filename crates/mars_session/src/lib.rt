@@ -8,13 +8,16 @@
 //! The layer above may use: each call of [`Session`] is one step of the definition `outcome`
 //! (`specs/Script.antt`) over a history of whole states, whatever the tape; `apply_all` is a
 //! list of such steps; the laws of [`laws`] on that definition; and each tape keeps a history
-//! as [`Tape`] says. Want of memory is answered by commands alone, before any change, and only
-//! where more places are wanted than follow the present one.
+//! as [`Tape`] says. [`WholeTape`] keeps a battle for each place, [`DeltaTape`] one battle and
+//! the records between places, each of which leads from its place to the next. Want of memory
+//! is answered by commands alone, before any change, and only where more places are wanted than
+//! follow the present one.
 #![tactic(auto)]
 
 mod calls;
 mod commands;
 mod copies;
+mod deltas;
 pub mod laws;
 mod moves;
 mod sessions;
@@ -22,6 +25,7 @@ mod tapes;
 mod whole;
 
 pub use calls::{Call, Refusal, Reply, Standing};
+pub use deltas::DeltaTape;
 pub use sessions::Session;
 pub use tapes::Tape;
 pub use whole::WholeTape;

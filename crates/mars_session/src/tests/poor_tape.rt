@@ -5,34 +5,34 @@ ghost use Rattle.mars_core.specs.Turn.{turn_of};
 ghost use Rattle.mars_core.specs.Edit.{edit_fault, edited};
 ghost use Rattle.mars_session.specs.History.{following, position_of, last_of, marked, cut, append, back, forward};
 
-use crate::{Tape, WholeTape};
+use crate::Tape;
 use mars_core::{Battle, Edit};
 use std::alloc::{AllocError, Global};
 use std::marker::Model;
 
-/// A tape of whole copies, of which `room` may still be appended, and which may grow so many times.
+/// A tape, to which `room` places may still be appended, and which may grow so many times.
 #[derive(Drop)]
-pub struct PoorTape {
-    tape: WholeTape,
+pub struct PoorTape<T: Tape> {
+    tape: T,
     room: u64,
     growths: u64,
 }
 
-impl Model for PoorTape {
+impl<T: Tape> Model for PoorTape<T> {
     ghost use Rattle.std.specs.Prelude.{◌≤◌};
     ghost use Rattle.mars_session.specs.Whole.{Taped};
 
     ghost Value = { Taped };
 
-    ghost view = { λ t. record { history = t.tape.history; room = t.room } };
+    ghost view = { λ t. record { history = T.history t.tape; room = t.room } };
 
-    ghost invariant = { λ t. t.room ≤ t.tape.room };
+    ghost invariant = { λ t. t.room ≤ T.room t.tape };
 }
 
-impl PoorTape {
+impl<T: Tape> PoorTape<T> {
     /// The tape, with no room, and so many growths to come.
-    pub fn new(tape: WholeTape, growths: u64) -> PoorTape
-        ensures { result.history ≡ tape.history }
+    pub fn new(tape: T, growths: u64) -> PoorTape<T>
+        ensures { result.history ≡ T.history tape }
     {
         PoorTape {
             tape,
@@ -42,7 +42,7 @@ impl PoorTape {
     }
 }
 
-impl Tape for PoorTape {
+impl<T: Tape> Tape for PoorTape<T> {
     ghost history = { λ t. t.history };
 
     ghost room = { λ t. t.room };

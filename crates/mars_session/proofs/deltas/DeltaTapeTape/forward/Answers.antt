@@ -1,0 +1,26 @@
+use Rattle.std.proofs.Common.{◌<◌, ◌∙◌, ap, length, arith, true}
+use Rattle.mars_session.specs.Whole.{Taped}
+use Rattle.mars_session.specs.History.{forward}
+use Rattle.mars_session.proofs.Stepping.{journal_forward, forward_kept, leads_on, read_entry}
+use Rattle.mars_session.proofs.deltas.DeltaTapeTape.forward.Goals as goal
+
+pub apply-requires : goal.apply-requires
+apply-requires c =
+    let s = c.self.inside in
+    let inside : s.at < length s.entries.items = omega (arith, c.if-self-len.true, c.len.ensures, s.entries.ok.0) in
+    let read = read_entry s.entries.items s.at c.index.result.now inside c.index.ensures in
+    rw read (leads_on s.entries.items s.at s.battle inside c.self.invariant.on)
+
+pub invariant_of-self : goal.invariant_of-self
+invariant_of-self c =
+    let s = c.self.inside in
+    let inside : s.at < length s.entries.items = omega (arith, c.if-self-len.true, c.len.ensures, s.entries.ok.0) in
+    let read = read_entry s.entries.items s.at c.index.result.now inside c.index.ensures in
+    rw (c.apply.ensures, read) (forward_kept s.entries.items s.at s.battle inside c.self.invariant)
+
+pub returns-then-self-len : goal.returns-then-self-len
+returns-then-self-len c =
+    let s = c.self.inside in
+    let inside : s.at < length s.entries.items = omega (arith, c.if-self-len.true, c.len.ensures, s.entries.ok.0) in
+    let read = read_entry s.entries.items s.at c.index.result.now inside c.index.ensures in
+    rw (c.apply.ensures, read) (journal_forward true s.entries.items s.at s.battle inside c.self.invariant ∙ ap (λ (t : Taped). forward t.history) c.self.view_is)

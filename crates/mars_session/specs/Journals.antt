@@ -1,0 +1,80 @@
+-- A tape of one battle and the records between its places, as a history. The first place's mark stands beside the records.
+use Rattle.std.specs.Prelude.{ℕ, zero, suc, ◌+◌, ◌-◌, ◌≤◌, Bool, false, List, [], ◌∷◌, length, slice_index_or}
+use Rattle.mars_core.specs.State.{State}
+use Rattle.mars_core.specs.Leads.{Leads}
+use Rattle.mars_core.specs.Journal.{reverted, applied}
+use Rattle.mars_core.specs.declared.journal.Atom.{Atom}
+use Rattle.mars_core.specs.declared.journal.Work.TheVariants as work
+use Rattle.mars_session.specs.History.{Place, History}
+
+-- what a list of records and marks has past its end
+abbrev pub no_entry : Atom × Bool
+no_entry = (
+  record {
+    work = work.SetCell;
+    cells = record { items = [] };
+    queued = record { items = [] };
+    next_before = 0;
+    next_after = 0;
+    cycle_added = false;
+    died = false;
+  },
+  false,
+)
+
+abbrev pub entry_at : List (Atom × Bool) → ℕ → Atom × Bool
+entry_at es i = slice_index_or es i no_entry
+
+-- the mark of place n: each place after the first has its mark beside the record that leads to it
+abbrev pub mark_at : Bool → List (Atom × Bool) → ℕ → Bool
+mark_at first es zero = first
+mark_at first es (suc n) = (entry_at es n).1
+
+-- the places before the state s of place n, the nearest first
+abbrev pub journal_before : Bool → List (Atom × Bool) → ℕ → State → List Place
+journal_before first es zero s = []
+journal_before first es (suc n) s =
+    record { state = reverted (entry_at es n).0 s; mark = mark_at first es n } ∷ journal_before first es n (reverted (entry_at es n).0 s)
+
+-- n places after the state s of place from
+abbrev pub journal_after : List (Atom × Bool) → ℕ → ℕ → State → List Place
+journal_after es from zero s = []
+journal_after es from (suc n) s =
+    record { state = applied (entry_at es from).0 s; mark = (entry_at es from).1 } ∷ journal_after es (from + 1) n (applied (entry_at es from).0 s)
+
+-- the history of a battle of the state s at place at
+abbrev pub journal_history : Bool → List (Atom × Bool) → ℕ → State → History
+journal_history first es at s = record {
+  before = journal_before first es at s;
+  present = record { state = s; mark = mark_at first es at };
+  after = journal_after es at (length es - at) s;
+}
+
+-- the records lead to s, the state of place n
+abbrev pub LeadHere : List (Atom × Bool) → ℕ → State → Type 0
+LeadHere es zero s = Unit {0}
+LeadHere es (suc n) s =
+    Leads (reverted (entry_at es n).0 s) (entry_at es n).0 s × LeadHere es n (reverted (entry_at es n).0 s)
+
+-- n records lead on from s, the state of place from
+abbrev pub LeadOn : List (Atom × Bool) → ℕ → ℕ → State → Type 0
+LeadOn es from zero s = Unit {0}
+LeadOn es from (suc n) s =
+    Leads s (entry_at es from).0 (applied (entry_at es from).0 s) × LeadOn es (from + 1) n (applied (entry_at es from).0 s)
+
+-- each record leads from its place to the next
+pub record IsJournal (es : List (Atom × Bool)) (at : ℕ) (s : State) : Type 0 where
+  pub inside : at ≤ length es
+  pub here : LeadHere es at s
+  pub on : LeadOn es at (length es - at) s
+
+-- the record leads from the i-th place, where p is place 0 and the others follow, to the one after it
+abbrev pub LeadsFrom : Place → List Place → ℕ → Atom → Type 0
+LeadsFrom p [] i atom = ⊥
+LeadsFrom p (q ∷ ps) zero atom = Leads p.state atom q.state
+LeadsFrom p (q ∷ ps) (suc i) atom = LeadsFrom q ps i atom
+
+-- the record leads from place i of a list to place i + 1
+abbrev pub LeadsAt : List Place → ℕ → Atom → Type 0
+LeadsAt [] i atom = ⊥
+LeadsAt (p ∷ ps) i atom = LeadsFrom p ps i atom

@@ -1,0 +1,127 @@
+//! A tape of one battle and records.
+ghost use Rattle.std.specs.Prelude.{◌≡◌, ℕ, ◌+◌, ◌-◌, ◌<◌, ◌≤◌, [], None, false, true, OnOk, IsOk, MatchOption, MatchResult, length, vec_len, vec_capacity};
+ghost use Rattle.mars_core.specs.State.{is_over_of};
+ghost use Rattle.mars_core.specs.Turn.{turn_of};
+ghost use Rattle.mars_core.specs.Edit.{edit_fault, edited};
+ghost use Rattle.mars_session.specs.History.{beginning, places, position_of, last_of, following, marked, cut, append, back, forward};
+ghost use Rattle.mars_session.specs.Journals.{LeadsAt};
+
+use crate::tapes::Tape;
+use mars_core::{Atom, Battle, Edit};
+use std::alloc::{AllocError, Global};
+use std::marker::Model;
+
+/// A tape that keeps the battle of the present place alone, and for each place after the first the record that leads to it,
+/// with its mark. The first place is always marked.
+#[derive(Drop)]
+pub struct DeltaTape {
+    battle: Battle,
+    entries: Vec<(Atom, bool)>,
+    at: usize,
+}
+
+impl Model for DeltaTape {
+    ghost use Rattle.std.specs.Prelude.{◌-◌, true, vec_capacity};
+    ghost use Rattle.mars_session.specs.Whole.{Taped};
+    ghost use Rattle.mars_session.specs.Journals.{IsJournal, journal_history};
+
+    ghost Value = { Taped };
+
+    ghost view = { λ t. record { history = journal_history true t.entries.items t.at t.battle; room = vec_capacity t.entries - t.at } };
+
+    ghost invariant = { λ t. IsJournal t.entries.items t.at t.battle };
+}
+
+impl DeltaTape {
+    /// A tape at the one, marked place of a battle. It takes no memory yet, and so is never refused.
+    pub fn new(alloc: Global, battle: Battle) -> Result<Self, Battle>
+        ensures { MatchResult result (λ t. t.history ≡ beginning battle) (λ b. b ≡ battle) }
+    {
+        Ok(DeltaTape {
+            battle,
+            entries: Vec::new(alloc),
+            at: 0,
+        })
+    }
+
+    /// The record that leads from place i to place i + 1, where there is such a place.
+    pub fn atom(&self, i: u64) -> Option<&Atom>
+        ensures { MatchOption result (last_of self.now.history ≤ i) (λ atom. (i < last_of self.now.history) × LeadsAt (places self.now.history) i atom.now) }
+    {
+        match self.entries.get(i as usize) {
+            Some(entry) => Some(&entry.0),
+            None => None,
+        }
+    }
+}
+
+impl Tape for DeltaTape {
+    ghost history = { λ t. t.history };
+
+    ghost room = { λ t. t.room };
+
+    fn now(&self) -> &Battle {
+        &self.battle
+    }
+
+    fn position(&self) -> u64 {
+        self.at as u64
+    }
+
+    fn len(&self) -> u64 {
+        self.entries.len() as u64 + 1
+    }
+
+    fn is_marked(&self) -> bool {
+        if self.at == 0 {
+            return true;
+        }
+        self.entries[self.at - 1].1
+    }
+
+    fn set_mark(&mut self) {
+        if self.at > 0 {
+            let entry = &mut self.entries[self.at - 1];
+            entry.1 = true;
+        }
+    }
+
+    fn reserve(&mut self, n: u64) -> Result<(), AllocError> {
+        let after = self.entries.len() - self.at;
+        self.entries.reserve((n as usize).saturating_sub(after))
+    }
+
+    fn cut(&mut self) {
+        self.entries.truncate(self.at);
+    }
+
+    fn turn(&mut self) {
+        let Ok(atom) = self.battle.turn() else {
+            unreachable!()
+        };
+        self.entries.push_reserved((atom, false));
+        self.at += 1;
+    }
+
+    fn edit(&mut self, edit: Edit) {
+        let Ok(atom) = self.battle.edit(edit) else {
+            unreachable!()
+        };
+        self.entries.push_reserved((atom, false));
+        self.at += 1;
+    }
+
+    fn back(&mut self) {
+        if self.at > 0 {
+            self.battle.revert(&self.entries[self.at - 1].0);
+            self.at -= 1;
+        }
+    }
+
+    fn forward(&mut self) {
+        if self.at < self.entries.len() {
+            self.battle.apply(&self.entries[self.at].0);
+            self.at += 1;
+        }
+    }
+}
