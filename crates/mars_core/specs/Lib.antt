@@ -4,6 +4,7 @@ pub mod LoggedCore
 pub mod Operand
 pub mod Effect
 pub mod Steps
+pub mod Reached
 pub mod Turn
 pub mod Edit
 pub mod Validity
