@@ -15,7 +15,7 @@ use crate::options::{Options, WordsFault, read_options};
 use mars_cell::{ParamFault, Params, Warrior};
 use mars_core::Battle;
 use mars_match::{MatchFault, place};
-use mars_session::{Session, WholeTape};
+use mars_session::{DeltaTape, Session};
 use redcode_asm::{Formula, FormulaFault};
 use std::alloc::Global;
 use std::io::{Read, Write};
@@ -177,7 +177,7 @@ fn debug_battle<R: Read, W: Write>(
     input: &mut R,
     output: &mut W,
 ) -> Result<(), RunFault> {
-    let Ok(tape) = WholeTape::new(alloc, battle) else {
+    let Ok(tape) = DeltaTape::new(alloc, battle) else {
         return Err(RunFault::OutOfMemory);
     };
     let mut session = Session::new(tape, history);

@@ -4,7 +4,7 @@ ghost use Rattle.std.specs.Prelude.{Some, ◌<◌};
 use crate::debugger::{DebugFault, debug, debug_within};
 use mars_cell::{Params, read_load};
 use mars_core::Battle;
-use mars_session::{Session, WholeTape};
+use mars_session::{DeltaTape, Session, Tape, WholeTape};
 use std::alloc::Global;
 use std::io;
 use std::io::{ErrorKind, Read, Write};
@@ -73,14 +73,31 @@ const DEAD: &[u8] = b"ORG 0\nDAT.F $0, $0\n";
 /// The history of most tests.
 const AMPLE: u64 = 200_000;
 
+/// A tape that starts at a battle.
+trait Start: Tape {
+    fn start(alloc: Global, battle: Battle) -> Result<Self, Fail>;
+}
+
+impl Start for WholeTape {
+    fn start(alloc: Global, battle: Battle) -> Result<Self, Fail> {
+        Ok(WholeTape::new(alloc, battle)?)
+    }
+}
+
+impl Start for DeltaTape {
+    fn start(alloc: Global, battle: Battle) -> Result<Self, Fail> {
+        Ok(DeltaTape::new(alloc, battle)?)
+    }
+}
+
 /// A session over the battle of these load files in a core of 8 cells.
-fn session_of(
+fn session_of<T: Start>(
     rt: &impl Abort,
     alloc: Global,
     sources: &[&[u8]],
     starts: &[u32],
     limit: u64,
-) -> Result<Session<WholeTape>, Fail> {
+) -> Result<Session<T>, Fail> {
     let params = Params::new(8, 8000, 80000, 8, 8, 1, 1)?;
     let mut warriors = Vec::new(alloc);
     for source in sources {
@@ -88,10 +105,15 @@ fn session_of(
     }
     assert_eq!(rt; warriors.len(), starts.len());
     let battle = Battle::new(alloc, &params, warriors.as_slice(), starts)?;
-    Ok(Session::new(WholeTape::new(alloc, battle)?, limit))
+    Ok(Session::new(T::start(alloc, battle)?, limit))
 }
 
-/// The input of this session gives this text, in whatever pieces it is read and written.
+/// The session that the program has, of one imp.
+fn imp_session(rt: &impl Abort, alloc: Global) -> Result<Session<DeltaTape>, Fail> {
+    session_of(rt, alloc, &[IMP], &[0], AMPLE)
+}
+
+/// The input of this session gives this text, in whatever pieces it is read and written, over either tape.
 fn gives(
     rt: &impl Abort,
     alloc: Global,
@@ -102,20 +124,35 @@ fn gives(
     expected: &str,
 ) -> Result<(), Fail> {
     for size in [1usize, 2, 3, 256, 5000] {
-        let mut reader = Pieces {
-            rest: input,
-            size: size.max(1),
-            fails: false,
-        };
-        let mut writer = Narrow {
-            bytes: Vec::new(alloc),
-            size,
-            room: 100_000,
-        };
-        let mut session = session_of(rt, alloc, sources, starts, limit)?;
-        assert_eq!(rt; debug(&mut reader, &mut writer, &mut session), Ok(()));
-        assert!(rt; writer.bytes.as_slice() == expected.as_bytes(), "{size}");
+        let mut session: Session<WholeTape> = session_of(rt, alloc, sources, starts, limit)?;
+        answers(rt, alloc, &mut session, size, input, expected)?;
+        let mut session: Session<DeltaTape> = session_of(rt, alloc, sources, starts, limit)?;
+        answers(rt, alloc, &mut session, size, input, expected)?;
     }
+    Ok(())
+}
+
+/// The session gives this text for the input, in pieces of so many bytes.
+fn answers<T: Tape>(
+    rt: &impl Abort,
+    alloc: Global,
+    session: &mut Session<T>,
+    size: usize,
+    input: &[u8],
+    expected: &str,
+) -> Result<(), Fail> {
+    let mut reader = Pieces {
+        rest: input,
+        size: size.max(1),
+        fails: false,
+    };
+    let mut writer = Narrow {
+        bytes: Vec::new(alloc),
+        size,
+        room: 100_000,
+    };
+    assert_eq!(rt; debug(&mut reader, &mut writer, session), Ok(()));
+    assert!(rt; writer.bytes.as_slice() == expected.as_bytes(), "{size}");
     Ok(())
 }
 
@@ -346,7 +383,7 @@ fn lines_that_ask_for_nothing_known(rt: HostRuntime) -> Result<(), Fail> {
         expected.extend_from_slice(b"unknown\n")?;
     }
     let mut output = Vec::new(rt.alloc());
-    let mut session = session_of(&rt, rt.alloc(), &[IMP], &[0], AMPLE)?;
+    let mut session = imp_session(&rt, rt.alloc())?;
     let mut rest = input.as_slice();
     assert_eq!(rt; debug(&mut rest, &mut output, &mut session), Ok(()));
     assert!(rt; output.as_slice() == expected.as_slice());
@@ -381,7 +418,7 @@ fn a_read_that_fails(rt: HostRuntime) -> Result<(), Fail> {
             fails: true,
         };
         let mut output = Vec::new(alloc);
-        let mut session = session_of(&rt, alloc, &[IMP], &[0], AMPLE)?;
+        let mut session = imp_session(&rt, alloc)?;
         assert_eq!(rt;
             debug(&mut reader, &mut output, &mut session),
             Err(DebugFault::Read)
@@ -402,7 +439,7 @@ fn a_write_that_fails(rt: HostRuntime) -> Result<(), Fail> {
             size,
             room: 40,
         };
-        let mut session = session_of(&rt, alloc, &[IMP], &[0], AMPLE)?;
+        let mut session = imp_session(&rt, alloc)?;
         assert_eq!(rt;
             debug(&mut input, &mut writer, &mut session),
             Err(DebugFault::Write)
@@ -423,7 +460,7 @@ fn as_many_reads_as_are_allowed(rt: HostRuntime) -> Result<(), Fail> {
         fails: false,
     };
     let mut output = Vec::new(alloc);
-    let mut session = session_of(&rt, alloc, &[IMP], &[0], AMPLE)?;
+    let mut session = imp_session(&rt, alloc)?;
     assert_eq!(rt;
         debug_within(&mut reader, &mut output, &mut session, 3),
         Err(DebugFault::Read)
@@ -437,7 +474,7 @@ fn as_many_reads_as_are_allowed(rt: HostRuntime) -> Result<(), Fail> {
 #[test]
 fn an_unfinished_long_line(rt: HostRuntime) -> Result<(), Fail> {
     let alloc = rt.alloc();
-    let mut session = session_of(&rt, alloc, &[IMP], &[0], AMPLE)?;
+    let mut session = imp_session(&rt, alloc)?;
     for fails in [false, true] {
         let mut reader = Pieces {
             rest: &LONG,
@@ -479,7 +516,7 @@ fn answers_what_came(
             fails: true,
         };
         let mut output = Vec::new(alloc);
-        let mut session = session_of(rt, alloc, sources, starts, AMPLE)?;
+        let mut session: Session<DeltaTape> = session_of(rt, alloc, sources, starts, AMPLE)?;
         assert_eq!(rt;
             debug(&mut reader, &mut output, &mut session),
             Err(DebugFault::Read)
@@ -549,7 +586,7 @@ fn a_writer_that_is_full_anywhere(rt: HostRuntime) -> Result<(), Fail> {
             size: 7,
             room,
         };
-        let mut session = session_of(&rt, alloc, &[IMP], &[0], AMPLE)?;
+        let mut session = imp_session(&rt, alloc)?;
         assert_eq!(rt;
             debug(&mut reader, &mut writer, &mut session),
             Err(DebugFault::Write)
