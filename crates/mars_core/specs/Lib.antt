@@ -10,7 +10,7 @@ pub mod Edit
 pub mod Validity
 pub mod Leads
 pub mod Journal
-pub mod Rows
+pub mod Examples
 pub mod Laws
 pub mod Start
 pub mod Shape

@@ -1,12 +1,14 @@
 //! Runs over files in memory.
 
-use crate::files::MemoryFiles;
+use crate::fault::RunFault;
+use crate::files::{FileFault, MemoryFiles, SystemFiles, WarriorFiles};
 use crate::run::run;
+use mars_core::BattleFault;
 use std::alloc::Global;
-use std::io;
 use std::io::{ErrorKind, Read, Write};
 use std::process::Abort;
 use std::test::Fail;
+use std::{fs, io};
 
 const IMP: &[u8] = b"ORG 0\nMOV.I $0, $1\n";
 
@@ -59,20 +61,50 @@ fn add_sources(alloc: Global, files: &mut MemoryFiles) -> Result<(), Fail> {
     files.add(alloc, "sum.red", b"JMP 1+")?;
     files.add(alloc, "none.red", b"; nothing")?;
     files.add(alloc, "two.red", b"NOP\nNOP")?;
-    let large = vec![in alloc; b' '; 1_048_577]?;
-    files.add(alloc, "large.red", &large)?;
+    files.add(alloc, "given.red", GIVEN)?;
+    files.add(alloc, "least.red", LEAST)?;
+    files.add(alloc, "greatest.red", GREATEST)?;
+    // The read limit of 4 reaches back where the write limit of 8 reaches on.
+    let limited = b"MOV.A {3, $1\nDAT 0, 0\nDAT 0, 0\nDAT.F $2, $0\n";
+    files.add(alloc, "limited.load", limited)?;
     Ok(())
 }
 
+/// Asks for the parameters that hold where no word gives another.
+const GIVEN: &[u8] = b";assert CORESIZE==8000 && MAXPROCESSES==8000 && MAXCYCLES==80000
+;assert MAXLENGTH==100 && MINDISTANCE==100 && ROUNDS==1 && WARRIORS==1
+NOP
+";
+
+/// Asks for the least parameters.
+const LEAST: &[u8] = b";assert CORESIZE==1 && MAXPROCESSES==1 && MAXCYCLES==1
+;assert MAXLENGTH==1 && MINDISTANCE==1 && ROUNDS==1
+NOP
+";
+
+/// Asks for the greatest parameters.
+const GREATEST: &[u8] = b";assert CORESIZE==1048576 && MAXPROCESSES==65536 && MAXCYCLES==10000000
+;assert MAXLENGTH==1048576 && MINDISTANCE==1048576 && ROUNDS==100000
+NOP
+";
+
 fn answer(alloc: Global, words: &[&str], input: &[u8]) -> Result<Outcome, Fail> {
+    answer_over(alloc, &files(alloc)?, words, input)
+}
+
+fn answer_over(
+    alloc: Global,
+    files: &MemoryFiles,
+    words: &[&str],
+    input: &[u8],
+) -> Result<Outcome, Fail> {
     let words = words_of(alloc, words)?;
-    let files = files(alloc)?;
     let (mut output, mut faults) = (Vec::new(alloc), Vec::new(alloc));
     let mut rest = input;
     let status = run(
         alloc,
         words.as_slice(),
-        &files,
+        files,
         &mut rest,
         &mut output,
         &mut faults,
@@ -139,6 +171,224 @@ fn bad_words(rt: HostRuntime) -> Result<(), Fail> {
     ];
     for row in rows {
         check_fault(&rt, rt.alloc(), row, 2, b"mars: bad words\n")?;
+    }
+    Ok(())
+}
+
+#[test]
+fn numbers_out_of_their_ranges(rt: HostRuntime) -> Result<(), Fail> {
+    let rows = [
+        ("-r", "0", "100001"),
+        ("-s", "0", "1048577"),
+        ("-c", "0", "10000001"),
+        ("-p", "0", "65537"),
+        ("-l", "0", "1048577"),
+        ("-d", "0", "1048577"),
+        ("--seed", "0", "2147483647"),
+        ("--read-limit", "0", "1048577"),
+        ("--write-limit", "0", "1048577"),
+        ("--history", "0", "1000001"),
+    ];
+    for (word, below, above) in rows {
+        for number in [below, above] {
+            let words = ["-e", word, number, "imp.load"];
+            check_fault(&rt, rt.alloc(), &words, 2, b"mars: bad words\n")?;
+        }
+    }
+    Ok(())
+}
+
+/// The words are taken: the one warrior asserts what they give, and its load file is written.
+fn check_taken(rt: &impl Abort, alloc: Global, words: &[&str]) -> Result<(), Fail> {
+    check_output(rt, alloc, words, b"", b"ORG 0\nNOP.F $0, $0\n")
+}
+
+#[test]
+fn parameters_that_hold_where_no_word_gives_another(rt: HostRuntime) -> Result<(), Fail> {
+    check_taken(&rt, rt.alloc(), &["--load", "given.red"])?;
+    // Reading and writing reach round the whole core: half of it on is not folded, one more is.
+    let words = ["-e", "imp.load"];
+    let input = b"edit 0 MOV.I $4000, $4000\nedit 4000 NOP.F $1, $1\nstep\nlist 4000 1\n";
+    let output = b"turn 0 cycle 0 next 0 alive 1 at 1/1
+turn 0 cycle 0 next 0 alive 1 at 2/2
+turn 1 cycle 1 next 0 alive 1 at 3/3
+4000 NOP.F $1, $1
+";
+    check_output(&rt, rt.alloc(), &words, input, output)?;
+    let full = b"refused 13 JournalFull 200000\n";
+    check_output(&rt, rt.alloc(), &words, b"run 200001\n", full)
+}
+
+#[test]
+fn least_and_greatest_numbers(rt: HostRuntime) -> Result<(), Fail> {
+    let least = [
+        "--load",
+        "-r",
+        "1",
+        "-s",
+        "1",
+        "-c",
+        "1",
+        "-p",
+        "1",
+        "-l",
+        "1",
+        "-d",
+        "1",
+        "--seed",
+        "1",
+        "--read-limit",
+        "1",
+        "--write-limit",
+        "1",
+        "--history",
+        "1",
+        "least.red",
+    ];
+    check_taken(&rt, rt.alloc(), &least)?;
+    let greatest = [
+        "--load",
+        "-r",
+        "100000",
+        "-s",
+        "1048576",
+        "-c",
+        "10000000",
+        "-p",
+        "65536",
+        "-l",
+        "1048576",
+        "-d",
+        "1048576",
+        "--seed",
+        "2147483646",
+        "--read-limit",
+        "1048576",
+        "--write-limit",
+        "1048576",
+        "--history",
+        "1000000",
+        "greatest.red",
+    ];
+    check_taken(&rt, rt.alloc(), &greatest)?;
+    let history = [
+        "-e",
+        "--history",
+        "1000000",
+        "-s",
+        "8",
+        "-l",
+        "1",
+        "-d",
+        "1",
+        "dead.load",
+    ];
+    let dead = b"turn 1 cycle 0 next 0 alive 0 at 1/1\n";
+    check_output(&rt, rt.alloc(), &history, b"run 1000000\n", dead)?;
+    let shorter = [
+        "-e",
+        "--history",
+        "999999",
+        "-s",
+        "8",
+        "-l",
+        "1",
+        "-d",
+        "1",
+        "dead.load",
+    ];
+    let full = b"refused 13 JournalFull 999999\n";
+    check_output(&rt, rt.alloc(), &shorter, b"run 1000000\n", full)?;
+    for position in ["100", "7900"] {
+        let words = ["-b", "-c", "1", "-F", position, "imp.load", "stay.load"];
+        assert_eq!(rt; answer(rt.alloc(), &words, b"")?.status, 0);
+    }
+    Ok(())
+}
+
+#[test]
+fn reading_and_writing_have_limits_of_their_own(rt: HostRuntime) -> Result<(), Fail> {
+    let words = [
+        "-e",
+        "-s",
+        "8",
+        "-l",
+        "4",
+        "-d",
+        "4",
+        "--read-limit",
+        "4",
+        "--write-limit",
+        "8",
+        "limited.load",
+    ];
+    let output = b"turn 1 cycle 1 next 0 alive 1 at 1/1
+1 DAT.F $0, $0
+3 DAT.F $1, $0
+7 DAT.F $0, $0
+";
+    let input = b"step\nlist 1 1\nlist 3 1\nlist 7 1\n";
+    check_output(&rt, rt.alloc(), &words, input, output)
+}
+
+#[test]
+fn processes_and_cycles_have_limits_of_their_own(rt: HostRuntime) -> Result<(), Fail> {
+    let words = ["-e", "-p", "2", "-c", "3", "stay.load"];
+    let input = b"spawn 0 1\nspawn 0 2\nundo\nrun 9\nshow\n";
+    let output = b"turn 0 cycle 0 next 0 alive 1 at 1/1
+refused 7 QueueFull
+turn 0 cycle 0 next 0 alive 1 at 0/1
+turn 3 cycle 3 next 0 alive 1 at 3/3
+turn 3 cycle 3 next 0 alive 1 at 3/3
+warrior 0 processes 1
+battle over
+";
+    check_output(&rt, rt.alloc(), &words, input, output)
+}
+
+#[test]
+fn files_of_as_many_bytes_as_are_allowed(rt: HostRuntime) -> Result<(), Fail> {
+    let alloc = rt.alloc();
+    let mut files = MemoryFiles::new(alloc);
+    let mut blanks = vec![in alloc; b' '; 1_048_576]?;
+    files.add(alloc, "blank.red", &blanks)?;
+    blanks.push(b' ')?;
+    files.add(alloc, "large.red", &blanks)?;
+    let taken = answer_over(alloc, &files, &["blank.red"], b"")?;
+    assert!(rt; taken.faults.as_slice() == b"mars: blank.red: line 0: 7 Empty\n".as_slice());
+    let refused = answer_over(alloc, &files, &["large.red"], b"")?;
+    assert_eq!(rt; refused.status, 1);
+    assert!(rt; refused.faults.as_slice() == b"mars: large.red: too large\n".as_slice());
+    Ok(())
+}
+
+/// The bytes of a file of the system, which is made for the test and removed after it.
+fn read_system_file(
+    rt: &HostRuntime,
+    name: &str,
+    size: usize,
+    limit: usize,
+) -> Result<Result<Vec<u8>, FileFault>, Fail> {
+    let bytes = vec![in rt.alloc(); b'x'; size]?;
+    fs::write(rt, name, bytes.as_slice())?;
+    let read = SystemFiles(rt).read(rt.alloc(), name, limit);
+    fs::remove_file(rt, name)?;
+    Ok(read)
+}
+
+#[test]
+fn files_of_the_system(rt: HostRuntime) -> Result<(), Fail> {
+    let name = "a file of the test.red";
+    for size in [0, 1, 4096, 4097, 70_000] {
+        let bytes = read_system_file(&rt, name, size, size)?;
+        assert_eq!(rt; bytes.map(|bytes| bytes.len()), Ok(size));
+    }
+    let larger = read_system_file(&rt, name, 4098, 4097)?;
+    assert_eq!(rt; larger.err(), Some(FileFault::TooLarge));
+    let files = SystemFiles(&rt);
+    for name in ["no such file.red", "."] {
+        let fault = files.read(rt.alloc(), name, 4097).err();
+        assert_eq!(rt; fault, Some(FileFault::CannotRead));
     }
     Ok(())
 }
@@ -297,6 +547,11 @@ turn 0 cycle 0 next 0 alive 1 at 0/2
 fn faults(rt: HostRuntime) -> Result<(), Fail> {
     let rows: [(&[&str], u8, &[u8]); 14] = [
         (
+            &["-e", "-s", "50", "--score", "1+", "imp.load"],
+            2,
+            b"mars: parameters 5 Length\n",
+        ),
+        (
             &["-e", "-s", "50", "imp.load"],
             2,
             b"mars: parameters 5 Length\n",
@@ -345,7 +600,6 @@ fn faults(rt: HostRuntime) -> Result<(), Fail> {
             b"mars: placement 1 NoRoom\n",
         ),
         (&["-e", "no.load"], 1, b"mars: no.load: cannot read\n"),
-        (&["-e", "large.red"], 1, b"mars: large.red: too large\n"),
         (
             &["-e", "half.load"],
             1,
@@ -525,5 +779,76 @@ fn broken_streams(rt: HostRuntime) -> Result<(), Fail> {
     let mut input = b"".as_slice();
     let status = run(alloc, &bad, &files, &mut input, &mut output, &mut Broken);
     assert_eq!(rt; status, 2);
+    Ok(())
+}
+
+/// A writer that takes so many bytes and then fails.
+#[derive(Drop)]
+struct Full {
+    bytes: Vec<u8>,
+    room: usize,
+}
+
+impl Write for Full {
+    fn write(&mut self, buf: &[u8]) -> io::Result<usize> {
+        let count = buf.len().min(self.room);
+        if count == 0 && !buf.is_empty() {
+            return Err(io::Error::from(ErrorKind::TimedOut));
+        }
+        self.bytes.extend_from_slice(&buf[..count])?;
+        self.room -= count;
+        Ok(count)
+    }
+
+    fn flush(&mut self) -> io::Result<()> {
+        Ok(())
+    }
+}
+
+#[test]
+fn output_that_breaks_off(rt: HostRuntime) -> Result<(), Fail> {
+    let alloc = rt.alloc();
+    let files = files(alloc)?;
+    let rows: [&[&str]; 6] = [
+        &["--help"],
+        &["--load", "two.load"],
+        &["-c", "10", "imp.load", "stay.load"],
+        &["-b", "-c", "10", "imp.load", "stay.load"],
+        &["-b", "-c", "10", "--league", "imp.load", "stay.load"],
+        &["-e", "imp.load"],
+    ];
+    for row in rows {
+        let whole = answer_over(alloc, &files, row, b"step\n")?;
+        assert_eq!(rt; whole.status, 0);
+        let words = words_of(alloc, row)?;
+        for room in [0, 1, 20, whole.output.len().saturating_sub(1)] {
+            let mut input = b"step\n".as_slice();
+            let mut faults = Vec::new(alloc);
+            let mut output = Full {
+                bytes: Vec::new(alloc),
+                room,
+            };
+            let status = run(alloc, &words, &files, &mut input, &mut output, &mut faults);
+            assert_eq!(rt; status, 1, "{row:?}");
+            assert!(rt;
+                faults.as_slice() == b"mars: cannot write\n".as_slice(),
+                "{row:?}"
+            );
+            assert_eq!(rt; output.bytes.len(), room);
+            assert!(rt;
+                whole.output.as_slice().starts_with(&output.bytes),
+                "{row:?}"
+            );
+        }
+    }
+    Ok(())
+}
+
+#[test]
+fn lines_of_faults_that_no_words_bring_about(rt: HostRuntime) -> Result<(), Fail> {
+    let memory = format!(in rt.alloc(); "{}", RunFault::OutOfMemory)?;
+    assert_eq!(rt; memory.as_str(), "mars: out of memory");
+    let battle = format!(in rt.alloc(); "{}", RunFault::Battle(BattleFault::Overlap))?;
+    assert_eq!(rt; battle.as_str(), "mars: battle 3 Overlap");
     Ok(())
 }

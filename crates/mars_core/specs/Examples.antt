@@ -1,0 +1,84 @@
+-- Worked examples, as theorems: the check computes what the definitions give. Here are the words that they are told in.
+pub mod Edits
+pub mod Starts
+pub mod Turns
+use Rattle.std.specs.Prelude.{⊤, ◌≡◌, ℕ, List, [], ◌∷◌, ◌++◌, take}
+use Rattle.std.proofs.Common.{replicate}
+use Rattle.mars_cell.specs.declared.instruction.Cell.{Cell}
+use Rattle.mars_cell.specs.declared.instruction.Op.{Op}
+use Rattle.mars_cell.specs.declared.instruction.Op.TheVariants.{Dat}
+use Rattle.mars_cell.specs.declared.instruction.Modifier.{Modifier}
+use Rattle.mars_cell.specs.declared.instruction.Modifier.TheVariants.{F}
+use Rattle.mars_cell.specs.declared.instruction.Mode.{Mode}
+use Rattle.mars_cell.specs.declared.instruction.Mode.TheVariants.{Direct}
+use Rattle.mars_cell.specs.Cells.{empty_cell}
+use Rattle.mars_cell.specs.Parameters.{Parameters}
+use Rattle.mars_core.specs.State.{State, is_over_of, ends, advanced}
+use Rattle.mars_core.specs.LoggedCore.{address_after, fold, raised, lowered, written, with_field_changed}
+use Rattle.mars_core.specs.Operand.{evaluated, direct_operand, indirect_operand, predecremented, postincremented}
+use Rattle.mars_core.specs.Effect.{effect_of, division, are_equal}
+use Rattle.mars_core.specs.Turn.{turn_of, turn_record, executed, accepted, execution_of}
+use Rattle.mars_core.specs.Edit.{edited, edit_fault, edit_record, killed}
+use Rattle.mars_core.specs.Journal.{reverted, applied}
+use Rattle.mars_core.specs.Start.{overlap, start_state}
+use Rattle.mars_core.specs.declared.journal.CellChange.{CellChange}
+use Rattle.mars_core.specs.declared.journal.Edit.{Edit}
+
+-- what an example unfolds to compute the machine
+unfoldable pub the_machine : ⊤
+unfolding turn_of turn_record executed accepted execution_of evaluated predecremented postincremented indirect_operand direct_operand with_field_changed effect_of division are_equal address_after fold raised lowered written ends advanced edited edit_fault edit_record killed reverted applied overlap start_state
+the_machine = tt
+
+-- a cell, written in the order of its text
+abbrev pub cell_of : Op → Modifier → Mode → ℕ → Mode → ℕ → Cell
+cell_of op modifier a_mode a b_mode b = record { op = op; modifier = modifier; a_mode = a_mode; a = a; b_mode = b_mode; b = b }
+
+-- a cell that does nothing but hold two numbers
+abbrev pub numbers : ℕ → ℕ → Cell
+numbers a b = cell_of Dat F Direct a Direct b
+
+-- parameters of a core size, a process limit, a read and a write limit
+abbrev pub sizes : ℕ → ℕ → ℕ → ℕ → Parameters
+sizes m p r w = record { core_size = m; processes = p; cycles = 10; read_limit = r; write_limit = w; max_length = 3; distance = 3 }
+
+-- a core of eight cells without further limits
+abbrev pub of_eight : Parameters
+of_eight = sizes 8 8 8 8
+
+-- a core of eight cells, of which the first are these
+abbrev pub eight : List Cell → List Cell
+eight cells = take 8 (cells ++ replicate 8 empty_cell)
+
+-- a battle at its start, with these processes of each warrior
+abbrev pub battle_of : Parameters → List Cell → List (List ℕ) → State
+battle_of p core queues = record { params = p; core = core; queues = queues; next = 0; cycle = 0; turns = 0; deaths = [] }
+
+-- a lone warrior at its start
+abbrev pub lone : Parameters → List Cell → List ℕ → State
+lone p core queue = battle_of p core (queue ∷ [])
+
+-- a lone warrior after a turn that it has survived
+abbrev pub lone_after : Parameters → List Cell → List ℕ → State
+lone_after p core queue = record (lone p core queue) { cycle = 1; turns = 1 }
+
+-- a lone warrior after a turn in which it died
+abbrev pub lone_dead : Parameters → List Cell → State
+lone_dead p core = record (lone p core []) { turns = 1; deaths = record { warrior = 0; turns = 1 } ∷ [] }
+
+-- one write of a cell
+abbrev pub change : ℕ → Cell → Cell → CellChange
+change address before after = record { address = address; before = before; after = after }
+
+-- the turn of s leads to t by these writes, and these addresses are queued; its record leads back and forth again
+pub record IsTurn (s t : State) (writes : List CellChange) (addresses : List ℕ) : Type 0 where
+  pub state : turn_of s ≡ t
+  pub changes : (turn_record s).cells.items ≡ writes
+  pub queued : (turn_record s).queued.items ≡ addresses
+  pub back : reverted (turn_record s) t ≡ s
+  pub forth : applied (turn_record s) s ≡ t
+
+-- the edit of s leads to t; its record leads back and forth again
+pub record IsEdit (s : State) (e : Edit) (t : State) : Type 0 where
+  pub state : edited s e ≡ t
+  pub back : reverted (edit_record s e) t ≡ s
+  pub forth : applied (edit_record s e) s ≡ t
