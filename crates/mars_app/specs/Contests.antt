@@ -40,7 +40,7 @@ contest_size o = if o.league then 2 else vec_len o.files
 -- the rows of the match, or of the league, that the options ask for
 abbrev pub contest : Options → Parameters → Scanned → List WarriorValue → Result (List RowValue) MatchFault
 contest o p formula warriors =
-    if o.league then league_of p warriors formula o.rounds o.seed
+    if o.league then league_of p warriors formula o.fixed o.rounds o.seed
     else table_of p warriors formula o.fixed o.rounds o.seed
 
 -- the fault of a match, as the program tells it: want of memory is the same wherever it came

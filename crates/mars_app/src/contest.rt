@@ -62,26 +62,16 @@ fn hold_contest(
     requires position { FitsTwo params.now (length warriors.now) options.now.fixed }
     ensures { IsAnswer (λ (table : Table). table.rows.items) (contest options.now params.now formula warriors.now) result }
 {
-    if options.league {
-        let plan = plan(options, None, formula);
-        return league(alloc, params, warriors, &plan);
-    }
-    let plan = plan(options, options.fixed, formula);
-    rounds(alloc, params, warriors, &plan)
-}
-
-/// How the match, or each match of the league, is held.
-fn plan(options: &Options, fixed: Option<u32>, formula: Formula) -> Plan
-    ensures rounds { result.rounds ≡ options.now.rounds }
-    ensures seed { result.seed ≡ options.now.seed }
-    ensures fixed { result.fixed ≡ fixed }
-    ensures formula { result.formula ≡ formula }
-{
-    Plan {
+    let plan = Plan {
         rounds: options.rounds,
         seed: options.seed,
-        fixed,
+        fixed: options.fixed,
         formula,
+    };
+    if options.league {
+        league(alloc, params, warriors, &plan)
+    } else {
+        rounds(alloc, params, warriors, &plan)
     }
 }
 

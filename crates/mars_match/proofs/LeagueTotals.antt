@@ -1,5 +1,5 @@
 -- The tallies of all matches are the sums over each warrior's rows.
-use Rattle.std.proofs.Common.{◌≡◌, refl, sym, ◌∙◌, ap, ℕ, zero, suc, ◌+◌, ◌<◌, ◌+ℤ◌, List, [], ◌∷◌, ◌++◌, length, replicate, None, true, false, nat_eq, Result, Ok, Err, arith}
+use Rattle.std.proofs.Common.{◌≡◌, refl, sym, ◌∙◌, ap, ℕ, zero, suc, ◌+◌, ◌<◌, ◌+ℤ◌, List, [], ◌∷◌, ◌++◌, length, replicate, Option, true, false, nat_eq, Result, Ok, Err, arith}
 use Rattle.std.specs.Prelude.{sum_by}
 use Rattle.std.proofs.lemmas.Int.{ints}
 use Rattle.std.proofs.lemmas.List.Sums.{sum_by-cons}
@@ -32,11 +32,11 @@ table_first : (table : Result (List RowValue) MatchFault) (place : List RowValue
 table_first (Ok rows) place others after tallies h = h (with_rows (place rows) tallies) ∙ others_after others (place rows) tallies
 table_first (Err e) place others after tallies h = refl
 
-after_is : (p : Parameters) (f : Scanned) (n seed : ℕ) (pairs : List Pair) (tallies : List Tally) →
-    after_matches p f n seed pairs tallies ≡ (rows_of_pairs p f n seed pairs >>= λ rows. Ok (with_rows rows tallies))
-after_is p f n seed [] tallies = refl
-after_is p f n seed (x ∷ xs) tallies =
-    table_first (table_of p (x.one ∷ x.other ∷ []) f None n seed) (placed_rows (x.first ∷ x.second ∷ [])) (rows_of_pairs p f n seed xs) (after_matches p f n seed xs) tallies (after_is p f n seed xs)
+after_is : (p : Parameters) (f : Scanned) (fixed : Option ℕ) (n seed : ℕ) (pairs : List Pair) (tallies : List Tally) →
+    after_matches p f fixed n seed pairs tallies ≡ (rows_of_pairs p f fixed n seed pairs >>= λ rows. Ok (with_rows rows tallies))
+after_is p f fixed n seed [] tallies = refl
+after_is p f fixed n seed (x ∷ xs) tallies =
+    table_first (table_of p (x.one ∷ x.other ∷ []) f fixed n seed) (placed_rows (x.first ∷ x.second ∷ [])) (rows_of_pairs p f fixed n seed xs) (after_matches p f fixed n seed xs) tallies (after_is p f fixed n seed xs)
 
 -- ---- one warrior
 
@@ -110,19 +110,19 @@ rows_are i (w ∷ warriors) rows = rw (row_is w (own_rows i rows), rows_are (i +
 
 -- ---- the league
 
-module _ (p : Parameters) (warriors : List WarriorValue) (f : Scanned) (n seed : ℕ) where
+module _ (p : Parameters) (warriors : List WarriorValue) (f : Scanned) (fixed : Option ℕ) (n seed : ℕ) where
   rows_after : (all : Result (List PlacedRow) MatchFault) →
       ((all >>= λ rows. Ok (with_rows rows (replicate (length warriors) no_rounds))) >>= λ tallies. checked_rows (rows_with warriors tallies)) ≡ (all >>= λ rows. checked_rows (sums_from 0 warriors rows))
   rows_after (Ok rows) = rw (with_rows_is rows (replicate (length warriors) no_rounds), rows_are 0 warriors rows) refl
   rows_after (Err e) = refl
 
   -- the league from the tallies that the code keeps
-  pub league_from : league_of p warriors f n seed ≡ (after_matches p f n seed (all_pairs 0 warriors) (replicate (length warriors) no_rounds) >>= λ tallies. checked_rows (rows_with warriors tallies))
+  pub league_from : league_of p warriors f fixed n seed ≡ (after_matches p f fixed n seed (all_pairs 0 warriors) (replicate (length warriors) no_rounds) >>= λ tallies. checked_rows (rows_with warriors tallies))
   unfolding league_of
-  league_from = sym (rw (after_is p f n seed (all_pairs 0 warriors) (replicate (length warriors) no_rounds)) (rows_after (rows_of_pairs p f n seed (all_pairs 0 warriors))))
+  league_from = sym (rw (after_is p f fixed n seed (all_pairs 0 warriors) (replicate (length warriors) no_rounds)) (rows_after (rows_of_pairs p f fixed n seed (all_pairs 0 warriors))))
 
-  pub league_err : (x : MatchFault) → after_matches p f n seed (all_pairs 0 warriors) (replicate (length warriors) no_rounds) ≡ Err x → league_of p warriors f n seed ≡ Err x
+  pub league_err : (x : MatchFault) → after_matches p f fixed n seed (all_pairs 0 warriors) (replicate (length warriors) no_rounds) ≡ Err x → league_of p warriors f fixed n seed ≡ Err x
   league_err x e = league_from ∙ rw e refl
 
-  pub league_with : (ts : List Tally) → after_matches p f n seed (all_pairs 0 warriors) (replicate (length warriors) no_rounds) ≡ Ok ts → league_of p warriors f n seed ≡ checked_rows (rows_with warriors ts)
+  pub league_with : (ts : List Tally) → after_matches p f fixed n seed (all_pairs 0 warriors) (replicate (length warriors) no_rounds) ≡ Ok ts → league_of p warriors f fixed n seed ≡ checked_rows (rows_with warriors ts)
   league_with ts e = league_from ∙ rw e refl

@@ -1,5 +1,5 @@
 -- Leagues: one match more, and one warrior more.
-use Rattle.std.proofs.Common.{◌≡◌, refl, sym, ◌∙◌, ap, ℕ, zero, suc, ◌+◌, ◌<◌, ◌≤◌, List, [], ◌∷◌, ◌++◌, length, drop, get_or, set, All, true, false, None, Result, Ok, Err, arith}
+use Rattle.std.proofs.Common.{◌≡◌, refl, sym, ◌∙◌, ap, ℕ, zero, suc, ◌+◌, ◌<◌, ◌≤◌, List, [], ◌∷◌, ◌++◌, length, drop, get_or, set, All, true, false, Option, Result, Ok, Err, arith}
 use Rattle.std.proofs.lemmas.Int.{ints}
 use Rattle.std.proofs.lemmas.List.{drop_more, length-set, get_or-set_other}
 use Rattle.std.proofs.lemmas.List.Elements.{All-nil, All-cons, All-head, All-tail, All-get_or, All-set}
@@ -83,38 +83,38 @@ from_first ws i h = rw (drop_more ws i nobody h) refl
 from_one : (ws : List WarriorValue) (i : ℕ) (a : WarriorValue) → i < length ws → a ≡ get_or ws i a → drop i ws ≡ a ∷ drop (i + 1) ws
 from_one ws i a h e = drop_more ws i a h ∙ ap (λ x. x ∷ drop (i + 1) ws) (sym e)
 
-module _ (p : Parameters) (f : Scanned) (n seed : ℕ) where
+module _ (p : Parameters) (f : Scanned) (fixed : Option ℕ) (n seed : ℕ) where
   pub match_err : (ws : List WarriorValue) (i j : ℕ) (a b : WarriorValue) (ts : List Tally) (x : MatchFault) → i < length ws → j < length ws → a ≡ get_or ws i a → b ≡ get_or ws j b →
-      table_of p (a ∷ b ∷ []) f None n seed ≡ Err x → after_matches p f n seed (pairs_left i j (drop i ws) (drop j ws)) ts ≡ Err x
+      table_of p (a ∷ b ∷ []) f fixed n seed ≡ Err x → after_matches p f fixed n seed (pairs_left i j (drop i ws) (drop j ws)) ts ≡ Err x
   match_err ws i j a b ts x hi hj ea eb e = rw (from_one ws i a hi ea, from_one ws j b hj eb, e) refl
 
   pub match_more : (ws : List WarriorValue) (i j : ℕ) (a b : WarriorValue) (ts : List Tally) (t u : Tally) → i < length ws → j < length ws → a ≡ get_or ws i a → b ≡ get_or ws j b →
-      table_of p (a ∷ b ∷ []) f None n seed ≡ Ok (row_with a t ∷ row_with b u ∷ []) →
-      after_matches p f n seed (pairs_left i (j + 1) (drop i ws) (drop (j + 1) ws)) (joined_at j u (joined_at i t ts)) ≡ after_matches p f n seed (pairs_left i j (drop i ws) (drop j ws)) ts
+      table_of p (a ∷ b ∷ []) f fixed n seed ≡ Ok (row_with a t ∷ row_with b u ∷ []) →
+      after_matches p f fixed n seed (pairs_left i (j + 1) (drop i ws) (drop (j + 1) ws)) (joined_at j u (joined_at i t ts)) ≡ after_matches p f fixed n seed (pairs_left i j (drop i ws) (drop j ws)) ts
   match_more ws i j a b ts t u hi hj ea eb e = rw (from_one ws i a hi ea, from_one ws j b hj eb, e) refl
 
   -- ---- one warrior
 
   joined_after : (table : Result (List RowValue) MatchFault) (x : Pair) (xs ys : List Pair) (ts : List Tally) →
-      ((us : List Tally) → after_matches p f n seed (xs ++ ys) us ≡ (after_matches p f n seed xs us >>= λ us. after_matches p f n seed ys us)) →
-      (table >>= λ rows. after_matches p f n seed (xs ++ ys) (with_rows (placed_rows (x.first ∷ x.second ∷ []) rows) ts)) ≡ ((table >>= λ rows. after_matches p f n seed xs (with_rows (placed_rows (x.first ∷ x.second ∷ []) rows) ts)) >>= λ us. after_matches p f n seed ys us)
+      ((us : List Tally) → after_matches p f fixed n seed (xs ++ ys) us ≡ (after_matches p f fixed n seed xs us >>= λ us. after_matches p f fixed n seed ys us)) →
+      (table >>= λ rows. after_matches p f fixed n seed (xs ++ ys) (with_rows (placed_rows (x.first ∷ x.second ∷ []) rows) ts)) ≡ ((table >>= λ rows. after_matches p f fixed n seed xs (with_rows (placed_rows (x.first ∷ x.second ∷ []) rows) ts)) >>= λ us. after_matches p f fixed n seed ys us)
   joined_after (Ok rows) x xs ys ts h = h (with_rows (placed_rows (x.first ∷ x.second ∷ []) rows) ts)
   joined_after (Err e) x xs ys ts h = refl
 
-  after-append : (xs ys : List Pair) (ts : List Tally) → after_matches p f n seed (xs ++ ys) ts ≡ (after_matches p f n seed xs ts >>= λ us. after_matches p f n seed ys us)
+  after-append : (xs ys : List Pair) (ts : List Tally) → after_matches p f fixed n seed (xs ++ ys) ts ≡ (after_matches p f fixed n seed xs ts >>= λ us. after_matches p f fixed n seed ys us)
   after-append [] ys ts = refl
-  after-append (x ∷ xs) ys ts = joined_after (table_of p (x.one ∷ x.other ∷ []) f None n seed) x xs ys ts (after-append xs ys)
+  after-append (x ∷ xs) ys ts = joined_after (table_of p (x.one ∷ x.other ∷ []) f fixed n seed) x xs ys ts (after-append xs ys)
 
   all_split : (ws : List WarriorValue) (i : ℕ) (ts : List Tally) → i < length ws →
-      after_matches p f n seed (all_pairs i (drop i ws)) ts ≡ (after_matches p f n seed (pairs_of_first i (drop i ws)) ts >>= λ ts. after_matches p f n seed (all_pairs (i + 1) (drop (i + 1) ws)) ts)
+      after_matches p f fixed n seed (all_pairs i (drop i ws)) ts ≡ (after_matches p f fixed n seed (pairs_of_first i (drop i ws)) ts >>= λ ts. after_matches p f fixed n seed (all_pairs (i + 1) (drop (i + 1) ws)) ts)
   all_split ws i ts h = rw (drop_more ws i nobody h) (after-append (pairs_with i (get_or ws i nobody) (i + 1) (drop (i + 1) ws)) (all_pairs (i + 1) (drop (i + 1) ws)) ts)
 
   pub first_err : (ws : List WarriorValue) (i : ℕ) (ts : List Tally) (x : MatchFault) → i < length ws →
-      after_matches p f n seed (pairs_of_first i (drop i ws)) ts ≡ Err x → after_matches p f n seed (all_pairs i (drop i ws)) ts ≡ Err x
+      after_matches p f fixed n seed (pairs_of_first i (drop i ws)) ts ≡ Err x → after_matches p f fixed n seed (all_pairs i (drop i ws)) ts ≡ Err x
   first_err ws i ts x h e = all_split ws i ts h ∙ rw e refl
 
   pub first_more : (ws : List WarriorValue) (i : ℕ) (ts us : List Tally) → i < length ws →
-      after_matches p f n seed (pairs_of_first i (drop i ws)) ts ≡ Ok us → after_matches p f n seed (all_pairs (i + 1) (drop (i + 1) ws)) us ≡ after_matches p f n seed (all_pairs i (drop i ws)) ts
+      after_matches p f fixed n seed (pairs_of_first i (drop i ws)) ts ≡ Ok us → after_matches p f fixed n seed (all_pairs (i + 1) (drop (i + 1) ws)) us ≡ after_matches p f fixed n seed (all_pairs i (drop i ws)) ts
   first_more ws i ts us h e = sym (all_split ws i ts h ∙ rw e refl)
 
 -- ---- the tallies of two
@@ -126,23 +126,23 @@ two_tallies (t ∷ (u ∷ [])) d e = refl
 two_tallies (t ∷ (u ∷ (v ∷ ts))) d e = absurd (omega (arith, e))
 
 -- the table of a match of two from its tallies
-module _ (p : Parameters) (a b : WarriorValue) (f : Scanned) (n seed : ℕ) where
-  pub pair_err : (x : MatchFault) → tallied p (a ∷ b ∷ []) f None n 0 seed (no_rounds ∷ no_rounds ∷ []) ≡ Err x → table_of p (a ∷ b ∷ []) f None n seed ≡ Err x
-  pair_err x e = table_err p (a ∷ b ∷ []) f None n seed x refl e
+module _ (p : Parameters) (a b : WarriorValue) (f : Scanned) (fixed : Option ℕ) (n seed : ℕ) where
+  pub pair_err : (x : MatchFault) → tallied p (a ∷ b ∷ []) f fixed n 0 seed (no_rounds ∷ no_rounds ∷ []) ≡ Err x → table_of p (a ∷ b ∷ []) f fixed n seed ≡ Err x
+  pair_err x e = table_err p (a ∷ b ∷ []) f fixed n seed x refl e
 
-  pair_table : (ts : List Tally) (d : Tally) → length ts ≡ 2 → tallied p (a ∷ b ∷ []) f None n 0 seed (no_rounds ∷ no_rounds ∷ []) ≡ Ok ts →
-      table_of p (a ∷ b ∷ []) f None n seed ≡ checked_rows (row_with a (get_or ts 0 d) ∷ row_with b (get_or ts 1 d) ∷ [])
-  pair_table ts d two e = table_with p (a ∷ b ∷ []) f None n seed ts refl e ∙ ap (λ ts. checked_rows (rows_with (a ∷ b ∷ []) ts)) (two_tallies ts d two)
+  pair_table : (ts : List Tally) (d : Tally) → length ts ≡ 2 → tallied p (a ∷ b ∷ []) f fixed n 0 seed (no_rounds ∷ no_rounds ∷ []) ≡ Ok ts →
+      table_of p (a ∷ b ∷ []) f fixed n seed ≡ checked_rows (row_with a (get_or ts 0 d) ∷ row_with b (get_or ts 1 d) ∷ [])
+  pair_table ts d two e = table_with p (a ∷ b ∷ []) f fixed n seed ts refl e ∙ ap (λ ts. checked_rows (rows_with (a ∷ b ∷ []) ts)) (two_tallies ts d two)
 
-  pub first_unfit : (ts : List Tally) (d : Tally) → length ts ≡ 2 → tallied p (a ∷ b ∷ []) f None n 0 seed (no_rounds ∷ no_rounds ∷ []) ≡ Ok ts →
-      fits_in_64 (get_or ts 0 d).points ≡ false → table_of p (a ∷ b ∷ []) f None n seed ≡ Err (Score Range)
+  pub first_unfit : (ts : List Tally) (d : Tally) → length ts ≡ 2 → tallied p (a ∷ b ∷ []) f fixed n 0 seed (no_rounds ∷ no_rounds ∷ []) ≡ Ok ts →
+      fits_in_64 (get_or ts 0 d).points ≡ false → table_of p (a ∷ b ∷ []) f fixed n seed ≡ Err (Score Range)
   first_unfit ts d two e bad = pair_table ts d two e ∙ unfit (row_with a (get_or ts 0 d) ∷ row_with b (get_or ts 1 d) ∷ []) 0 (row_with a d) (omega arith) bad
 
-  pub second_unfit : (ts : List Tally) (d : Tally) → length ts ≡ 2 → tallied p (a ∷ b ∷ []) f None n 0 seed (no_rounds ∷ no_rounds ∷ []) ≡ Ok ts →
-      fits_in_64 (get_or ts 1 d).points ≡ false → table_of p (a ∷ b ∷ []) f None n seed ≡ Err (Score Range)
+  pub second_unfit : (ts : List Tally) (d : Tally) → length ts ≡ 2 → tallied p (a ∷ b ∷ []) f fixed n 0 seed (no_rounds ∷ no_rounds ∷ []) ≡ Ok ts →
+      fits_in_64 (get_or ts 1 d).points ≡ false → table_of p (a ∷ b ∷ []) f fixed n seed ≡ Err (Score Range)
   second_unfit ts d two e bad = pair_table ts d two e ∙ unfit (row_with a (get_or ts 0 d) ∷ row_with b (get_or ts 1 d) ∷ []) 1 (row_with a d) (omega arith) bad
 
-  pub both_fit : (ts : List Tally) (d : Tally) → length ts ≡ 2 → tallied p (a ∷ b ∷ []) f None n 0 seed (no_rounds ∷ no_rounds ∷ []) ≡ Ok ts →
+  pub both_fit : (ts : List Tally) (d : Tally) → length ts ≡ 2 → tallied p (a ∷ b ∷ []) f fixed n 0 seed (no_rounds ∷ no_rounds ∷ []) ≡ Ok ts →
       fits_in_64 (get_or ts 0 d).points ≡ true → fits_in_64 (get_or ts 1 d).points ≡ true →
-      table_of p (a ∷ b ∷ []) f None n seed ≡ Ok (row_with a (get_or ts 0 d) ∷ row_with b (get_or ts 1 d) ∷ [])
+      table_of p (a ∷ b ∷ []) f fixed n seed ≡ Ok (row_with a (get_or ts 0 d) ∷ row_with b (get_or ts 1 d) ∷ [])
   both_fit ts d two e one other = pair_table ts d two e ∙ fit _ (rw (one, other) refl)

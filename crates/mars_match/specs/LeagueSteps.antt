@@ -1,5 +1,5 @@
 -- How the code adds the matches of a league up as they end: it serves the proof alone.
-use Rattle.std.specs.Prelude.{ℕ, zero, suc, ◌+◌, ◌+ℤ◌, List, [], ◌∷◌, None, Result, Ok}
+use Rattle.std.specs.Prelude.{ℕ, zero, suc, ◌+◌, ◌+ℤ◌, List, [], ◌∷◌, Option, Result, Ok}
 use Rattle.mars_cell.specs.Parameters.{Parameters}
 use Rattle.mars_cell.specs.Warriors.{WarriorValue}
 use Rattle.redcode_text.specs.Tokens.{Scanned}
@@ -39,8 +39,8 @@ with_rows [] tallies = tallies
 with_rows (placed ∷ rows) tallies = with_rows rows (joined_at placed.place (sums placed.row) tallies)
 
 -- the tallies after the matches of pairs, each of n rounds and from the same seed; the fault of the first pair that has one
-abbrev pub after_matches : Parameters → Scanned → ℕ → ℕ → List Pair → List Tally → Result (List Tally) MatchFault
-after_matches p formula n seed [] tallies = Ok tallies
-after_matches p formula n seed (pair ∷ pairs) tallies =
-    table_of p (pair.one ∷ pair.other ∷ []) formula None n seed >>= λ table.
-    after_matches p formula n seed pairs (with_rows (placed_rows (pair.first ∷ pair.second ∷ []) table) tallies)
+abbrev pub after_matches : Parameters → Scanned → Option ℕ → ℕ → ℕ → List Pair → List Tally → Result (List Tally) MatchFault
+after_matches p formula fixed n seed [] tallies = Ok tallies
+after_matches p formula fixed n seed (pair ∷ pairs) tallies =
+    table_of p (pair.one ∷ pair.other ∷ []) formula fixed n seed >>= λ table.
+    after_matches p formula fixed n seed pairs (with_rows (placed_rows (pair.first ∷ pair.second ∷ []) table) tallies)

@@ -1,5 +1,5 @@
 -- Leagues: every pair of warriors plays one match, and a warrior's row is the sum of its rows in the matches that it plays.
-use Rattle.std.specs.Prelude.{ℕ, ◌+◌, ℤ, pos, ◌+ℤ◌, ◌==◌, if◌then◌else◌, List, [], ◌∷◌, ◌++◌, sum_by, None, Result, Ok}
+use Rattle.std.specs.Prelude.{ℕ, ◌+◌, ℤ, pos, ◌+ℤ◌, ◌==◌, if◌then◌else◌, List, [], ◌∷◌, ◌++◌, sum_by, Option, Result, Ok}
 use Rattle.mars_cell.specs.Parameters.{Parameters}
 use Rattle.mars_cell.specs.Warriors.{WarriorValue}
 use Rattle.redcode_text.specs.Tokens.{Scanned}
@@ -36,11 +36,11 @@ placed_rows (place ∷ places) [] = []
 placed_rows (place ∷ places) (row ∷ rows) = record { place = place; row = row } ∷ placed_rows places rows
 
 -- the rows of each pair's match, which has n rounds and begins with the seed; the fault of the first pair that has one
-abbrev pub rows_of_pairs : Parameters → Scanned → ℕ → ℕ → List Pair → Result (List PlacedRow) MatchFault
-rows_of_pairs p formula n seed [] = Ok []
-rows_of_pairs p formula n seed (pair ∷ pairs) =
-    table_of p (pair.one ∷ pair.other ∷ []) formula None n seed >>= λ table.
-    rows_of_pairs p formula n seed pairs >>= λ others. Ok (placed_rows (pair.first ∷ pair.second ∷ []) table ++ others)
+abbrev pub rows_of_pairs : Parameters → Scanned → Option ℕ → ℕ → ℕ → List Pair → Result (List PlacedRow) MatchFault
+rows_of_pairs p formula fixed n seed [] = Ok []
+rows_of_pairs p formula fixed n seed (pair ∷ pairs) =
+    table_of p (pair.one ∷ pair.other ∷ []) formula fixed n seed >>= λ table.
+    rows_of_pairs p formula fixed n seed pairs >>= λ others. Ok (placed_rows (pair.first ∷ pair.second ∷ []) table ++ others)
 
 -- the rows of warrior i
 abbrev pub own_rows : ℕ → List PlacedRow → List RowValue
@@ -69,5 +69,5 @@ sums_from i [] rows = []
 sums_from i (warrior ∷ warriors) rows = sum_of_rows warrior (own_rows i rows) ∷ sums_from (i + 1) warriors rows
 
 -- the table of a league: the first fault of a pair, then points that don't fit
-unfoldable pub league_of : Parameters → List WarriorValue → Scanned → ℕ → ℕ → Result (List RowValue) MatchFault
-league_of p warriors formula n seed = rows_of_pairs p formula n seed (all_pairs 0 warriors) >>= λ rows. checked_rows (sums_from 0 warriors rows)
+unfoldable pub league_of : Parameters → List WarriorValue → Scanned → Option ℕ → ℕ → ℕ → Result (List RowValue) MatchFault
+league_of p warriors formula fixed n seed = rows_of_pairs p formula fixed n seed (all_pairs 0 warriors) >>= λ rows. checked_rows (sums_from 0 warriors rows)

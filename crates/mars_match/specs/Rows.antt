@@ -1,5 +1,5 @@
 -- Worked examples: the check computes each of them.
-use Rattle.std.specs.Prelude.{◌≡◌, ℕ, ℤ, pos, negsuc, List, [], ◌∷◌, ◌++◌, map, Some, Ok, Err, true, false, codes, refl}
+use Rattle.std.specs.Prelude.{None, ◌≡◌, ℕ, ℤ, pos, negsuc, List, [], ◌∷◌, ◌++◌, map, Some, Ok, Err, true, false, codes, refl}
 use Rattle.mars_cell.specs.Parameters.{Parameters}
 use Rattle.mars_match.specs.Placement.{drawn, starts_of, next_seed, place_fault}
 use Rattle.std.specs.Fmt.{digits}
@@ -141,11 +141,11 @@ row_wide = refl
 -- ---- leagues
 
 -- fewer than two warriors play nothing, and so no seed is too small
-pub row_no_league : (formula : Scanned) → league_of (sizes 8000 100) [] formula 1 0 ≡ Ok []
+pub row_no_league : (formula : Scanned) → league_of (sizes 8000 100) [] formula None 1 0 ≡ Ok []
 unfolding league_of
 row_no_league formula = refl
 
-pub row_league_of_one : (w : WarriorValue) (formula : Scanned) → league_of (sizes 8000 100) (w ∷ []) formula 1 0 ≡ Ok (row_of w.name w.author (pos 0) 0 0 0 ∷ [])
+pub row_league_of_one : (w : WarriorValue) (formula : Scanned) → league_of (sizes 8000 100) (w ∷ []) formula None 1 0 ≡ Ok (row_of w.name w.author (pos 0) 0 0 0 ∷ [])
 unfolding league_of
 row_league_of_one w formula = refl
 
@@ -175,11 +175,11 @@ all_three =
     ∷ one_cell (codes "Stay") (codes "Anonymous") Jmp modifiers.B 0
     ∷ one_cell (codes "Dead") (codes "Anonymous") Dat modifiers.F 0 ∷ []
 
-pub row_league : league_of (sizes 4 2) all_three by_default 1 1 ≡ Ok (imp ∷ stay ∷ dead ∷ [])
+pub row_league : league_of (sizes 4 2) all_three by_default None 1 1 ≡ Ok (imp ∷ stay ∷ dead ∷ [])
 unfolding league_of table_of starts_of drawn next_seed survivors_of_round end_of start_state overlap scanned value_of tree_within turn_of executed accepted execution_of effect_of evaluated direct_operand address_after fold raised lowered written advanced ends
 row_league = refl
 
 -- no seed but one from 1 on
-pub row_league_fault : league_of (sizes 4 2) all_three by_default 1 0 ≡ Err (fault.Place BadSeed)
+pub row_league_fault : league_of (sizes 4 2) all_three by_default None 1 0 ≡ Err (fault.Place BadSeed)
 unfolding league_of table_of
 row_league_fault = refl

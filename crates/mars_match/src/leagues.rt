@@ -1,5 +1,5 @@
 //! Leagues: every pair of warriors plays one match.
-ghost use Rattle.std.specs.Prelude.{◌≡◌, ◌+◌, ◌*◌, ◌<◌, ◌≤◌, All, length, drop, [], ◌∷◌, None, IfOk, MatchResult, true, false};
+ghost use Rattle.std.specs.Prelude.{◌≡◌, ◌+◌, ◌*◌, ◌<◌, ◌≤◌, All, length, drop, [], ◌∷◌, ◌-◌, IfSome, IfOk, MatchResult, true, false};
 ghost use Rattle.mars_match.specs.Answers.{IsAnswer};
 ghost use Rattle.mars_match.specs.Rounds.{table_of, fits_in_64};
 ghost use Rattle.mars_match.specs.Tallies.{IsOf, row_with};
@@ -49,8 +49,7 @@ fn play_pair(
     second: &Warrior,
     plan: &Plan,
 ) -> Result<(Tally, Tally), MatchFault>
-    requires { plan.now.fixed ≡ None }
-    ensures table { IsAnswer (λ (both : Tally × Tally). row_with first.now both.0 ∷ row_with second.now both.1 ∷ []) (table_of params.now (first.now ∷ second.now ∷ []) plan.now.formula None plan.now.rounds plan.now.seed) result }
+    ensures table { IsAnswer (λ (both : Tally × Tally). row_with first.now both.0 ∷ row_with second.now both.1 ∷ []) (table_of params.now (first.now ∷ second.now ∷ []) plan.now.formula plan.now.fixed plan.now.rounds plan.now.seed) result }
     ensures bounds { IfOk result (λ both. IsOf 4294967295 both.0 × IsOf 4294967295 both.1) }
 {
     let Ok(lineup) = Lineup::pair(alloc, first, second) else {
@@ -72,12 +71,11 @@ fn play_others(
     plan: &Plan,
     tallies: &mut [Tally],
 ) -> Result<(), MatchFault>
-    requires fixed { plan.now.fixed ≡ None }
     requires few { length warriors.now ≤ 65536 }
     requires inside { i < length warriors.now }
     requires many { length tallies.old ≡ length warriors.now }
     requires bounds { All (IsOf (i * 281474976645120)) tallies.old }
-    ensures sums { IsAnswer (λ _. tallies.new) (after_matches params.now plan.now.formula plan.now.rounds plan.now.seed (pairs_of_first i (drop i warriors.now)) tallies.old) result }
+    ensures sums { IsAnswer (λ _. tallies.new) (after_matches params.now plan.now.formula plan.now.fixed plan.now.rounds plan.now.seed (pairs_of_first i (drop i warriors.now)) tallies.old) result }
     ensures bounds { IfOk result (λ _. All (IsOf ((i + 1) * 281474976645120)) tallies.new) }
 {
     for j in i + 1..warriors.len() {
@@ -96,11 +94,10 @@ fn play_all(
     plan: &Plan,
     tallies: &mut [Tally],
 ) -> Result<(), MatchFault>
-    requires fixed { plan.now.fixed ≡ None }
     requires few { length warriors.now ≤ 65536 }
     requires many { length tallies.old ≡ length warriors.now }
     requires bounds { All (IsOf 0) tallies.old }
-    ensures { IsAnswer (λ _. tallies.new) (after_matches params.now plan.now.formula plan.now.rounds plan.now.seed (all_pairs 0 warriors.now) tallies.old) result }
+    ensures { IsAnswer (λ _. tallies.new) (after_matches params.now plan.now.formula plan.now.fixed plan.now.rounds plan.now.seed (all_pairs 0 warriors.now) tallies.old) result }
 {
     for i in 0..warriors.len() {
         play_others(alloc, params, warriors, i, plan, tallies)?;
@@ -111,8 +108,8 @@ fn play_all(
 /// The table of a league: every pair of warriors plays a match of the plan's rounds, in load order of the first, then of
 /// the second, and each match begins with the plan's seed. The warrior earlier in load order is the first of the pair.
 /// Where a match can't be held, or a warrior's points don't fit 64 bits at its end or at that of the league, it answers the
-/// first fault. Fewer than two warriors play nothing. It takes memory for one match at a time, a tally for each warrior and
-/// the table.
+/// first fault. Fewer than two warriors play nothing; a plan with a fixed position asks for two, whose match is the league.
+/// It takes memory for one match at a time, a tally for each warrior and the table.
 pub fn league(
     alloc: Global,
     params: &Params,
@@ -120,8 +117,8 @@ pub fn league(
     plan: &Plan,
 ) -> Result<Table, MatchFault>
     requires few { length warriors.now ≤ 65536 }
-    requires fixed { plan.now.fixed ≡ None }
-    ensures table { IsAnswer (λ (table : Table). table.rows.items) (league_of params.now warriors.now plan.now.formula plan.now.rounds plan.now.seed) result }
+    requires fixed { IfSome plan.now.fixed (λ position. (length warriors.now ≡ 2) × (params.now.distance ≤ position) × (position ≤ params.now.core_size - params.now.distance)) }
+    ensures table { IsAnswer (λ (table : Table). table.rows.items) (league_of params.now warriors.now plan.now.formula plan.now.fixed plan.now.rounds plan.now.seed) result }
 {
     let mut tallies = first_tallies(alloc, warriors.len())?;
     play_all(alloc, params, warriors, plan, tallies.as_mut_slice())?;

@@ -1,5 +1,5 @@
 //! The worked cases, by calls.
-ghost use Rattle.std.specs.Prelude.{Some};
+ghost use Rattle.std.specs.Prelude.{◌≡◌, ◌-◌, ◌≤◌, IfSome, IsTrue, Some};
 ghost use Rattle.mars_cell.specs.Warriors.{IsName};
 
 use crate::{
@@ -297,20 +297,28 @@ fn formula(alloc: Global, text: &str) -> Result<Formula, Fail> {
     Ok(formula)
 }
 
+/// Whether two warriors may meet at this position, or none is given.
+fn fits_two(params: &Params, warriors: usize, fixed: Option<u32>) -> bool
+    ensures { IsTrue result → IfSome fixed (λ position. (warriors ≡ 2) × (params.now.distance ≤ position) × (position ≤ params.now.core_size - params.now.distance)) }
+{
+    match fixed {
+        None => true,
+        Some(position) => {
+            let least = params.distance();
+            warriors == 2 && least <= position && position <= params.core_size() - least
+        }
+    }
+}
+
 /// The table of a match, or its fault.
 fn held(
     alloc: Global,
     params: &Params,
     warriors: &[Warrior],
-    plan: (u32, u32, Option<u32>, &str),
+    (count, seed, fixed, text): (u32, u32, Option<u32>, &str),
 ) -> Result<Result<Table, MatchFault>, Fail> {
-    let (count, seed, fixed, text) = plan;
-    if let Some(position) = fixed {
-        let least = params.distance();
-        let most = params.core_size() - least;
-        if warriors.len() != 2 || position < least || position > most {
-            return Err("position".into());
-        }
+    if !fits_two(params, warriors.len(), fixed) {
+        return Err("position".into());
     }
     let plan = Plan {
         rounds: count,
@@ -479,15 +487,18 @@ fn league_held(
     alloc: Global,
     params: &Params,
     warriors: &[Warrior],
-    (rounds, seed, text): (u32, u32, &str),
+    (count, seed, fixed, text): (u32, u32, Option<u32>, &str),
 ) -> Result<Result<Table, MatchFault>, Fail> {
     if warriors.len() > 65536 {
         return Err("warriors".into());
     }
+    if !fits_two(params, warriors.len(), fixed) {
+        return Err("position".into());
+    }
     let plan = Plan {
-        rounds,
+        rounds: count,
         seed,
-        fixed: None,
+        fixed,
         formula: formula(alloc, text)?,
     };
     Ok(league(alloc, params, warriors, &plan))
@@ -498,25 +509,60 @@ fn leagues(rt: HostRuntime) -> Result<(), Fail> {
     let params = sizes(8000, 100)?;
     let mut warriors = imp_and_stay(rt.alloc())?;
     warriors.push(one_cell(rt.alloc(), "Dead", "Anonymous", 8000, "DAT.F $0, $0")?)?;
-    let table = league_held(rt.alloc(), &params, warriors.as_slice(), (1, 1, BY_DEFAULT))?;
+    let table = league_held(
+        rt.alloc(),
+        &params,
+        warriors.as_slice(),
+        (1, 1, None, BY_DEFAULT),
+    )?;
     assert_eq!(rt;
         results_of(rt.alloc(), table)?.as_slice(),
         LEAGUE.as_bytes()
     );
     // One warrior plays nothing, so no seed is too small.
     let alone = one_cells(rt.alloc(), 8000, &["JMP.B $0, $0"])?;
-    let table = league_held(rt.alloc(), &params, alone.as_slice(), (1, 0, BY_DEFAULT))?;
+    let table = league_held(
+        rt.alloc(),
+        &params,
+        alone.as_slice(),
+        (1, 0, None, BY_DEFAULT),
+    )?;
     let expected =
         "  points   wins   ties losses  warrior\n       0      0      0      0  Test by \n";
     assert_eq!(rt;
         results_of(rt.alloc(), table)?.as_slice(),
         expected.as_bytes()
     );
-    let table = league_held(rt.alloc(), &params, &[], (1, 0, BY_DEFAULT))?;
+    let table = league_held(rt.alloc(), &params, &[], (1, 0, None, BY_DEFAULT))?;
     assert_eq!(rt;
         results_of(rt.alloc(), table)?.as_slice(),
         HEADING.as_bytes()
     );
+    Ok(())
+}
+
+#[test]
+fn a_league_of_two_at_a_fixed_position(rt: HostRuntime) -> Result<(), Fail> {
+    // The first lowers the field by which the second jumps where it stands 200 cells on, and nowhere else.
+    let params = sizes(8000, 100)?;
+    let both = one_cells(rt.alloc(), 8000, &["JMP.B $0, <200", "JMP.B @0, $0"])?;
+    let met = "       3      1      0      0  Test by \n       0      0      0      1  Test by \n";
+    let missed =
+        "       1      0      1      0  Test by \n       1      0      1      0  Test by \n";
+    for (fixed, rows) in [(Some(200), met), (Some(201), missed), (None, missed)] {
+        let table = league_held(
+            rt.alloc(),
+            &params,
+            both.as_slice(),
+            (1, 1, fixed, BY_DEFAULT),
+        )?;
+        let results = results_of(rt.alloc(), table)?;
+        let (heading, rest) = results
+            .as_slice()
+            .split_at(HEADING.len().min(results.len()));
+        assert!(rt; heading == HEADING.as_bytes());
+        assert!(rt; rest == rows.as_bytes(), "{fixed:?}");
+    }
     Ok(())
 }
 
@@ -528,7 +574,7 @@ fn sums_of_leagues(rt: HostRuntime) -> Result<(), Fail> {
     let (stay, dead) = ("JMP.B $0, $0", "DAT.F $0, $0");
     let text = "9223372036854775807*(3-2*S)";
     let five = one_cells(rt.alloc(), 8000, &[stay, dead, dead, stay, stay])?;
-    let table = league_held(rt.alloc(), &params, five.as_slice(), (1, 1, text))?;
+    let table = league_held(rt.alloc(), &params, five.as_slice(), (1, 1, None, text))?;
     let expected = "  points   wins   ties losses  warrior
        0      2      2      0  Test by \n       0      0      0      4  Test by \n9223372036854775807      1      0      3  Test by \n       0      2      2      0  Test by \n       0      2      2      0  Test by \n";
     assert_eq!(rt;
@@ -536,7 +582,7 @@ fn sums_of_leagues(rt: HostRuntime) -> Result<(), Fail> {
         expected.as_bytes()
     );
     let three = one_cells(rt.alloc(), 8000, &[stay, dead, dead])?;
-    let table = league_held(rt.alloc(), &params, three.as_slice(), (1, 1, text))?;
+    let table = league_held(rt.alloc(), &params, three.as_slice(), (1, 1, None, text))?;
     assert_eq!(rt; table.err(), Some(MatchFault::Score(ExprFault::Range)));
     Ok(())
 }
@@ -572,7 +618,7 @@ fn refused_leagues(rt: HostRuntime) -> Result<(), Fail> {
     ];
     for (texts, seed, fault) in cases {
         let all = one_cells(rt.alloc(), 8000, &texts)?;
-        let table = league_held(rt.alloc(), &params, all.as_slice(), (2, seed, text))?;
+        let table = league_held(rt.alloc(), &params, all.as_slice(), (2, seed, None, text))?;
         assert_eq!(rt; table.err(), Some(fault));
     }
     Ok(())

@@ -7,7 +7,7 @@ use Rattle.mars_match.proofs.leagues.play_all.Given as goal
 -- the matches that are left lead to the tallies of all
 abbrev pub invariant-loop-i : goal.invariant-loop-i
 invariant-loop-i l = record {
-  sums : after_matches l.params l.plan.formula l.plan.rounds l.plan.seed (all_pairs l.i (drop l.i l.warriors)) l.tallies
-      ≡ after_matches l.params l.plan.formula l.plan.rounds l.plan.seed (all_pairs 0 l.warriors) l.initial.tallies;
+  sums : after_matches l.params l.plan.formula l.plan.fixed l.plan.rounds l.plan.seed (all_pairs l.i (drop l.i l.warriors)) l.tallies
+      ≡ after_matches l.params l.plan.formula l.plan.fixed l.plan.rounds l.plan.seed (all_pairs 0 l.warriors) l.initial.tallies;
   bounds : All (IsOf (l.i * 281474976645120)) l.tallies;
 }

@@ -12,7 +12,7 @@ loop-j-init c =
     let i = c.args.i in
     let plan = c.args.plan.now in
     record {
-      sums = ap (λ pairs. after_matches c.args.params.now plan.formula plan.rounds plan.seed pairs c.args.tallies.now) (from_first c.args.warriors.now i c.requires.inside);
+      sums = ap (λ pairs. after_matches c.args.params.now plan.formula plan.fixed plan.rounds plan.seed pairs c.args.tallies.now) (from_first c.args.warriors.now i c.requires.inside);
       bounds = all_more (i * 281474976645120) (i * 281474976645120 + (i + 1) * 4294967295) c.args.tallies.now (omega arith) c.requires.bounds;
     }
 
@@ -54,7 +54,7 @@ loop-j-preserved c =
     let bounds = set_both_bounds xs i j t u a b no_rounds before inside c.joined.ensures c.joined-in-loop-j.ensures m 4294967295 c.loop-j.invariant.bounds c.in_ok-one.ensures.bounds.0 c.in_ok-one.ensures.bounds.1 in
     record {
       sums = rw (set_both xs i j t u a b no_rounds before inside c.joined.ensures c.joined-in-loop-j.ensures)
-          (match_more c.args.params.now plan.formula plan.rounds plan.seed ws i j c.index-warriors-i.result c.index-warriors-j.result xs t u first second c.index-warriors-i.is c.index-warriors-j.is c.in_ok-one.ensures.table ∙ c.loop-j.invariant.sums);
+          (match_more c.args.params.now plan.formula plan.fixed plan.rounds plan.seed ws i j c.index-warriors-i.result c.index-warriors-j.result xs t u first second c.index-warriors-i.is c.index-warriors-j.is c.in_ok-one.ensures.table ∙ c.loop-j.invariant.sums);
       bounds = all_more (m + 4294967295) (i * 281474976645120 + (j + 1) * 4294967295) (set (set xs i a) j b) (omega arith) bounds;
     }
 
@@ -67,5 +67,5 @@ returns-in_err-one-clause-sums c =
     let second : c.loop-j.j < length ws = omega arith in
     fault_answer _ _ _ p.0 p.1 (elim c.in_err-one.ensures.table [
       | inl none ↦ inl (p.2 ∙ none)
-      | inr bad ↦ inr (sym c.loop-j.invariant.sums ∙ match_err c.args.params.now plan.formula plan.rounds plan.seed ws c.args.i c.loop-j.j c.index-warriors-i.result c.index-warriors-j.result c.loop-j.tallies p.0 first second c.index-warriors-i.is c.index-warriors-j.is (rw p.2 bad))
+      | inr bad ↦ inr (sym c.loop-j.invariant.sums ∙ match_err c.args.params.now plan.formula plan.fixed plan.rounds plan.seed ws c.args.i c.loop-j.j c.index-warriors-i.result c.index-warriors-j.result c.loop-j.tallies p.0 first second c.index-warriors-i.is c.index-warriors-j.is (rw p.2 bad))
     ])

@@ -7,7 +7,7 @@ use Rattle.mars_match.proofs.leagues.play_others.Given as goal
 -- the matches that are left lead to the tallies of all
 abbrev pub invariant-loop-j : goal.invariant-loop-j
 invariant-loop-j l = record {
-  sums : after_matches l.params l.plan.formula l.plan.rounds l.plan.seed (pairs_left l.i l.j (drop l.i l.warriors) (drop l.j l.warriors)) l.tallies
-      ≡ after_matches l.params l.plan.formula l.plan.rounds l.plan.seed (pairs_of_first l.i (drop l.i l.warriors)) l.initial.tallies;
+  sums : after_matches l.params l.plan.formula l.plan.fixed l.plan.rounds l.plan.seed (pairs_left l.i l.j (drop l.i l.warriors) (drop l.j l.warriors)) l.tallies
+      ≡ after_matches l.params l.plan.formula l.plan.fixed l.plan.rounds l.plan.seed (pairs_of_first l.i (drop l.i l.warriors)) l.initial.tallies;
   bounds : All (IsOf (l.i * 281474976645120 + l.j * 4294967295)) l.tallies;
 }
