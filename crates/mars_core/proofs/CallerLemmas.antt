@@ -11,7 +11,6 @@ use Rattle.mars_core.specs.declared.journal.Atom.{Atom}
 use Rattle.mars_core.specs.declared.journal.Edit.{Edit}
 use Rattle.mars_core.specs.declared.journal.Edit.TheVariants as edit
 use Rattle.mars_core.specs.declared.queues.Clock.{Clock}
-
 -- turns and edits of a valid state are valid, and a record gives back the states that it leads from and to
 pub use Rattle.mars_core.proofs.Edits.{edit_valid}
 pub use Rattle.mars_core.proofs.Restored.{record_reverted}
