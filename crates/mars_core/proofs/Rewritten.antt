@@ -28,7 +28,7 @@ rewritten-append [] ys core = refl
 rewritten-append (x ∷ xs) ys core = rewritten-append xs ys (set core x.address x.after)
 
 module _ (core : List Cell) where
-  -- the writes to a logged lead from the core to it
+  -- the changes of a logged core lead from the core to it
   abbrev Replays : LoggedCore → Type 0
   Replays logged = rewritten logged.changes core ≡ logged.core
 

@@ -14,5 +14,4 @@ pub mod Examples
 pub mod Laws
 pub mod Start
 pub mod Shape
-pub mod Facts
 pub mod Arcs

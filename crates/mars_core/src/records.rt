@@ -7,6 +7,7 @@ ghost use Rattle.mars_core.specs.Steps.{CanRestore, CanRequeue, HasQueue};
 ghost use Rattle.mars_core.specs.declared.journal.CellChange.{CellChange as Change};
 
 use crate::journal::{CellChange, Death, Work};
+use crate::moves::note_death;
 use crate::queues::ProcessQueue;
 use arrayvec::ArrayVec;
 use mars_cell::Cell;
@@ -98,9 +99,7 @@ pub fn note_recorded_death(deaths: &mut ArrayVec<Death, 16>, work: Work, died: b
     ensures { deaths.new.items ≡ deaths_after (spec_warrior_of work) died turns deaths.old.items }
 {
     if let Some(warrior) = warrior_of(work) {
-        if died {
-            deaths.push(Death { warrior, turns });
-        }
+        note_death(deaths, died, warrior, turns);
     }
 }
 

@@ -147,7 +147,7 @@ fn starts_inside(core_size: u32, starts: &[u32]) -> bool
     starts.iter().all(|start| *start < core_size)
 }
 
-/// The first reason not to start, which takes no logged to find.
+/// The first reason not to start, which takes no memory to find.
 pub fn find_fault(params: &Params, warriors: &[Warrior], starts: &[u32]) -> Option<BattleFault>
     requires { length starts.now ≡ length warriors.now }
     ensures value { result ≡ start_fault params.now warriors.now starts.now }
@@ -250,11 +250,11 @@ pub fn first_queues(
     ensures addresses { IfOk result (λ queues. addresses_of queues.items ≡ map (λ address. address ∷ []) (first_processes params.now.core_size warriors.now starts.now)) }
     ensures limits { IfOk result (λ queues. All (λ (q : Queue). q.limit ≡ params.now.processes) queues.items) }
 {
-    let mut queues = Vec::new(alloc);
+    let mut queues = Vec::with_capacity(alloc, warriors.len())?;
     for i in 0..warriors.len() {
         let mut queue = ProcessQueue::with_limit(alloc, params.processes() as usize)?;
         queue.push(first_process(params.core_size(), &warriors[i], starts[i]));
-        queues.push(queue)?;
+        queues.push_reserved(queue);
     }
     Ok(queues)
 }

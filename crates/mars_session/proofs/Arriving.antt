@@ -8,7 +8,7 @@ use Rattle.std.proofs.Math.Nat.{suc-mul, add-mul, mul-le-mul_right, le-mul_of_po
 use Rattle.mars_core.specs.State.{State, first_live, live_from, survivors_of, moved_clock, advanced, is_over_of, ends}
 use Rattle.mars_core.specs.Turn.{turn_of, executed}
 use Rattle.mars_core.specs.Validity.{IsValid}
-use Rattle.mars_core.specs.Facts.{cycle-turn_of, shape-turn_of}
+use Rattle.mars_core.proofs.CallerLemmas.{cycle-turn_of, shape-turn_of}
 use Rattle.mars_core.specs.declared.queues.Clock.{Clock}
 use Rattle.mars_session.specs.declared.calls.Refusal.{Refusal}
 use Rattle.mars_session.specs.declared.calls.Refusal.TheVariants.{Count, Over, CyclePassed}

@@ -3,7 +3,7 @@ use Rattle.std.proofs.Common.{◌≡◌, ℕ, ◌+◌, ◌≤◌, ◌≢◌, inl
 use Rattle.std.specs.Prelude.{IsSome, reverse, ◌++◌}
 use Rattle.std.proofs.lemmas.Bool.{eqb-true, eqb-false}
 use Rattle.mars_core.specs.State.{State}
-use Rattle.mars_core.specs.Facts.{turns-turn_of, turns-edited, cycle-turn_of, cycle-edited}
+use Rattle.mars_core.proofs.CallerLemmas.{turns-turn_of, turns-edited, cycle-turn_of, cycle-edited}
 use Rattle.mars_session.specs.History.{Place, History, places, rewound_from, rewound, first_at_turn_from, last_place}
 use Rattle.mars_session.specs.Tapes.{Follows, FollowsAll, AllFollow, IsTape}
 use Rattle.mars_session.specs.Laws.{RisesFrom, RisesAlong, TurnsAndCyclesRise, GotoBetween}

@@ -7,7 +7,7 @@ use Rattle.mars_cell.specs.declared.instruction.Cell.{Cell}
 use Rattle.mars_core.specs.State.{State, is_over_of}
 use Rattle.mars_core.specs.Turn.{turn_of}
 use Rattle.mars_core.specs.Edit.{edit_fault, edited}
-use Rattle.mars_core.specs.Facts.{shape-turn_of, shape-edited}
+use Rattle.mars_core.proofs.CallerLemmas.{shape-turn_of, shape-edited}
 use Rattle.mars_core.specs.declared.journal.Edit.{Edit}
 use Rattle.mars_core.specs.declared.journal.Edit.TheVariants as edits
 use Rattle.mars_core.specs.declared.journal.EditFault.{EditFault}

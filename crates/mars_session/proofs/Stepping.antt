@@ -7,8 +7,7 @@ use Rattle.mars_core.specs.State.{State}
 use Rattle.mars_core.specs.Leads.{Leads}
 use Rattle.mars_core.specs.Journal.{reverted, applied}
 use Rattle.mars_core.specs.declared.journal.Atom.{Atom}
-use Rattle.mars_core.proofs.Restored.{record_reverted}
-use Rattle.mars_core.proofs.Rewritten.{record_applied}
+use Rattle.mars_core.proofs.CallerLemmas.{record_reverted, record_applied}
 use Rattle.mars_session.specs.History.{Place, History, position_of, following, last_of, places, marked, cut, append, back, forward, rewound}
 use Rattle.mars_session.specs.Journals.{no_entry, entry_at, mark_at, journal_before, journal_after, journal_history, LeadHere, LeadOn, IsJournal, LeadsFrom, LeadsAt}
 use Rattle.mars_session.proofs.Places.{places_rewound}
@@ -197,6 +196,16 @@ leads_here es (suc n) s l d = let e : suc n - 1 ≡ n = omega arith in rw e d.0
 -- the next record leads on from it
 pub leads_on : (es : List (Atom × Bool)) (at : ℕ) (s : State) → at < length es → LeadOn es at (length es - at) s → Leads s (entry_at es at).0 (applied (entry_at es at).0 s)
 leads_on es at s l d = let more : length es - at ≡ suc (length es - (at + 1)) = omega arith in (rw more at d).0
+
+-- the battle that the last record reverts
+pub gone_back : (es : List (Atom × Bool)) (at : ℕ) (s t : State) (a : Atom) → 0 < at → LeadHere es at s → a ≡ (entry_at es (at - 1)).0
+    → ((before : State) → Leads before a s → t ≡ before) → t ≡ reverted (entry_at es (at - 1)).0 s
+gone_back es at s t a l d read is = is (reverted (entry_at es (at - 1)).0 s) (rw read (leads_here es at s l d))
+
+-- the battle that the next record is applied to
+pub gone_on : (es : List (Atom × Bool)) (at : ℕ) (s t : State) (a : Atom) → at < length es → LeadOn es at (length es - at) s → a ≡ (entry_at es at).0
+    → ((after : State) → Leads s a after → t ≡ after) → t ≡ applied (entry_at es at).0 s
+gone_on es at s t a l d read is = is (applied (entry_at es at).0 s) (rw read (leads_on es at s l d))
 
 -- a record that was read
 pub read_entry : (es : List (Atom × Bool)) (i : ℕ) (x : Atom × Bool) → i < length es → x ≡ get_or es i x → x.0 ≡ (entry_at es i).0

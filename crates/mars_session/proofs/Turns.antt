@@ -5,7 +5,7 @@ use Rattle.std.specs.Option.{option_or}
 use Rattle.std.proofs.lemmas.Grind.{common_steps}
 use Rattle.mars_cell.specs.declared.instruction.Cell.{Cell}
 use Rattle.mars_core.specs.Edit.{edit_fault, edited, cell_fault}
-use Rattle.mars_core.specs.Facts.{shape-edited}
+use Rattle.mars_core.proofs.CallerLemmas.{shape-edited}
 use Rattle.mars_core.specs.declared.journal.Edit.{Edit}
 use Rattle.mars_core.specs.declared.journal.Edit.TheVariants as edits
 use Rattle.mars_core.specs.declared.journal.EditFault.{EditFault}

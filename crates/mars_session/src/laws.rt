@@ -1,8 +1,6 @@
 //! Laws of the history, over the definitions alone.
 ghost use Rattle.mars_session.specs.Laws.{UndosGiveBack, RedosGiveAgain, RedoAfterUndo, MovesKeepPlaces, UndoFindsNearest, RedoFindsNearest, GotoFindsFirst, CommandsAppend, BeginningIsTape, CallsKeepTapes, ScriptsKeepTapes, GotoBetween, TurnsAndCyclesRise, UntilArrives, CallsKeepLimit, PlacesAreValid};
 
-use mars_core::laws::{edits_stay_valid, turns_stay_valid};
-
 /// After accepted commands as many undos are accepted, and give back the state and the position.
 pub fn undos_give_back()
     ensures { UndosGiveBack }
@@ -81,7 +79,4 @@ pub fn calls_keep_limit()
 /// Each place of a tape is valid.
 pub fn places_are_valid()
     ensures { PlacesAreValid }
-{
-    turns_stay_valid();
-    edits_stay_valid();
-}
+{}

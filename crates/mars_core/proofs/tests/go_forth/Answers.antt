@@ -1,6 +1,7 @@
-use Rattle.std.proofs.Common.{◌∙◌}
-use Rattle.mars_core.proofs.Rewritten.{record_applied}
 use Rattle.mars_core.proofs.tests.go_forth.Goals as goal
 
+pub apply-requires : goal.apply-requires
+apply-requires g c = (c.args.after.now, c.requires)
+
 pub returns : goal.returns
-returns g c = c.apply.ensures ∙ record_applied c.args.battle.now c.args.atom.now c.args.after.now c.requires
+returns g c = c.apply.ensures c.args.after.now c.requires

@@ -1,5 +1,6 @@
+use Rattle.mars_core.proofs.CallerLemmas.{turn_valid, edit_valid}
 use Rattle.mars_session.proofs.Valid.{places_are_valid}
 use Rattle.mars_session.proofs.laws.places_are_valid.Goals as goal
 
 pub returns : goal.returns
-returns c = places_are_valid c.turns_stay_valid.ensures c.edits_stay_valid.ensures
+returns c = places_are_valid turn_valid edit_valid

@@ -29,7 +29,7 @@ note_death-requires c =
     let q = c.index_mut-queue.result.now in
     let asked = subst (λ (s : State). IsProcess s c.args.warrior c.args.place) (sym c.self.view_is) c.requires in
     let at = queue_at i.params i.core.items i.queues.items i.next i.cycle i.turns i.deaths.items c.self.invariant.valid c.args.warrior asked.warrior q q c.index_mut-queue.ensures.value in
-    kill_room i.params i.core.items i.queues.items i.next i.cycle i.turns i.deaths.items c.self.invariant.valid c.args.warrior asked.warrior q q c.index_mut-queue.ensures.value (place_filled q.addresses c.args.place (omega (arith, asked.place, ap length at))) c.self.invariant.counted
+    λ _. kill_room i.params i.core.items i.queues.items i.next i.cycle i.turns i.deaths.items c.self.invariant.valid c.args.warrior asked.warrior q q c.index_mut-queue.ensures.value (place_filled q.addresses c.args.place (omega (arith, asked.place, ap length at))) c.self.invariant.counted
 
 pub invariant_of-self : goal.invariant_of-self
 invariant_of-self c =

@@ -1,7 +1,9 @@
 use Rattle.std.proofs.Common.{◌<◌, ◌-◌, ◌∙◌, ap, length, arith, true}
+use Rattle.mars_core.specs.Journal.{reverted}
+use Rattle.mars_session.specs.Journals.{entry_at}
 use Rattle.mars_session.specs.Whole.{Taped}
 use Rattle.mars_session.specs.History.{back}
-use Rattle.mars_session.proofs.Stepping.{journal_back, back_kept, leads_here, read_entry}
+use Rattle.mars_session.proofs.Stepping.{journal_back, back_kept, leads_here, gone_back, read_entry}
 use Rattle.mars_session.proofs.deltas.DeltaTapeTape.back.Goals as goal
 
 pub revert-requires : goal.revert-requires
@@ -9,18 +11,20 @@ revert-requires c =
     let s = c.self.inside in
     let inside : s.at - 1 < length s.entries.items = omega (arith, c.self.invariant.inside, c.if-self-gt0.true) in
     let read = read_entry s.entries.items (s.at - 1) c.index.result.now inside c.index.ensures in
-    rw read (leads_here s.entries.items s.at s.battle c.if-self-gt0.true c.self.invariant.here)
+    (reverted (entry_at s.entries.items (s.at - 1)).0 s.battle, rw read (leads_here s.entries.items s.at s.battle c.if-self-gt0.true c.self.invariant.here))
 
 pub invariant_of-self : goal.invariant_of-self
 invariant_of-self c =
     let s = c.self.inside in
     let inside : s.at - 1 < length s.entries.items = omega (arith, c.self.invariant.inside, c.if-self-gt0.true) in
     let read = read_entry s.entries.items (s.at - 1) c.index.result.now inside c.index.ensures in
-    rw (c.revert.ensures, read) (back_kept s.entries.items s.at s.battle c.if-self-gt0.true c.self.invariant)
+    let is = gone_back s.entries.items s.at s.battle c.revert.new.self c.index.result.now.0 c.if-self-gt0.true c.self.invariant.here read c.revert.ensures in
+    rw is (back_kept s.entries.items s.at s.battle c.if-self-gt0.true c.self.invariant)
 
 pub returns-then-self-gt0 : goal.returns-then-self-gt0
 returns-then-self-gt0 c =
     let s = c.self.inside in
     let inside : s.at - 1 < length s.entries.items = omega (arith, c.self.invariant.inside, c.if-self-gt0.true) in
     let read = read_entry s.entries.items (s.at - 1) c.index.result.now inside c.index.ensures in
-    rw (c.revert.ensures, read) (journal_back true s.entries.items s.at s.battle c.if-self-gt0.true c.self.invariant ∙ ap (λ (t : Taped). back t.history) c.self.view_is)
+    let is = gone_back s.entries.items s.at s.battle c.revert.new.self c.index.result.now.0 c.if-self-gt0.true c.self.invariant.here read c.revert.ensures in
+    rw is (journal_back true s.entries.items s.at s.battle c.if-self-gt0.true c.self.invariant ∙ ap (λ (t : Taped). back t.history) c.self.view_is)

@@ -1,7 +1,9 @@
 use Rattle.std.proofs.Common.{◌<◌, ◌∙◌, ap, length, arith, true}
+use Rattle.mars_core.specs.Journal.{applied}
+use Rattle.mars_session.specs.Journals.{entry_at}
 use Rattle.mars_session.specs.Whole.{Taped}
 use Rattle.mars_session.specs.History.{forward}
-use Rattle.mars_session.proofs.Stepping.{journal_forward, forward_kept, leads_on, read_entry}
+use Rattle.mars_session.proofs.Stepping.{journal_forward, forward_kept, leads_on, gone_on, read_entry}
 use Rattle.mars_session.proofs.deltas.DeltaTapeTape.forward.Goals as goal
 
 pub apply-requires : goal.apply-requires
@@ -9,18 +11,20 @@ apply-requires c =
     let s = c.self.inside in
     let inside : s.at < length s.entries.items = omega (arith, c.if-self-len.true, c.len.ensures, s.entries.ok.0) in
     let read = read_entry s.entries.items s.at c.index.result.now inside c.index.ensures in
-    rw read (leads_on s.entries.items s.at s.battle inside c.self.invariant.on)
+    (applied (entry_at s.entries.items s.at).0 s.battle, rw read (leads_on s.entries.items s.at s.battle inside c.self.invariant.on))
 
 pub invariant_of-self : goal.invariant_of-self
 invariant_of-self c =
     let s = c.self.inside in
     let inside : s.at < length s.entries.items = omega (arith, c.if-self-len.true, c.len.ensures, s.entries.ok.0) in
     let read = read_entry s.entries.items s.at c.index.result.now inside c.index.ensures in
-    rw (c.apply.ensures, read) (forward_kept s.entries.items s.at s.battle inside c.self.invariant)
+    let is = gone_on s.entries.items s.at s.battle c.apply.new.self c.index.result.now.0 inside c.self.invariant.on read c.apply.ensures in
+    rw is (forward_kept s.entries.items s.at s.battle inside c.self.invariant)
 
 pub returns-then-self-len : goal.returns-then-self-len
 returns-then-self-len c =
     let s = c.self.inside in
     let inside : s.at < length s.entries.items = omega (arith, c.if-self-len.true, c.len.ensures, s.entries.ok.0) in
     let read = read_entry s.entries.items s.at c.index.result.now inside c.index.ensures in
-    rw (c.apply.ensures, read) (journal_forward true s.entries.items s.at s.battle inside c.self.invariant ∙ ap (λ (t : Taped). forward t.history) c.self.view_is)
+    let is = gone_on s.entries.items s.at s.battle c.apply.new.self c.index.result.now.0 inside c.self.invariant.on read c.apply.ensures in
+    rw is (journal_forward true s.entries.items s.at s.battle inside c.self.invariant ∙ ap (λ (t : Taped). forward t.history) c.self.view_is)

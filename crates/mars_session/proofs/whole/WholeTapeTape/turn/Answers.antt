@@ -2,7 +2,7 @@ use Rattle.std.proofs.Common.{◌<◌, ◌+◌, length, ◌∙◌, ap, arith}
 use Rattle.mars_core.specs.Turn.{turn_of}
 use Rattle.mars_session.specs.History.{append}
 use Rattle.mars_session.specs.Whole.{Taped, kept_at}
-use Rattle.mars_core.specs.Facts.{shape-turn_of}
+use Rattle.mars_core.proofs.CallerLemmas.{shape-turn_of}
 use Rattle.mars_session.proofs.Copying.{whole_append, whole_more}
 use Rattle.mars_session.proofs.whole.WholeTapeTape.turn.Goals as goal
 

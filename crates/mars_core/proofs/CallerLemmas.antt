@@ -1,14 +1,21 @@
--- What the layers above know of turns and edits, whose definitions they don't see into.
+-- What the layers above may cite of turns, edits and records, whose definitions they don't see into.
 use Rattle.std.specs.Prelude.{◌≡◌, ℕ, ◌+◌, ◌≤◌, Option, None, Some, refl, List, [], ◌∷◌, remove, slice_set}
-use Rattle.std.proofs.Common.{arith}
+use Rattle.std.proofs.Common.{arith, sym, ◌∙◌}
 use Rattle.std.proofs.lemmas.List.{length-set}
 use Rattle.mars_core.specs.State.{State, moved_clock, live_from, advanced, queue_of}
 use Rattle.mars_core.specs.Turn.{executed, turn_of}
 use Rattle.mars_core.specs.Edit.{left_of, killed, edited}
+use Rattle.mars_core.specs.Leads.{Leads}
 use Rattle.mars_core.specs.Shape.{SameShape}
+use Rattle.mars_core.specs.declared.journal.Atom.{Atom}
 use Rattle.mars_core.specs.declared.journal.Edit.{Edit}
 use Rattle.mars_core.specs.declared.journal.Edit.TheVariants as edit
 use Rattle.mars_core.specs.declared.queues.Clock.{Clock}
+-- turns and edits of a valid state are valid, and a record gives back the states that it leads from and to
+pub use Rattle.mars_core.proofs.Edits.{edit_valid}
+pub use Rattle.mars_core.proofs.Restored.{record_reverted}
+pub use Rattle.mars_core.proofs.Rewritten.{record_applied}
+pub use Rattle.mars_core.proofs.Turns.{turn_valid}
 
 -- one cycle more, or none
 abbrev pub OneMore : ℕ → ℕ → Type 0
@@ -72,3 +79,11 @@ shape-edited s (edit.SetCell a c) = record { params = refl; warriors = refl }
 shape-edited s (edit.MoveProcess w i a) = record { params = refl; warriors = length-set s.queues w _ }
 shape-edited s (edit.KillProcess w i) = shape-left_of s w (remove (queue_of s.queues w) i)
 shape-edited s (edit.Spawn w a) = record { params = refl; warriors = length-set s.queues w _ }
+
+-- a record leads to a state from only one
+pub one_before : (s t : State) (atom : Atom) (here : State) → Leads s atom here → Leads t atom here → s ≡ t
+one_before s t atom here first second = sym (record_reverted s atom here first) ∙ record_reverted t atom here second
+
+-- a record leads from a state to only one
+pub one_after : (s t : State) (atom : Atom) (here : State) → Leads here atom s → Leads here atom t → s ≡ t
+one_after s t atom here first second = sym (record_applied here atom s first) ∙ record_applied here atom t second

@@ -1,7 +1,7 @@
 use Rattle.std.proofs.Common.{◌≡◌, ◌-◌, length, ap, arith, sym, ◌∙◌, refl}
 use Rattle.mars_core.specs.Queue.{Queue}
 use Rattle.mars_core.proofs.QueueSteps.{rotated_back, length_left, taken_is}
-use Rattle.mars_core.proofs.queues.ProcessQueue.remove.Goals as goal
+use Rattle.mars_core.proofs.queues.ProcessQueue.take_between.Goals as goal
 
 pub rotate-requires-2-clause-count : goal.rotate-requires-2-clause-count
 rotate-requires-2-clause-count c =
