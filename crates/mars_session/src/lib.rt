@@ -16,11 +16,11 @@
 
 mod calls;
 mod commands;
-mod copies;
 mod deltas;
 pub mod laws;
 mod moves;
 mod sessions;
+mod snapshots;
 mod tapes;
 mod whole;
 

@@ -20,7 +20,7 @@ pub struct PoorTape<T: Tape> {
 
 impl<T: Tape> Model for PoorTape<T> {
     ghost use Rattle.std.specs.Prelude.{◌≤◌};
-    ghost use Rattle.mars_session.specs.Whole.{Taped};
+    ghost use Rattle.mars_session.specs.Tapes.{Taped};
 
     ghost Value = { Taped };
 

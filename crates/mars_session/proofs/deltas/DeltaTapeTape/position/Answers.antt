@@ -1,5 +1,5 @@
 use Rattle.std.proofs.Common.{◌∙◌, ap, sym, true}
-use Rattle.mars_session.specs.Whole.{Taped}
+use Rattle.mars_session.specs.Tapes.{Taped}
 use Rattle.mars_session.specs.History.{position_of}
 use Rattle.mars_session.proofs.Stepping.{journal_position}
 use Rattle.mars_session.proofs.deltas.DeltaTapeTape.position.Goals as goal
