@@ -1,5 +1,5 @@
 //! A debugger's session over a tape.
-ghost use Rattle.std.specs.Prelude.{◌≡◌, ◌++◌, List, OnOk, OnErr, Result};
+ghost use Rattle.std.specs.Prelude.{◌≡◌, ◌++◌, ◌+◌, ◌≤◌, List, OnOk, OnErr, IsOk, Result, length, vec_len, vec_capacity};
 ghost use Rattle.mars_session.specs.declared.calls.Standing.{Standing};
 ghost use Rattle.mars_session.specs.declared.calls.Refusal.{Refusal};
 ghost use Rattle.mars_session.specs.Script.{SessionState, standing_of, IsScript, Answers};
@@ -160,10 +160,12 @@ impl<T: Tape> Session<T> {
         }
     }
 
-    /// Makes each call in order and appends its reply. Room for all replies is made first; where that is refused, nothing is done.
+    /// Makes each call in order and appends its reply. Room for all replies is made first, and it fails only where that is
+    /// wanting and refused; nothing is done then.
     pub fn apply_all(&mut self, calls: &[Call], out: &mut Vec<Reply>) -> Result<(), AllocError>
         ensures ok { OnOk result ((replies : List (Result Standing Refusal)) × (out.new.items ≡ out.old.items ++ replies) × IsScript self.old.limit calls.now self.old.history replies self.new.history) }
         ensures limit { self.new.limit ≡ self.old.limit }
+        ensures enough { vec_len out.old + length calls.now ≤ vec_capacity out.old → IsOk result }
         ensures err { OnErr result ((self.new ≡ self.old) × (out.new.items ≡ out.old.items)) }
     {
         out.reserve(calls.len())?;

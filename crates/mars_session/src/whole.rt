@@ -93,6 +93,22 @@ fn add_copies(
     Ok(())
 }
 
+/// Adds copies likewise. Where memory is refused, those that were added are given back.
+fn grow(alloc: Global, copies: &mut Vec<Snapshot>, at: usize, n: u64) -> Result<(), AllocError>
+    requires { at < vec_len copies.old }
+    ensures grown { IsGrown copies.old.items copies.new.items at }
+    ensures ok { OnOk result (n ≤ vec_len copies.new - (at + 1)) }
+    ensures enough { n ≤ vec_len copies.old - (at + 1) → IsOk result }
+    ensures err { OnErr result (vec_len copies.new ≡ vec_len copies.old) }
+{
+    let before = copies.len();
+    let added = add_copies(alloc, copies, at, n);
+    if added.is_err() {
+        copies.truncate(before);
+    }
+    added
+}
+
 impl WholeTape {
     /// A tape at the one, marked place of a battle; where memory is refused, the battle comes back.
     pub fn new(alloc: Global, battle: Battle) -> Result<Self, Battle>
@@ -141,7 +157,7 @@ impl Tape for WholeTape {
     }
 
     fn reserve(&mut self, n: u64) -> Result<(), AllocError> {
-        add_copies(self.alloc, &mut self.copies, self.at, n)
+        grow(self.alloc, &mut self.copies, self.at, n)
     }
 
     fn cut(&mut self) {
