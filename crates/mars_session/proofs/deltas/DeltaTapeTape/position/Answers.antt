@@ -1,11 +1,13 @@
-use Rattle.std.proofs.Common.{◌∙◌, sym, ap, true, arith}
+use Rattle.std.proofs.Common.{ap, true, arith}
 use Rattle.mars_session.specs.History.{position_of, following}
 use Rattle.mars_session.specs.Tapes.{Taped}
 use Rattle.mars_session.proofs.Stepping.{journal_position, journal_following}
 use Rattle.mars_session.proofs.deltas.DeltaTapeTape.position.Goals as goal
 
 pub returns-clause-value : goal.returns-clause-value
-returns-clause-value c = sym (journal_position true c.self.inside.entries.items c.self.inside.at c.self.inside.battle) ∙ ap (λ (t : Taped). position_of t.history) c.self.view_is
+returns-clause-value c =
+    let at = journal_position true c.self.inside.entries.items c.self.inside.at c.self.inside.battle in
+    omega (arith, at, ap (λ (t : Taped). position_of t.history) c.self.view_is)
 
 pub returns-clause-covers : goal.returns-clause-covers
 returns-clause-covers c =
