@@ -11,7 +11,7 @@
 //! as [`Tape`] says. [`WholeTape`] keeps a battle for each place, [`DeltaTape`] one battle and
 //! the records between places, each of which leads from its place to the next. Want of memory
 //! is answered by commands alone, before any change, and only where more places are wanted than
-//! follow the present one.
+//! the tape has room for, which is never less than follow the present one.
 #![tactic(auto)]
 
 mod calls;
