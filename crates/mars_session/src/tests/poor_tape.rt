@@ -31,7 +31,7 @@ impl<T: Tape> Model for PoorTape<T> {
 }
 
 /// How many places follow the present one.
-fn follow<T: Tape>(tape: &T) -> u64
+fn places_after<T: Tape>(tape: &T) -> u64
     ensures value { result ≡ following (T.history tape.now) }
     ensures covered { result ≤ T.room tape.now }
 {
@@ -43,7 +43,7 @@ impl<T: Tape> PoorTape<T> {
     pub fn new(tape: T, growths: u64) -> PoorTape<T>
         ensures { result.history ≡ T.history tape }
     {
-        let room = follow(&tape);
+        let room = places_after(&tape);
         PoorTape {
             tape,
             room,
@@ -106,11 +106,11 @@ impl<T: Tape> Tape for PoorTape<T> {
 
     fn back(&mut self) {
         self.tape.back();
-        self.room = follow(&self.tape);
+        self.room = places_after(&self.tape);
     }
 
     fn forward(&mut self) {
         self.tape.forward();
-        self.room = follow(&self.tape);
+        self.room = places_after(&self.tape);
     }
 }
