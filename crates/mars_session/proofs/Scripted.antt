@@ -94,7 +94,7 @@ all_moved limit zero call r move poor h end is t = (refl, cc)
 all_moved limit (suc n) call r move poor h end is t =
     one_moved limit n call r move poor h end (move h) (is (first poor) h) t (λ k u. all_moved limit n call r move (rest poor) k end is u)
 
-back_and_on : (limit n : ℕ) (up rp : List Bool) (h end : History) → Reached n h end → GoesBackAndOn limit n up rp h end
+back_and_on : (limit n : ℕ) (up rp : List Bool) (h end : History) → Reached n h end → GoesBackAndOn limit n up rp h (history_after limit (replicate n Undo) up end) end
 back_and_on limit n up rp h end (inl none) =
     rw (none.0, none.1) (record { undone = refl; state = refl; position = refl; redone = refl; same = refl })
 back_and_on limit n up rp h end (inr u) =

@@ -58,18 +58,21 @@ RefusalsChangeNothing = (limit : ℕ) (call : Call) (poor : Bool) (h : History) 
 abbrev pub accepted_count : List (Result Standing Refusal) → ℕ
 accepted_count replies = length (filter is_ok replies)
 
--- at end, so many calls of Undo are all accepted, and give back the state and the position of h; as many calls of Redo after them are all accepted, and give the very end
-pub record GoesBackAndOn (limit count : ℕ) (undo_poor redo_poor : List Bool) (h end : History) : Type 0 where
+-- so many calls of Undo, made at end, are all accepted, and lead back to the state and the position of h; as many calls of Redo are then all accepted, and lead to the very end
+pub record GoesBackAndOn (limit count : ℕ) (undo_poor redo_poor : List Bool) (h back end : History) : Type 0 where
   pub undone : IsTrue (list_all is_ok (replies_of limit (replicate count Undo) undo_poor end))
-  pub state : (history_after limit (replicate count Undo) undo_poor end).present.state ≡ h.present.state
-  pub position : position_of (history_after limit (replicate count Undo) undo_poor end) ≡ position_of h
-  pub redone : IsTrue (list_all is_ok (replies_of limit (replicate count Redo) redo_poor (history_after limit (replicate count Undo) undo_poor end)))
-  pub same : history_after limit (replicate count Redo) redo_poor (history_after limit (replicate count Undo) undo_poor end) ≡ end
+  pub state : back.present.state ≡ h.present.state
+  pub position : position_of back ≡ position_of h
+  pub redone : IsTrue (list_all is_ok (replies_of limit (replicate count Redo) redo_poor back))
+  pub same : history_after limit (replicate count Redo) redo_poor back ≡ end
 
--- so it is at the end of any list of commands, refused ones among them, with as many calls as commands were accepted
+-- after any list of commands, refused ones among them, it is so with as many calls as commands were accepted
 abbrev pub CommandsAreUndone : Type 0
 CommandsAreUndone = (limit : ℕ) (calls : List Call) (poor undo_poor redo_poor : List Bool) (h : History) → IsTrue (list_all is_command calls)
-    → GoesBackAndOn limit (accepted_count (replies_of limit calls poor h)) undo_poor redo_poor h (history_after limit calls poor h)
+    → let count = accepted_count (replies_of limit calls poor h) in
+    let end = history_after limit calls poor h in
+    let back = history_after limit (replicate count Undo) undo_poor end in
+    GoesBackAndOn limit count undo_poor redo_poor h back end
 
 -- from a marked place, redo after an accepted undo gives back the history
 abbrev pub RedoAfterUndo : Type 0
