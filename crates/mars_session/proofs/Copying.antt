@@ -5,49 +5,49 @@ use Rattle.std.proofs.Common.{Bool, nat_eq, ◌≡◌, ℕ, zero, suc, ◌+◌, 
 use Rattle.std.proofs.lemmas.List.{get_or-set_same, get_or-set_other, get_or_read, get_or_append_left, set-append_right, set-set, take_at}
 use Rattle.mars_core.specs.State.{State}
 use Rattle.mars_core.specs.Shape.{SameShape}
-use Rattle.mars_session.specs.declared.copies.Kept.{Kept}
+use Rattle.mars_session.specs.declared.snapshots.Snapshot.{Snapshot}
 use Rattle.mars_session.specs.History.{position_of, following, marked, append, step_forward, forward}
-use Rattle.mars_session.specs.Whole.{place_of, nowhere, kept_at, before_of, after_of, whole_history, IsWhole, IsGrown}
+use Rattle.mars_session.specs.Whole.{place_of, nowhere, snapshot_at, before_of, after_of, whole_history, IsWhole, IsGrown}
 
-before_length : (ks : List Kept) (n : ℕ) → length (before_of ks n) ≡ n
+before_length : (ks : List Snapshot) (n : ℕ) → length (before_of ks n) ≡ n
 before_length ks zero = refl
 before_length ks (suc n) = ap suc (before_length ks n)
 
-after_length : (ks : List Kept) (from n : ℕ) → length (after_of ks from n) ≡ n
+after_length : (ks : List Snapshot) (from n : ℕ) → length (after_of ks from n) ≡ n
 after_length ks from zero = refl
 after_length ks from (suc n) = ap suc (after_length ks (from + 1) n)
 
-pub whole_position : (ks : List Kept) (at len : ℕ) → position_of (whole_history ks at len) ≡ at
+pub whole_position : (ks : List Snapshot) (at len : ℕ) → position_of (whole_history ks at len) ≡ at
 whole_position ks at len = before_length ks at
 
-pub whole_following : (ks : List Kept) (at len : ℕ) → following (whole_history ks at len) ≡ len - (at + 1)
+pub whole_following : (ks : List Snapshot) (at len : ℕ) → following (whole_history ks at len) ≡ len - (at + 1)
 whole_following ks at len = after_length ks (at + 1) (len - (at + 1))
 
 -- copies that agree make the same places
-before_same : (ks js : List Kept) (n : ℕ) → ((k : ℕ) → k < n → kept_at js k ≡ kept_at ks k) → before_of js n ≡ before_of ks n
+before_same : (ks js : List Snapshot) (n : ℕ) → ((k : ℕ) → k < n → snapshot_at js k ≡ snapshot_at ks k) → before_of js n ≡ before_of ks n
 before_same ks js zero h = refl
 before_same ks js (suc n) h =
-    let here : kept_at js n ≡ kept_at ks n = h n (omega arith) in
+    let here : snapshot_at js n ≡ snapshot_at ks n = h n (omega arith) in
     rw (here, before_same ks js n (λ k l. h k (omega arith))) refl
 
-after_same : (ks js : List Kept) (from n : ℕ) → ((k : ℕ) → from ≤ k → k < from + n → kept_at js k ≡ kept_at ks k) → after_of js from n ≡ after_of ks from n
+after_same : (ks js : List Snapshot) (from n : ℕ) → ((k : ℕ) → from ≤ k → k < from + n → snapshot_at js k ≡ snapshot_at ks k) → after_of js from n ≡ after_of ks from n
 after_same ks js from zero h = refl
 after_same ks js from (suc n) h =
-    let here : kept_at js from ≡ kept_at ks from = h from (omega arith) (omega arith) in
+    let here : snapshot_at js from ≡ snapshot_at ks from = h from (omega arith) (omega arith) in
     rw (here, after_same ks js (from + 1) n (λ k l m. h k (omega arith) (omega arith))) refl
 
-pub whole_same : (ks js : List Kept) (at len : ℕ) → at < len → ((k : ℕ) → k < len → kept_at js k ≡ kept_at ks k) → whole_history js at len ≡ whole_history ks at len
+pub whole_same : (ks js : List Snapshot) (at len : ℕ) → at < len → ((k : ℕ) → k < len → snapshot_at js k ≡ snapshot_at ks k) → whole_history js at len ≡ whole_history ks at len
 whole_same ks js at len l h =
-    let here : kept_at js at ≡ kept_at ks at = h at l in
+    let here : snapshot_at js at ≡ snapshot_at ks at = h at l in
     rw (here, before_same ks js at (λ k m. h k (omega arith)), after_same ks js (at + 1) (len - (at + 1)) (λ k m n. h k (omega arith))) refl
 
-pub whole_grown : (ks js : List Kept) (at len : ℕ) → at < len → len ≤ length ks → IsGrown ks js at → whole_history js at len ≡ whole_history ks at len
+pub whole_grown : (ks js : List Snapshot) (at len : ℕ) → at < len → len ≤ length ks → IsGrown ks js at → whole_history js at len ≡ whole_history ks at len
 whole_grown ks js at len l m g = whole_same ks js at len l (λ k n. g.kept k (omega arith))
 
 -- the present copy is marked
-pub whole_marked : (ks : List Kept) (at len : ℕ) → at < length ks → whole_history (set ks at (record { battle = (kept_at ks at).battle; mark = true })) at len ≡ marked (whole_history ks at len)
+pub whole_marked : (ks : List Snapshot) (at len : ℕ) → at < length ks → whole_history (set ks at (record { battle = (snapshot_at ks at).battle; mark = true })) at len ≡ marked (whole_history ks at len)
 whole_marked ks at len l =
-    let kept : Kept = record { battle = (kept_at ks at).battle; mark = true } in
+    let kept : Snapshot = record { battle = (snapshot_at ks at).battle; mark = true } in
     rw (
       get_or-set_same ks at kept nowhere l,
       before_same ks (set ks at kept) at (λ k m. get_or-set_other ks at k kept nowhere (omega arith)),
@@ -55,51 +55,51 @@ whole_marked ks at len l =
     ) refl
 
 -- one copy more is the present place
-pub whole_append : (ks : List Kept) (at len : ℕ) (s : State) → at + 1 < length ks
+pub whole_append : (ks : List Snapshot) (at len : ℕ) (s : State) → at + 1 < length ks
     → whole_history (set ks (at + 1) (record { battle = s; mark = false })) (at + 1) (at + 1 + 1) ≡ append (whole_history ks at len) s
 whole_append ks at len s l =
-    let kept : Kept = record { battle = s; mark = false } in
+    let kept : Snapshot = record { battle = s; mark = false } in
     let none : at + 1 + 1 - (at + 1 + 1) ≡ 0 = omega arith in
-    let same : kept_at (set ks (at + 1) kept) at ≡ kept_at ks at = get_or-set_other ks (at + 1) at kept nowhere (omega arith) in
+    let same : snapshot_at (set ks (at + 1) kept) at ≡ snapshot_at ks at = get_or-set_other ks (at + 1) at kept nowhere (omega arith) in
     rw (get_or-set_same ks (at + 1) kept nowhere l, none, add-one at)
     (rw (rw (add-one at) at same, before_same ks (set ks (suc at) kept) at (λ k m. get_or-set_other ks (suc at) k kept nowhere (omega arith))) refl)
 
 -- the next place
-forward_from : (ks : List Kept) (at n : ℕ) → step_forward (before_of ks at) (place_of (kept_at ks at)) (after_of ks (at + 1) (suc n))
-    ≡ record { before = before_of ks (suc at); present = place_of (kept_at ks (at + 1)); after = after_of ks (at + 1 + 1) n }
+forward_from : (ks : List Snapshot) (at n : ℕ) → step_forward (before_of ks at) (place_of (snapshot_at ks at)) (after_of ks (at + 1) (suc n))
+    ≡ record { before = before_of ks (suc at); present = place_of (snapshot_at ks (at + 1)); after = after_of ks (at + 1 + 1) n }
 forward_from ks at n = refl
 
-pub whole_forward : (ks : List Kept) (at len : ℕ) → at + 1 < len → whole_history ks (at + 1) len ≡ forward (whole_history ks at len)
+pub whole_forward : (ks : List Snapshot) (at len : ℕ) → at + 1 < len → whole_history ks (at + 1) len ≡ forward (whole_history ks at len)
 whole_forward ks at len l =
     let more : len - (at + 1) ≡ suc (len - (at + 1 + 1)) = omega arith in
     rw (more, add-one at) refl
 
 -- the element after a front part is written
-pub next_written : (front back : List Kept) (x : Kept) (n : ℕ) → length front ≡ n → front ++ set back 0 x ≡ set (front ++ back) n x
+pub next_written : (front back : List Snapshot) (x : Snapshot) (n : ℕ) → length front ≡ n → front ++ set back 0 x ≡ set (front ++ back) n x
 next_written front back x n e =
     let none : n - n ≡ 0 = omega arith in
     sym (set-append_right front back n n x e (omega arith) ∙ ap (λ k. front ++ set back k x) none)
 
 -- a copy that was read, of the front part
-pub read_of_front : (front back : List Kept) (x : Kept) (at : ℕ) → at < length front → x ≡ get_or front at x → x ≡ kept_at (front ++ back) at
+pub read_of_front : (front back : List Snapshot) (x : Snapshot) (at : ℕ) → at < length front → x ≡ get_or front at x → x ≡ snapshot_at (front ++ back) at
 read_of_front front back x at l e = get_or_read front at x l e nowhere ∙ sym (get_or_append_left front back nowhere at l)
 
 -- a slice that was lent out of a Vec comes back as it was left
-pub refilled : (n : ℕ) (xs ys : List Kept) → length ys ≡ n → take n (ys ++ drop (length ys) xs) ≡ ys
+pub refilled : (n : ℕ) (xs ys : List Snapshot) → length ys ≡ n → take n (ys ++ drop (length ys) xs) ≡ ys
 refilled n xs ys e = take_at ys (drop (length ys) xs) n e
 
 -- the copy after the present one was made the present one, and then changed
-pub changed_on : (n : ℕ) (items new : List Kept) (at : ℕ) (s t battle : State) (kept : Kept) → at + 1 < length items → length new ≡ n
+pub changed_on : (n : ℕ) (items new : List Snapshot) (at : ℕ) (s t battle : State) (kept : Snapshot) → at + 1 < length items → length new ≡ n
     → new ≡ set items (at + 1) (record { battle = s; mark = false })
     → kept ≡ get_or (take n (new ++ drop (length new) items)) (at + 1) kept → (kept.battle ≡ s → battle ≡ t)
     → set (take n (new ++ drop (length new) items)) (at + 1) (record { battle = battle; mark = kept.mark }) ≡ set items (at + 1) (record { battle = t; mark = false })
 changed_on n items new at s t battle kept l len is read change =
-    let x : Kept = record { battle = s; mark = false } in
+    let x : Snapshot = record { battle = s; mark = false } in
     let filled : take n (new ++ drop (length new) items) ≡ set items (at + 1) x = refilled n items new len ∙ is in
     let read_x : kept ≡ get_or (set items (at + 1) x) (at + 1) kept = rw filled at read in
     let same : kept ≡ x = read_x ∙ get_or-set_same items (at + 1) x kept l in
-    let now : battle ≡ t = change (ap (λ (k : Kept). k.battle) same) in
-    rw (filled, ap (λ (k : Kept). k.mark) same, now) (set-set items (at + 1) x (record { battle = t; mark = false }))
+    let now : battle ≡ t = change (ap (λ (k : Snapshot). k.battle) same) in
+    rw (filled, ap (λ (k : Snapshot). k.mark) same, now) (set-set items (at + 1) x (record { battle = t; mark = false }))
 
 shape_sym : (s t : State) → SameShape s t → SameShape t s
 shape_sym s t h = record { params = sym h.params; warriors = sym h.warriors }
@@ -108,21 +108,21 @@ shape_trans : (s t u : State) → SameShape s t → SameShape t u → SameShape 
 shape_trans s t u h k = record { params = h.params ∙ k.params; warriors = h.warriors ∙ k.warriors }
 
 -- where one copy is made again, each has the shape that all had
-shape_set : (ks : List Kept) (n i : ℕ) (x : Kept) (u : State) (b : Bool) → nat_eq i n ≡ b → n < length ks → SameShape x.battle u → SameShape (kept_at ks i).battle u
-    → SameShape (kept_at (set ks n x) i).battle u
+shape_set : (ks : List Snapshot) (n i : ℕ) (x : Snapshot) (u : State) (b : Bool) → nat_eq i n ≡ b → n < length ks → SameShape x.battle u → SameShape (snapshot_at ks i).battle u
+    → SameShape (snapshot_at (set ks n x) i).battle u
 shape_set ks n i x u true e l h k =
     let same : i ≡ n = eqb-true i n e in
     rw same (rw (get_or-set_same ks n x nowhere l) h)
 shape_set ks n i x u false e l h k = rw (get_or-set_other ks n i x nowhere (eqb-false i n e)) k
 
 -- the tape stands at the copy after the present one, which has the same shape
-pub whole_more : (ks : List Kept) (at len : ℕ) (s : State) → IsWhole ks at len → at + 1 < length ks → SameShape s (kept_at ks at).battle
+pub whole_more : (ks : List Snapshot) (at len : ℕ) (s : State) → IsWhole ks at len → at + 1 < length ks → SameShape s (snapshot_at ks at).battle
     → IsWhole (set ks (at + 1) (record { battle = s; mark = false })) (at + 1) (at + 1 + 1)
 whole_more ks at len s w l h =
-    let x : Kept = record { battle = s; mark = false } in
-    let u = (kept_at ks at).battle in
+    let x : Snapshot = record { battle = s; mark = false } in
+    let u = (snapshot_at ks at).battle in
     let count = length-set ks (at + 1) x in
-    let each : (i : ℕ) → i < length (set ks (at + 1) x) → SameShape (kept_at (set ks (at + 1) x) i).battle u =
+    let each : (i : ℕ) → i < length (set ks (at + 1) x) → SameShape (snapshot_at (set ks (at + 1) x) i).battle u =
     λ i m. shape_set ks (at + 1) i x u (nat_eq i (at + 1)) refl l h (w.shapes i at (omega (arith, count, m)) (omega arith)) in
     record {
       present = omega arith;

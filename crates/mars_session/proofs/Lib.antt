@@ -4,6 +4,7 @@ pub mod Copying
 pub mod Keeping
 pub mod Limits
 pub mod Places
+pub mod Scripted
 pub mod Scripts
 pub mod Stepping
 pub mod Turns

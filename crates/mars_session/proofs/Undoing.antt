@@ -82,10 +82,10 @@ pub redo_undo : RedoAfterUndo
 redo_undo h back m u = redo_undo_from h.before h.present h.after h back u (rw m refl)
 
 -- an accepted command reaches states
-record Accepted (h new : History) : Type 0 where
-  first : State
-  others : List State
-  is : new ≡ accepted h first others
+pub record Accepted (h new : History) : Type 0 where
+  pub first : State
+  pub others : List State
+  pub is : new ≡ accepted h first others
 
 accepted_room : (h : History) (states : States) (o : Option Refusal) → IsOk (appended h states o).reply → Accepted h (appended h states o).history
 accepted_room h states (Some r) ok = absurd (let e : false ≡ true = ok in cc)
@@ -98,7 +98,7 @@ accepted_command limit bound poor h (Ok states) ok = accepted_room h states (no_
 accepted_edit : (limit : ℕ) (poor : Bool) (h : History) (e : Edit) → IsOk (commanded limit 1 poor h (edit_states e h.present.state)).reply → Accepted h (commanded limit 1 poor h (edit_states e h.present.state)).history
 accepted_edit limit poor h e ok = accepted_command limit 1 poor h (edit_states e h.present.state) ok
 
-accepted_call : (limit : ℕ) (call : Call) (poor : Bool) (h : History) → IsTrue (is_command call) → IsOk (outcome limit call poor h).reply → Accepted h (outcome limit call poor h).history
+pub accepted_call : (limit : ℕ) (call : Call) (poor : Bool) (h : History) → IsTrue (is_command call) → IsOk (outcome limit call poor h).reply → Accepted h (outcome limit call poor h).history
 accepted_call limit Undo poor h c ok = absurd (let e : false ≡ true = c in cc)
 accepted_call limit Redo poor h c ok = absurd (let e : false ≡ true = c in cc)
 accepted_call limit (Goto t) poor h c ok = absurd (let e : false ≡ true = c in cc)
@@ -112,12 +112,12 @@ accepted_call limit (Kill w i) poor h c ok = accepted_edit limit poor h (edits.K
 accepted_call limit (Spawn w address) poor h c ok = accepted_edit limit poor h (edits.Spawn w address) ok
 
 -- from the end, n undos lead to h and the places after it, and n redos lead from there to the end
-record Undone (n : ℕ) (h end : History) : Type 0 where
-  follow : List Place
-  back : times n undo end ≡ Some (base h follow)
-  again : times n redo (base h follow) ≡ Some end
+pub record Undone (n : ℕ) (h end : History) : Type 0 where
+  pub follow : List Place
+  pub back : times n undo end ≡ Some (base h follow)
+  pub again : times n redo (base h follow) ≡ Some end
 
-one_undone : (n : ℕ) (h end : History) (s : State) (ss : List State) → Undone n (accepted h s ss) end → Undone (suc n) h end
+pub one_undone : (n : ℕ) (h end : History) (s : State) (ss : List State) → Undone n (accepted h s ss) end → Undone (suc n) h end
 one_undone n h end s ss u = record {
   follow = command_places s ss ++ u.follow;
   back = times_more n undo end ∙ ap (option_and_then undo) u.back ∙ undo_accepted h s ss u.follow;

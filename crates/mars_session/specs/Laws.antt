@@ -1,13 +1,16 @@
 -- Laws over the definitions alone: what undo and redo give back, and what holds along a tape.
-use Rattle.std.specs.Prelude.{All, ◌≡◌, ◌≤◌, ◌<◌, ◌+◌, ◌↔◌, ◌⊎◌, ◌==◌, ◌++◌, ℕ, zero, suc, Bool, true, false, List, [], ◌∷◌, length, take, Option, None, Some, Ok, IsTrue, IsOk, IsSome, IsSomeAnd, option_and_then, option_map}
+use Rattle.std.specs.Prelude.{All, ◌≡◌, ◌≤◌, ◌<◌, ◌+◌, ◌↔◌, ◌⊎◌, ◌==◌, ◌++◌, ℕ, zero, suc, Bool, true, false, List, [], ◌∷◌, length, take, replicate, Option, None, Some, Result, Ok, is_ok, IsTrue, IsOk, IsErr, IsSome, IsSomeAnd, option_and_then, option_map}
+use Rattle.std.specs.List.{filter, list_all}
 use Rattle.mars_core.specs.State.{State}
 use Rattle.mars_core.specs.Validity.{IsValid}
 use Rattle.mars_session.specs.declared.calls.Call.{Call}
 use Rattle.mars_session.specs.declared.calls.Call.TheVariants.{Step, Run, Until, SetCell, Fill, MoveProcess, Kill, Spawn, Undo, Redo, Goto}
+use Rattle.mars_session.specs.declared.calls.Standing.{Standing}
+use Rattle.mars_session.specs.declared.calls.Refusal.{Refusal}
 use Rattle.mars_session.specs.History.{Place, History, beginning, places, position_of, last_of, accepted, undo, redo, goto, first_turns, last_turns}
 use Rattle.mars_session.specs.Commands.{States, in_cycle, until_states}
 use Rattle.mars_session.specs.Tapes.{IsTape}
-use Rattle.mars_session.specs.Script.{outcome, history_after, first, rest}
+use Rattle.mars_session.specs.Script.{outcome, replies_of, history_after, first, rest}
 
 -- a move so many times, where each time it is accepted
 abbrev pub times : ℕ → (History → Option History) → History → Option History
@@ -46,6 +49,30 @@ abbrev pub RedosGiveAgain : Type 0
 RedosGiveAgain = (limit : ℕ) (calls : List Call) (poor : List Bool) (h back : History) → AllAccepted limit calls poor h
     → times (length calls) undo (history_after limit calls poor h) ≡ Some back
     → times (length calls) redo back ≡ Some (history_after limit calls poor h)
+
+-- a refused call, want of memory included, changes nothing
+abbrev pub RefusalsChangeNothing : Type 0
+RefusalsChangeNothing = (limit : ℕ) (call : Call) (poor : Bool) (h : History) → IsErr (outcome limit call poor h).reply → (outcome limit call poor h).history ≡ h
+
+-- how many of the calls were accepted
+abbrev pub accepted_count : List (Result Standing Refusal) → ℕ
+accepted_count replies = length (filter is_ok replies)
+
+-- so many calls of Undo, made at end, are all accepted, and lead back to the state and the position of h; as many calls of Redo are then all accepted, and lead to the very end
+pub record GoesBackAndOn (limit count : ℕ) (undo_poor redo_poor : List Bool) (h back end : History) : Type 0 where
+  pub undone : IsTrue (list_all is_ok (replies_of limit (replicate count Undo) undo_poor end))
+  pub state : back.present.state ≡ h.present.state
+  pub position : position_of back ≡ position_of h
+  pub redone : IsTrue (list_all is_ok (replies_of limit (replicate count Redo) redo_poor back))
+  pub same : history_after limit (replicate count Redo) redo_poor back ≡ end
+
+-- after any list of commands, refused ones among them, it is so with as many calls as commands were accepted
+abbrev pub CommandsAreUndone : Type 0
+CommandsAreUndone = (limit : ℕ) (calls : List Call) (poor undo_poor redo_poor : List Bool) (h : History) → IsTrue (list_all is_command calls)
+    → let count = accepted_count (replies_of limit calls poor h) in
+    let end = history_after limit calls poor h in
+    let back = history_after limit (replicate count Undo) undo_poor end in
+    GoesBackAndOn limit count undo_poor redo_poor h back end
 
 -- from a marked place, redo after an accepted undo gives back the history
 abbrev pub RedoAfterUndo : Type 0

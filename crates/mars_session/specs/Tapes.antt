@@ -1,11 +1,16 @@
--- Which histories come about: each place but the first is one turn or edit after the one before it.
-use Rattle.std.specs.Prelude.{◌≡◌, true, false, List, [], ◌∷◌, None, ◌⊎◌}
+-- What a tape is seen as, and which histories come about: each place but the first is one turn or edit after the one before it.
+use Rattle.std.specs.Prelude.{◌≡◌, ℕ, true, false, List, [], ◌∷◌, None, ◌⊎◌}
 use Rattle.mars_core.specs.State.{State, is_over_of}
 use Rattle.mars_core.specs.Turn.{turn_of}
 use Rattle.mars_core.specs.Edit.{edit_fault, edited}
 use Rattle.mars_core.specs.Validity.{IsValid}
 use Rattle.mars_core.specs.declared.journal.Edit.{Edit}
 use Rattle.mars_session.specs.History.{Place, History, rewound, last_place}
+
+-- a tape: its history, and how many places may be appended once what follows is dropped
+pub record Taped : Type 0 where
+  pub history : History
+  pub room : ℕ
 
 -- t is the turn of s, or what an edit makes of it
 abbrev pub Follows : State → State → Type 0

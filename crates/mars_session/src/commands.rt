@@ -1,7 +1,9 @@
 //! The commands, over any tape.
 ghost use Rattle.std.specs.Prelude.{◌≡◌, ℕ, ◌+◌, ◌≤◌, ◌<◌, [], Some, None, true, false, IfErr, OnOk, OnErr, MatchOption, length, ◌*◌, ◌-◌};
 ghost use Rattle.mars_session.specs.History.{History, position_of, last_of, marked, cut, append_all, accepted};
-ghost use Rattle.mars_session.specs.Commands.{command_limit, turns_until, stops_at, fills, refusal_of, edit_states};
+ghost use Rattle.mars_session.specs.Commands.{command_limit, turns_until, stops_at, until_bound, cells_between, fills, refusal_of, edit_states};
+ghost use Rattle.mars_core.specs.State.{is_over_of};
+ghost use Rattle.mars_core.specs.Turn.{turn_of};
 ghost use Rattle.mars_core.specs.Edit.{edit_fault};
 ghost use Rattle.mars_session.specs.Script.{standing_of, no_room, is_memory, is_poor, commanded, IsAnswer};
 
@@ -10,7 +12,7 @@ use crate::tapes::Tape;
 use mars_cell::Cell;
 use mars_core::{Battle, Edit, EditFault};
 
-/// The most turns or cells of one command, and the highest limit of a history.
+/// The most turns or cells of one command.
 pub const COMMAND_LIMIT: u64 = 1_000_000;
 
 /// Where a tape stands.
@@ -28,11 +30,13 @@ pub fn standing<T: Tape>(tape: &T) -> Standing
     }
 }
 
-/// Makes room for the places of a command, marks the present one and drops what follows.
+/// Makes room for the places of a command, marks the present one and drops what follows. Want of memory is answered only
+/// where the room is below the bound.
 fn prepare<T: Tape>(tape: &mut T, limit: u64, bound: u64) -> Result<(), Refusal>
     requires { 1 ≤ bound }
     ensures room { OnOk result (no_room limit bound false (T.history tape.old) ≡ None) }
     ensures refused { IfErr result (λ r. no_room limit bound (is_memory r) (T.history tape.old) ≡ Some r) }
+    ensures memory { result ≡ Err Refusal.OutOfMemory → T.room tape.old < bound }
     ensures ok { OnOk result (T.history tape.new ≡ cut (marked (T.history tape.old))) }
     ensures reserved { OnOk result (bound ≤ T.room tape.new) }
     ensures err { OnErr result (T.history tape.new ≡ T.history tape.old) }
@@ -74,22 +78,40 @@ fn turn_until<T: Tape>(tape: &mut T, n: u64, cycle: Option<u64>)
     }
 }
 
-/// One turn.
-pub fn step<T: Tape>(tape: &mut T, limit: u64) -> Result<Standing, Refusal>
-    ensures { IsAnswer limit Call.Step (T.history tape.old) result (T.history tape.new) }
+/// Makes at least one turn and at most so many, up to the first place where they stop.
+fn make_turns<T: Tape>(
+    tape: &mut T,
+    limit: u64,
+    count: u64,
+    cycle: Option<u64>,
+) -> Result<Standing, Refusal>
+    requires some { 1 ≤ count }
+    requires runs { is_over_of (T.history tape.old).present.state ≡ false }
+    ensures answer { let next = turn_of (T.history tape.old).present.state in commanded limit count (is_poor result) (T.history tape.old) (Ok (next, turns_until (stops_at cycle) (count - 1) next)) ≡ record { history = T.history tape.new; reply = result } }
+    ensures memory { result ≡ Err Refusal.OutOfMemory → T.room tape.old < count }
 {
-    if tape.now().is_over() {
-        return Err(Refusal::Over);
-    }
-    prepare(tape, limit, 1)?;
+    prepare(tape, limit, count)?;
     tape.turn();
+    turn_until(tape, count - 1, cycle);
     tape.set_mark();
     Ok(standing(tape))
 }
 
+/// One turn.
+pub fn step<T: Tape>(tape: &mut T, limit: u64) -> Result<Standing, Refusal>
+    ensures answer { IsAnswer limit Call.Step (T.history tape.old) result (T.history tape.new) }
+    ensures memory { result ≡ Err Refusal.OutOfMemory → T.room tape.old < 1 }
+{
+    if tape.now().is_over() {
+        return Err(Refusal::Over);
+    }
+    make_turns(tape, limit, 1, None)
+}
+
 /// So many turns, or as many as there are.
 pub fn run<T: Tape>(tape: &mut T, limit: u64, n: u64) -> Result<Standing, Refusal>
-    ensures { IsAnswer limit (Call.Run n) (T.history tape.old) result (T.history tape.new) }
+    ensures answer { IsAnswer limit (Call.Run n) (T.history tape.old) result (T.history tape.new) }
+    ensures memory { result ≡ Err Refusal.OutOfMemory → T.room tape.old < n }
 {
     if n == 0 || n > COMMAND_LIMIT {
         return Err(Refusal::Count);
@@ -97,11 +119,7 @@ pub fn run<T: Tape>(tape: &mut T, limit: u64, n: u64) -> Result<Standing, Refusa
     if tape.now().is_over() {
         return Err(Refusal::Over);
     }
-    prepare(tape, limit, n)?;
-    tape.turn();
-    turn_until(tape, n - 1, None);
-    tape.set_mark();
-    Ok(standing(tape))
+    make_turns(tape, limit, n, None)
 }
 
 /// The product, where one command may make so many turns.
@@ -111,22 +129,14 @@ fn few_turns(cycles: u64, warriors: u64) -> Option<u64>
     cycles.checked_mul(warriors).filter(|n| *n <= COMMAND_LIMIT)
 }
 
-/// How many warriors there are, the dead counted too.
-fn warriors(battle: &Battle) -> u64
-    ensures value { result ≡ length battle.now.queues }
-    ensures some { 1 ≤ result }
-{
-    let _params = battle.params();
-    battle.warriors() as u64
-}
-
 /// Turns up to a cycle, or as many as there are.
 pub fn until<T: Tape>(tape: &mut T, limit: u64, cycle: u64) -> Result<Standing, Refusal>
-    ensures { IsAnswer limit (Call.Until cycle) (T.history tape.old) result (T.history tape.new) }
+    ensures answer { IsAnswer limit (Call.Until cycle) (T.history tape.old) result (T.history tape.new) }
+    ensures memory { result ≡ Err Refusal.OutOfMemory → T.room tape.old < until_bound cycle (T.history tape.old).present.state }
 {
     let now = tape.now();
     let reached = now.cycle() as u64;
-    let Some(n) = few_turns(cycle.saturating_sub(reached), warriors(now)) else {
+    let Some(n) = few_turns(cycle.saturating_sub(reached), now.warriors() as u64) else {
         return Err(Refusal::Count);
     };
     if now.is_over() {
@@ -135,11 +145,7 @@ pub fn until<T: Tape>(tape: &mut T, limit: u64, cycle: u64) -> Result<Standing, 
     if cycle <= reached {
         return Err(Refusal::CyclePassed(reached));
     }
-    prepare(tape, limit, n)?;
-    tape.turn();
-    turn_until(tape, n - 1, Some(cycle));
-    tape.set_mark();
-    Ok(standing(tape))
+    make_turns(tape, limit, n, Some(cycle))
 }
 
 /// The refusal for the fault of an edit.
@@ -158,7 +164,8 @@ fn refusal(fault: EditFault) -> Refusal
 
 /// One edit.
 pub fn edit<T: Tape>(tape: &mut T, limit: u64, edit: Edit) -> Result<Standing, Refusal>
-    ensures { commanded limit 1 (is_poor result) (T.history tape.old) (edit_states edit (T.history tape.old).present.state) ≡ record { history = T.history tape.new; reply = result } }
+    ensures answer { commanded limit 1 (is_poor result) (T.history tape.old) (edit_states edit (T.history tape.old).present.state) ≡ record { history = T.history tape.new; reply = result } }
+    ensures memory { result ≡ Err Refusal.OutOfMemory → T.room tape.old < 1 }
 {
     if let Some(fault) = tape.now().edit_fault(edit) {
         return Err(refusal(fault));
@@ -193,7 +200,8 @@ pub fn fill<T: Tape>(
     to: u64,
     cell: Cell,
 ) -> Result<Standing, Refusal>
-    ensures { IsAnswer limit (Call.Fill from to cell) (T.history tape.old) result (T.history tape.new) }
+    ensures answer { IsAnswer limit (Call.Fill from to cell) (T.history tape.old) result (T.history tape.new) }
+    ensures memory { result ≡ Err Refusal.OutOfMemory → T.room tape.old < cells_between from to }
 {
     if from <= to && to - from >= COMMAND_LIMIT {
         return Err(Refusal::Count);

@@ -22,7 +22,7 @@ pub struct DeltaTape {
 
 impl Model for DeltaTape {
     ghost use Rattle.std.specs.Prelude.{◌-◌, true, vec_capacity};
-    ghost use Rattle.mars_session.specs.Whole.{Taped};
+    ghost use Rattle.mars_session.specs.Tapes.{Taped};
     ghost use Rattle.mars_session.specs.Journals.{IsJournal, journal_history};
 
     ghost Value = { Taped };

@@ -1,5 +1,5 @@
 //! Laws of the history, over the definitions alone.
-ghost use Rattle.mars_session.specs.Laws.{UndosGiveBack, RedosGiveAgain, RedoAfterUndo, MovesKeepPlaces, UndoFindsNearest, RedoFindsNearest, GotoFindsFirst, CommandsAppend, BeginningIsTape, CallsKeepTapes, ScriptsKeepTapes, GotoBetween, TurnsAndCyclesRise, UntilArrives, CallsKeepLimit, PlacesAreValid};
+ghost use Rattle.mars_session.specs.Laws.{UndosGiveBack, RedosGiveAgain, RefusalsChangeNothing, CommandsAreUndone, RedoAfterUndo, MovesKeepPlaces, UndoFindsNearest, RedoFindsNearest, GotoFindsFirst, CommandsAppend, BeginningIsTape, CallsKeepTapes, ScriptsKeepTapes, GotoBetween, TurnsAndCyclesRise, UntilArrives, CallsKeepLimit, PlacesAreValid};
 
 /// After accepted commands as many undos are accepted, and give back the state and the position.
 pub fn undos_give_back()
@@ -9,6 +9,18 @@ pub fn undos_give_back()
 /// As many redos after those undos are accepted, and give the very history from before them.
 pub fn redos_give_again()
     ensures { RedosGiveAgain }
+{}
+
+/// A refused call, want of memory included, changes nothing.
+pub fn refusals_change_nothing()
+    ensures { RefusalsChangeNothing }
+{}
+
+/// After any commands, refused ones among them, as many calls of `Undo` as commands were accepted are all accepted, and give
+/// back the state and the position; as many calls of `Redo` after them are all accepted, and give the very history from
+/// after the commands.
+pub fn commands_are_undone()
+    ensures { CommandsAreUndone }
 {}
 
 /// From a marked place, redo after an accepted undo gives back the history.

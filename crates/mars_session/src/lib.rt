@@ -11,16 +11,16 @@
 //! as [`Tape`] says. [`WholeTape`] keeps a battle for each place, [`DeltaTape`] one battle and
 //! the records between places, each of which leads from its place to the next. Want of memory
 //! is answered by commands alone, before any change, and only where more places are wanted than
-//! follow the present one.
+//! the tape has room for, which is never less than follow the present one.
 #![tactic(auto)]
 
 mod calls;
 mod commands;
-mod copies;
 mod deltas;
 pub mod laws;
 mod moves;
 mod sessions;
+mod snapshots;
 mod tapes;
 mod whole;
 

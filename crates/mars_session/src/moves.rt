@@ -7,15 +7,24 @@ use crate::calls::{Refusal, Standing};
 use crate::commands::standing;
 use crate::tapes::Tape;
 
-/// Goes to the place of this number.
-fn go_to<T: Tape>(tape: &mut T, position: u64)
-    requires { position ≤ last_of (T.history tape.old) }
+/// Goes back to the place of this number.
+fn go_back<T: Tape>(tape: &mut T, position: u64)
+    requires { position ≤ position_of (T.history tape.old) }
     ensures places { rewound (T.history tape.new) ≡ rewound (T.history tape.old) }
     ensures position { position_of (T.history tape.new) ≡ position }
 {
     'back: while tape.position() > position {
         tape.back();
     }
+}
+
+/// Goes on to the place of this number.
+fn go_on<T: Tape>(tape: &mut T, position: u64)
+    requires after { position_of (T.history tape.old) ≤ position }
+    requires inside { position ≤ last_of (T.history tape.old) }
+    ensures places { rewound (T.history tape.new) ≡ rewound (T.history tape.old) }
+    ensures position { position_of (T.history tape.new) ≡ position }
+{
     'on: while tape.position() < position {
         tape.forward();
     }
@@ -32,7 +41,7 @@ pub fn undo<T: Tape>(tape: &mut T) -> Result<Standing, Refusal>
             return Ok(standing(tape));
         }
     }
-    go_to(tape, start);
+    go_on(tape, start);
     Err(Refusal::NothingToUndo)
 }
 
@@ -47,7 +56,7 @@ pub fn redo<T: Tape>(tape: &mut T) -> Result<Standing, Refusal>
             return Ok(standing(tape));
         }
     }
-    go_to(tape, start);
+    go_back(tape, start);
     Err(Refusal::NothingToRedo)
 }
 
@@ -63,7 +72,7 @@ pub fn goto<T: Tape>(tape: &mut T, turns: u64) -> Result<Standing, Refusal>
     ensures { moved (T.history tape.old) (Refusal.NotInHistory (first_turns (T.history tape.old)) (last_turns (T.history tape.old))) (goto turns (T.history tape.old)) ≡ record { history = T.history tape.new; reply = result } }
 {
     let start = tape.position();
-    go_to(tape, 0);
+    go_back(tape, 0);
     let first = turns_now(tape);
     'on: while turns_now(tape) != turns && tape.position() < tape.len() - 1 {
         tape.forward();
@@ -72,6 +81,6 @@ pub fn goto<T: Tape>(tape: &mut T, turns: u64) -> Result<Standing, Refusal>
     if last == turns {
         return Ok(standing(tape));
     }
-    go_to(tape, start);
+    go_back(tape, start);
     Err(Refusal::NotInHistory(first, last))
 }

@@ -1,5 +1,5 @@
 //! A debugger's session over a tape.
-ghost use Rattle.std.specs.Prelude.{◌≡◌, ◌++◌, List, OnOk, OnErr, Result};
+ghost use Rattle.std.specs.Prelude.{◌≡◌, ◌++◌, ◌+◌, ◌≤◌, List, OnOk, OnErr, IsOk, Result, length, vec_len, vec_capacity};
 ghost use Rattle.mars_session.specs.declared.calls.Standing.{Standing};
 ghost use Rattle.mars_session.specs.declared.calls.Refusal.{Refusal};
 ghost use Rattle.mars_session.specs.Script.{SessionState, standing_of, IsScript, Answers};
@@ -12,7 +12,10 @@ use mars_core::{Battle, Edit};
 use std::alloc::AllocError;
 use std::marker::Model;
 
-/// A session: a tape, and the most places after its first.
+/// A session: a tape, and the most places after its first. Each call answers where the session stands then, or the first of
+/// its refusals that applies; a refused call changes nothing. Commands are refused last by `JournalFull`, where their places
+/// would pass the limit, and by `OutOfMemory`, where the tape has less room than they may need and is refused memory. Moves
+/// take no memory. Numbers may be any of 64 bits.
 #[derive(Drop)]
 pub struct Session<T: Tape> {
     tape: T,
@@ -49,42 +52,45 @@ impl<T: Tape> Session<T> {
         commands::standing(&self.tape)
     }
 
-    /// Makes one turn.
+    /// Makes one turn. Refused where the battle is `Over`.
     pub fn step(&mut self) -> Result<Standing, Refusal>
         ensures { Answers self.old Call.Step result self.new }
     {
         commands::step(&mut self.tape, self.limit)
     }
 
-    /// Makes so many turns, or as many as there are.
+    /// Makes so many turns, 1 to 1,000,000 (else `Count`), or as many as there are. Refused where the battle is `Over`.
     pub fn run(&mut self, n: u64) -> Result<Standing, Refusal>
         ensures { Answers self.old (Call.Run n) result self.new }
     {
         commands::run(&mut self.tape, self.limit, n)
     }
 
-    /// Makes turns up to a cycle, or as many as there are.
+    /// Makes turns up to a cycle, or as many as there are. Refused by `Count` where the cycles to go times all warriors are over
+    /// 1,000,000, where the battle is `Over`, and by `CyclePassed` where the cycle has begun.
     pub fn until(&mut self, cycle: u64) -> Result<Standing, Refusal>
         ensures { Answers self.old (Call.Until cycle) result self.new }
     {
         commands::until(&mut self.tape, self.limit, cycle)
     }
 
-    /// Sets the cell at an address.
+    /// Sets the cell at an address. Refused by `Address` and by `FieldOutside`.
     pub fn set_cell(&mut self, address: u64, cell: Cell) -> Result<Standing, Refusal>
         ensures { Answers self.old (Call.SetCell address cell) result self.new }
     {
         commands::edit(&mut self.tape, self.limit, Edit::SetCell(address, cell))
     }
 
-    /// Sets the cells from one address to another, both included, one place each.
+    /// Sets the cells from one address to another, both included, one place each. Refused by `Count` over 1,000,000 cells, by
+    /// `Address`, also where the first is above the last, and by `FieldOutside`.
     pub fn fill(&mut self, from: u64, to: u64, cell: Cell) -> Result<Standing, Refusal>
         ensures { Answers self.old (Call.Fill from to cell) result self.new }
     {
         commands::fill(&mut self.tape, self.limit, from, to, cell)
     }
 
-    /// Moves a process of a warrior, by its place in the queue, to an address.
+    /// Moves a process of a warrior, by its place in the queue (0 is the front), to an address. Refused by `Address`,
+    /// `NoSuchWarrior` and `NoSuchProcess`.
     pub fn move_process(
         &mut self,
         warrior: u64,
@@ -100,7 +106,7 @@ impl<T: Tape> Session<T> {
         )
     }
 
-    /// Ends a process of a warrior, by its place in the queue.
+    /// Ends a process of a warrior, by its place in the queue (0 is the front). Refused by `NoSuchWarrior` and `NoSuchProcess`.
     pub fn kill(&mut self, warrior: u64, place: u64) -> Result<Standing, Refusal>
         ensures { Answers self.old (Call.Kill warrior place) result self.new }
     {
@@ -111,28 +117,28 @@ impl<T: Tape> Session<T> {
         )
     }
 
-    /// Gives a warrior a further process at an address.
+    /// Gives a warrior a further process at an address. Refused by `Address`, `NoSuchWarrior`, `WarriorDead` and `QueueFull`.
     pub fn spawn(&mut self, warrior: u64, address: u64) -> Result<Standing, Refusal>
         ensures { Answers self.old (Call.Spawn warrior address) result self.new }
     {
         commands::edit(&mut self.tape, self.limit, Edit::Spawn(warrior, address))
     }
 
-    /// Goes to the nearest marked place before.
+    /// Goes to the nearest marked place before, or answers `NothingToUndo`.
     pub fn undo(&mut self) -> Result<Standing, Refusal>
         ensures { Answers self.old Call.Undo result self.new }
     {
         moves::undo(&mut self.tape)
     }
 
-    /// Goes to the nearest marked place after.
+    /// Goes to the nearest marked place after, or answers `NothingToRedo`.
     pub fn redo(&mut self) -> Result<Standing, Refusal>
         ensures { Answers self.old Call.Redo result self.new }
     {
         moves::redo(&mut self.tape)
     }
 
-    /// Goes to the first place after so many turns.
+    /// Goes to the first place after so many turns, or answers `NotInHistory`.
     pub fn goto(&mut self, turns: u64) -> Result<Standing, Refusal>
         ensures { Answers self.old (Call.Goto turns) result self.new }
     {
@@ -160,10 +166,12 @@ impl<T: Tape> Session<T> {
         }
     }
 
-    /// Makes each call in order and appends its reply. Room for all replies is made first; where that is refused, nothing is done.
+    /// Makes each call in order and appends its reply. Room for all replies is made first, and it fails only where that is
+    /// wanting and refused; nothing is done then.
     pub fn apply_all(&mut self, calls: &[Call], out: &mut Vec<Reply>) -> Result<(), AllocError>
         ensures ok { OnOk result ((replies : List (Result Standing Refusal)) × (out.new.items ≡ out.old.items ++ replies) × IsScript self.old.limit calls.now self.old.history replies self.new.history) }
         ensures limit { self.new.limit ≡ self.old.limit }
+        ensures enough { vec_len out.old + length calls.now ≤ vec_capacity out.old → IsOk result }
         ensures err { OnErr result ((self.new ≡ self.old) × (out.new.items ≡ out.old.items)) }
     {
         out.reserve(calls.len())?;

@@ -1,5 +1,5 @@
 //! What a session asks of whatever keeps its history.
-ghost use Rattle.std.specs.Prelude.{◌≡◌, ℕ, ◌+◌, ◌≤◌, [], None, false, OnOk, IsOk};
+ghost use Rattle.std.specs.Prelude.{◌≡◌, ℕ, ◌+◌, ◌≤◌, [], None, false, OnOk, OnErr, IsOk};
 ghost use Rattle.mars_core.specs.State.{is_over_of};
 ghost use Rattle.mars_core.specs.Turn.{turn_of};
 ghost use Rattle.mars_core.specs.Edit.{edit_fault, edited};
@@ -20,9 +20,10 @@ pub trait Tape {
     fn now(&self) -> &Battle
         ensures { result.now ≡ (history self.now).present.state };
 
-    /// The present place's number, counted from 0.
+    /// The present place's number, counted from 0. The room is never less than the number of places that follow.
     fn position(&self) -> u64
-        ensures { result ≡ position_of (history self.now) };
+        ensures value { result ≡ position_of (history self.now) }
+        ensures covers { following (history self.now) ≤ room self.now };
 
     /// How many places there are.
     fn len(&self) -> u64
@@ -37,12 +38,13 @@ pub trait Tape {
         ensures places { history self.new ≡ marked (history self.old) }
         ensures room { room self.old ≤ room self.new };
 
-    /// Makes room for so many places after the present one.
+    /// Makes room for so many places after the present one. It fails only where there is less room, and memory for the
+    /// rest is refused; the room then stays as it is.
     fn reserve(&mut self, n: u64) -> Result<(), AllocError>
         ensures places { history self.new ≡ history self.old }
         ensures ok { OnOk result (n ≤ room self.new) }
         ensures enough { n ≤ room self.old → IsOk result }
-        ensures followed { n ≤ following (history self.old) → IsOk result };
+        ensures err { OnErr result (room self.new ≡ room self.old) };
 
     /// Drops the places after the present one.
     fn cut(&mut self)

@@ -1,4 +1,4 @@
-//! The worked cases, each call by itself and as one list of calls.
+//! The worked cases, over each kind of tape, each call by itself and as one list of calls.
 
 mod poor_tape;
 
@@ -19,6 +19,11 @@ fn direct(op: Op, modifier: Modifier, a: u32, b: u32) -> Cell {
         b_mode: Mode::Direct,
         b,
     }
+}
+
+/// What a cell is that no warrior was loaded to.
+fn blank() -> Cell {
+    direct(Op::Dat, Modifier::F, 0, 0)
 }
 
 fn idle() -> Cell {
@@ -114,6 +119,35 @@ fn imp_at(turns: u64, position: u64, last: u64) -> Reply {
     at(turns, turns, 0, 1, position, last)
 }
 
+/// Each call by itself gives its reply.
+fn check_each<T: Tape>(rt: &impl Abort, session: &mut Session<T>, calls: &[(Call, Reply)]) {
+    for (call, reply) in calls {
+        assert_eq!(rt; session.call(*call), *reply);
+    }
+}
+
+/// The calls give their replies in one go, which stand after what was there.
+fn check_list<T: Tape>(
+    rt: &impl Abort,
+    alloc: Global,
+    session: &mut Session<T>,
+    calls: &[(Call, Reply)],
+) -> Result<(), Fail> {
+    let mut list = Vec::new(alloc);
+    for (call, _reply) in calls {
+        list.push(*call)?;
+    }
+    let mut out = Vec::new(alloc);
+    out.push(Err(Refusal::Count))?;
+    session.apply_all(&list, &mut out)?;
+    assert_eq!(rt; out.len(), calls.len() + 1);
+    assert_eq!(rt; out[0], Err(Refusal::Count));
+    for (made, (_call, reply)) in out[1..].iter().zip(calls) {
+        assert_eq!(rt; *made, *reply);
+    }
+    Ok(())
+}
+
 /// The calls give these replies, one by one over the first session and in one go over the second.
 fn gives<T: Tape + Drop>(
     rt: &impl Abort,
@@ -122,20 +156,8 @@ fn gives<T: Tape + Drop>(
     mut all: Session<T>,
     calls: &[(Call, Reply)],
 ) -> Result<(), Fail> {
-    let mut list = Vec::new(alloc);
-    for (call, reply) in calls {
-        assert_eq!(rt; one.call(*call), *reply);
-        list.push(*call)?;
-    }
-    let mut out = Vec::new(alloc);
-    out.push(Err(Refusal::Count))?;
-    all.apply_all(&list, &mut out)?;
-    assert_eq!(rt; out.len(), calls.len() + 1);
-    assert_eq!(rt; out[0], Err(Refusal::Count));
-    for (made, (_call, reply)) in out[1..].iter().zip(calls) {
-        assert_eq!(rt; *made, *reply);
-    }
-    Ok(())
+    check_each(rt, &mut one, calls);
+    check_list(rt, alloc, &mut all, calls)
 }
 
 /// The calls give these replies to the imp, over each kind of tape.
@@ -149,28 +171,48 @@ fn imp_gives(
     gives::<DeltaTape>(rt, alloc, imp(alloc, limit)?, imp(alloc, limit)?, calls)
 }
 
-/// The calls give these replies to warriors that stand where they are, over each kind of tape.
-fn stayers_give(
-    rt: &impl Abort,
-    alloc: Global,
-    processes: u32,
-    starts: &[u32],
-    calls: &[(Call, Reply)],
-) -> Result<(), Fail> {
+/// The calls give these replies to three warriors that stand where they are, over each kind of tape.
+fn stayers_give(rt: &impl Abort, alloc: Global, calls: &[(Call, Reply)]) -> Result<(), Fail> {
+    let starts = [0, 2, 4];
     gives::<WholeTape>(
         rt,
         alloc,
-        stayers(alloc, processes, starts)?,
-        stayers(alloc, processes, starts)?,
+        stayers(alloc, 8, &starts)?,
+        stayers(alloc, 8, &starts)?,
         calls,
     )?;
     gives::<DeltaTape>(
         rt,
         alloc,
-        stayers(alloc, processes, starts)?,
-        stayers(alloc, processes, starts)?,
+        stayers(alloc, 8, &starts)?,
+        stayers(alloc, 8, &starts)?,
         calls,
     )
+}
+
+/// The first warrior's queue holds these addresses, the front first.
+fn check_queue<T: Tape>(rt: &impl Abort, session: &Session<T>, queue: &[u32]) {
+    assert_eq!(rt; session.battle().queue_len(0), queue.len());
+    for (place, address) in queue.iter().enumerate() {
+        assert_eq!(rt; session.battle().process(0, place), Some(*address));
+    }
+}
+
+/// The cells from address 0 on are these.
+fn check_cells<T: Tape>(rt: &impl Abort, session: &Session<T>, cells: &[Cell; 2]) {
+    assert_eq!(rt; session.battle().cell(0), Some(cells[0]));
+    assert_eq!(rt; session.battle().cell(1), Some(cells[1]));
+}
+
+/// Two battles of one warrior have the same cells and the same queue.
+fn check_same(rt: &impl Abort, one: &Battle, other: &Battle) {
+    for address in 0..8 {
+        assert_eq!(rt; one.cell(address), other.cell(address));
+    }
+    assert_eq!(rt; one.queue_len(0), other.queue_len(0));
+    for place in 0..one.queue_len(0) {
+        assert_eq!(rt; one.process(0, place), other.process(0, place));
+    }
 }
 
 #[test]
@@ -186,22 +228,25 @@ fn edit_in_the_middle_of_a_run(rt: HostRuntime) -> Result<(), Fail> {
     imp_gives(&rt, alloc, 100, &calls)
 }
 
-#[test]
-fn cell_of_an_undone_edit(rt: HostRuntime) -> Result<(), Fail> {
-    let mut session = imp::<DeltaTape>(rt.alloc(), 100)?;
+fn check_undone_edit<T: Start + Drop>(rt: &impl Abort, alloc: Global) -> Result<(), Fail> {
+    let mut session = imp::<T>(alloc, 100)?;
     assert_eq!(rt; session.run(4), imp_at(4, 4, 4));
     assert_eq!(rt; session.goto(2), imp_at(2, 2, 4));
     assert_eq!(rt; session.set_cell(7, idle()), imp_at(2, 3, 3));
     assert_eq!(rt; session.battle().cell(7), Some(idle()));
     assert_eq!(rt; session.undo(), imp_at(2, 2, 3));
-    assert_eq!(rt;
-        session.battle().cell(7),
-        Some(direct(Op::Dat, Modifier::F, 0, 0))
-    );
+    assert_eq!(rt; session.battle().cell(7), Some(blank()));
     assert_eq!(rt; session.redo(), imp_at(2, 3, 3));
     assert_eq!(rt; session.battle().cell(7), Some(idle()));
     assert_eq!(rt; Ok(session.standing()), imp_at(2, 3, 3));
     Ok(())
+}
+
+#[test]
+fn cell_of_an_undone_edit(rt: HostRuntime) -> Result<(), Fail> {
+    let alloc = rt.alloc();
+    check_undone_edit::<WholeTape>(&rt, alloc)?;
+    check_undone_edit::<DeltaTape>(&rt, alloc)
 }
 
 #[test]
@@ -227,62 +272,33 @@ fn steps_undone_and_redone(rt: HostRuntime) -> Result<(), Fail> {
         (Call::Undo, Err(Refusal::NothingToUndo)),
         (Call::Redo, imp_at(1, 1, 2)),
         (Call::Redo, imp_at(2, 2, 2)),
+        (Call::Redo, Err(Refusal::NothingToRedo)),
     ];
     imp_gives(&rt, alloc, 100, &calls)
 }
 
-/// The tape may grow for the two steps alone: a longer run is refused, a run over the places that follow is not.
-fn check_refused_memory<T: Start + Drop>(rt: &impl Abort, alloc: Global) -> Result<(), Fail> {
-    let mut session = Session::new(PoorTape::new(imp_tape::<T>(alloc)?, 2), 2000);
-    let steps = [Call::Step, Call::Step, Call::Undo, Call::Undo];
-    let refused = [
-        Call::Run(1000),
-        Call::Run(2),
-        Call::Undo,
-        Call::Run(3),
-        Call::Redo,
-    ];
-    let mut out = Vec::new(alloc);
-    session.apply_all(&steps, &mut out)?;
-    session.apply_all(&refused, &mut out)?;
-    let replies = [
-        imp_at(1, 1, 1),
-        imp_at(2, 2, 2),
-        imp_at(1, 1, 2),
-        imp_at(0, 0, 2),
-        Err(Refusal::OutOfMemory),
-        imp_at(2, 2, 2),
-        imp_at(0, 0, 2),
-        Err(Refusal::OutOfMemory),
-        imp_at(2, 2, 2),
-    ];
-    assert_eq!(rt; out.len(), replies.len());
-    for (made, reply) in out.iter().zip(&replies) {
-        assert_eq!(rt; *made, *reply);
-    }
-    Ok(())
+/// The imp, over a tape that is refused memory after so many growths.
+fn poor_imp<T: Start>(alloc: Global, growths: u64) -> Result<Session<PoorTape<T>>, Fail> {
+    Ok(Session::new(PoorTape::new(imp_tape(alloc)?, growths), 2000))
 }
 
-#[test]
-fn refused_memory_keeps_what_follows(rt: HostRuntime) -> Result<(), Fail> {
-    let alloc = rt.alloc();
-    check_refused_memory::<WholeTape>(&rt, alloc)?;
-    check_refused_memory::<DeltaTape>(&rt, alloc)
-}
-
-/// The refused run changes nothing: both steps are still there to be redone.
+/// A run that is refused for memory leaves cells and queues, and both steps are still there to be redone.
 fn check_refused_run<T: Start + Drop>(rt: &impl Abort, alloc: Global) -> Result<(), Fail> {
-    let mut session = Session::new(PoorTape::new(imp_tape::<T>(alloc)?, 2), 2000);
-    assert_eq!(rt; session.step(), imp_at(1, 1, 1));
-    assert_eq!(rt; session.step(), imp_at(2, 2, 2));
-    assert_eq!(rt; session.undo(), imp_at(1, 1, 2));
-    assert_eq!(rt; session.undo(), imp_at(0, 0, 2));
-    assert_eq!(rt; session.run(1000), Err(Refusal::OutOfMemory));
-    assert_eq!(rt; Ok(session.standing()), imp_at(0, 0, 2));
-    assert_eq!(rt; session.redo(), imp_at(1, 1, 2));
-    assert_eq!(rt; session.redo(), imp_at(2, 2, 2));
-    assert_eq!(rt; session.redo(), Err(Refusal::NothingToRedo));
-    Ok(())
+    let steps = [
+        (Call::Step, imp_at(1, 1, 1)),
+        (Call::Step, imp_at(2, 2, 2)),
+        (Call::Undo, imp_at(1, 1, 2)),
+        (Call::Undo, imp_at(0, 0, 2)),
+        (Call::Run(1000), Err(Refusal::OutOfMemory)),
+    ];
+    let redos = [(Call::Redo, imp_at(1, 1, 2)), (Call::Redo, imp_at(2, 2, 2))];
+    let mut before = poor_imp::<T>(alloc, 2)?;
+    check_each(rt, &mut before, &steps[..4]);
+    let mut session = poor_imp::<T>(alloc, 2)?;
+    check_list(rt, alloc, &mut session, &steps)?;
+    assert_eq!(rt; session.standing(), before.standing());
+    check_same(rt, session.battle(), before.battle());
+    check_list(rt, alloc, &mut session, &redos)
 }
 
 #[test]
@@ -292,18 +308,33 @@ fn refused_run_is_no_run(rt: HostRuntime) -> Result<(), Fail> {
     check_refused_run::<DeltaTape>(&rt, alloc)
 }
 
+/// Once a run has made room for five places, every request for memory is refused, and three places that follow need none.
+fn check_covered_run<T: Start + Drop>(rt: &impl Abort, alloc: Global) -> Result<(), Fail> {
+    let calls = [
+        (Call::Run(5), imp_at(5, 5, 5)),
+        (Call::Goto(2), imp_at(2, 2, 5)),
+        (Call::Run(4), Err(Refusal::OutOfMemory)),
+        (Call::Run(3), imp_at(5, 5, 5)),
+        (Call::Step, Err(Refusal::OutOfMemory)),
+    ];
+    gives::<PoorTape<T>>(rt, alloc, poor_imp(alloc, 1)?, poor_imp(alloc, 1)?, &calls)
+}
+
+#[test]
+fn run_over_what_follows_needs_no_memory(rt: HostRuntime) -> Result<(), Fail> {
+    let alloc = rt.alloc();
+    check_covered_run::<WholeTape>(&rt, alloc)?;
+    check_covered_run::<DeltaTape>(&rt, alloc)
+}
+
 #[test]
 fn next_warrior_is_killed(rt: HostRuntime) -> Result<(), Fail> {
     let alloc = rt.alloc();
     let calls = [
         (Call::Step, at(1, 0, 1, 3, 1, 1)),
         (Call::Kill(1, 0), at(1, 0, 2, 2, 2, 2)),
-        (Call::Kill(1, 0), Err(Refusal::NoSuchProcess)),
-        (Call::Spawn(1, 0), Err(Refusal::WarriorDead)),
-        (Call::Until(400_000), Err(Refusal::Count)),
     ];
-    let starts = [0, 2, 4];
-    stayers_give(&rt, alloc, 8, &starts, &calls)
+    stayers_give(&rt, alloc, &calls)
 }
 
 #[test]
@@ -315,13 +346,28 @@ fn two_kills_end_the_battle(rt: HostRuntime) -> Result<(), Fail> {
         (Call::Kill(2, 0), at(2, 1, 0, 2, 3, 3)),
         (Call::Kill(0, 0), at(2, 1, 1, 1, 4, 4)),
         (Call::Step, Err(Refusal::Over)),
-        (Call::Run(0), Err(Refusal::Count)),
-        (Call::Until(0), Err(Refusal::Over)),
         (Call::Undo, at(2, 1, 0, 2, 3, 4)),
         (Call::Step, at(3, 1, 1, 2, 4, 4)),
     ];
-    let starts = [0, 2, 4];
-    stayers_give(&rt, alloc, 8, &starts, &calls)
+    stayers_give(&rt, alloc, &calls)
+}
+
+/// The first refusal that applies is the one that is given: of a dead warrior, and of a battle that is over.
+#[test]
+fn refusals_in_order(rt: HostRuntime) -> Result<(), Fail> {
+    let alloc = rt.alloc();
+    let calls = [
+        (Call::Kill(1, 0), at(0, 0, 0, 2, 1, 1)),
+        (Call::Kill(1, 0), Err(Refusal::NoSuchProcess)),
+        (Call::Kill(3, 0), Err(Refusal::NoSuchWarrior)),
+        (Call::Spawn(1, 0), Err(Refusal::WarriorDead)),
+        (Call::Spawn(1, 8), Err(Refusal::Address)),
+        (Call::Until(400_000), Err(Refusal::Count)),
+        (Call::Kill(2, 0), at(0, 0, 0, 1, 2, 2)),
+        (Call::Run(0), Err(Refusal::Count)),
+        (Call::Until(0), Err(Refusal::Over)),
+    ];
+    stayers_give(&rt, alloc, &calls)
 }
 
 #[test]
@@ -334,8 +380,7 @@ fn step_from_the_middle_of_a_run(rt: HostRuntime) -> Result<(), Fail> {
         (Call::Undo, at(4, 1, 1, 3, 4, 5)),
         (Call::Undo, at(0, 0, 0, 3, 0, 5)),
     ];
-    let starts = [0, 2, 4];
-    stayers_give(&rt, alloc, 8, &starts, &calls)
+    stayers_give(&rt, alloc, &calls)
 }
 
 #[test]
@@ -358,71 +403,260 @@ fn refused_turns_and_moves(rt: HostRuntime) -> Result<(), Fail> {
         (Call::Until(3), Err(Refusal::CyclePassed(3))),
         (Call::Goto(9), Err(Refusal::NotInHistory(0, 3))),
         (Call::Run(0), Err(Refusal::Count)),
-        (Call::Run(1_000_001), Err(Refusal::Count)),
-        (Call::Until(u64::MAX), Err(Refusal::Count)),
         (Call::Redo, Err(Refusal::NothingToRedo)),
     ];
     imp_gives(&rt, alloc, 100, &calls)
 }
 
 #[test]
-fn filled_cells(rt: HostRuntime) -> Result<(), Fail> {
+fn goto_finds_the_first_of_equal_turns(rt: HostRuntime) -> Result<(), Fail> {
     let alloc = rt.alloc();
-    let outside = direct(Op::Dat, Modifier::F, 8, 0);
     let calls = [
         (Call::Fill(2, 4, idle()), imp_at(0, 3, 3)),
         (Call::Undo, imp_at(0, 0, 3)),
         (Call::Redo, imp_at(0, 3, 3)),
         (Call::Goto(0), imp_at(0, 0, 3)),
         (Call::Redo, imp_at(0, 3, 3)),
-        (Call::Fill(4, 2, idle()), Err(Refusal::Address)),
-        (Call::Fill(0, 8, idle()), Err(Refusal::Address)),
-        (Call::Fill(0, 1_000_000, idle()), Err(Refusal::Count)),
-        (Call::Fill(0, 7, outside), Err(Refusal::FieldOutside)),
-        (Call::SetCell(1, outside), Err(Refusal::FieldOutside)),
-        (Call::SetCell(8, outside), Err(Refusal::Address)),
     ];
     imp_gives(&rt, alloc, 100, &calls)
 }
 
 #[test]
-fn processes_of_one_warrior(rt: HostRuntime) -> Result<(), Fail> {
+fn numbers_past_every_limit(rt: HostRuntime) -> Result<(), Fail> {
     let alloc = rt.alloc();
+    let outside = direct(Op::Dat, Modifier::F, 8, 0);
     let calls = [
-        (Call::Spawn(0, 1), at(0, 0, 0, 1, 1, 1)),
-        (Call::Spawn(0, 2), at(0, 0, 0, 1, 2, 2)),
-        (Call::Spawn(0, 3), Err(Refusal::QueueFull)),
-        (Call::Spawn(0, 8), Err(Refusal::Address)),
+        (Call::Fill(4, 2, idle()), Err(Refusal::Address)),
+        (Call::Fill(0, 8, idle()), Err(Refusal::Address)),
+        (Call::SetCell(1, outside), Err(Refusal::FieldOutside)),
+        (Call::SetCell(8, outside), Err(Refusal::Address)),
+        (Call::Fill(0, 7, outside), Err(Refusal::FieldOutside)),
+        (Call::Fill(0, 1_000_000, idle()), Err(Refusal::Count)),
+        (Call::Run(1_000_001), Err(Refusal::Count)),
+        (Call::Until(u64::MAX), Err(Refusal::Count)),
         (Call::Spawn(4_294_967_296, 0), Err(Refusal::NoSuchWarrior)),
         (Call::Kill(0, 4_294_967_296), Err(Refusal::NoSuchProcess)),
-        (Call::Kill(0, 1), at(0, 0, 0, 1, 3, 3)),
-        (Call::Undo, at(0, 0, 0, 1, 2, 3)),
-        (Call::MoveProcess(0, 2, 5), at(0, 0, 0, 1, 3, 3)),
-        (Call::MoveProcess(0, 3, 5), Err(Refusal::NoSuchProcess)),
-        (Call::Step, at(1, 1, 0, 1, 4, 4)),
-        (Call::Kill(0, 0), at(1, 1, 0, 1, 5, 5)),
-        (Call::Undo, at(1, 1, 0, 1, 4, 5)),
-        (Call::Undo, at(0, 0, 0, 1, 3, 5)),
-        (Call::Undo, at(0, 0, 0, 1, 2, 5)),
+        (Call::MoveProcess(0, 1, 5), Err(Refusal::NoSuchProcess)),
     ];
-    stayers_give(&rt, alloc, 3, &[0], &calls)
+    imp_gives(&rt, alloc, 100, &calls)
+}
+
+/// Of the calls, the one that is accepted alone changes a cell.
+fn check_one_edit<T: Start + Drop>(rt: &impl Abort, alloc: Global) -> Result<(), Fail> {
+    let copier = direct(Op::Mov, Modifier::I, 0, 1);
+    let cell = direct(Op::Nop, Modifier::F, 1, 0);
+    let mut session = imp::<T>(alloc, 100)?;
+    assert_eq!(rt; session.battle().cell(7), Some(blank()));
+    assert_eq!(rt; session.battle().cell(0), Some(copier));
+    assert_eq!(rt; session.set_cell(9, idle()), Err(Refusal::Address));
+    assert_eq!(rt; session.set_cell(7, cell), imp_at(0, 1, 1));
+    assert_eq!(rt; session.battle().cell(7), Some(cell));
+    assert_eq!(rt; session.run(1_000_001), Err(Refusal::Count));
+    assert_eq!(rt; session.kill(0, 5), Err(Refusal::NoSuchProcess));
+    assert_eq!(rt; session.battle().cell(7), Some(cell));
+    assert_eq!(rt; session.battle().cell(0), Some(copier));
+    Ok(())
+}
+
+#[test]
+fn cells_among_refusals(rt: HostRuntime) -> Result<(), Fail> {
+    let alloc = rt.alloc();
+    check_one_edit::<WholeTape>(&rt, alloc)?;
+    check_one_edit::<DeltaTape>(&rt, alloc)
+}
+
+/// The queue of a warrior that stands where it is, after each edit, a turn and each undo.
+fn check_edited_queue<T: Start + Drop>(rt: &impl Abort, alloc: Global) -> Result<(), Fail> {
+    let mut session = stayers::<T>(alloc, 3, &[0])?;
+    assert_eq!(rt; session.spawn(0, 1), at(0, 0, 0, 1, 1, 1));
+    assert_eq!(rt; session.spawn(0, 2), at(0, 0, 0, 1, 2, 2));
+    check_queue(rt, &session, &[0, 1, 2]);
+    assert_eq!(rt; session.spawn(0, 3), Err(Refusal::QueueFull));
+    assert_eq!(rt; session.kill(0, 1), at(0, 0, 0, 1, 3, 3));
+    check_queue(rt, &session, &[0, 2]);
+    assert_eq!(rt; session.undo(), at(0, 0, 0, 1, 2, 3));
+    check_queue(rt, &session, &[0, 1, 2]);
+    assert_eq!(rt; session.move_process(0, 2, 5), at(0, 0, 0, 1, 3, 3));
+    check_queue(rt, &session, &[0, 1, 5]);
+    assert_eq!(rt; session.step(), at(1, 1, 0, 1, 4, 4));
+    check_queue(rt, &session, &[1, 5, 0]);
+    assert_eq!(rt; session.kill(0, 0), at(1, 1, 0, 1, 5, 5));
+    check_queue(rt, &session, &[5, 0]);
+    assert_eq!(rt; session.undo(), at(1, 1, 0, 1, 4, 5));
+    assert_eq!(rt; session.undo(), at(0, 0, 0, 1, 3, 5));
+    assert_eq!(rt; session.undo(), at(0, 0, 0, 1, 2, 5));
+    check_queue(rt, &session, &[0, 1, 2]);
+    Ok(())
 }
 
 #[test]
 fn queue_after_edits(rt: HostRuntime) -> Result<(), Fail> {
-    let mut session = stayers::<DeltaTape>(rt.alloc(), 3, &[0])?;
-    assert_eq!(rt; session.spawn(0, 1), at(0, 0, 0, 1, 1, 1));
-    assert_eq!(rt; session.spawn(0, 2), at(0, 0, 0, 1, 2, 2));
-    assert_eq!(rt; session.kill(0, 1), at(0, 0, 0, 1, 3, 3));
-    assert_eq!(rt; session.battle().queue_len(0), 2);
-    assert_eq!(rt; session.battle().process(0, 1), Some(2));
-    assert_eq!(rt; session.undo(), at(0, 0, 0, 1, 2, 3));
-    assert_eq!(rt; session.move_process(0, 2, 5), at(0, 0, 0, 1, 3, 3));
-    assert_eq!(rt; session.battle().process(0, 2), Some(5));
-    assert_eq!(rt; session.step(), at(1, 1, 0, 1, 4, 4));
-    assert_eq!(rt; session.battle().process(0, 1), Some(5));
-    assert_eq!(rt; session.fill(3, 3, idle()), at(1, 1, 0, 1, 5, 5));
-    assert_eq!(rt; session.until(3), at(3, 3, 0, 1, 7, 7));
+    let alloc = rt.alloc();
+    check_edited_queue::<WholeTape>(&rt, alloc)?;
+    check_edited_queue::<DeltaTape>(&rt, alloc)
+}
+
+/// A warrior whose queue is full, in a core of jumps to the next cell, after so many turns.
+fn full_queue<T: Start>(
+    rt: &impl Abort,
+    alloc: Global,
+    processes: u32,
+    turns: u64,
+) -> Result<Session<T>, Fail> {
+    let jump = direct(Op::Jmp, Modifier::B, 1, 0);
+    let mut session = Session::new(lone_tape(alloc, processes, &[jump])?, 100);
+    assert_eq!(rt; session.fill(0, 7, jump).is_ok(), true);
+    for address in 1..processes {
+        assert_eq!(rt; session.spawn(0, address as u64).is_ok(), true);
+    }
+    if turns > 0 {
+        assert_eq!(rt; session.run(turns).is_ok(), true);
+    }
+    assert_eq!(rt; session.spawn(0, 0), Err(Refusal::QueueFull));
+    Ok(session)
+}
+
+/// The process at a place of the first warrior's queue is killed, and comes back there.
+fn check_kill<T: Tape>(rt: &impl Abort, session: &mut Session<T>, queue: &[u32], killed: usize) {
+    assert_eq!(rt; session.kill(0, killed as u64).is_ok(), true);
+    assert_eq!(rt;
+        session.battle().queue_len(0),
+        queue.len().saturating_sub(1)
+    );
+    for (place, address) in queue.iter().enumerate() {
+        if place < killed {
+            assert_eq!(rt; session.battle().process(0, place), Some(*address));
+        }
+        if place > killed {
+            assert_eq!(rt; session.battle().process(0, place - 1), Some(*address));
+        }
+    }
+    assert_eq!(rt; session.undo().is_ok(), true);
+    check_queue(rt, session, queue);
+}
+
+/// So it is at each place of full queues of 1, 2 and 5 processes, after 0 to 5 turns each.
+fn check_kills<T: Start + Drop>(rt: &impl Abort, alloc: Global) -> Result<(), Fail> {
+    for processes in [1, 2, 5] {
+        for turns in 0..6 {
+            let mut session = full_queue::<T>(rt, alloc, processes, turns)?;
+            let mut queue = Vec::new(alloc);
+            for place in 0..session.battle().queue_len(0) {
+                queue.push(session.battle().process(0, place).ok_or("a process")?)?;
+            }
+            for killed in 0..queue.len() {
+                check_kill(rt, &mut session, &queue, killed);
+            }
+        }
+    }
+    Ok(())
+}
+
+#[test]
+fn each_killed_process_comes_back(rt: HostRuntime) -> Result<(), Fail> {
+    let alloc = rt.alloc();
+    check_kills::<WholeTape>(&rt, alloc)?;
+    check_kills::<DeltaTape>(&rt, alloc)
+}
+
+/// One turn of a lone warrior leads from these cells to those; undo and redo lead back and on.
+fn check_turn<T: Start + Drop>(
+    rt: &impl Abort,
+    alloc: Global,
+    before: &[Cell; 2],
+    after: &[Cell; 2],
+) -> Result<(), Fail> {
+    let mut session = Session::new(lone_tape::<T>(alloc, 8, before)?, 100);
+    assert_eq!(rt; session.step(), imp_at(1, 1, 1));
+    check_cells(rt, &session, after);
+    assert_eq!(rt; session.undo(), imp_at(0, 0, 1));
+    check_cells(rt, &session, before);
+    assert_eq!(rt; session.redo(), imp_at(1, 1, 1));
+    check_cells(rt, &session, after);
+    Ok(())
+}
+
+/// A tape of records after one turn of a lone warrior.
+fn one_turn(alloc: Global, processes: u32, cells: &[Cell]) -> Result<DeltaTape, Fail> {
+    let mut tape: DeltaTape = lone_tape(alloc, processes, cells)?;
+    tape.cut();
+    tape.reserve(1)?;
+    if tape.now().is_over() {
+        return Err("over".into());
+    }
+    tape.turn();
+    Ok(tape)
+}
+
+/// So it is over each kind of tape, and the turn's record has two changes.
+fn check_two_changes(
+    rt: &impl Abort,
+    alloc: Global,
+    before: &[Cell; 2],
+    after: &[Cell; 2],
+) -> Result<(), Fail> {
+    check_turn::<WholeTape>(rt, alloc, before, after)?;
+    check_turn::<DeltaTape>(rt, alloc, before, after)?;
+    let tape = one_turn(alloc, 8, before)?;
+    assert_eq!(rt; tape.atom(0).ok_or("a record")?.cells.len(), 2);
+    Ok(())
+}
+
+/// One number of the executing cell is lowered by its mode, and the other is added to.
+#[test]
+fn executing_cell_changed_twice(rt: HostRuntime) -> Result<(), Fail> {
+    let alloc = rt.alloc();
+    let add = |a: u32, b: u32| Cell {
+        op: Op::Add,
+        modifier: Modifier::Ab,
+        a_mode: Mode::Immediate,
+        a,
+        b_mode: Mode::APredecrement,
+        b,
+    };
+    check_two_changes(&rt, alloc, &[add(1, 0), blank()], &[add(0, 1), blank()])
+}
+
+/// A number is lowered by its mode, and then by the opcode.
+#[test]
+fn number_lowered_twice(rt: HostRuntime) -> Result<(), Fail> {
+    let alloc = rt.alloc();
+    let jump = Cell {
+        op: Op::Djn,
+        modifier: Modifier::B,
+        a_mode: Mode::Direct,
+        a: 0,
+        b_mode: Mode::BPredecrement,
+        b: 1,
+    };
+    let once = direct(Op::Dat, Modifier::F, 0, 1);
+    let twice = direct(Op::Dat, Modifier::F, 0, 7);
+    check_two_changes(&rt, alloc, &[jump, once], &[jump, twice])
+}
+
+/// A full queue takes the first address of a split alone.
+fn check_split<T: Start + Drop>(rt: &impl Abort, alloc: Global) -> Result<(), Fail> {
+    let split = direct(Op::Spl, Modifier::B, 0, 0);
+    let mut session = Session::new(lone_tape::<T>(alloc, 1, &[split])?, 100);
+    assert_eq!(rt; session.step(), imp_at(1, 1, 1));
+    check_queue(rt, &session, &[1]);
+    assert_eq!(rt; session.undo(), imp_at(0, 0, 1));
+    check_queue(rt, &session, &[0]);
+    assert_eq!(rt; session.redo(), imp_at(1, 1, 1));
+    check_queue(rt, &session, &[1]);
+    Ok(())
+}
+
+#[test]
+fn split_of_a_full_queue(rt: HostRuntime) -> Result<(), Fail> {
+    let alloc = rt.alloc();
+    check_split::<WholeTape>(&rt, alloc)?;
+    check_split::<DeltaTape>(&rt, alloc)?;
+    let split = direct(Op::Spl, Modifier::B, 0, 0);
+    let tape = one_turn(alloc, 1, &[split])?;
+    let record = tape.atom(0).ok_or("a record")?;
+    assert_eq!(rt; record.queued.len(), 1);
+    assert_eq!(rt; record.queued[0], 1);
     Ok(())
 }
 
@@ -430,14 +664,9 @@ fn queue_after_edits(rt: HostRuntime) -> Result<(), Fail> {
 #[test]
 fn records_between_places(rt: HostRuntime) -> Result<(), Fail> {
     let alloc = rt.alloc();
-    let mut tape: DeltaTape = imp_tape(alloc)?;
-    assert_eq!(rt; tape.atom(0).is_none(), true);
+    let mut tape = one_turn(alloc, 8, &[direct(Op::Mov, Modifier::I, 0, 1)])?;
     tape.cut();
-    tape.reserve(2)?;
-    if tape.now().is_over() {
-        return Err("over".into());
-    }
-    tape.turn();
+    tape.reserve(1)?;
     let edit = Edit::SetCell(7, idle());
     if tape.now().edit_fault(edit).is_some() {
         return Err("edit".into());
@@ -454,80 +683,28 @@ fn records_between_places(rt: HostRuntime) -> Result<(), Fail> {
     Ok(())
 }
 
-/// Over a tape of records, one turn of a lone warrior writes two cells, and leaves these at addresses 0 and 1. Back from it
-/// they are as before, and on again as after it.
-fn check_two_changes(
-    rt: &impl Abort,
-    alloc: Global,
-    cells: &[Cell; 2],
-    after: &[Cell; 2],
-) -> Result<(), Fail> {
-    let mut tape: DeltaTape = lone_tape(alloc, 8, cells)?;
-    tape.cut();
-    tape.reserve(1)?;
-    if tape.now().is_over() {
-        return Err("over".into());
-    }
-    tape.turn();
-    let record = tape.atom(0).ok_or("a record")?;
-    assert_eq!(rt; record.cells.len(), 2);
-    assert_eq!(rt; tape.now().cell(0), Some(after[0]));
-    assert_eq!(rt; tape.now().cell(1), Some(after[1]));
-    tape.back();
-    assert_eq!(rt; tape.now().cell(0), Some(cells[0]));
-    assert_eq!(rt; tape.now().cell(1), Some(cells[1]));
-    tape.forward();
-    assert_eq!(rt; tape.now().cell(0), Some(after[0]));
-    assert_eq!(rt; tape.now().cell(1), Some(after[1]));
-    Ok(())
-}
-
+/// A refusal is displayed as its number, its name and its values.
 #[test]
-fn cells_back_and_on(rt: HostRuntime) -> Result<(), Fail> {
+fn texts_of_refusals(rt: HostRuntime) -> Result<(), Fail> {
     let alloc = rt.alloc();
-    let blank = direct(Op::Dat, Modifier::F, 0, 0);
-    let add = |a: u32, b: u32| Cell {
-        op: Op::Add,
-        modifier: Modifier::Ab,
-        a_mode: Mode::Immediate,
-        a,
-        b_mode: Mode::APredecrement,
-        b,
-    };
-    check_two_changes(&rt, alloc, &[add(1, 0), blank], &[add(0, 1), blank])?;
-    let jump = Cell {
-        op: Op::Djn,
-        modifier: Modifier::B,
-        a_mode: Mode::Direct,
-        a: 0,
-        b_mode: Mode::BPredecrement,
-        b: 1,
-    };
-    let once = direct(Op::Dat, Modifier::F, 0, 1);
-    let twice = direct(Op::Dat, Modifier::F, 0, 7);
-    check_two_changes(&rt, alloc, &[jump, once], &[jump, twice])
-}
-
-/// A full queue takes the first address of a split alone.
-#[test]
-fn queue_back_and_on(rt: HostRuntime) -> Result<(), Fail> {
-    let alloc = rt.alloc();
-    let split = direct(Op::Spl, Modifier::B, 0, 0);
-    let mut tape: DeltaTape = lone_tape(alloc, 1, &[split])?;
-    tape.cut();
-    tape.reserve(1)?;
-    if tape.now().is_over() {
-        return Err("over".into());
+    let texts = [
+        (Refusal::Count, "1 Count"),
+        (Refusal::Address, "2 Address"),
+        (Refusal::FieldOutside, "3 FieldOutside"),
+        (Refusal::NoSuchWarrior, "4 NoSuchWarrior"),
+        (Refusal::NoSuchProcess, "5 NoSuchProcess"),
+        (Refusal::WarriorDead, "6 WarriorDead"),
+        (Refusal::QueueFull, "7 QueueFull"),
+        (Refusal::Over, "8 Over"),
+        (Refusal::CyclePassed(3), "9 CyclePassed 3"),
+        (Refusal::NothingToUndo, "10 NothingToUndo"),
+        (Refusal::NothingToRedo, "11 NothingToRedo"),
+        (Refusal::NotInHistory(0, 3), "12 NotInHistory 0 3"),
+        (Refusal::JournalFull(2), "13 JournalFull 2"),
+        (Refusal::OutOfMemory, "14 OutOfMemory"),
+    ];
+    for (refusal, text) in texts {
+        assert_eq!(rt; format!(in alloc; "{refusal}")?.as_str(), text);
     }
-    tape.turn();
-    let record = tape.atom(0).ok_or("a record")?;
-    assert_eq!(rt; record.queued.len(), 1);
-    assert_eq!(rt; record.queued[0], 1);
-    assert_eq!(rt; tape.now().process(0, 0), Some(1));
-    tape.back();
-    assert_eq!(rt; tape.now().process(0, 0), Some(0));
-    tape.forward();
-    assert_eq!(rt; tape.now().process(0, 0), Some(1));
-    assert_eq!(rt; tape.now().queue_len(0), 1);
     Ok(())
 }

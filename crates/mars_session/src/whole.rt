@@ -5,9 +5,9 @@ ghost use Rattle.mars_core.specs.Turn.{turn_of};
 ghost use Rattle.mars_core.specs.Edit.{edit_fault, edited};
 ghost use Rattle.mars_core.specs.Shape.{SameShape};
 ghost use Rattle.mars_session.specs.History.{History, beginning, marked, cut, append, back, forward};
-ghost use Rattle.mars_session.specs.Whole.{kept_at, whole_history, IsGrown};
+ghost use Rattle.mars_session.specs.Whole.{snapshot_at, whole_history, IsGrown};
 
-use crate::copies::Kept;
+use crate::snapshots::Snapshot;
 use crate::tapes::Tape;
 use mars_core::{Battle, Edit};
 use std::alloc::{AllocError, Global};
@@ -17,14 +17,15 @@ use std::marker::Model;
 #[derive(Drop)]
 pub struct WholeTape {
     alloc: Global,
-    copies: Vec<Kept>,
+    copies: Vec<Snapshot>,
     at: usize,
     len: usize,
 }
 
 impl Model for WholeTape {
     ghost use Rattle.std.specs.Prelude.{◌+◌, ◌-◌, length};
-    ghost use Rattle.mars_session.specs.Whole.{Taped, IsWhole, whole_history};
+    ghost use Rattle.mars_session.specs.Tapes.{Taped};
+    ghost use Rattle.mars_session.specs.Whole.{IsWhole, whole_history};
 
     ghost Value = { Taped };
 
@@ -34,10 +35,10 @@ impl Model for WholeTape {
 }
 
 /// Copies the present battle over the next copy.
-fn copy_on(copies: &mut [Kept], at: usize)
+fn copy_on(copies: &mut [Snapshot], at: usize)
     requires next { at + 1 < length copies.old }
-    requires shapes { SameShape (kept_at copies.old at).battle (kept_at copies.old (at + 1)).battle }
-    ensures { copies.new ≡ slice_set copies.old (at + 1) (record { battle = (kept_at copies.old at).battle; mark = false }) }
+    requires shapes { SameShape (snapshot_at copies.old at).battle (snapshot_at copies.old (at + 1)).battle }
+    ensures { copies.new ≡ slice_set copies.old (at + 1) (record { battle = (snapshot_at copies.old at).battle; mark = false }) }
 {
     let (front, rest) = copies.split_at_mut(at + 1);
     let from = &front[at];
@@ -47,31 +48,36 @@ fn copy_on(copies: &mut [Kept], at: usize)
 }
 
 /// Makes the next copy that of the present battle's turn.
-fn turn_on(copies: &mut Vec<Kept>, at: usize)
+fn turn_on(copies: &mut Vec<Snapshot>, at: usize)
     requires next { at + 1 < vec_len copies.old }
-    requires shapes { SameShape (kept_at copies.old.items at).battle (kept_at copies.old.items (at + 1)).battle }
-    requires runs { is_over_of (kept_at copies.old.items at).battle ≡ false }
-    ensures { copies.new.items ≡ slice_set copies.old.items (at + 1) (record { battle = turn_of (kept_at copies.old.items at).battle; mark = false }) }
+    requires shapes { SameShape (snapshot_at copies.old.items at).battle (snapshot_at copies.old.items (at + 1)).battle }
+    requires runs { is_over_of (snapshot_at copies.old.items at).battle ≡ false }
+    ensures { copies.new.items ≡ slice_set copies.old.items (at + 1) (record { battle = turn_of (snapshot_at copies.old.items at).battle; mark = false }) }
 {
     copy_on(copies, at);
-    let kept = &mut copies[at + 1];
-    let _ = kept.battle.turn();
+    let snapshot = &mut copies[at + 1];
+    let _ = snapshot.battle.turn();
 }
 
 /// Makes the next copy what an edit makes of the present battle.
-fn edit_on(copies: &mut Vec<Kept>, at: usize, edit: Edit)
+fn edit_on(copies: &mut Vec<Snapshot>, at: usize, edit: Edit)
     requires next { at + 1 < vec_len copies.old }
-    requires shapes { SameShape (kept_at copies.old.items at).battle (kept_at copies.old.items (at + 1)).battle }
-    requires accepted { edit_fault (kept_at copies.old.items at).battle edit ≡ None }
-    ensures { copies.new.items ≡ slice_set copies.old.items (at + 1) (record { battle = edited (kept_at copies.old.items at).battle edit; mark = false }) }
+    requires shapes { SameShape (snapshot_at copies.old.items at).battle (snapshot_at copies.old.items (at + 1)).battle }
+    requires accepted { edit_fault (snapshot_at copies.old.items at).battle edit ≡ None }
+    ensures { copies.new.items ≡ slice_set copies.old.items (at + 1) (record { battle = edited (snapshot_at copies.old.items at).battle edit; mark = false }) }
 {
     copy_on(copies, at);
-    let kept = &mut copies[at + 1];
-    let _ = kept.battle.edit(edit);
+    let snapshot = &mut copies[at + 1];
+    let _ = snapshot.battle.edit(edit);
 }
 
 /// Adds copies of the present battle, up to so many after it.
-fn add_copies(alloc: Global, copies: &mut Vec<Kept>, at: usize, n: u64) -> Result<(), AllocError>
+fn add_copies(
+    alloc: Global,
+    copies: &mut Vec<Snapshot>,
+    at: usize,
+    n: u64,
+) -> Result<(), AllocError>
     requires { at < vec_len copies.old }
     ensures grown { IsGrown copies.old.items copies.new.items at }
     ensures ok { OnOk result (n ≤ vec_len copies.new - (at + 1)) }
@@ -79,12 +85,28 @@ fn add_copies(alloc: Global, copies: &mut Vec<Kept>, at: usize, n: u64) -> Resul
 {
     'copies: while ((copies.len() - (at + 1)) as u64) < n {
         let battle = copies[at].battle.copy(alloc)?;
-        copies.push(Kept {
+        copies.push(Snapshot {
             battle,
             mark: false,
         })?;
     }
     Ok(())
+}
+
+/// Adds copies likewise. Where memory is refused, those that were added are given back.
+fn grow(alloc: Global, copies: &mut Vec<Snapshot>, at: usize, n: u64) -> Result<(), AllocError>
+    requires { at < vec_len copies.old }
+    ensures grown { IsGrown copies.old.items copies.new.items at }
+    ensures ok { OnOk result (n ≤ vec_len copies.new - (at + 1)) }
+    ensures enough { n ≤ vec_len copies.old - (at + 1) → IsOk result }
+    ensures err { OnErr result (vec_len copies.new ≡ vec_len copies.old) }
+{
+    let before = copies.len();
+    let added = add_copies(alloc, copies, at, n);
+    if added.is_err() {
+        copies.truncate(before);
+    }
+    added
 }
 
 impl WholeTape {
@@ -93,7 +115,7 @@ impl WholeTape {
         ensures { MatchResult result (λ t. t.history ≡ beginning battle) (λ b. b ≡ battle) }
     {
         let mut copies = Vec::new(alloc);
-        match copies.push(Kept { battle, mark: true }) {
+        match copies.push(Snapshot { battle, mark: true }) {
             Ok(()) => Ok(WholeTape {
                 alloc,
                 copies,
@@ -101,7 +123,7 @@ impl WholeTape {
                 len: 1,
             }),
             Err(refused) => {
-                let Kept { battle, mark: _ } = refused.value;
+                let Snapshot { battle, mark: _ } = refused.value;
                 Err(battle)
             }
         }
@@ -130,12 +152,12 @@ impl Tape for WholeTape {
     }
 
     fn set_mark(&mut self) {
-        let kept = &mut self.copies[self.at];
-        kept.mark = true;
+        let snapshot = &mut self.copies[self.at];
+        snapshot.mark = true;
     }
 
     fn reserve(&mut self, n: u64) -> Result<(), AllocError> {
-        add_copies(self.alloc, &mut self.copies, self.at, n)
+        grow(self.alloc, &mut self.copies, self.at, n)
     }
 
     fn cut(&mut self) {

@@ -20,23 +20,33 @@ pub struct PoorTape<T: Tape> {
 
 impl<T: Tape> Model for PoorTape<T> {
     ghost use Rattle.std.specs.Prelude.{◌≤◌};
-    ghost use Rattle.mars_session.specs.Whole.{Taped};
+    ghost use Rattle.mars_session.specs.History.{following};
+    ghost use Rattle.mars_session.specs.Tapes.{Taped};
 
     ghost Value = { Taped };
 
     ghost view = { λ t. record { history = T.history t.tape; room = t.room } };
 
-    ghost invariant = { λ t. t.room ≤ T.room t.tape };
+    ghost invariant = { λ t. (following (T.history t.tape) ≤ t.room) × (t.room ≤ T.room t.tape) };
+}
+
+/// How many places follow the present one.
+fn places_after<T: Tape>(tape: &T) -> u64
+    ensures value { result ≡ following (T.history tape.now) }
+    ensures covered { result ≤ T.room tape.now }
+{
+    tape.len() - 1 - tape.position()
 }
 
 impl<T: Tape> PoorTape<T> {
-    /// The tape, with no room, and so many growths to come.
+    /// The tape, with room for what follows alone, and so many growths to come.
     pub fn new(tape: T, growths: u64) -> PoorTape<T>
         ensures { result.history ≡ T.history tape }
     {
+        let room = places_after(&tape);
         PoorTape {
             tape,
-            room: 0,
+            room,
             growths,
         }
     }
@@ -71,15 +81,13 @@ impl<T: Tape> Tape for PoorTape<T> {
         if n <= self.room {
             return Ok(());
         }
-        if n > self.tape.len() - 1 - self.tape.position() {
-            if self.growths == 0 {
-                return Err(AllocError);
-            }
-            self.growths -= 1;
+        if self.growths == 0 {
+            return Err(AllocError);
         }
-        let reserved = self.tape.reserve(n);
-        self.room = if reserved.is_ok() { n } else { 0 };
-        reserved
+        self.growths -= 1;
+        self.tape.reserve(n)?;
+        self.room = n;
+        Ok(())
     }
 
     fn cut(&mut self) {
@@ -98,11 +106,11 @@ impl<T: Tape> Tape for PoorTape<T> {
 
     fn back(&mut self) {
         self.tape.back();
-        self.room = 0;
+        self.room = places_after(&self.tape);
     }
 
     fn forward(&mut self) {
         self.tape.forward();
-        self.room = 0;
+        self.room = places_after(&self.tape);
     }
 }

@@ -8,9 +8,9 @@ use Rattle.mars_session.proofs.moves.goto.Goals.{then-on-test+else-position-len,
 pub on-init : goal.on-init
 on-init g c =
     let history = g.T.Tape.history in
-    let first = at_first (history c.go_to.new.tape) (history c.args.tape.now) c.go_to.ensures.places c.go_to.ensures.position in
+    let first = at_first (history c.go_back.new.tape) (history c.args.tape.now) c.go_back.ensures.places c.go_back.ensures.position in
     record {
-      places = c.go_to.ensures.places;
+      places = c.go_back.ensures.places;
       sought = rw first refl;
       last = rw first (last_turns_rewound (history c.args.tape.now));
     }
@@ -20,10 +20,16 @@ returns-then-last-turns g c =
     let here = turned_here c.args.turns (g.T.Tape.history c.on.tape) (cc) in
     rw (sym c.on.invariant.sought, here, c.standing.ensures) refl
 
-pub go_to-requires-2 : goal.go_to-requires-2
-go_to-requires-2 g c =
-    let last = same_last (g.T.Tape.history c.on.tape) (g.T.Tape.history c.args.tape.now) c.on.invariant.places in
-    omega (arith, last)
+pub go_back-requires-2 : goal.go_back-requires-2
+go_back-requires-2 g c =
+    let history = g.T.Tape.history in
+    let reached : c.turns_now-last.result ≡ (history c.on.tape).present.state.turns = cc in
+    let seen : c.turns_now.result ≡ (history c.on.tape).present.state.turns = cc in
+    let last = same_last (history c.on.tape) (history c.args.tape.now) c.on.invariant.places in
+    elim c.on-test.branch [
+      | then-on-test+else-position-len w ↦ omega (arith, last, w.if-position-len.false, w.len.ensures, w.position.ensures.value)
+      | else-on-test w ↦ absurd (c.if-last-turns.false (reached ∙ sym seen ∙ w.on-test.false))
+    ]
 
 pub returns : goal.returns
 returns g c =
@@ -33,12 +39,12 @@ returns g c =
     let seen : c.turns_now.result ≡ (history c.on.tape).present.state.turns = cc in
     let at_end : following (history c.on.tape) ≤ 0 =
     elim c.on-test.branch [
-      | then-on-test+else-position-len w ↦ omega (arith, w.if-position-len.false, w.len.ensures, w.position.ensures)
+      | then-on-test+else-position-len w ↦ omega (arith, w.if-position-len.false, w.len.ensures, w.position.ensures.value)
       | else-on-test w ↦ absurd (differs (sym seen ∙ w.on-test.false))
     ] in
     let none = turned_none c.args.turns (history c.on.tape) at_end differs in
-    let first = at_first (history c.go_to.new.tape) (history c.args.tape.now) c.go_to.ensures.places c.go_to.ensures.position in
+    let first = at_first (history c.go_back.new.tape) (history c.args.tape.now) c.go_back.ensures.places c.go_back.ensures.position in
     let first_is : c.turns_now-first.result ≡ first_turns (history c.args.tape.now) = cc in
     let last_is : c.turns_now-last.result ≡ last_turns (history c.args.tape.now) = reached ∙ sym (last_here (history c.on.tape) at_end) ∙ c.on.invariant.last in
-    let same = same_place (history c.go_to-2.new.tape) (history c.args.tape.now) (c.go_to-2.ensures.places ∙ c.on.invariant.places) (c.go_to-2.ensures.position ∙ c.position-start.ensures) in
+    let same = same_place (history c.go_back-2.new.tape) (history c.args.tape.now) (c.go_back-2.ensures.places ∙ c.on.invariant.places) (c.go_back-2.ensures.position ∙ c.position-start.ensures.value) in
     rw (sym c.on.invariant.sought, none, same, first_is, last_is) refl

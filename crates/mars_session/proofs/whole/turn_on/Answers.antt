@@ -1,7 +1,7 @@
 use Rattle.std.proofs.Common.{List, length, ap, arith}
 use Rattle.mars_core.specs.Turn.{turn_of}
-use Rattle.mars_session.specs.declared.copies.Kept.{Kept}
-use Rattle.mars_session.specs.Whole.{kept_at}
+use Rattle.mars_session.specs.declared.snapshots.Snapshot.{Snapshot}
+use Rattle.mars_session.specs.Whole.{snapshot_at}
 use Rattle.mars_session.proofs.Copying.{changed_on}
 use Rattle.mars_session.proofs.whole.turn_on.Goals as goal
 
@@ -9,7 +9,7 @@ pub returns : goal.returns
 returns c =
     let items = c.args.copies.now.items in
     let vec = c.deref_mut.ensures in
-    changed_on c.args.copies.now.len items c.copy_on.new.copies c.args.at (kept_at items c.args.at).battle (turn_of (kept_at items c.args.at).battle) c.turn.new.self c.index_mut-kept.result.now
-    (omega (arith, vec.len, ap (λ (xs : List Kept). length xs) vec.value, c.requires.next)) (omega (arith, c.copy_on.auto.copies, vec.len))
-    (rw vec.value at c.copy_on.ensures) c.index_mut-kept.ensures.value
+    changed_on c.args.copies.now.len items c.copy_on.new.copies c.args.at (snapshot_at items c.args.at).battle (turn_of (snapshot_at items c.args.at).battle) c.turn.new.self c.index_mut-snapshot.result.now
+    (omega (arith, vec.len, ap (λ (xs : List Snapshot). length xs) vec.value, c.requires.next)) (omega (arith, c.copy_on.auto.copies, vec.len))
+    (rw vec.value at c.copy_on.ensures) c.index_mut-snapshot.ensures.value
     (λ e. rw (e, c.requires.runs) at c.turn.ensures.state)

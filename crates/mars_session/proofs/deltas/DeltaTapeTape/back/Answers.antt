@@ -1,7 +1,7 @@
 use Rattle.std.proofs.Common.{◌<◌, ◌-◌, ◌∙◌, ap, length, arith, true}
 use Rattle.mars_core.specs.Journal.{reverted}
 use Rattle.mars_session.specs.Journals.{entry_at}
-use Rattle.mars_session.specs.Whole.{Taped}
+use Rattle.mars_session.specs.Tapes.{Taped}
 use Rattle.mars_session.specs.History.{back}
 use Rattle.mars_session.proofs.Stepping.{journal_back, back_kept, leads_here, gone_back, read_entry}
 use Rattle.mars_session.proofs.deltas.DeltaTapeTape.back.Goals as goal

@@ -1,5 +1,5 @@
 use Rattle.std.proofs.Common.{◌∙◌, ap, true}
-use Rattle.mars_session.specs.Whole.{Taped}
+use Rattle.mars_session.specs.Tapes.{Taped}
 use Rattle.mars_session.specs.History.{cut}
 use Rattle.mars_session.proofs.Stepping.{journal_cut, cut_kept}
 use Rattle.mars_session.proofs.deltas.DeltaTapeTape.cut.Goals as goal

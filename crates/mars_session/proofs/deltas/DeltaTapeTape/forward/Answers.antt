@@ -1,7 +1,7 @@
 use Rattle.std.proofs.Common.{◌<◌, ◌∙◌, ap, length, arith, true}
 use Rattle.mars_core.specs.Journal.{applied}
 use Rattle.mars_session.specs.Journals.{entry_at}
-use Rattle.mars_session.specs.Whole.{Taped}
+use Rattle.mars_session.specs.Tapes.{Taped}
 use Rattle.mars_session.specs.History.{forward}
 use Rattle.mars_session.proofs.Stepping.{journal_forward, forward_kept, leads_on, gone_on, read_entry}
 use Rattle.mars_session.proofs.deltas.DeltaTapeTape.forward.Goals as goal

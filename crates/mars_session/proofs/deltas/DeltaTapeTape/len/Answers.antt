@@ -1,5 +1,5 @@
 use Rattle.std.proofs.Common.{ap, arith, true}
-use Rattle.mars_session.specs.Whole.{Taped}
+use Rattle.mars_session.specs.Tapes.{Taped}
 use Rattle.mars_session.specs.History.{last_of}
 use Rattle.mars_session.proofs.Stepping.{journal_last}
 use Rattle.mars_session.proofs.deltas.DeltaTapeTape.len.Goals as goal

@@ -1,8 +1,16 @@
-use Rattle.std.proofs.Common.{◌∙◌, ap, sym, true}
-use Rattle.mars_session.specs.Whole.{Taped}
-use Rattle.mars_session.specs.History.{position_of}
-use Rattle.mars_session.proofs.Stepping.{journal_position}
+use Rattle.std.proofs.Common.{ap, true, arith}
+use Rattle.mars_session.specs.History.{position_of, following}
+use Rattle.mars_session.specs.Tapes.{Taped}
+use Rattle.mars_session.proofs.Stepping.{journal_position, journal_following}
 use Rattle.mars_session.proofs.deltas.DeltaTapeTape.position.Goals as goal
 
-pub returns : goal.returns
-returns c = sym (journal_position true c.self.inside.entries.items c.self.inside.at c.self.inside.battle) ∙ ap (λ (t : Taped). position_of t.history) c.self.view_is
+pub returns-clause-value : goal.returns-clause-value
+returns-clause-value c =
+    let at = journal_position true c.self.inside.entries.items c.self.inside.at c.self.inside.battle in
+    omega (arith, at, ap (λ (t : Taped). position_of t.history) c.self.view_is)
+
+pub returns-clause-covers : goal.returns-clause-covers
+returns-clause-covers c =
+    let s = c.self.inside in
+    let rest = journal_following true s.entries.items s.at s.battle in
+    omega (arith, rest, ap (λ (t : Taped). following t.history) c.self.view_is, ap (λ (t : Taped). t.room) c.self.view_is, s.entries.ok.0, s.entries.ok.1)

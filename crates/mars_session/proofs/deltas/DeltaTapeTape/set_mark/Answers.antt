@@ -1,5 +1,5 @@
 use Rattle.std.proofs.Common.{◌<◌, ◌-◌, ◌∙◌, ap, length, arith, true}
-use Rattle.mars_session.specs.Whole.{Taped}
+use Rattle.mars_session.specs.Tapes.{Taped}
 use Rattle.mars_session.specs.History.{marked}
 use Rattle.mars_session.proofs.Stepping.{journal_marked, marked_kept, read_entry}
 use Rattle.mars_session.proofs.deltas.DeltaTapeTape.set_mark.Goals as goal

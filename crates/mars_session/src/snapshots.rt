@@ -4,7 +4,7 @@ use mars_core::Battle;
 
 /// A copy of a battle, for one place.
 #[derive(Drop)]
-pub struct Kept {
+pub struct Snapshot {
     /// The copy.
     pub battle: Battle,
     /// Whether its place is marked.
