@@ -23,7 +23,6 @@ use Rattle.mars_core.proofs.EditClocks.{live_survives}
 use Rattle.mars_core.proofs.Edits.{place_filled, edit_valid}
 use Rattle.mars_core.proofs.Inside.{AreInside, execution_inside}
 use Rattle.mars_core.proofs.Reverts.{no_cells}
-use Rattle.mars_core.proofs.Rewritten.{record_applied}
 use Rattle.mars_core.proofs.Turns.{running, filled_length, turn_valid}
 
 -- what the code that applies a record has to know
@@ -109,7 +108,3 @@ pub applied_state : (p : Parameters) (core : List Cell) (qs : List Queue) (next 
 unfolding applied
 applied_state p core qs next cycle turns deaths atom core' qs' cycles' turns' deaths' a b c d e =
     let f = rw d at e in rw (a, b, c, f, d)
-
--- who holds a record may go forth again, and stands where it leads to
-pub can_go_forth : (s t : State) (atom : Atom) → Leads s atom t → Leads s atom (applied atom s)
-can_go_forth s t atom l = subst (λ (x : State). Leads s atom x) (sym (record_applied s atom t l)) l

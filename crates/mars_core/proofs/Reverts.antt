@@ -24,7 +24,7 @@ use Rattle.mars_core.specs.declared.queues.Clock.{Clock}
 use Rattle.mars_core.proofs.Accepted.{accepted_set_cell, accepted_move, accepted_kill, accepted_spawn}
 use Rattle.mars_core.proofs.Fits.{execution_keeps}
 use Rattle.mars_core.proofs.Inside.{AreInside, execution_inside}
-use Rattle.mars_core.proofs.Restored.{killing, queue_set, record_reverted}
+use Rattle.mars_core.proofs.Restored.{killing, queue_set}
 use Rattle.mars_core.proofs.Turns.{running, filled_length}
 
 -- what the code that reverts a record has to know
@@ -154,7 +154,3 @@ pub reverted_state : (p : Parameters) (core : List Cell) (qs : List Queue) (next
     → state_of p core' qs' atom.next_before (cycle - cycles') (turns - turns') deaths' ≡ reverted atom (state_of p core qs next cycle turns deaths)
 unfolding reverted
 reverted_state p core qs next cycle turns deaths atom core' qs' cycles' turns' deaths' a b c d e = rw (a, b, c, d, e)
-
--- who holds a record may go back, and stands where it leads from
-pub can_go_back : (s t : State) (atom : Atom) → Leads s atom t → Leads (reverted atom t) atom t
-can_go_back s t atom l = subst (λ (x : State). Leads x atom t) (sym (record_reverted s atom t l)) l
