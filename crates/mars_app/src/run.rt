@@ -3,7 +3,7 @@ ghost use Rattle.std.specs.Prelude.{◌≡◌, ◌≤◌, IfErr, IfOk, OnOk, len
 ghost use Rattle.std.specs.Io.KnownBytes.{Appends};
 ghost use Rattle.std.specs.List.{flat_map};
 ghost use Rattle.mars_cell.specs.Written.{load_text};
-ghost use Rattle.mars_app.specs.Contests.{StopsWriting, contest_size};
+ghost use Rattle.mars_app.specs.Contests.{BreaksOff, contest_size};
 ghost use Rattle.mars_app.specs.Loading.{AllFit};
 
 use crate::contest::{match_fault, run_contest, write_load_file, write_part};
@@ -117,7 +117,7 @@ fn write_load_files<W: Write>(
 ) -> Result<(), RunFault>
     requires { AllFit core_size warriors.now }
     ensures ok { OnOk result (Appends (W.contents output.old) (W.contents output.new) (flat_map (load_text core_size) warriors.now)) }
-    ensures err { IfErr result StopsWriting }
+    ensures err { IfErr result (λ fault. BreaksOff fault (W.contents output.old) (W.contents output.new) (flat_map (load_text core_size) warriors.now)) }
 {
     for warrior in warriors {
         write_load_file(alloc, warrior, core_size, output)?;
