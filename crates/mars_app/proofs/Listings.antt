@@ -25,6 +25,8 @@ listing-around m k zero (w ∷ ws) d h =
 listing-around m k (suc i) (w ∷ ws) d h =
     let later : (k + 1) + i ≡ k + suc i = omega arith in
     let r = listing-around m (k + 1) i ws d (omega (arith, h)) in
-    let before = listing_from m (k + 1) (take i ws) in
-    (r.0, ap (λ l. listed m k w ++ l) (r.1 ∙ ap (λ n. before ++ (listed m n (get_or ws i d) ++ r.0)) later)
-    ∙ sym (append_assoc (listed m k w) before (listed m (k + suc i) (get_or ws i d) ++ r.0)))
+    let before = listing_from m (k + 1) (take i ws) in (
+      r.0,
+      ap (λ l. listed m k w ++ l) (r.1 ∙ ap (λ n. before ++ (listed m n (get_or ws i d) ++ r.0)) later)
+          ∙ sym (append_assoc (listed m k w) before (listed m (k + suc i) (get_or ws i d) ++ r.0)),
+    )
