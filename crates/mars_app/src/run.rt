@@ -36,10 +36,19 @@ pub fn run<F: WarriorFiles, R: Read, W: Write, E: Write>(
     match run_words(alloc, words, files, input, output) {
         Ok(()) => 0,
         Err(fault) => {
-            let _ = writeln!(faults, "{fault}");
+            write_fault(alloc, &fault, faults);
             fault.status()
         }
     }
+}
+
+/// Writes the line of a fault in one piece, so that lines of programs that run side by side don't mix; in several where
+/// memory is refused.
+pub fn write_fault<E: Write>(alloc: Global, fault: &RunFault, faults: &mut E) {
+    let _ = match format!(in alloc; "{fault}\n") {
+        Ok(line) => faults.write_all(line.as_str().as_bytes()),
+        Err(_) => writeln!(faults, "{fault}"),
+    };
 }
 
 #[tactic(auto, using(crate::proofs::Positions::position_fits))]
