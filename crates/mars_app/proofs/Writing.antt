@@ -1,5 +1,5 @@
 -- What several writes, one after the other, did.
-use Rattle.std.proofs.Common.{◌≡◌, refl, ℕ, zero, suc, ◌+◌, ◌<◌, ◌≤◌, List, [], ◌++◌, length, take, get_or, Option, Result, Ok, Err, IfErr, ◌⊎◌, inl, inr, arith, append_assoc, add-one, append-nil, length-append}
+use Rattle.std.proofs.Common.{◌≡◌, refl, ℕ, zero, suc, ◌+◌, ◌<◌, List, [], ◌++◌, length, take, get_or, Option, Result, Ok, Err, IfErr, ◌⊎◌, inl, inr, arith, append_assoc, add-one, append-nil, length-append}
 use Rattle.std.specs.List.{flat_map}
 use Rattle.std.proofs.Math.Seq.{take-append-add}
 use Rattle.std.proofs.lemmas.List.{take-append-le, take_all}
