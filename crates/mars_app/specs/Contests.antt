@@ -1,12 +1,14 @@
 -- What a match or a league writes.
-use Rattle.std.specs.Prelude.{◌≡◌, ◌⊎◌, ℕ, ◌+◌, Bool, if◌then◌else◌, List, [], ◌∷◌, ◌++◌, length, vec_len, decimal, codes, Option, Result, Err}
+use Rattle.std.specs.Prelude.{◌≡◌, ◌≤◌, ◌⊎◌, ℕ, ◌+◌, Bool, if◌then◌else◌, List, [], ◌∷◌, ◌++◌, length, vec_len, decimal, codes, Option, Result, Ok, Err, take}
 use Rattle.std.specs.Io.KnownBytes.{Appends}
 use Rattle.mars_cell.specs.Parameters.{Parameters}
 use Rattle.mars_cell.specs.Warriors.{WarriorValue}
 use Rattle.mars_cell.specs.Written.{load_text}
 use Rattle.mars_match.specs.Leagues.{league_of}
 use Rattle.mars_match.specs.Rounds.{table_of}
+use Rattle.mars_match.specs.Results.{results_text}
 use Rattle.mars_match.specs.Tables.{RowValue}
+use Rattle.mars_match.specs.Writing.{CutShort}
 use Rattle.mars_core.specs.declared.starts.BattleFault.TheVariants as battle
 use Rattle.mars_match.specs.declared.fault.MatchFault.{MatchFault}
 use Rattle.mars_match.specs.declared.fault.MatchFault.TheVariants as match
@@ -52,10 +54,15 @@ fault_of (match.Battle battle.OutOfMemory) = OutOfMemory
 fault_of (match.Battle fault) = Battle fault
 fault_of (match.Score fault) = Score fault
 
--- memory is wanted, or the output fails
-abbrev pub StopsWriting : RunFault → Type 0
-StopsWriting fault = (fault ≡ OutOfMemory) ⊎ (fault ≡ Output)
+-- a text was to be written: the output failed after a beginning of it, not all, or memory was wanting after a beginning
+abbrev pub BreaksOff : RunFault → Option (List ℕ) → Option (List ℕ) → List ℕ → Type 0
+BreaksOff fault old new text =
+    ((fault ≡ Output) × CutShort old new text)
+    ⊎ ((fault ≡ OutOfMemory) × (n : ℕ) × (n ≤ length text) × Appends old new (take n text))
 
--- a contest fails for want of memory, or where its output does, or by its own fault, and then its listing was written
-abbrev pub ContestFails : RunFault → Result (List RowValue) MatchFault → Option (List ℕ) → Option (List ℕ) → List ℕ → Type 0
-ContestFails fault rows old new text = StopsWriting fault ⊎ ((f : MatchFault) × (rows ≡ Err f) × (fault ≡ fault_of f) × Appends old new text)
+-- a contest fails in its listing, or before its fight; or by its own fault, and then its listing was written; or in its results
+abbrev pub ContestFails : RunFault → Result (List RowValue) MatchFault → Bool → Option (List ℕ) → Option (List ℕ) → List ℕ → Type 0
+ContestFails fault contest sorted old new listing =
+    BreaksOff fault old new listing
+    ⊎ (((f : MatchFault) × (contest ≡ Err f) × (fault ≡ fault_of f) × Appends old new listing)
+    ⊎ ((rows : List RowValue) × (contest ≡ Ok rows) × (fault ≡ Output) × CutShort old new (listing ++ results_text rows sorted)))

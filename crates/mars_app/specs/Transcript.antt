@@ -1,5 +1,5 @@
 -- What the debugger writes for its lines.
-use Rattle.std.specs.Prelude.{◌≡◌, ◌≢◌, if◌then◌else◌, ℕ, Bool, false, true, ◌<◌, List, [], ◌∷◌, ◌++◌, length, take, codes, Option, ◌⊎◌, IfSome}
+use Rattle.std.specs.Prelude.{◌≡◌, ◌≢◌, if◌then◌else◌, ℕ, Bool, false, true, ◌<◌, ◌≤◌, List, [], ◌∷◌, ◌++◌, length, take, codes, Option, ◌⊎◌, IfSome}
 use Rattle.std.specs.List.{flat_map, AllByRecursion}
 use Rattle.std.specs.Io.KnownBytes.{Appends, Consumes, IsAtEnd, Keeps}
 use Rattle.mars_session.specs.Script.{SessionState, standing_of, outcome}
@@ -72,6 +72,10 @@ pub record Completes (core_size : ℕ) (input left : Option (List ℕ)) (s : Ses
   pub ends : HasQuit core_size bytes ⊎ IsAtEnd left
   -- so the lines are those of all that the reader had, however it came in pieces
   pub all : IfSome input (λ xs. Transcript core_size s (until_quit core_size (lines_of xs)) t text)
+
+-- At most n bytes of the input were read.
+abbrev pub TakesAtMost : ℕ → Option (List ℕ) → Option (List ℕ) → Type 0
+TakesAtMost n input left = (bytes : List ℕ) × Consumes input left bytes × (length bytes ≤ n)
 
 -- Nothing was read, executed or written.
 pub record NothingDone (input left : Option (List ℕ)) (s : SessionState) (v : Option (List ℕ)) (t : SessionState) (w : Option (List ℕ)) : Type 0 where

@@ -7,7 +7,8 @@ ghost use Rattle.mars_match.specs.Answers.{IsAnswer};
 ghost use Rattle.mars_match.specs.Results.{results_text};
 ghost use Rattle.mars_match.specs.Tables.{RowValue};
 ghost use Rattle.mars_match.specs.declared.table.Table.{Table};
-ghost use Rattle.mars_app.specs.Contests.{ContestFails, StopsWriting, contest, fault_of, listed, listing, listing_from, listing_head};
+ghost use Rattle.mars_match.specs.Writing.{CutShort};
+ghost use Rattle.mars_app.specs.Contests.{BreaksOff, ContestFails, contest, fault_of, listed, listing, listing_from, listing_head};
 ghost use Rattle.mars_app.specs.Loading.{AllFit, FitsTwo};
 
 use crate::fault::RunFault;
@@ -15,7 +16,9 @@ use crate::options::Options;
 use crate::replies::{Line, numbered, push_number};
 use mars_cell::{Params, Warrior, write_load};
 use mars_core::BattleFault;
-use mars_match::{MatchFault, PlaceFault, Plan, Table, league, rounds, write_results, write_text};
+use mars_match::{
+    MatchFault, PlaceFault, Plan, Table, WriteFault, league, rounds, write_results, write_text,
+};
 use redcode_asm::Formula;
 use std::alloc::Global;
 use std::io::Write;
@@ -35,11 +38,9 @@ pub fn run_contest<W: Write>(
     ensures ok { OnOk result ((rows : List RowValue)
         × (contest options.now params.now formula warriors.now ≡ Ok rows)
         × Appends (W.contents output.old) (W.contents output.new) (listing params.now.core_size options.now.brief warriors.now ++ results_text rows options.now.sorted)) }
-    ensures err { IfErr result (λ fault. ContestFails fault (contest options.now params.now formula warriors.now) (W.contents output.old) (W.contents output.new) (listing params.now.core_size options.now.brief warriors.now)) }
+    ensures err { IfErr result (λ fault. ContestFails fault (contest options.now params.now formula warriors.now) options.now.sorted (W.contents output.old) (W.contents output.new) (listing params.now.core_size options.now.brief warriors.now)) }
 {
-    if !options.brief {
-        write_listing(alloc, warriors, params.core_size(), output)?;
-    }
+    write_listing(alloc, options.brief, warriors, params.core_size(), output)?;
     let table = match hold_contest(alloc, options, formula, params, warriors) {
         Ok(table) => table,
         Err(fault) => return Err(match_fault(fault)),
@@ -89,17 +90,21 @@ pub fn match_fault(fault: MatchFault) -> RunFault
     }
 }
 
-/// Writes a line for each warrior, its load file, and an empty line.
+/// Writes a line for each warrior, its load file, and an empty line; nothing where the listing is to be brief.
 fn write_listing<W: Write>(
     alloc: Global,
+    brief: bool,
     warriors: &[Warrior],
     core_size: u32,
     output: &mut W,
 ) -> Result<(), RunFault>
     requires { AllFit core_size warriors.now }
-    ensures ok { OnOk result (Appends (W.contents output.old) (W.contents output.new) (listing_from core_size 0 warriors.now)) }
-    ensures err { IfErr result StopsWriting }
+    ensures ok { OnOk result (Appends (W.contents output.old) (W.contents output.new) (listing core_size brief warriors.now)) }
+    ensures err { IfErr result (λ fault. BreaksOff fault (W.contents output.old) (W.contents output.new) (listing core_size brief warriors.now)) }
 {
+    if brief {
+        return Ok(());
+    }
     for number in 0..warriors.len() {
         write_warrior(alloc, number as u64, &warriors[number], core_size, output)?;
     }
@@ -116,7 +121,7 @@ fn write_warrior<W: Write>(
 ) -> Result<(), RunFault>
     requires { All (FitsCore core_size) warrior.now.cells }
     ensures ok { OnOk result (Appends (W.contents output.old) (W.contents output.new) (listed core_size number warrior.now)) }
-    ensures err { IfErr result StopsWriting }
+    ensures err { IfErr result (λ fault. BreaksOff fault (W.contents output.old) (W.contents output.new) (listed core_size number warrior.now)) }
 {
     let head = listing_head(number, warrior);
     write_part(output, head.as_str().as_bytes())?;
@@ -148,7 +153,7 @@ pub fn write_load_file<W: Write>(
 ) -> Result<(), RunFault>
     requires { All (FitsCore core_size) warrior.now.cells }
     ensures ok { OnOk result (Appends (W.contents output.old) (W.contents output.new) (load_text core_size warrior.now)) }
-    ensures err { IfErr result StopsWriting }
+    ensures err { IfErr result (λ fault. BreaksOff fault (W.contents output.old) (W.contents output.new) (load_text core_size warrior.now)) }
 {
     let Ok(text) = write_load(alloc, warrior, core_size) else {
         return Err(RunFault::OutOfMemory);
@@ -159,10 +164,10 @@ pub fn write_load_file<W: Write>(
 /// Writes a text.
 pub fn write_part<W: Write>(output: &mut W, text: &[u8]) -> Result<(), RunFault>
     ensures ok { OnOk result (Appends (W.contents output.old) (W.contents output.new) text.now) }
-    ensures err { IfErr result StopsWriting }
+    ensures err { IfErr result (λ fault. (fault ≡ RunFault.Output) × CutShort (W.contents output.old) (W.contents output.new) text.now) }
 {
     match write_text(output, text) {
         Ok(()) => Ok(()),
-        Err(_) => Err(RunFault::Output),
+        Err(WriteFault) => Err(RunFault::Output),
     }
 }

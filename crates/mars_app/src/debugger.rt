@@ -1,8 +1,8 @@
 //! The debugger: it reads lines, makes their calls and writes what they answer.
-ghost use Rattle.std.specs.Prelude.{◌≡◌, Bool, [], ◌∷◌, ◌<◌, OnOk, OnErr};
+ghost use Rattle.std.specs.Prelude.{◌≡◌, Bool, [], ◌∷◌, ◌<◌, ◌*◌, OnOk, OnErr};
 ghost use Rattle.std.specs.Io.KnownBytes.{Appends};
 ghost use Rattle.mars_match.specs.Writing.{CutShort};
-ghost use Rattle.mars_app.specs.Transcript.{answer, core_size_of, Completes, NothingDone, ReadFails, WriteFails};
+ghost use Rattle.mars_app.specs.Transcript.{answer, core_size_of, Completes, NothingDone, ReadFails, TakesAtMost, WriteFails};
 ghost use Rattle.mars_app.specs.Steps.{Breaks, BreaksAtEnd, Finishes, GoesThrough, Quits};
 
 use crate::line_buffer::LineBuffer;
@@ -135,7 +135,11 @@ fn take_last_line<W: Write, T: Tape>(
     execute(request, writer, session)
 }
 
+/// The most bytes of one read.
 const CHUNK: usize = 4096;
+
+/// The most reads of the debugger.
+const MOST_READS: u64 = 4_294_967_296;
 
 /// Reads lines, up to `quit` or the end of the input, and answers each before the next, in at most so many reads.
 pub fn debug_within<R: Read, W: Write, T: Tape>(
@@ -155,6 +159,9 @@ pub fn debug_within<R: Read, W: Write, T: Tape>(
     // The lines up to one are answered, and of that one's text not all is written.
     ensures write { result ≡ Err DebugFault.Write → WriteFails (core_size_of session.old) (R.remaining reader.old) (R.remaining reader.new)
         session.old (W.contents writer.old) session.new (W.contents writer.new) }
+
+    // Each read has at most so many bytes.
+    ensures few { TakesAtMost (4096 * reads) (R.remaining reader.old) (R.remaining reader.new) }
 
     // With no read nothing is done.
     ensures no_reads { reads ≡ 0 → (result ≡ Err DebugFault.Read) × NothingDone (R.remaining reader.old) (R.remaining reader.new)
@@ -183,7 +190,7 @@ pub fn debug_within<R: Read, W: Write, T: Tape>(
     Err(DebugFault::Read)
 }
 
-/// `debug_within` with at most 4,294,967,296 reads.
+/// `debug_within` with at most 4,294,967,296 reads, of at most 4,096 bytes each.
 pub fn debug<R: Read, W: Write, T: Tape>(
     reader: &mut R,
     writer: &mut W,
@@ -195,6 +202,7 @@ pub fn debug<R: Read, W: Write, T: Tape>(
         session.old (W.contents writer.old) session.new (W.contents writer.new) }
     ensures write { result ≡ Err DebugFault.Write → WriteFails (core_size_of session.old) (R.remaining reader.old) (R.remaining reader.new)
         session.old (W.contents writer.old) session.new (W.contents writer.new) }
+    ensures few { TakesAtMost (4096 * 4294967296) (R.remaining reader.old) (R.remaining reader.new) }
 {
-    debug_within(reader, writer, session, 4_294_967_296)
+    debug_within(reader, writer, session, MOST_READS)
 }

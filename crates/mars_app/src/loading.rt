@@ -7,7 +7,7 @@ use crate::fault::RunFault;
 use crate::files::{FileFault, WarriorFiles};
 use mars_cell::{LoadFault, Params, Warrior, read_load};
 use redcode_asm::{AsmFault, AsmProblem, assemble};
-use std::alloc::Global;
+use std::alloc::{AllocError, Global};
 
 /// The most bytes of a warrior's file.
 const LARGEST_FILE: usize = 1_048_576;
@@ -49,7 +49,7 @@ fn read_file<F: WarriorFiles>(alloc: Global, files: &F, name: &str) -> Result<Ve
         Ok(bytes) => return Ok(bytes),
         Err(fault) => fault,
     };
-    let Ok(name) = String::from_str(alloc, name) else {
+    let Ok(name) = shown_name(alloc, name) else {
         return Err(RunFault::OutOfMemory);
     };
     Err(match fault {
@@ -57,6 +57,19 @@ fn read_file<F: WarriorFiles>(alloc: Global, files: &F, name: &str) -> Result<Ve
         FileFault::CannotRead => RunFault::CannotRead(name),
         FileFault::TooLarge => RunFault::TooLarge(name),
     })
+}
+
+/// A file's name as a fault shows it: each control character is `?`, so that the fault stays one line.
+fn shown_name(alloc: Global, name: &str) -> Result<String, AllocError> {
+    let mut shown = String::new(alloc);
+    for character in name.chars() {
+        shown.push(if character.is_ascii_control() {
+            '?'
+        } else {
+            character
+        })?;
+    }
+    Ok(shown)
 }
 
 fn is_load_file(name: &str) -> bool
@@ -98,7 +111,7 @@ fn load_fault(alloc: Global, name: &str, fault: LoadFault) -> RunFault {
         LoadFault::Syntax(line) => line,
         _ => 0,
     };
-    match (fault, String::from_str(alloc, name)) {
+    match (fault, shown_name(alloc, name)) {
         (LoadFault::OutOfMemory, _) | (_, Err(_)) => RunFault::OutOfMemory,
         (fault, Ok(name)) => RunFault::Load(name, line, fault),
     }
@@ -106,7 +119,7 @@ fn load_fault(alloc: Global, name: &str, fault: LoadFault) -> RunFault {
 
 /// The fault of a source.
 fn assembly_fault(alloc: Global, name: &str, fault: AsmFault) -> RunFault {
-    match (fault.problem, String::from_str(alloc, name)) {
+    match (fault.problem, shown_name(alloc, name)) {
         (AsmProblem::OutOfMemory, _) | (_, Err(_)) => RunFault::OutOfMemory,
         (_, Ok(name)) => RunFault::Assembly(name, fault.line, fault),
     }

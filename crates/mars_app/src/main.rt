@@ -1,4 +1,5 @@
-//! The program `mars`: a debugger for battles of Core War that steps backwards as well as forwards.
+//! The program `mars`: it assembles warriors of Core War, fights matches and leagues, and debugs battles backwards as well as
+//! forwards.
 #![tactic(auto)]
 
 mod contest;
@@ -19,7 +20,8 @@ mod words;
 
 use crate::fault::RunFault;
 use crate::files::SystemFiles;
-use crate::run::run;
+use crate::run::{run, write_fault};
+use std::alloc::Global;
 use std::env;
 use std::io::{ErrorKind, Write};
 use std::process::ExitCode;
@@ -30,14 +32,14 @@ fn main(rt: HostRuntime) -> ExitCode {
     let mut words = match env::args(&rt) {
         Ok(words) => words,
         Err(error) if error.kind() == ErrorKind::OutOfMemory => {
-            return end(&mut faults, RunFault::OutOfMemory);
+            return end(alloc, &mut faults, RunFault::OutOfMemory);
         }
         // A word that isn't UTF-8.
-        Err(_) => return end(&mut faults, RunFault::Words),
+        Err(_) => return end(alloc, &mut faults, RunFault::Words),
     };
     let _name = words.next();
     let Ok(words) = words.collect::<Vec<String>>(alloc) else {
-        return end(&mut faults, RunFault::OutOfMemory);
+        return end(alloc, &mut faults, RunFault::OutOfMemory);
     };
     let files = SystemFiles(&rt);
     let status = run(
@@ -52,7 +54,7 @@ fn main(rt: HostRuntime) -> ExitCode {
 }
 
 /// Writes the line for a fault, and gives its status.
-fn end<E: Write>(faults: &mut E, fault: RunFault) -> ExitCode {
-    let _ = writeln!(faults, "{fault}");
+fn end<E: Write>(alloc: Global, faults: &mut E, fault: RunFault) -> ExitCode {
+    write_fault(alloc, &fault, faults);
     ExitCode::from(fault.status())
 }

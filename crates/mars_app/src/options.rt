@@ -206,35 +206,46 @@ fn command<'a>(alloc: Global) -> Result<Command<'a>, AllocError> {
 /// The words for the sizes of a battle.
 fn sizes<'a>(alloc: Global, command: Command<'a>) -> Result<Command<'a>, AllocError> {
     command
-        .arg(counted(alloc, "rounds", "Rounds, 1 to 100000 [default: 1]").short('r'))?
-        .arg(counted(alloc, "core", "Core size, 1 to 1048576 [default: 8000]").short('s'))?
+        .arg(counted(alloc, "rounds", 100_000, "Rounds, 1 to 100000 [default: 1]").short('r'))?
+        .arg(counted(
+            alloc,
+            "core",
+            1_048_576,
+            "Core size, 1 to 1048576 [default: 8000]",
+        )
+        .short('s'))?
         .arg(counted(
             alloc,
             "cycles",
+            10_000_000,
             "Cycle limit, 1 to 10000000 [default: 80000]",
         )
         .short('c'))?
         .arg(counted(
             alloc,
             "processes",
+            65_536,
             "Process limit, 1 to 65536 [default: 8000]",
         )
         .short('p'))?
         .arg(counted(
             alloc,
             "longest",
+            1_048_576,
             "Longest warrior, 1 to the core size [default: 100]",
         )
         .short('l'))?
         .arg(counted(
             alloc,
             "distance",
+            1_048_576,
             "Least distance, from the longest warrior to the core size [default: 100]",
         )
         .short('d'))?
         .arg(counted(
             alloc,
             "fixed",
+            1_048_576,
             "Position of warrior 2, from the least distance to the core size less that",
         )
         .short('F'))
@@ -246,24 +257,28 @@ fn limits<'a>(alloc: Global, command: Command<'a>) -> Result<Command<'a>, AllocE
         .arg(counted(
             alloc,
             "read-limit",
+            1_048_576,
             "How far is read, 1 to the core size [default: core size]",
         )
         .long("read-limit"))?
         .arg(counted(
             alloc,
             "write-limit",
+            1_048_576,
             "How far is written, 1 to the core size [default: core size]",
         )
         .long("write-limit"))?
         .arg(counted(
             alloc,
             "seed",
+            2_147_483_646,
             "Seed of the positions, 1 to 2147483646 [default: 1]",
         )
         .long("seed"))?
         .arg(counted(
             alloc,
             "history",
+            1_000_000,
             "Limit of the debugger's history, 1 to 1000000 [default: 200000]",
         )
         .long("history"))?
@@ -311,9 +326,10 @@ fn flag<'a>(alloc: Global, id: &'a str, help: &'a str) -> Arg<'a> {
     Arg::new(alloc, id).action(ArgAction::SetTrue).help(help)
 }
 
-fn counted<'a>(alloc: Global, id: &'a str, help: &'a str) -> Arg<'a> {
+/// A word with a number from 1 to a greatest one.
+fn counted<'a>(alloc: Global, id: &'a str, greatest: u32, help: &'a str) -> Arg<'a> {
     Arg::new(alloc, id)
         .value_name("N")
-        .value_parser(value_parser!(u32))
+        .value_parser(value_parser!(u32).range(1..=i64::from(greatest)))
         .help(help)
 }

@@ -3,7 +3,7 @@ ghost use Rattle.std.specs.Prelude.{◌≡◌, ◌≤◌, IfErr, IfOk, OnOk, len
 ghost use Rattle.std.specs.Io.KnownBytes.{Appends};
 ghost use Rattle.std.specs.List.{flat_map};
 ghost use Rattle.mars_cell.specs.Written.{load_text};
-ghost use Rattle.mars_app.specs.Contests.{StopsWriting, contest_size};
+ghost use Rattle.mars_app.specs.Contests.{BreaksOff, contest_size};
 ghost use Rattle.mars_app.specs.Loading.{AllFit};
 
 use crate::contest::{match_fault, run_contest, write_load_file, write_part};
@@ -36,10 +36,19 @@ pub fn run<F: WarriorFiles, R: Read, W: Write, E: Write>(
     match run_words(alloc, words, files, input, output) {
         Ok(()) => 0,
         Err(fault) => {
-            let _ = writeln!(faults, "{fault}");
+            write_fault(alloc, &fault, faults);
             fault.status()
         }
     }
+}
+
+/// Writes the line of a fault in one piece, so that lines of programs that run side by side don't mix; in several where
+/// memory is refused.
+pub fn write_fault<E: Write>(alloc: Global, fault: &RunFault, faults: &mut E) {
+    let _ = match format!(in alloc; "{fault}\n") {
+        Ok(line) => faults.write_all(line.as_str().as_bytes()),
+        Err(_) => writeln!(faults, "{fault}"),
+    };
 }
 
 #[tactic(auto, using(crate::proofs::Positions::position_fits))]
@@ -117,7 +126,7 @@ fn write_load_files<W: Write>(
 ) -> Result<(), RunFault>
     requires { AllFit core_size warriors.now }
     ensures ok { OnOk result (Appends (W.contents output.old) (W.contents output.new) (flat_map (load_text core_size) warriors.now)) }
-    ensures err { IfErr result StopsWriting }
+    ensures err { IfErr result (λ fault. BreaksOff fault (W.contents output.old) (W.contents output.new) (flat_map (load_text core_size) warriors.now)) }
 {
     for warrior in warriors {
         write_load_file(alloc, warrior, core_size, output)?;

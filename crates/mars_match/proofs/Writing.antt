@@ -32,7 +32,7 @@ module _ {X : Type 0} (f : X → List ℕ) (xs : List X) (i : ℕ) (d : X) (insi
   flat_map-one_more = rw (take_more xs i d inside, flat_map-append f (take i xs) (get_or xs i d ∷ [])) (ap (λ l. flat_map f (take i xs) ++ l) (append-nil (f (get_or xs i d))))
 
   -- the texts before an element, its own, and those after it
-  flat_map-around : flat_map f xs ≡ flat_map f (take i xs) ++ (f (get_or xs i d) ++ flat_map f (drop (i + 1) xs))
+  pub flat_map-around : flat_map f xs ≡ flat_map f (take i xs) ++ (f (get_or xs i d) ++ flat_map f (drop (i + 1) xs))
   flat_map-around = ap (flat_map f) (sym (take-append-drop i xs)) ∙ flat_map-append f (take i xs) (drop i xs) ∙ ap (λ l. flat_map f (take i xs) ++ l) (rw (drop_more xs i d inside) refl)
 
   -- the writer failed in the text of an element

@@ -730,14 +730,89 @@ fn numbers_as_words(rt: HostRuntime) -> Result<(), Fail> {
     Ok(())
 }
 
+/// The whole help.
+const HELP: &str =
+    "Core War: fights matches and leagues of warriors, and debugs battles forwards and backwards
+
+Usage: mars [OPTIONS] <FILE>...
+
+Arguments:
+  <FILE>...  1 to 16 warriors: sources of Redcode, and load files, whose names end in .load
+
+Options:
+  -r <N>                 Rounds, 1 to 100000 [default: 1]
+  -s <N>                 Core size, 1 to 1048576 [default: 8000]
+  -c <N>                 Cycle limit, 1 to 10000000 [default: 80000]
+  -p <N>                 Process limit, 1 to 65536 [default: 8000]
+  -l <N>                 Longest warrior, 1 to the core size [default: 100]
+  -d <N>                 Least distance, from the longest warrior to the core size [default: 100]
+  -F <N>                 Position of warrior 2, from the least distance to the core size less that
+      --read-limit <N>   How far is read, 1 to the core size [default: core size]
+      --write-limit <N>  How far is written, 1 to the core size [default: core size]
+      --seed <N>         Seed of the positions, 1 to 2147483646 [default: 1]
+      --history <N>      Limit of the debugger's history, 1 to 1000000 [default: 200000]
+      --score <FORMULA>  What a survivor gets, W being the warriors and S the survivors [default: (W*W-1)/S]
+  -e                     Debugs the battle of the first round by the commands of standard input
+  -b                     No listing of the warriors
+  -o                     Results sorted by points
+      --league           Every pair of warriors fights
+      --load             Writes the load file of the one warrior
+      --help             Prints this help
+";
+
 #[test]
 fn help(rt: HostRuntime) -> Result<(), Fail> {
     let answer = answer(rt.alloc(), &["--help"], b"")?;
     assert_eq!(rt; answer.status, 0);
     assert!(rt; answer.faults.is_empty());
-    let text = str::from_utf8(&answer.output).ok().ok_or("text")?;
-    assert!(rt; text.contains("Usage: mars [OPTIONS] <FILE>..."));
-    assert!(rt; text.contains("Core size, 1 to 1048576 [default: 8000]"));
+    assert!(rt; answer.output.as_slice() == HELP.as_bytes());
+    // A bad word before it, or a number out of its range, is judged first.
+    for word in ["x", "0", "100001"] {
+        check_fault(
+            &rt,
+            rt.alloc(),
+            &["-r", word, "--help"],
+            2,
+            b"mars: bad words\n",
+        )?;
+    }
+    Ok(())
+}
+
+/// Counts its writes.
+#[derive(Drop)]
+struct Counted {
+    bytes: Vec<u8>,
+    writes: u32,
+}
+
+impl Write for Counted {
+    fn write(&mut self, buf: &[u8]) -> io::Result<usize> {
+        self.bytes.extend_from_slice(buf)?;
+        self.writes = self.writes.saturating_add(1);
+        Ok(buf.len())
+    }
+
+    fn flush(&mut self) -> io::Result<()> {
+        Ok(())
+    }
+}
+
+#[test]
+fn a_fault_is_one_line_and_one_write(rt: HostRuntime) -> Result<(), Fail> {
+    let alloc = rt.alloc();
+    let words = words_of(alloc, &["-b", "no\nsuch\x1b[1m file\x7f.red"])?;
+    let files = files(alloc)?;
+    let mut input = b"".as_slice();
+    let mut output = Vec::new(alloc);
+    let mut faults = Counted {
+        bytes: Vec::new(alloc),
+        writes: 0,
+    };
+    let status = run(alloc, &words, &files, &mut input, &mut output, &mut faults);
+    assert_eq!(rt; (status, faults.writes), (1, 1));
+    let line = b"mars: no?such?[1m file?.red: cannot read\n".as_slice();
+    assert!(rt; faults.bytes.as_slice() == line);
     Ok(())
 }
 

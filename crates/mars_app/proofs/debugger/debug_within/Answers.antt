@@ -1,12 +1,14 @@
-use Rattle.std.proofs.Common.{◌≡◌, refl, rules, arith}
+use Rattle.std.proofs.Common.{◌≡◌, ◌+◌, ◌*◌, refl, rules, arith}
 use Rattle.std.proofs.KnownBytes.{Keeps-refl}
 use Rattle.mars_app.specs.Transcript.{core_size_of}
+use Rattle.mars_app.proofs.Bounds.{takes_none, takes_more}
 use Rattle.mars_app.proofs.Reading.{reads_none, reads_more, reads_quit, reads_break, reads_end, reads_break_at_end, Completes-along, WriteFails-along}
 use Rattle.mars_app.proofs.debugger.debug_within.Goals as goal
 
 pub reads-init : goal.reads-init
 reads-init g c = record {
   so_far = reads_none _ _ _ _ c.new-line.result c.new-line.ensures;
+  few = takes_none _;
   untouched = λ _. record { reader = Keeps-refl _; session = refl; writer = Keeps-refl _ };
 }
 
@@ -35,8 +37,17 @@ returns-in-Err-take_bytes-clause-write g c =
 pub reads-preserved : goal.reads-preserved
 reads-preserved g c = record {
   so_far = reads_more _ _ _ _ _ _ _ _ c.reads.invariant.so_far _ _ c.in-Ok.ensures.bytes.0 _ _ _ ((rw c.in-Ok-More.field-0-is at c.in-Ok-More.ensures.more) refl);
+  few = takes_more (4096 * c.reads.counter) _ _ c.reads.invariant.few (4096 * (c.reads.counter + 1)) _ c.in-Ok.count _ (omega arith) c.in-Ok.ensures.bytes.0;
   untouched = λ e. absurd (omega (arith, e));
 }
 
 pub returns-clause-no_reads : goal.returns-clause-no_reads
 returns-clause-no_reads g c = λ e. (refl, c.reads.invariant.untouched (omega (arith, e)))
+
+pub returns-in-Ok-Quit-clause-few : goal.returns-in-Ok-Quit-clause-few
+returns-in-Ok-Quit-clause-few g c =
+    takes_more (4096 * c.reads.counter) _ _ c.reads.invariant.few (4096 * c.args.reads) _ c.in-Ok.count _ (omega arith) c.in-Ok.ensures.bytes.0
+
+pub returns-in-Err-take_bytes-clause-few : goal.returns-in-Err-take_bytes-clause-few
+returns-in-Err-take_bytes-clause-few g c =
+    takes_more (4096 * c.reads.counter) _ _ c.reads.invariant.few (4096 * c.args.reads) _ c.in-Ok.count _ (omega arith) c.in-Ok.ensures.bytes.0

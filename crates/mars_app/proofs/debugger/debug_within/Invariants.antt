@@ -1,5 +1,5 @@
-use Rattle.std.proofs.Common.{◌≡◌}
-use Rattle.mars_app.specs.Transcript.{NothingDone}
+use Rattle.std.proofs.Common.{◌≡◌, ◌*◌}
+use Rattle.mars_app.specs.Transcript.{NothingDone, TakesAtMost}
 use Rattle.mars_app.proofs.Reading.{SoFar}
 use Rattle.mars_app.proofs.debugger.debug_within.Given as goal
 
@@ -8,6 +8,7 @@ invariant-reads g l = record {
   so_far : SoFar l.core_size (g.R.Read.remaining l.initial.reader) (g.R.Read.remaining l.reader)
       l.initial.session (g.W.Write.contents l.initial.writer)
       l.line l.session (g.W.Write.contents l.writer);
+  few : TakesAtMost (4096 * l.counter) (g.R.Read.remaining l.initial.reader) (g.R.Read.remaining l.reader);
   untouched : l.counter ≡ 0 → NothingDone (g.R.Read.remaining l.initial.reader) (g.R.Read.remaining l.reader)
       l.initial.session (g.W.Write.contents l.initial.writer) l.session (g.W.Write.contents l.writer);
 }
