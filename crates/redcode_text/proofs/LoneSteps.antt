@@ -3,7 +3,7 @@ use Rattle.std.proofs.Common.{◌≡◌, ◌∙◌, ℕ, ◌<◌, List, [], ◌�
 use Rattle.redcode_text.specs.declared.fault.TextFault.{TextFault}
 use Rattle.redcode_text.specs.declared.fault.TextProblem.{TextProblem}
 use Rattle.redcode_text.specs.declared.fault.TextProblem.TheVariants.{UnclosedFor, RofAlone}
-use Rattle.redcode_text.specs.declared.rows.Row as code
+use Rattle.redcode_text.specs.declared.source.Row as code
 use Rattle.redcode_text.specs.Expansion.{flat, unless_ended, unpaired_line}
 use Rattle.redcode_text.specs.Lines.{Predefined, Reading, line_read, plain_line}
 use Rattle.redcode_text.specs.Loops.{one_loop}

@@ -1,11 +1,11 @@
 -- The items of a source, and the turns of a loop, one further.
 use Rattle.std.proofs.Common.{◌≡◌, ◌∙◌, ℕ, zero, suc, ◌+◌, ◌-◌, ◌<◌, ◌≤◌, List, [], ◌∷◌, length, Bool, true, false, Option, Result, Ok, Err, ap, refl, subst, sym, arith, get_or}
 use Rattle.std.proofs.lemmas.List.{get_or_default}
-use Rattle.redcode_text.specs.declared.rows.Row as code
+use Rattle.redcode_text.specs.declared.source.Row as code
 use Rattle.redcode_text.specs.Pairs.{here_from, EndsAt}
 use Rattle.redcode_text.proofs.PairSteps.{for-at, paired-drop}
-use Rattle.redcode_text.specs.declared.rows.LineKind as code_kind
-use Rattle.redcode_text.specs.declared.rows.LineKind.TheVariants as line
+use Rattle.redcode_text.specs.declared.source.LineKind as code_kind
+use Rattle.redcode_text.specs.declared.source.LineKind.TheVariants as line
 use Rattle.redcode_text.specs.declared.fault.TextFault.{TextFault}
 use Rattle.redcode_text.specs.declared.fault.TextProblem.{TextProblem}
 use Rattle.redcode_text.specs.declared.fault.TextProblem.TheVariants.{NotAscii, BadToken, UnclosedFor, RofAlone, BadCount, LabelInCount, Duplicate, EquDepth, TooLong, Expression, OutOfMemory}

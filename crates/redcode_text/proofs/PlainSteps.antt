@@ -1,7 +1,7 @@
 -- A line that is no EQU line is an ordinary one.
 use Rattle.std.proofs.Common.{◌≡◌, ℕ, ◌<◌, List, [], ◌∷◌, length, refl, arith}
-use Rattle.redcode_text.specs.declared.rows.LineKind as code
-use Rattle.redcode_text.specs.declared.rows.LineKind.TheVariants as line
+use Rattle.redcode_text.specs.declared.source.LineKind as code
+use Rattle.redcode_text.specs.declared.source.LineKind.TheVariants as line
 use Rattle.redcode_text.specs.declared.token.Token.{Token}
 use Rattle.redcode_text.specs.Lines.{Predefined, Reading, ordinary_line, tokens_line}
 use Rattle.redcode_text.specs.Outcomes.{kind_of}

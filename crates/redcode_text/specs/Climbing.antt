@@ -8,10 +8,10 @@ use Rattle.redcode_text.specs.declared.token.Sign.TheVariants.{OpenParen, CloseP
 use Rattle.redcode_text.specs.declared.fault.ExprFault.{ExprFault}
 use Rattle.redcode_text.specs.declared.fault.ExprFault.TheVariants.{Syntax}
 use Rattle.redcode_text.specs.declared.token.Token.{Token}
-use Rattle.redcode_text.specs.declared.evaluation.Pending.{Pending}
-use Rattle.redcode_text.specs.declared.evaluation.Pending.TheVariants.{Value, Open}
-use Rattle.redcode_text.specs.declared.shape.ShapeState.{ShapeState}
-use Rattle.redcode_text.specs.declared.evaluation.Reading as code
+use Rattle.redcode_text.specs.declared.expression.evaluation.Pending.{Pending}
+use Rattle.redcode_text.specs.declared.expression.evaluation.Pending.TheVariants.{Value, Open}
+use Rattle.redcode_text.specs.declared.expression.shape.ShapeState.{ShapeState}
+use Rattle.redcode_text.specs.declared.expression.evaluation.Evaluation as code
 use Rattle.redcode_text.specs.Expression.{◌>>=◌, precedence, unary, binary, known, kinds}
 
 -- a value with an operator that waits for its right side, or a parenthesis with the unary signs before it
@@ -107,11 +107,11 @@ GivesReduced ts (Ok v) stack read = read ≡ Ok (v, waiting_all ts stack)
 GivesReduced ts (Err e) stack read = read ≡ Err e
 
 -- what the code holds before the token at a place
-abbrev pub seen : List Token → ℕ → code.Reading → State
+abbrev pub seen : List Token → ℕ → code.Evaluation → State
 seen ts at r = record { stack = waiting_all ts r.stack; signs = kinds (slice_range ts r.first_sign at); value = r.value; after = r.after_operand }
 
 -- what the code returns and leaves before the token at a place is what reading gives
-abbrev pub Gives : List Token → ℕ → Result (Unit {0}) ExprFault → code.Reading → Result State ExprFault → Type 0
+abbrev pub Gives : List Token → ℕ → Result (Unit {0}) ExprFault → code.Evaluation → Result State ExprFault → Type 0
 Gives ts at (Ok x) r read = read ≡ Ok (seen ts at r)
 Gives ts at (Err e) r read = read ≡ Err e
 
@@ -127,7 +127,7 @@ IsOrdered (Left u s ∷ stack) n = (0 < precedence s) × IsLooser (precedence s)
 IsOrdered (Opened signs ∷ stack) n = (0 < n) × IsOrdered stack (n - 1)
 
 -- the reading stands at this state of the shape
-pub record Stands (n : ℕ) (r : code.Reading) (st : State) (p : ShapeState) : Type 0 where
+pub record Stands (n : ℕ) (r : code.Evaluation) (st : State) (p : ShapeState) : Type 0 where
   pub ordered : IsOrdered st.stack p.opened
   pub opened : p.opened ≤ 64
   pub after : st.after ≡ p.after_operand

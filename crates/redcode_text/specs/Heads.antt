@@ -1,6 +1,6 @@
 -- The head of a loop as the code holds it.
 use Rattle.std.specs.Prelude.{ℕ, List, [], ◌∷◌, Option, None, option_map, string_bytes}
-use Rattle.redcode_text.specs.declared.state.Head as code
+use Rattle.redcode_text.specs.declared.reader.repeat.head.Head as code
 use Rattle.redcode_text.specs.Expansion.{Head}
 use Rattle.redcode_text.specs.Lines.{Reading}
 use Rattle.redcode_text.specs.Tokens.{OpenLoop}

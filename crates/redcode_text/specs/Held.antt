@@ -1,10 +1,10 @@
 -- What the code holds of all that has been read.
 use Rattle.std.specs.Prelude.{ℕ, ◌++◌, List, Result, Ok, true, false, [], ◌∷◌, codes, drop, map, string_bytes, take}
-use Rattle.redcode_text.specs.declared.predefined.Names.{Names}
-use Rattle.redcode_text.specs.declared.state.Line as line
-use Rattle.redcode_text.specs.declared.state.Assert as assert
-use Rattle.redcode_text.specs.declared.state.Parts as parts
-use Rattle.redcode_text.specs.declared.state.Reading as code
+use Rattle.redcode_text.specs.declared.names.predefined.Names.{Names}
+use Rattle.redcode_text.specs.declared.program.Line as line
+use Rattle.redcode_text.specs.declared.program.Assert as assert
+use Rattle.redcode_text.specs.declared.reader.ordinary.Parts as parts
+use Rattle.redcode_text.specs.declared.reader.Reading as code
 use Rattle.redcode_text.specs.declared.token.Token.{Token}
 use Rattle.redcode_text.specs.Lines.{Line, Assert, Parts, Reading, Predefined, assert_line, directive_value, row_tokens, unless_empty}
 use Rattle.redcode_text.specs.declared.fault.TextProblem.{TextProblem}

@@ -4,12 +4,12 @@ use Rattle.redcode_text.specs.declared.fault.TextFault.{TextFault}
 use Rattle.redcode_text.specs.declared.fault.TextProblem.{TextProblem}
 use Rattle.redcode_text.specs.declared.fault.TextProblem.TheVariants.{OutOfMemory}
 use Rattle.redcode_text.specs.declared.token.Token.{Token}
-use Rattle.redcode_text.specs.declared.words.Spelled.{Spelled}
+use Rattle.redcode_text.specs.declared.lexer.words.Spelled.{Spelled}
 use Rattle.std.specs.List.{starts_with}
 use Rattle.std.specs.Str.{str_to_ascii_lowercase}
-use Rattle.redcode_text.specs.declared.rows.LineKind as code
-use Rattle.redcode_text.specs.declared.rows.Row as code_row
-use Rattle.redcode_text.specs.declared.rows.LineKind.TheVariants as line
+use Rattle.redcode_text.specs.declared.source.LineKind as code
+use Rattle.redcode_text.specs.declared.source.Row as code_row
+use Rattle.redcode_text.specs.declared.source.LineKind.TheVariants as line
 use Rattle.redcode_text.specs.Source.{Row, LineKind, RofLine, ForLine, EquLine, OtherLine, blank_len, ends_word, without_blanks}
 use Rattle.redcode_text.specs.Tokens.{Found, Scanned}
 

@@ -8,10 +8,10 @@ use Rattle.redcode_text.specs.declared.token.Sign.{Sign}
 use Rattle.redcode_text.specs.declared.token.Sign.TheVariants.{OpenParen, CloseParen}
 use Rattle.redcode_text.specs.declared.fault.ExprFault.{ExprFault}
 use Rattle.redcode_text.specs.declared.fault.ExprFault.TheVariants.{Syntax}
-use Rattle.redcode_text.specs.declared.evaluation.Pending.{Pending}
-use Rattle.redcode_text.specs.declared.evaluation.Pending.TheVariants.{Value, Open}
-use Rattle.redcode_text.specs.declared.shape.ShapeState.{ShapeState}
-use Rattle.redcode_text.specs.declared.evaluation.Reading as code
+use Rattle.redcode_text.specs.declared.expression.evaluation.Pending.{Pending}
+use Rattle.redcode_text.specs.declared.expression.evaluation.Pending.TheVariants.{Value, Open}
+use Rattle.redcode_text.specs.declared.expression.shape.ShapeState.{ShapeState}
+use Rattle.redcode_text.specs.declared.expression.evaluation.Evaluation as code
 use Rattle.redcode_text.specs.Expression.{◌>>=◌, precedence, binary, kinds, known}
 use Rattle.redcode_text.specs.Climbing.{signed, AreInside}
 
@@ -29,42 +29,42 @@ abbrev pub GivesState : {B : Type 0} → B → Result (Unit {0}) ExprFault → R
 GivesState after (Ok v) read = read ≡ Ok after
 GivesState after (Err e) read = read ≡ Err e
 
-abbrev pub operated : ℕ → Sign → code.Reading → Result code.Reading ExprFault
+abbrev pub operated : ℕ → Sign → code.Evaluation → Result code.Evaluation ExprFault
 operated at s r = reduced_on (precedence s) r.stack r.value >>= λ x. Ok (record { stack = Value x.0 s ∷ x.1; first_sign = at + 1; value = x.0; after_operand = false })
 
-abbrev pub popped : List Token → ℕ → ℤ → List Pending → Result code.Reading ExprFault
+abbrev pub popped : List Token → ℕ → ℤ → List Pending → Result code.Evaluation ExprFault
 popped ts at v (Open from to ∷ stack) = signed (kinds (slice_range ts from to)) v >>= λ w. Ok (record { stack = stack; first_sign = at + 1; value = w; after_operand = true })
 popped ts at v _ = Err Syntax
 
-abbrev pub closed_on : List Token → ℕ → code.Reading → Result code.Reading ExprFault
+abbrev pub closed_on : List Token → ℕ → code.Evaluation → Result code.Evaluation ExprFault
 closed_on ts at r = reduced_on 5 r.stack r.value >>= λ x. popped ts at x.0 x.1
 
-abbrev pub taken : List Token → ℕ → code.Reading → ℤ → Result code.Reading ExprFault
+abbrev pub taken : List Token → ℕ → code.Evaluation → ℤ → Result code.Evaluation ExprFault
 taken ts at r v = signed (kinds (slice_range ts r.first_sign at)) v >>= λ w. Ok (record { stack = r.stack; first_sign = at + 1; value = w; after_operand = true })
 
-abbrev pub opened_on : ℕ → code.Reading → code.Reading
+abbrev pub opened_on : ℕ → code.Evaluation → code.Evaluation
 opened_on at r = record { stack = Open r.first_sign at ∷ r.stack; first_sign = at + 1; value = r.value; after_operand = false }
 
-abbrev pub before_on : ℕ → code.Reading → Sign → code.Reading
+abbrev pub before_on : ℕ → code.Evaluation → Sign → code.Evaluation
 before_on at r OpenParen = opened_on at r
 before_on at r s = r
 
-abbrev pub after_on : List Token → ℕ → code.Reading → Sign → Result code.Reading ExprFault
+abbrev pub after_on : List Token → ℕ → code.Evaluation → Sign → Result code.Evaluation ExprFault
 after_on ts at r CloseParen = closed_on ts at r
 after_on ts at r s = operated at s r
 
 -- the reading after one more token
-abbrev pub advance : (ℕ → Option ℤ) → List Token → ℕ → code.Reading → TokenKind → Result code.Reading ExprFault
+abbrev pub advance : (ℕ → Option ℤ) → List Token → ℕ → code.Evaluation → TokenKind → Result code.Evaluation ExprFault
 advance names ts at r (Number n) = taken ts at r n
 advance names ts at r (Name n) = known (names n) >>= λ v. taken ts at r v
 advance names ts at r (token.Sign s) = if r.after_operand then after_on ts at r s else Ok (before_on at r s)
 
 -- the value of a reading that has taken all tokens
-abbrev pub finished : code.Reading → Result ℤ ExprFault
+abbrev pub finished : code.Evaluation → Result ℤ ExprFault
 finished r = reduced_on 5 r.stack r.value >>= λ x. Ok x.0
 
 -- the value once all tokens are read
-abbrev pub run_on : (ℕ → Option ℤ) → List Token → ℕ → code.Reading → List Token → Result ℤ ExprFault
+abbrev pub run_on : (ℕ → Option ℤ) → List Token → ℕ → code.Evaluation → List Token → Result ℤ ExprFault
 run_on names ts at r [] = finished r
 run_on names ts at r (t ∷ rest) = advance names ts at r t.kind >>= λ q. run_on names ts (at + 1) q rest
 
@@ -80,7 +80,7 @@ IsOrdered (Value v s ∷ stack) n = (0 < precedence s) × StaysBelow (precedence
 IsOrdered (Open from to ∷ stack) n = (0 < n) × IsOrdered stack (n - 1)
 
 -- the reading before the token at n stands at this state of the shape
-pub record Stands (n : ℕ) (r : code.Reading) (p : ShapeState) : Type 0 where
+pub record Stands (n : ℕ) (r : code.Evaluation) (p : ShapeState) : Type 0 where
   pub ordered : IsOrdered r.stack p.opened
   pub opened : p.opened ≤ 64
   pub after : r.after_operand ≡ p.after_operand

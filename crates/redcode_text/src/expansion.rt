@@ -5,16 +5,16 @@ ghost use Rattle.redcode_text.specs.Held.{predefined_of, reading_of};
 ghost use Rattle.redcode_text.specs.Outcomes.{Answers};
 ghost use Rattle.redcode_text.specs.Source.{tree_of};
 
-use crate::equates::Equates;
 use crate::fault::{TextFault, TextProblem};
-use crate::loops::read_all;
-use crate::name_set::NameSet;
+use crate::lexer::open_loops::OpenLoops;
 use crate::names::NameTable;
-use crate::open_loops::OpenLoops;
-use crate::predefined::Names;
+use crate::names::equates::Equates;
+use crate::names::predefined::Names;
+use crate::names::set::NameSet;
 use crate::program::Program;
-use crate::rows::{read_rows, rows_of};
-use crate::state::Reading;
+use crate::reader::Reading;
+use crate::reader::repeat::read_all;
+use crate::source::{read_rows, rows_of};
 use std::alloc::{AllocError, Global};
 
 /// A reading of nothing.
@@ -106,3 +106,6 @@ pub fn expand(alloc: Global, bytes: &[u8], names: &Names) -> Result<Program, Tex
     let reading = read_source(alloc, bytes, names)?;
     Ok(program_of(reading))
 }
+
+#[cfg(test)]
+mod tests;

@@ -20,55 +20,23 @@
 //! What takes memory answers OutOfMemory where a growth was refused, and that alone isn't defined.
 #![tactic(auto)]
 
-mod bytes;
-mod comments;
-mod counts;
-mod directives;
-mod equ_lines;
-mod equates;
-mod evaluation;
+mod characters;
 mod expansion;
 mod expression;
 mod fault;
-mod heads;
-mod instructions;
-mod loop_heads;
-mod loops;
-mod name_set;
+mod lexer;
 mod names;
-mod open_loops;
-mod operations;
-mod operators;
-mod ordinary;
-mod pairs;
-mod parts;
-mod plain;
-mod predefined;
 mod program;
-mod reading;
-mod rows;
-mod shape;
-mod signs;
-mod state;
+mod reader;
+mod source;
 mod token;
-mod tokens;
-mod words;
 
 pub use expansion::expand;
+pub use expression::shape::check_shape;
 pub use expression::{Env, eval};
 pub use fault::{ExprFault, TextFault, TextProblem};
-pub use instructions::{is_instruction, is_spelled};
+pub use lexer::{LineTokens, scan};
 pub use names::NameTable;
-pub use predefined::Names;
-pub use program::Program;
-pub use shape::check_shape;
-pub use state::{Assert, Line};
+pub use names::predefined::Names;
+pub use program::{Assert, Line, Program, is_instruction, is_spelled};
 pub use token::{Sign, Token, TokenKind};
-pub use tokens::{LineTokens, scan};
-
-#[cfg(test)]
-mod expand_tests;
-#[cfg(test)]
-mod scan_tests;
-#[cfg(test)]
-mod tests;

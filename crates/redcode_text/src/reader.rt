@@ -1,0 +1,125 @@
+//! All that has been read of a source, and what a line adds to it.
+ghost use Rattle.std.specs.Prelude.{◌≡◌, ◌≤◌, ◌<◌, ◌+◌, ◌^◌, ◌==◌, not, length, vec_len, OnOk, string_bytes};
+ghost use Rattle.std.specs.List.{prefix_len};
+ghost use Rattle.redcode_text.specs.Labels.{AreLabels};
+ghost use Rattle.redcode_text.specs.Programs.{IsPrinted};
+
+mod comment;
+mod equ;
+mod line;
+mod ordinary;
+pub mod repeat;
+mod sides;
+mod symbols;
+
+use crate::fault::TextProblem;
+use crate::lexer::open_loops::OpenLoops;
+use crate::lexer::read_tokens;
+use crate::names::NameTable;
+use crate::names::equates::Equates;
+use crate::names::set::NameSet;
+use crate::program::{Assert, Line};
+use crate::source::Row;
+use crate::token::Token;
+use std::alloc::Global;
+
+/// How many lines and how many tokens may be read.
+const LIMIT: usize = 65_536;
+
+/// All that has been read.
+#[derive(Drop)]
+pub struct Reading {
+    /// The open loops.
+    pub loops: OpenLoops,
+    pub names: NameTable,
+    pub equates: Equates,
+    /// Whether an EQU line without a name adds to the last EQU name.
+    pub equate_grows: bool,
+    pub lines: Vec<Line>,
+    /// The labels of all lines.
+    pub labels: NameSet,
+    pub instructions: usize,
+    pub lines_read: usize,
+    pub tokens_read: usize,
+    pub name: String,
+    pub author: String,
+    pub asserts: Vec<Assert>,
+    /// Whether END was read.
+    pub ended: bool,
+    ghost few_lines: { lines_read ≤ 65536 },
+    ghost few_tokens: { tokens_read ≤ 65536 },
+    ghost each_read: { vec_len lines ≤ lines_read },
+    ghost each_counted: { instructions ≤ vec_len lines },
+    ghost known_labels: { AreLabels (λ l. l.labels.items) labels lines.items },
+    ghost printed_name: { IsPrinted (string_bytes name) },
+    ghost printed_author: { IsPrinted (string_bytes author) },
+}
+
+/// How many bytes stand before a comment.
+fn comment_at(bytes: &[u8]) -> usize
+    ensures value { result ≡ prefix_len (λ b. not (b == 59)) bytes.now }
+    ensures within { result ≤ length bytes.now }
+{
+    bytes.iter().take_while(|byte| **byte != b';').count()
+}
+
+impl Reading {
+    ghost use Rattle.redcode_text.specs.Held.{reading_of};
+    ghost use Rattle.redcode_text.specs.Lines.{before_comment, line_read, row_tokens, tokens_counted};
+    ghost use Rattle.redcode_text.specs.Outcomes.{Gives, row_of};
+
+    /// One more line is read.
+    pub fn count_line(&mut self) -> Result<(), TextProblem>
+        ensures value { Gives (λ _. reading_of self.new) result (line_read (reading_of self.old)) }
+        ensures room { OnOk result (vec_len self.new.lines < self.new.lines_read) }
+    {
+        if self.lines_read >= LIMIT {
+            return Err(TextProblem::TooLong);
+        }
+        self.lines_read += 1;
+        Ok(())
+    }
+
+    /// These tokens of a line that comes from EQU are read.
+    pub fn count_tokens(&mut self, tokens: &[Token]) -> Result<(), TextProblem>
+        ensures value { Gives (λ _. reading_of self.new) result (tokens_counted tokens.now (reading_of self.old)) }
+        ensures lines { vec_len self.new.lines ≡ vec_len self.old.lines }
+        ensures lines_read { self.new.lines_read ≡ self.old.lines_read }
+    {
+        if tokens.len() > LIMIT - self.tokens_read {
+            return Err(TextProblem::TooLong);
+        }
+        self.tokens_read += tokens.len();
+        Ok(())
+    }
+
+    /// The tokens of a row from a place on up to a comment.
+    pub fn row_tokens(
+        &mut self,
+        alloc: Global,
+        row: Row<'_>,
+        at: usize,
+    ) -> Result<Vec<Token>, TextProblem>
+        requires within { at ≤ length row.bytes.now }
+        requires fits { row.at + length row.bytes.now < 2 ^ 64 }
+        ensures value { Gives (λ tokens. (tokens.items, reading_of self.new)) result (row_tokens (row_of row.entry) at (reading_of self.old)) }
+        ensures lines { vec_len self.new.lines ≡ vec_len self.old.lines }
+        ensures lines_read { self.new.lines_read ≡ self.old.lines_read }
+    {
+        let text = &row.bytes[at..];
+        let code = Row {
+            number: row.number,
+            at: row.at + at,
+            bytes: &text[..comment_at(text)],
+        };
+        let mut tokens = Vec::new(alloc);
+        let room = LIMIT - self.tokens_read;
+        match read_tokens(alloc, &self.loops, code, room, &mut self.names, &mut tokens) {
+            Ok(()) => {
+                self.tokens_read += tokens.len();
+                Ok(tokens)
+            }
+            Err(problem) => Err(problem),
+        }
+    }
+}

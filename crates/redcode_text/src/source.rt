@@ -1,0 +1,159 @@
+//! The lines of a source, and what kind each is of.
+ghost use Rattle.std.specs.Prelude.{◌≡◌, ◌≤◌, ◌==◌, length, map, not, IfOk, IfSome};
+ghost use Rattle.std.specs.List.{prefix_len};
+ghost use Rattle.redcode_text.specs.Outcomes.{kind_inside, kind_of, row_of};
+ghost use Rattle.redcode_text.specs.Source.{colon_len, first_word_at, has_word, leading_word_at, line_kind, past_blanks, past_colon, past_word, read_rows, rows_of, second_word_at};
+
+pub mod blocks;
+pub mod directives;
+
+use crate::characters::{blank_len, is_word, word_len};
+use crate::source::directives::has_directive;
+use std::alloc::{AllocError, Global};
+
+/// A line of a source, without its LF.
+#[derive(Clone, Copy)]
+pub struct Row<'a> {
+    /// The number of the line, from 1.
+    pub number: usize,
+    /// The index of its first byte in the source.
+    pub at: usize,
+    pub bytes: &'a [u8],
+}
+
+/// What a line is, with the place of its word FOR or EQU.
+#[derive(Clone, Copy, PartialEq, Eq, Debug)]
+pub enum LineKind {
+    Rof,
+    For(usize),
+    Equ(usize),
+    Other,
+}
+
+/// The first place from `at` on where no blank stands.
+fn past_blanks(bytes: &[u8], at: usize) -> usize
+    requires { at ≤ length bytes.now }
+    ensures value { result ≡ past_blanks bytes.now at }
+    ensures within { result ≤ length bytes.now }
+{
+    at + blank_len(&bytes[at..])
+}
+
+fn past_word(bytes: &[u8], at: usize) -> usize
+    requires { at ≤ length bytes.now }
+    ensures value { result ≡ past_word bytes.now at }
+    ensures within { result ≤ length bytes.now }
+{
+    at + word_len(&bytes[at..])
+}
+
+fn past_colon(bytes: &[u8], at: usize) -> usize
+    requires { at ≤ length bytes.now }
+    ensures value { result ≡ past_colon bytes.now at }
+    ensures within { result ≤ length bytes.now }
+{
+    match &bytes[at..] {
+        [b':', ..] => at + 1,
+        _ => at,
+    }
+}
+
+fn first_word_at(bytes: &[u8]) -> usize
+    ensures value { result ≡ first_word_at bytes.now }
+    ensures within { result ≤ length bytes.now }
+{
+    past_blanks(bytes, 0)
+}
+
+fn second_word_at(bytes: &[u8]) -> usize
+    ensures value { result ≡ second_word_at bytes.now }
+    ensures within { result ≤ length bytes.now }
+{
+    let behind = past_blanks(bytes, past_word(bytes, first_word_at(bytes)));
+    past_blanks(bytes, past_colon(bytes, behind))
+}
+
+/// Whether a word, in either case, stands at a place.
+fn has_word(word: &[u8], bytes: &[u8], at: usize) -> bool
+    requires { at ≤ length bytes.now }
+    ensures { result ≡ has_word word.now bytes.now at }
+{
+    let rest = &bytes[at..];
+    is_word(&rest[..word_len(rest)], word)
+}
+
+/// Where a word stands as the first or the second of a line.
+fn leading_word_at(word: &[u8], bytes: &[u8]) -> Option<usize>
+    ensures value { result ≡ leading_word_at word.now bytes.now }
+    ensures within { IfSome result (λ at. at ≤ length bytes.now) }
+{
+    let first = first_word_at(bytes);
+    if has_word(word, bytes, first) {
+        return Some(first);
+    }
+    let second = second_word_at(bytes);
+    if has_word(word, bytes, second) {
+        return Some(second);
+    }
+    None
+}
+
+/// What kind a line is of, by its first two words.
+pub fn line_kind(bytes: &[u8]) -> LineKind
+    ensures value { kind_of result ≡ line_kind bytes.now }
+    ensures inside { kind_inside result (length bytes.now) }
+{
+    if has_word(b"rof", bytes, first_word_at(bytes)) {
+        return LineKind::Rof;
+    }
+    if let Some(at) = leading_word_at(b"for", bytes) {
+        return LineKind::For(at);
+    }
+    match leading_word_at(b"equ", bytes) {
+        Some(at) => LineKind::Equ(at),
+        None => LineKind::Other,
+    }
+}
+
+/// How many bytes the first line has.
+fn line_len(bytes: &[u8]) -> usize
+    ensures value { result ≡ prefix_len (λ b. not (b == 10)) bytes.now }
+    ensures within { result ≤ length bytes.now }
+{
+    bytes.iter().take_while(|byte| **byte != b'\n').count()
+}
+
+/// The lines of a source.
+pub fn rows_of<'a>(alloc: Global, source: &'a [u8]) -> Result<Vec<Row<'a>>, AllocError>
+    ensures { IfOk result (λ rows. map row_of rows.items ≡ rows_of source.now) }
+{
+    let mut rows = Vec::new(alloc);
+    let mut number = 1;
+    let mut at = 0;
+    while at < source.len() {
+        let end = at + line_len(&source[at..]);
+        let row = Row {
+            number,
+            at,
+            bytes: &source[at..end],
+        };
+        let Ok(()) = rows.push(row) else {
+            return Err(AllocError);
+        };
+        number += 1;
+        at = end + 1;
+    }
+    Ok(rows)
+}
+
+/// The rows from the first `;redcode` on, or all where there is none.
+pub fn read_rows<'r, 'a>(rows: &'r [Row<'a>]) -> &'r [Row<'a>]
+    ensures { map row_of result.now ≡ read_rows (map row_of rows.now) }
+{
+    for at in 0..rows.len() {
+        if has_directive(b";redcode", rows[at].bytes) {
+            return &rows[at..];
+        }
+    }
+    rows
+}
