@@ -13,8 +13,8 @@ use Rattle.redcode_text.specs.declared.expression.evaluation.Pending.{Pending}
 use Rattle.redcode_text.specs.declared.expression.evaluation.Pending.TheVariants.{Value, Open}
 use Rattle.redcode_text.specs.declared.expression.evaluation.Evaluation.{Evaluation}
 use Rattle.redcode_text.specs.Expression.{◌>>=◌, precedence, binary, kinds, known, shape, next_state}
-use Rattle.redcode_text.specs.Climbing.{Left, State, signed, reduced, placed, before_mark, after_mark, move, run, operand, waiting_all, seen}
-use Rattle.redcode_text.specs.Positions.{Stands, reduced_on, popped, taken, before_on, after_on, advance, run_on}
+use Rattle.redcode_text.specs.Code.Climbing.{Left, State, signed, reduced, placed, before_mark, after_mark, move, run, operand, waiting_all, seen}
+use Rattle.redcode_text.specs.Code.Positions.{Stands, reduced_on, popped, taken, before_on, after_on, advance, run_on}
 use Rattle.redcode_text.proofs.Climbs.{assoc}
 use Rattle.redcode_text.proofs.Reducing.{none-between}
 use Rattle.redcode_text.proofs.Standing.{stands-next, bind-ok, ok}

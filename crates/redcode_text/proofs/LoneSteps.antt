@@ -6,9 +6,10 @@ use Rattle.redcode_text.specs.declared.fault.TextProblem.TheVariants.{UnclosedFo
 use Rattle.redcode_text.specs.declared.source.Row as code
 use Rattle.redcode_text.specs.Expansion.{flat, unless_ended, unpaired_line}
 use Rattle.redcode_text.specs.Lines.{Predefined, Reading, line_read, plain_line}
-use Rattle.redcode_text.specs.Loops.{one_loop}
-use Rattle.redcode_text.specs.Outcomes.{FailsAt, row_of}
-use Rattle.redcode_text.specs.Pairs.{here_from, EndsAt}
+use Rattle.redcode_text.specs.Code.Loops.{one_loop}
+use Rattle.redcode_text.specs.Outcomes.{FailsAt}
+use Rattle.redcode_text.specs.Code.Rows.{row_of}
+use Rattle.redcode_text.specs.Code.Pairs.{here_from, EndsAt}
 use Rattle.redcode_text.specs.Source.{Items, Nothing, Plain, Loop, LoneRof, Row, paired, then_lone, tree_of_rows, with_lone}
 use Rattle.redcode_text.specs.Source as source
 use Rattle.redcode_text.specs.Tokens.{◌>>>◌, ◌>>=◌, at_line}

@@ -9,8 +9,8 @@ use Rattle.redcode_text.specs.declared.expression.evaluation.Pending.{Pending}
 use Rattle.redcode_text.specs.declared.expression.shape.ShapeState.{ShapeState}
 use Rattle.redcode_text.specs.declared.expression.evaluation.Evaluation.{Evaluation}
 use Rattle.redcode_text.specs.Expression.{◌>>=◌, kinds, shape, start, next_state, value_of}
-use Rattle.redcode_text.specs.Climbing.{wants, run, waiting_all, seen, AreInside}
-use Rattle.redcode_text.specs.Positions.{Stands, IsOrdered, reduced_on, advance, run_on, finished}
+use Rattle.redcode_text.specs.Code.Climbing.{wants, run, waiting_all, seen, AreInside}
+use Rattle.redcode_text.specs.Code.Positions.{Stands, IsOrdered, reduced_on, advance, run_on, finished}
 use Rattle.redcode_text.proofs.Reducing.{none-between}
 use Rattle.redcode_text.proofs.Standing.{stands-next, bind-ok, rest_of}
 use Rattle.redcode_text.proofs.Linking.{linked}

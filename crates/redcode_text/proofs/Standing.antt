@@ -14,8 +14,8 @@ use Rattle.redcode_text.specs.declared.expression.evaluation.Pending.TheVariants
 use Rattle.redcode_text.specs.declared.expression.shape.ShapeState.{ShapeState}
 use Rattle.redcode_text.specs.declared.expression.evaluation.Evaluation.{Evaluation}
 use Rattle.redcode_text.specs.Expression.{◌>>=◌, precedence, binary, kinds, known, next_state, before_sign, after_sign}
-use Rattle.redcode_text.specs.Climbing.{signed, AreInside}
-use Rattle.redcode_text.specs.Positions.{reduced_on, popped, taken, opened_on, before_on, after_on, advance, StaysBelow, IsOrdered, Stands}
+use Rattle.redcode_text.specs.Code.Climbing.{signed, AreInside}
+use Rattle.redcode_text.specs.Code.Positions.{reduced_on, popped, taken, opened_on, before_on, after_on, advance, StaysBelow, IsOrdered, Stands}
 use Rattle.redcode_text.proofs.Trees.{precedence-≤5}
 
 pub bind-ok : {A B : Type 0} (r : Result A ExprFault) (f : A → Result B ExprFault) (y : B) → (r >>= f) ≡ Ok y → (x : A) × (r ≡ Ok x) × (f x ≡ Ok y)

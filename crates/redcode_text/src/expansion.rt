@@ -1,7 +1,8 @@
 //! The program of a source.
 ghost use Rattle.std.specs.Prelude.{◌≡◌, [], false, IfOk};
 ghost use Rattle.redcode_text.specs.Expansion.{expansion, flat, nothing_read, program_of};
-ghost use Rattle.redcode_text.specs.Held.{predefined_of, reading_of};
+ghost use Rattle.redcode_text.specs.Views.{predefined_of};
+ghost use Rattle.redcode_text.specs.Code.Readings.{reading_of};
 ghost use Rattle.redcode_text.specs.Outcomes.{Answers};
 ghost use Rattle.redcode_text.specs.Source.{tree_of};
 
@@ -97,7 +98,7 @@ fn read_source(alloc: Global, bytes: &[u8], names: &Names) -> Result<Reading, Te
 ///
 /// OutOfMemory, with the line 0, comes only where a growth was refused, in place of what would have come later.
 ///
-/// The time is linear in the length of the source and of the lines that are read, those of a loop once for each turn,
+/// The time is linear in the length of the source and of the lines that are read, those of a loop once for each round,
 /// and in the replacements in counts, of which each count has at most 65,536.
 #[tactic(auto, unfolding(crate::specs::Expansion::expansion))]
 pub fn expand(alloc: Global, bytes: &[u8], names: &Names) -> Result<Program, TextFault>

@@ -1,7 +1,10 @@
 //! The tokens of a line.
 ghost use Rattle.std.specs.Prelude.{◌≡◌, ◌≤◌, ◌<◌, ◌+◌, ◌^◌, [], drop, length, vec_len, IfOk};
-ghost use Rattle.redcode_text.specs.Outcomes.{Answers, Gives, found_alone, scan_of, with_names};
-ghost use Rattle.redcode_text.specs.Scanning.{one_token};
+ghost use Rattle.redcode_text.specs.Outcomes.{Answers};
+ghost use Rattle.redcode_text.specs.Views.{scan_of};
+ghost use Rattle.redcode_text.specs.Code.Problems.{Gives};
+ghost use Rattle.redcode_text.specs.Code.Scanning.{found_alone, with_names};
+ghost use Rattle.redcode_text.specs.Code.Scanning.{one_token};
 ghost use Rattle.redcode_text.specs.Tokens.{scan_from, scanned, sign_token, token_at};
 
 pub mod open_loops;

@@ -50,7 +50,7 @@ pub struct Program {
 impl Model for Program {
     ghost use Rattle.std.specs.Prelude.{map, string_bytes};
     ghost use Rattle.redcode_text.specs.Expansion.{ProgramValue};
-    ghost use Rattle.redcode_text.specs.Held.{assert_of, line_of};
+    ghost use Rattle.redcode_text.specs.Views.{assert_of, line_of};
     ghost use Rattle.redcode_text.specs.Programs.{IsProgram};
 
     ghost Value = { ProgramValue };
@@ -77,7 +77,7 @@ impl Model for Program {
 impl Program {
     ghost use Rattle.std.specs.Prelude.{◌≡◌, ◌≤◌, length, map};
     ghost use Rattle.redcode_text.specs.Equates.{limit, substitution};
-    ghost use Rattle.redcode_text.specs.Held.{assert_of, line_of};
+    ghost use Rattle.redcode_text.specs.Views.{assert_of, line_of};
     ghost use Rattle.redcode_text.specs.Outcomes.{Answers};
     ghost use Rattle.redcode_text.specs.Programs.{IsPrinted};
 

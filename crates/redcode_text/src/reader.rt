@@ -1,7 +1,7 @@
 //! All that has been read of a source, and what a line adds to it.
 ghost use Rattle.std.specs.Prelude.{◌≡◌, ◌≤◌, ◌<◌, ◌+◌, ◌^◌, ◌==◌, not, length, vec_len, OnOk, string_bytes};
 ghost use Rattle.std.specs.List.{prefix_len};
-ghost use Rattle.redcode_text.specs.Labels.{AreLabels};
+ghost use Rattle.redcode_text.specs.Code.Labels.{AreLabels};
 ghost use Rattle.redcode_text.specs.Programs.{IsPrinted};
 
 mod comment;
@@ -64,9 +64,10 @@ fn comment_at(bytes: &[u8]) -> usize
 }
 
 impl Reading {
-    ghost use Rattle.redcode_text.specs.Held.{reading_of};
+    ghost use Rattle.redcode_text.specs.Code.Readings.{reading_of};
     ghost use Rattle.redcode_text.specs.Lines.{before_comment, line_read, row_tokens, tokens_counted};
-    ghost use Rattle.redcode_text.specs.Outcomes.{Gives, row_of};
+    ghost use Rattle.redcode_text.specs.Code.Problems.{Gives};
+    ghost use Rattle.redcode_text.specs.Code.Rows.{row_of};
 
     /// One more line is read.
     pub fn count_line(&mut self) -> Result<(), TextProblem>

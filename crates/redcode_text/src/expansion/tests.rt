@@ -13,7 +13,7 @@ const NAMES: Names = Names {
     version: 80,
 };
 
-/// Prose that is never read, two turns of a loop, and a line that names what they made.
+/// Prose that is never read, two rounds of a loop, and a line that names what they made.
 const LOOPS: &[u8] =
     b"FOR 0\nthis is prose, 100\xE2\x82\xAC\nROF\ni FOR 2\nx&i DAT i, 0\nROF\nDAT x02, x01\n";
 
@@ -120,7 +120,7 @@ fn an_operation_stands_for_lines(rt: HostRuntime) -> Result<(), Fail> {
 }
 
 #[test]
-fn a_counter_has_the_number_of_the_turn(rt: HostRuntime) -> Result<(), Fail> {
+fn a_counter_has_the_number_of_the_round(rt: HostRuntime) -> Result<(), Fail> {
     let program = expand(rt.alloc(), b"i FOR 100\nDAT i\nROF\n", &NAMES)?;
     assert_eq!(rt; program.lines().len(), 100);
     for line in program.lines() {

@@ -1,8 +1,8 @@
 //! The value of an expression that has the shape of one, from the left, with what waits on a stack.
 ghost use Rattle.std.specs.Prelude.{◌≡◌, ℕ, ℤ, List, [], ◌∷◌, ◌<◌, ◌≤◌, length, IfSome, IfNone, Ok, false, slice_get};
-ghost use Rattle.redcode_text.specs.Climbing.{signed, AreInside, StaysAt, IsNoOpen};
+ghost use Rattle.redcode_text.specs.Code.Climbing.{signed, AreInside, StaysAt, IsNoOpen};
 ghost use Rattle.redcode_text.specs.Expression.{precedence, kinds};
-ghost use Rattle.redcode_text.specs.Positions.{GivesOn, reduced_on};
+ghost use Rattle.redcode_text.specs.Code.Positions.{GivesOn, reduced_on};
 
 use crate::expression::Env;
 use crate::expression::operators::{apply_binary, apply_unary, precedence};
@@ -113,7 +113,7 @@ pub struct Evaluation {
 }
 
 impl Evaluation {
-    ghost use Rattle.redcode_text.specs.Positions.{GivesState, operated, closed_on, taken, opened_on, advance, finished};
+    ghost use Rattle.redcode_text.specs.Code.Positions.{GivesState, operated, closed_on, taken, opened_on, advance, finished};
 
     pub fn new() -> Self
         ensures stack { result.stack ≡ [] }

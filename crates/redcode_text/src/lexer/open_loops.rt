@@ -1,7 +1,7 @@
 //! The loops that are open where a line is read.
 ghost use Rattle.std.specs.Prelude.{◌≡◌, [], ◌∷◌, drop, length, option_map, reverse, string_bytes, OnOk, OnErr};
-ghost use Rattle.redcode_text.specs.Heads.{innermost_counter};
-ghost use Rattle.redcode_text.specs.Tokens.{is_counter, turn_of};
+ghost use Rattle.redcode_text.specs.Code.Heads.{innermost_counter};
+ghost use Rattle.redcode_text.specs.Tokens.{is_counter, round_of};
 
 use std::alloc::{AllocError, Global};
 use std::marker::Model;
@@ -10,8 +10,8 @@ use std::marker::Model;
 #[derive(Drop)]
 pub struct OpenLoop {
     counter: Option<String>,
-    /// The number of its turn, from 1.
-    turn: u32,
+    /// The number of its round, from 1.
+    round: u32,
 }
 
 impl Model for OpenLoop {
@@ -20,15 +20,15 @@ impl Model for OpenLoop {
 
     ghost Value = { OpenLoop };
 
-    ghost view = { λ l. record { counter = option_map (λ s. string_bytes s) l.counter; turn = l.turn } };
+    ghost view = { λ l. record { counter = option_map (λ s. string_bytes s) l.counter; round = l.round } };
 }
 
 impl OpenLoop {
-    /// A loop with this counter, if it has one, in this turn.
-    pub fn new(counter: Option<String>, turn: u32) -> Self
-        ensures { result ≡ record { counter = option_map (λ s. string_bytes s) counter; turn = turn } }
+    /// A loop with this counter, if it has one, in this round.
+    pub fn new(counter: Option<String>, round: u32) -> Self
+        ensures { result ≡ record { counter = option_map (λ s. string_bytes s) counter; round = round } }
     {
-        OpenLoop { counter, turn }
+        OpenLoop { counter, round }
     }
 
     fn has_counter(&self, name: &[u8]) -> bool
@@ -43,28 +43,28 @@ impl OpenLoop {
     fn into_counter(self) -> Option<String>
         ensures { option_map (λ s. string_bytes s) result ≡ self.counter }
     {
-        let OpenLoop { counter, turn: _ } = self;
+        let OpenLoop { counter, round: _ } = self;
         counter
     }
 
-    fn turn(&self) -> u32
-        ensures { result ≡ self.now.turn }
+    fn round(&self) -> u32
+        ensures { result ≡ self.now.round }
     {
-        self.turn
+        self.round
     }
 }
 
-/// The turn of the loop, the last first, whose counter has this name. There are at most 32.
-fn find_turn(loops: &[OpenLoop], name: &[u8]) -> Option<u32>
-    ensures { result ≡ turn_of (reverse loops.now) name.now }
+/// The round of the loop, the last first, whose counter has this name. There are at most 32.
+fn find_round(loops: &[OpenLoop], name: &[u8]) -> Option<u32>
+    ensures { result ≡ round_of (reverse loops.now) name.now }
 {
     let [outer @ .., innermost] = loops else {
         return None;
     };
     if innermost.has_counter(name) {
-        return Some(innermost.turn());
+        return Some(innermost.round());
     }
-    find_turn(outer, name)
+    find_round(outer, name)
 }
 
 /// The open loops, the innermost first.
@@ -119,10 +119,10 @@ impl OpenLoops {
         }
     }
 
-    /// The turn of the loop whose counter has this name.
-    pub fn turn_of(&self, name: &[u8]) -> Option<u32>
-        ensures { result ≡ turn_of self.now name.now }
+    /// The round of the loop whose counter has this name.
+    pub fn round_of(&self, name: &[u8]) -> Option<u32>
+        ensures { result ≡ round_of self.now name.now }
     {
-        find_turn(&self.loops, name)
+        find_round(&self.loops, name)
     }
 }

@@ -22,7 +22,7 @@ fn problem_of(rt: HostRuntime, text: &[u8]) -> Option<TextProblem> {
     }
 }
 
-/// The first token of a text, where the loops of `i`, in turn 1, and `j`, in turn 12, are open, with the first name.
+/// The first token of a text, where the loops of `i`, in round 1, and `j`, in round 12, are open, with the first name.
 fn read_inside(rt: HostRuntime, text: &[u8]) -> Result<(Option<TokenKind>, String), Fail> {
     let alloc = rt.alloc();
     let mut loops = OpenLoops::new(alloc);

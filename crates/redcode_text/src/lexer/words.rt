@@ -3,8 +3,9 @@ ghost use Rattle.std.specs.Prelude.{◌≡◌, ◌++◌, ◌≤◌, ◌^◌, len
 ghost use Rattle.std.specs.Char.{is_ascii_digit};
 ghost use Rattle.std.specs.List.{list_all, prefix_len};
 ghost use Rattle.std.specs.Str.Parse.{digits_value};
-ghost use Rattle.redcode_text.specs.Outcomes.{Gives, with_names};
-ghost use Rattle.redcode_text.specs.Tokens.{joined, number_kind, plain_word_found, turn_digits, turn_of, word_found, word_token};
+ghost use Rattle.redcode_text.specs.Code.Problems.{Gives};
+ghost use Rattle.redcode_text.specs.Code.Scanning.{with_names};
+ghost use Rattle.redcode_text.specs.Tokens.{joined, number_kind, plain_word_found, round_digits, round_of, word_found, word_token};
 
 use crate::characters::begins_name;
 use crate::fault::TextProblem;
@@ -88,28 +89,28 @@ fn joined_word(
     len: usize,
 ) -> Result<Spelled, TextProblem>
     requires { IsAscii word.now }
-    ensures value { Gives (with_names names.new) result (word_found names.old len word.now (turn_of loops.now word.now)) }
+    ensures value { Gives (with_names names.new) result (word_found names.old len word.now (round_of loops.now word.now)) }
     ensures len { IfOk result (λ s. s.len ≡ len) }
 {
-    match loops.turn_of(word) {
-        Some(turn) => Ok(Spelled {
-            kind: TokenKind::Number(i64::from(turn)),
+    match loops.round_of(word) {
+        Some(round) => Ok(Spelled {
+            kind: TokenKind::Number(i64::from(round)),
             len,
         }),
         None => plain_word(alloc, names, word, len),
     }
 }
 
-/// Puts the digits of a turn behind a word.
-fn push_turn(word: &mut Vec<u8>, turn: u32) -> Result<(), AllocError>
-    ensures digits { OnOk result (word.new.items ≡ word.old.items ++ turn_digits turn) }
+/// Puts the digits of a round behind a word.
+fn push_round(word: &mut Vec<u8>, round: u32) -> Result<(), AllocError>
+    ensures digits { OnOk result (word.new.items ≡ word.old.items ++ round_digits round) }
     ensures ascii { IsAscii word.old.items → OnOk result (IsAscii word.new.items) }
 {
-    if turn < 10 {
+    if round < 10 {
         word.push(b'0')?;
     }
     let mut buffer = Buffer::new();
-    word.extend_from_slice(buffer.format(turn).as_bytes())?;
+    word.extend_from_slice(buffer.format(round).as_bytes())?;
     Ok(())
 }
 
@@ -134,10 +135,10 @@ fn join_word(alloc: Global, loops: &OpenLoops, word: &[u8]) -> Result<Vec<u8>, T
     while at < word.len() {
         let from = at + 1;
         let to = from + part_len(&word[from..]);
-        let Some(turn) = loops.turn_of(&word[from..to]) else {
+        let Some(round) = loops.round_of(&word[from..to]) else {
             return Err(TextProblem::BadToken);
         };
-        let Ok(()) = push_turn(&mut joined, turn) else {
+        let Ok(()) = push_round(&mut joined, round) else {
             return Err(TextProblem::OutOfMemory);
         };
         at = to;

@@ -2,7 +2,8 @@
 ghost use Rattle.std.specs.Prelude.{◌≡◌, ℕ, [], ◌∷◌, ◌++◌, ◌≤◌, length, map, Some, None, IfOk, OnOk, Ok, Err, MatchResult, option_map};
 ghost use Rattle.redcode_text.specs.Equates.{Replaced, equate_lines, token_lines, one_line, one_more, kept, replaced_name, replaced_token, each_replaced, replacing, depth_limit, each_replaced_at_line, substitution};
 ghost use Rattle.redcode_text.specs.Lines.{with_line};
-ghost use Rattle.redcode_text.specs.Outcomes.{Answers, Gives};
+ghost use Rattle.redcode_text.specs.Outcomes.{Answers};
+ghost use Rattle.redcode_text.specs.Code.Problems.{Gives};
 ghost use Rattle.redcode_text.specs.Tokens.{at_line};
 
 use crate::fault::{TextFault, TextProblem};

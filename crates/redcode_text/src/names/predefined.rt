@@ -1,7 +1,7 @@
 //! The names that have values before anything is read.
 ghost use Rattle.std.specs.Prelude.{◌≡◌};
 ghost use Rattle.std.specs.Str.{bytes_eq};
-ghost use Rattle.redcode_text.specs.Held.{predefined_of};
+ghost use Rattle.redcode_text.specs.Views.{predefined_of};
 ghost use Rattle.redcode_text.specs.Lines.{predefined_value, with_current_line};
 
 /// The values of the predefined names, but for CURLINE.

@@ -1,7 +1,7 @@
 //! Sets of names.
 ghost use Rattle.std.specs.Prelude.{◌≡◌, ◌≤◌, ℕ, [], ◌∷◌, ◌++◌, length, OnErr, OnOk};
 ghost use Rattle.indexmap.specs.IndexSet.{spare};
-ghost use Rattle.redcode_text.specs.Labels.{HasSame, has};
+ghost use Rattle.redcode_text.specs.Code.Labels.{HasSame, has};
 
 use indexmap::IndexSet;
 use std::alloc::{AllocError, Global};

@@ -1,8 +1,10 @@
 //! Comment lines, among them directives.
 ghost use Rattle.std.specs.Prelude.{◌≡◌, ◌≤◌, ◌<◌, ◌+◌, ◌^◌, length};
-ghost use Rattle.redcode_text.specs.Held.{assert_at, no_author, no_name, reading_of};
+ghost use Rattle.redcode_text.specs.Code.Comments.{assert_at, no_author, no_name};
+ghost use Rattle.redcode_text.specs.Code.Readings.{reading_of};
 ghost use Rattle.redcode_text.specs.Lines.{comment_line};
-ghost use Rattle.redcode_text.specs.Outcomes.{Gives, row_of};
+ghost use Rattle.redcode_text.specs.Code.Problems.{Gives};
+ghost use Rattle.redcode_text.specs.Code.Rows.{row_of};
 
 use crate::fault::TextProblem;
 use crate::program::Assert;

@@ -1,8 +1,9 @@
 //! EQU lines.
 ghost use Rattle.std.specs.Prelude.{◌≡◌};
-ghost use Rattle.redcode_text.specs.Held.{predefined_of, reading_of};
+ghost use Rattle.redcode_text.specs.Views.{predefined_of};
+ghost use Rattle.redcode_text.specs.Code.Readings.{reading_of};
 ghost use Rattle.redcode_text.specs.Lines.{equ_line};
-ghost use Rattle.redcode_text.specs.Outcomes.{Gives};
+ghost use Rattle.redcode_text.specs.Code.Problems.{Gives};
 
 use crate::fault::TextProblem;
 use crate::names::predefined::Names;

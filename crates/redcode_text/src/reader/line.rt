@@ -1,8 +1,10 @@
 //! Lines that are neither FOR nor ROF.
 ghost use Rattle.std.specs.Prelude.{◌≡◌, ◌<◌, ◌+◌, ◌^◌, length, vec_len};
-ghost use Rattle.redcode_text.specs.Held.{predefined_of, reading_of};
+ghost use Rattle.redcode_text.specs.Views.{predefined_of};
+ghost use Rattle.redcode_text.specs.Code.Readings.{reading_of};
 ghost use Rattle.redcode_text.specs.Lines.{plain_line, tokens_line};
-ghost use Rattle.redcode_text.specs.Outcomes.{Gives, kind_inside, kind_of, row_of};
+ghost use Rattle.redcode_text.specs.Code.Problems.{Gives};
+ghost use Rattle.redcode_text.specs.Code.Rows.{kind_inside, kind_of, row_of};
 ghost use Rattle.redcode_text.specs.Source.{is_comment};
 
 use crate::characters::blank_len;

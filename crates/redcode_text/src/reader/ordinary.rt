@@ -1,10 +1,11 @@
 //! Ordinary lines: their labels, operation and rest, and the lines of EQU names in their place.
 ghost use Rattle.std.specs.Prelude.{◌≡◌, ◌≤◌, drop, length, take, IfOk, ◌<◌, ◌+◌, [], ◌∷◌, ◌++◌, map, option_map, vec_len, Ok, OnErr, OnOk};
-ghost use Rattle.redcode_text.specs.Held.{parts_at, predefined_of, reading_of};
-ghost use Rattle.redcode_text.specs.Labels.{AreLabels};
+ghost use Rattle.redcode_text.specs.Views.{predefined_of};
+ghost use Rattle.redcode_text.specs.Code.Readings.{parts_at, reading_of};
+ghost use Rattle.redcode_text.specs.Code.Labels.{AreLabels};
 ghost use Rattle.redcode_text.specs.Lines.{may_label, parts_of, split_colon, each_line, line_added, operation_lines, ordinary_line};
-ghost use Rattle.redcode_text.specs.Outcomes.{Gives};
-ghost use Rattle.redcode_text.specs.Used.{used};
+ghost use Rattle.redcode_text.specs.Code.Problems.{Gives};
+ghost use Rattle.redcode_text.specs.Code.Used.{used};
 
 use crate::fault::TextProblem;
 use crate::names::predefined::Names;

@@ -1,11 +1,14 @@
-//! The items of a source, with the turns of its loops.
+//! The items of a source, with the rounds of its loops.
 ghost use Rattle.std.specs.Prelude.{◌≡◌, ◌+◌, ◌<◌, ◌≤◌, ◌^◌, false, length, map, option_map, slice_index, string_bytes, OnOk};
-ghost use Rattle.redcode_text.specs.Expansion.{flat, head_line, rof_line, turns, unpaired_line};
-ghost use Rattle.redcode_text.specs.Heads.{head_of};
-ghost use Rattle.redcode_text.specs.Held.{predefined_of, reading_of};
-ghost use Rattle.redcode_text.specs.Loops.{IsFor, IsPlain, ReadTo, RowsFit};
-ghost use Rattle.redcode_text.specs.Outcomes.{Answers, Gives, row_of};
-ghost use Rattle.redcode_text.specs.Pairs.{AreEnds, here_from};
+ghost use Rattle.redcode_text.specs.Expansion.{flat, head_line, rof_line, rounds, unpaired_line};
+ghost use Rattle.redcode_text.specs.Code.Heads.{head_of};
+ghost use Rattle.redcode_text.specs.Views.{predefined_of};
+ghost use Rattle.redcode_text.specs.Code.Readings.{reading_of};
+ghost use Rattle.redcode_text.specs.Code.Loops.{IsFor, IsPlain, ReadTo, RowsFit};
+ghost use Rattle.redcode_text.specs.Outcomes.{Answers};
+ghost use Rattle.redcode_text.specs.Code.Problems.{Gives};
+ghost use Rattle.redcode_text.specs.Code.Rows.{row_of};
+ghost use Rattle.redcode_text.specs.Code.Pairs.{AreEnds, here_from};
 ghost use Rattle.redcode_text.specs.Source.{ForLine, line_kind, tree_of_rows};
 ghost use Rattle.redcode_text.specs.Tokens.{at_line};
 ghost use Rattle.redcode_text.specs.declared.fault.TextProblem.TheVariants.{RofAlone, UnclosedFor};
@@ -172,7 +175,7 @@ fn read_loop(
 {
     let last = ends[at];
     let head = read_for_row(alloc, names, rows[at], word_at, reading)?;
-    read_turns(alloc, names, rows, ends, at + 1, head, reading)?;
+    read_rounds(alloc, names, rows, ends, at + 1, head, reading)?;
     if reading.ended {
         return Ok(last + 1);
     }
@@ -182,7 +185,7 @@ fn read_loop(
 
 /// Reads the items from `first` on as often as the head of their loop says, up to END.
 #[cycle(items)]
-fn read_turns(
+fn read_rounds(
     alloc: Global,
     names: &Names,
     rows: &[Row<'_>],
@@ -197,15 +200,15 @@ fn read_turns(
     requires within { first < length rows.now }
     requires depth { length reading.old.loops < 32 }
     ensures gives { Answers (λ _. reading_of reading.new) result
-        (turns (flat (predefined_of names.now) (here_from rows.now first)) (option_map (λ s. string_bytes s) head.counter) 1 head.count (reading_of reading.old)) }
+        (rounds (flat (predefined_of names.now) (here_from rows.now first)) (option_map (λ s. string_bytes s) head.counter) 1 head.count (reading_of reading.old)) }
     ensures loops { OnOk result (reading.new.loops ≡ reading.old.loops) }
 {
     if let LineKind::Rof = line_kind(rows[first].bytes) {
         return Ok(());
     }
     let Head { mut counter, count } = head;
-    for turn in 1..=count {
-        let Ok(()) = reading.loops.push(OpenLoop::new(counter, turn)) else {
+    for round in 1..=count {
+        let Ok(()) = reading.loops.push(OpenLoop::new(counter, round)) else {
             return Err(TextProblem::OutOfMemory.at_line(0));
         };
         read_items(alloc, names, rows, ends, first, reading)?;

@@ -2,7 +2,8 @@
 ghost use Rattle.std.specs.Prelude.{◌≡◌, ◌==◌, ◌<◌, ◌≤◌, ◌^◌, map, vec_len};
 ghost use Rattle.std.specs.List.{list_any};
 ghost use Rattle.std.specs.Str.{str_eq_ignore_ascii_case};
-ghost use Rattle.redcode_text.specs.Held.{line_of, predefined_of, reading_of};
+ghost use Rattle.redcode_text.specs.Views.{line_of, predefined_of};
+ghost use Rattle.redcode_text.specs.Code.Readings.{reading_of};
 ghost use Rattle.redcode_text.specs.Lines.{is_equate, is_label, is_operation, is_predefined, operations};
 
 use crate::characters::is_word;

@@ -1,6 +1,6 @@
 //! Which ROF closes which FOR.
 ghost use Rattle.std.specs.Prelude.{◌≡◌, ℕ, ◌+◌, ◌<◌, ◌≤◌, length, slice_index, vec_len, IfOk};
-ghost use Rattle.redcode_text.specs.Pairs.{AreEnds, EndsAt};
+ghost use Rattle.redcode_text.specs.Code.Pairs.{AreEnds, EndsAt};
 
 use crate::source::{LineKind, Row, line_kind};
 use std::alloc::{AllocError, Global};

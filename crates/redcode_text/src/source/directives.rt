@@ -3,7 +3,8 @@ ghost use Rattle.std.specs.Prelude.{◌≡◌, ◌≤◌, ◌<◌, ◌+◌, leng
 ghost use Rattle.std.specs.List.{starts_with};
 ghost use Rattle.std.specs.Str.{str_to_ascii_lowercase};
 ghost use Rattle.redcode_text.specs.Lines.{directive_value, printable};
-ghost use Rattle.redcode_text.specs.Outcomes.{Gives, text_found};
+ghost use Rattle.redcode_text.specs.Code.Problems.{Gives};
+ghost use Rattle.redcode_text.specs.Code.Rows.{text_found};
 ghost use Rattle.redcode_text.specs.Programs.{IsPrinted};
 ghost use Rattle.redcode_text.specs.Source.{blank_len, without_blanks};
 

@@ -1,7 +1,7 @@
 use Rattle.std.proofs.Common.{◌≡◌, drop, Ok}
 use Rattle.redcode_text.specs.declared.expression.shape.ShapeState.{ShapeState}
 use Rattle.redcode_text.specs.Expression.{kinds, shape}
-use Rattle.redcode_text.specs.Positions.{Stands, run_on}
+use Rattle.redcode_text.specs.Code.Positions.{Stands, run_on}
 use Rattle.redcode_text.proofs.expression.evaluate.Given as goal
 
 abbrev pub invariant-loop-at : goal.invariant-loop-at

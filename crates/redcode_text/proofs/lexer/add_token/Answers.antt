@@ -1,6 +1,7 @@
 use Rattle.std.proofs.Common.{◌+◌, ◌∙◌, sym, arith}
 use Rattle.redcode_text.proofs.Scans.{measured, one-fails, one-full, one-ok}
-use Rattle.redcode_text.specs.Outcomes.{scan_of, with_names}
+use Rattle.redcode_text.specs.Views.{scan_of}
+use Rattle.redcode_text.specs.Code.Scanning.{with_names}
 use Rattle.redcode_text.proofs.lexer.add_token.Goals as goal
 
 pub returns-in-Err-clause-value : goal.returns-in-Err-clause-value

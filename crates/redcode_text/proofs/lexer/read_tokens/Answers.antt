@@ -1,5 +1,6 @@
 use Rattle.std.proofs.Common.{◌∙◌, sym, subst}
-use Rattle.redcode_text.specs.Outcomes.{scan_of, Fails}
+use Rattle.redcode_text.specs.Views.{scan_of}
+use Rattle.redcode_text.specs.Code.Problems.{Fails}
 use Rattle.redcode_text.proofs.Scans.{scan-token, scan-fails}
 use Rattle.redcode_text.proofs.lexer.read_tokens.Goals as goal
 

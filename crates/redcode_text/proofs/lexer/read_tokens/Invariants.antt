@@ -1,5 +1,5 @@
 use Rattle.std.proofs.Common.{length, vec_len, ◌-◌, ◌≡◌, ◌≤◌, ◌+◌, drop}
-use Rattle.redcode_text.specs.Outcomes.{scan_of}
+use Rattle.redcode_text.specs.Views.{scan_of}
 use Rattle.redcode_text.specs.Tokens.{scan_from}
 use Rattle.redcode_text.proofs.lexer.read_tokens.Given as goal
 

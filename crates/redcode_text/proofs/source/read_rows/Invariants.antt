@@ -1,6 +1,6 @@
 use Rattle.std.proofs.Common.{◌≡◌, drop, map}
 use Rattle.std.specs.List.{list_any}
-use Rattle.redcode_text.specs.Outcomes.{row_of}
+use Rattle.redcode_text.specs.Code.Rows.{row_of}
 use Rattle.redcode_text.specs.Source.{begins_redcode, from_redcode}
 use Rattle.redcode_text.proofs.source.read_rows.Given as goal
 

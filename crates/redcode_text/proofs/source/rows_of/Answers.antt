@@ -1,6 +1,6 @@
 use Rattle.std.proofs.Common.{◌+◌, ◌∙◌, ◌++◌, ap, sym, arith, drop, length-drop, map}
 use Rattle.std.proofs.lemmas.List.{take_rest}
-use Rattle.redcode_text.specs.Outcomes.{row_of}
+use Rattle.redcode_text.specs.Code.Rows.{row_of}
 use Rattle.redcode_text.specs.Source.{lines_of, rows_from}
 use Rattle.redcode_text.proofs.SourceLines.{map-snoc, row-step}
 use Rattle.redcode_text.proofs.source.rows_of.Goals as goal

@@ -2,9 +2,11 @@
 ghost use Rattle.std.specs.Prelude.{◌≡◌, ◌<◌, ◌+◌, ◌^◌, length, ◌≤◌, option_map, string_bytes, Ok};
 ghost use Rattle.redcode_text.specs.Expansion.{as_count, count_of, has_label, rof_line, counter_name, head_line};
 ghost use Rattle.redcode_text.specs.Expression.{kinds};
-ghost use Rattle.redcode_text.specs.Heads.{head_of};
-ghost use Rattle.redcode_text.specs.Held.{predefined_of, reading_of};
-ghost use Rattle.redcode_text.specs.Outcomes.{Gives, row_of};
+ghost use Rattle.redcode_text.specs.Code.Heads.{head_of};
+ghost use Rattle.redcode_text.specs.Views.{predefined_of};
+ghost use Rattle.redcode_text.specs.Code.Readings.{reading_of};
+ghost use Rattle.redcode_text.specs.Code.Problems.{Gives};
+ghost use Rattle.redcode_text.specs.Code.Rows.{row_of};
 ghost use Rattle.redcode_text.specs.Source.{ForLine, line_kind};
 
 use crate::expression::{Env, eval};
@@ -33,7 +35,7 @@ struct CountNames<'a> {
 }
 
 impl<'a> Env for CountNames<'a> {
-    ghost use Rattle.redcode_text.specs.Held.{predefined_of};
+    ghost use Rattle.redcode_text.specs.Views.{predefined_of};
     ghost use Rattle.redcode_text.specs.Lines.{name_at, predefined_value, with_current_line};
 
     ghost value_of = { λ c n. predefined_value (with_current_line (predefined_of c.predefined.now) c.current_line) (name_at c.names.now n) };

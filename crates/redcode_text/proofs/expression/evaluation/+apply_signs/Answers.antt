@@ -5,7 +5,7 @@ use Rattle.redcode_text.specs.declared.token.Token.{Token}
 use Rattle.redcode_text.specs.declared.token.TokenKind.TheVariants as token
 use Rattle.redcode_text.specs.declared.token.Sign.{Sign}
 use Rattle.redcode_text.specs.Expression.{kinds, unary, ◌>>=◌}
-use Rattle.redcode_text.specs.Climbing.{signed}
+use Rattle.redcode_text.specs.Code.Climbing.{signed}
 use Rattle.redcode_text.proofs.expression.evaluation.+apply_signs.Goals as goal
 
 -- a run is its first token and the rest

@@ -17,11 +17,11 @@ loop-at-init c =
       ascii = rw c.in-Ok.ensures.items (IsAscii-take word first c.requires);
     }
 
-pub returns-in_default-turn_of-clause-value : goal.returns-in_default-turn_of-clause-value
-returns-in_default-turn_of-clause-value c =
+pub returns-in_default-round_of-clause-value : goal.returns-in_default-round_of-clause-value
+returns-in_default-round_of-clause-value c =
     let word = c.args.word.now in let at = c.loop-at.at in
     sym c.loop-at.invariant.same
-    ∙ join-bad c.args.loops.now c.loop-at.joined.items word at c.part_len.result c.loop-at-test.true (c.part_len.ensures.value ∙ ap part_len (take_rest word (at + 1))) c.in_default-turn_of.ensures
+    ∙ join-bad c.args.loops.now c.loop-at.joined.items word at c.part_len.result c.loop-at-test.true (c.part_len.ensures.value ∙ ap part_len (take_rest word (at + 1))) c.in_default-round_of.ensures
 
 pub loop-at-preserved : goal.loop-at-preserved
 loop-at-preserved c =
@@ -29,8 +29,8 @@ loop-at-preserved c =
     record {
       within = omega (arith, simp (take_rest, length-drop) at c.part_len.ensures.within);
       same =
-          ap (λ l. join_counters c.args.loops.now l (names_of (drop (at + 1 + c.part_len.result) word))) c.in-Ok-push_turn.ensures.digits
-          ∙ sym (join-ok c.args.loops.now c.loop-at.joined.items word at c.part_len.result c.in-Some.turn c.loop-at-test.true (c.part_len.ensures.value ∙ ap part_len (take_rest word (at + 1))) c.in-Some.ensures)
+          ap (λ l. join_counters c.args.loops.now l (names_of (drop (at + 1 + c.part_len.result) word))) c.in-Ok-push_round.ensures.digits
+          ∙ sym (join-ok c.args.loops.now c.loop-at.joined.items word at c.part_len.result c.in-Some.round c.loop-at-test.true (c.part_len.ensures.value ∙ ap part_len (take_rest word (at + 1))) c.in-Some.ensures)
           ∙ c.loop-at.invariant.same;
-      ascii = c.in-Ok-push_turn.ensures.ascii c.loop-at.invariant.ascii;
+      ascii = c.in-Ok-push_round.ensures.ascii c.loop-at.invariant.ascii;
     }

@@ -1,6 +1,6 @@
 use Rattle.std.proofs.Common.{◌≤◌, ◌-◌, ◌++◌, length, take}
 use Rattle.indexmap.specs.IndexSet.{spare}
-use Rattle.redcode_text.specs.Labels.{HasSame}
+use Rattle.redcode_text.specs.Code.Labels.{HasSame}
 use Rattle.redcode_text.proofs.names.set.insert_each.Given as goal
 
 abbrev pub invariant-loop-name : goal.invariant-loop-name

@@ -1,6 +1,7 @@
 use Rattle.std.proofs.Common.{◌∙◌, ◌-◌, ap, drop, map, sym, take}
 use Rattle.std.proofs.lemmas.List.{take_rest}
-use Rattle.redcode_text.specs.Held.{parts_at, predefined_of, reading_of}
+use Rattle.redcode_text.specs.Views.{predefined_of}
+use Rattle.redcode_text.specs.Code.Readings.{parts_at, reading_of}
 use Rattle.redcode_text.specs.Lines.{each_line, ordinary_line}
 use Rattle.redcode_text.proofs.OrdinarySteps.{ordinary-fails, ordinary-plain, ordinary-used, made-is}
 use Rattle.redcode_text.proofs.reader.Reading.+ordinary.Goals as goal

@@ -1,5 +1,6 @@
 use Rattle.std.proofs.Common.{◌≡◌, ◌+◌, ◌*◌, drop, map}
-use Rattle.redcode_text.specs.Held.{predefined_of, reading_of}
+use Rattle.redcode_text.specs.Views.{predefined_of}
+use Rattle.redcode_text.specs.Code.Readings.{reading_of}
 use Rattle.redcode_text.specs.Lines.{each_line, ordinary_line}
 use Rattle.redcode_text.proofs.reader.Reading.+ordinary.Given as goal
 

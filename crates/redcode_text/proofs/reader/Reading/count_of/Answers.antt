@@ -1,7 +1,8 @@
 use Rattle.std.proofs.Common.{◌∙◌, ap, sym}
 use Rattle.redcode_text.specs.Expansion.{as_count, has_label}
 use Rattle.redcode_text.specs.Expression.{kinds}
-use Rattle.redcode_text.specs.Held.{predefined_of, reading_of}
+use Rattle.redcode_text.specs.Views.{predefined_of}
+use Rattle.redcode_text.specs.Code.Readings.{reading_of}
 use Rattle.redcode_text.specs.Tokens.{without_line}
 use Rattle.redcode_text.proofs.CountSteps.{count-is}
 use Rattle.redcode_text.proofs.reader.Reading.count_of.Goals as goal

@@ -1,6 +1,6 @@
 use Rattle.std.proofs.Common.{◌∙◌, ap}
 use Rattle.std.specs.Prelude.{is_some}
-use Rattle.redcode_text.specs.Held.{predefined_of}
+use Rattle.redcode_text.specs.Views.{predefined_of}
 use Rattle.redcode_text.specs.Lines.{predefined_value, with_current_line}
 use Rattle.redcode_text.proofs.reader.Reading.is_predefined.Goals as goal
 

@@ -1,6 +1,7 @@
 use Rattle.std.proofs.Common.{◌∙◌, sym, arith, length-drop}
 use Rattle.std.proofs.lemmas.List.{take_rest}
-use Rattle.redcode_text.specs.Held.{predefined_of, reading_of}
+use Rattle.redcode_text.specs.Views.{predefined_of}
+use Rattle.redcode_text.specs.Code.Readings.{reading_of}
 use Rattle.redcode_text.proofs.NameSets.{may-label, name-more}
 use Rattle.redcode_text.proofs.PartSteps.{operation-at, duplicate-at, other-at, end-at, label-at}
 use Rattle.redcode_text.proofs.reader.Reading.parts_of.Goals as goal

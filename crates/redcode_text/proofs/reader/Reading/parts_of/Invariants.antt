@@ -1,6 +1,7 @@
 use Rattle.std.proofs.Common.{◌≡◌, ◌≤◌, ◌-◌, ℕ, length, drop, take}
-use Rattle.redcode_text.specs.Held.{predefined_of, reading_of}
-use Rattle.redcode_text.specs.Labels.{HasSame}
+use Rattle.redcode_text.specs.Views.{predefined_of}
+use Rattle.redcode_text.specs.Code.Readings.{reading_of}
+use Rattle.redcode_text.specs.Code.Labels.{HasSame}
 use Rattle.redcode_text.specs.Lines.{parts_of, parts_within}
 use Rattle.redcode_text.proofs.reader.Reading.parts_of.Given as goal
 

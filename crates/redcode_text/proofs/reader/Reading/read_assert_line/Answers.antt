@@ -1,5 +1,5 @@
-use Rattle.redcode_text.specs.Held.{reading_of}
-use Rattle.redcode_text.specs.Outcomes.{row_of}
+use Rattle.redcode_text.specs.Code.Readings.{reading_of}
+use Rattle.redcode_text.specs.Code.Rows.{row_of}
 use Rattle.redcode_text.proofs.AssertSteps.{assert-found}
 use Rattle.redcode_text.proofs.reader.Reading.read_assert_line.Goals as goal
 

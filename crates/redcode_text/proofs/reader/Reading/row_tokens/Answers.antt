@@ -1,7 +1,8 @@
 use Rattle.std.proofs.Common.{◌≡◌, arith, length}
 use Rattle.redcode_text.proofs.RowTokens.{code-is, row-ok, row-fails}
-use Rattle.redcode_text.specs.Held.{reading_of}
-use Rattle.redcode_text.specs.Outcomes.{row_of, scan_of}
+use Rattle.redcode_text.specs.Code.Readings.{reading_of}
+use Rattle.redcode_text.specs.Views.{scan_of}
+use Rattle.redcode_text.specs.Code.Rows.{row_of}
 use Rattle.redcode_text.proofs.reader.Reading.row_tokens.Goals as goal
 
 pub returns-in-Ok-clause-value : goal.returns-in-Ok-clause-value

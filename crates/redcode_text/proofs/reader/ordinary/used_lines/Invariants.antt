@@ -1,5 +1,5 @@
 use Rattle.std.proofs.Common.{◌≡◌, ◌≤◌, ◌-◌, ◌++◌, length, drop, map}
-use Rattle.redcode_text.specs.Used.{used}
+use Rattle.redcode_text.specs.Code.Used.{used}
 use Rattle.redcode_text.proofs.reader.ordinary.used_lines.Given as goal
 
 abbrev pub invariant-loop-at : goal.invariant-loop-at

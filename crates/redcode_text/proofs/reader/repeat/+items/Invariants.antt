@@ -1,7 +1,8 @@
 use Rattle.std.proofs.Common.{length, ◌-◌, ◌≡◌, ◌+◌, ◌≤◌, ◌*◌, option_map, string_bytes}
-use Rattle.redcode_text.specs.Expansion.{flat, turns}
-use Rattle.redcode_text.specs.Held.{predefined_of, reading_of}
-use Rattle.redcode_text.specs.Pairs.{here_from}
+use Rattle.redcode_text.specs.Expansion.{flat, rounds}
+use Rattle.redcode_text.specs.Views.{predefined_of}
+use Rattle.redcode_text.specs.Code.Readings.{reading_of}
+use Rattle.redcode_text.specs.Code.Pairs.{here_from}
 use Rattle.redcode_text.proofs.reader.repeat.+items.Given as goal
 
 abbrev pub decreases-read_items : goal.decreases-read_items
@@ -10,8 +11,8 @@ decreases-read_items l = 3 * (33 - length l.reading.now.loops) + 2
 abbrev pub decreases-read_loop : goal.decreases-read_loop
 decreases-read_loop l = 3 * (33 - length l.reading.now.loops) + 1
 
-abbrev pub decreases-read_turns : goal.decreases-read_turns
-decreases-read_turns l = 3 * (33 - length l.reading.now.loops)
+abbrev pub decreases-read_rounds : goal.decreases-read_rounds
+decreases-read_rounds l = 3 * (33 - length l.reading.now.loops)
 
 abbrev pub invariant-read_items-loop-at : goal.invariant-read_items-loop-at
 invariant-read_items-loop-at l = record {
@@ -23,11 +24,11 @@ invariant-read_items-loop-at l = record {
 abbrev pub decreases-read_items-loop-at : goal.decreases-read_items-loop-at
 decreases-read_items-loop-at l = length l.rows - l.at
 
-abbrev pub invariant-read_turns-loop-turn : goal.invariant-read_turns-loop-turn
-invariant-read_turns-loop-turn l = record {
+abbrev pub invariant-read_rounds-loop-round : goal.invariant-read_rounds-loop-round
+invariant-read_rounds-loop-round l = record {
   same :
-      turns (flat (predefined_of l.names) (here_from l.rows l.first)) (option_map (λ s. string_bytes s) l.fn.head.counter) l.turn (l.count + 1 - l.turn) (reading_of l.reading)
-      ≡ turns (flat (predefined_of l.names) (here_from l.rows l.first)) (option_map (λ s. string_bytes s) l.fn.head.counter) 1 l.count (reading_of l.fn.reading);
+      rounds (flat (predefined_of l.names) (here_from l.rows l.first)) (option_map (λ s. string_bytes s) l.fn.head.counter) l.round (l.count + 1 - l.round) (reading_of l.reading)
+      ≡ rounds (flat (predefined_of l.names) (here_from l.rows l.first)) (option_map (λ s. string_bytes s) l.fn.head.counter) 1 l.count (reading_of l.fn.reading);
   counter : option_map (λ s. string_bytes s) l.counter ≡ option_map (λ s. string_bytes s) l.fn.head.counter;
   loops : l.reading.loops ≡ l.fn.reading.loops;
 }

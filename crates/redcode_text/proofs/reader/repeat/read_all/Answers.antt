@@ -1,6 +1,7 @@
 use Rattle.std.proofs.lemmas.Result.{err_from_is_err_and}
-use Rattle.redcode_text.specs.Held.{predefined_of, reading_of}
-use Rattle.redcode_text.specs.Pairs.{here_from, paired_from}
+use Rattle.redcode_text.specs.Views.{predefined_of}
+use Rattle.redcode_text.specs.Code.Readings.{reading_of}
+use Rattle.redcode_text.specs.Code.Pairs.{here_from, paired_from}
 use Rattle.redcode_text.proofs.LoneSteps.{lone-at, lone-ended, lone-fails}
 use Rattle.redcode_text.proofs.reader.repeat.read_all.Goals as goal
 

@@ -1,6 +1,7 @@
 use Rattle.std.proofs.Common.{get_or, subst}
-use Rattle.redcode_text.specs.Held.{predefined_of, reading_of}
-use Rattle.redcode_text.specs.Outcomes.{row_of}
+use Rattle.redcode_text.specs.Views.{predefined_of}
+use Rattle.redcode_text.specs.Code.Readings.{reading_of}
+use Rattle.redcode_text.specs.Code.Rows.{row_of}
 use Rattle.redcode_text.proofs.Kept.{Kept, plain-kept, loops_of}
 use Rattle.redcode_text.proofs.LoopSteps.{no_row}
 use Rattle.redcode_text.proofs.reader.repeat.read_row.Goals as goal

@@ -1,5 +1,5 @@
 use Rattle.std.proofs.Common.{length, vec_len, ◌≡◌, ℕ, ◌+◌, ◌<◌, ◌≤◌, slice_index}
-use Rattle.redcode_text.specs.Pairs.{EndsAt}
+use Rattle.redcode_text.specs.Code.Pairs.{EndsAt}
 use Rattle.redcode_text.proofs.source.blocks.ends_of.Given as goal
 
 abbrev pub invariant-loop-first : goal.invariant-loop-first

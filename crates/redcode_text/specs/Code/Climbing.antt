@@ -1,4 +1,4 @@
--- Serves the proof of `eval` alone: how an expression that has the shape of one is evaluated from the left, with what waits on a stack.
+-- How an expression that has the shape of one is evaluated from the left, with what waits on a stack.
 use Rattle.std.specs.Prelude.{◌≡◌, ℕ, List, [], ◌∷◌, ◌++◌, ◌-◌, ◌<◌, ◌≤◌, map, slice_range, Bool, true, false, ℤ, Option, Result, Ok, Err, if◌then◌else◌, nat_le}
 use Rattle.redcode_text.specs.declared.token.TokenKind.{TokenKind}
 use Rattle.redcode_text.specs.declared.token.TokenKind.TheVariants.{Number, Name}

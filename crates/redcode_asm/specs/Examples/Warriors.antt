@@ -1,4 +1,4 @@
--- Worked examples: sources and the warriors that they are assembled to, formulas and their values.
+-- Worked examples: sources and the warriors that they are assembled to.
 use Rattle.std.specs.Prelude.{◌≡◌, ℕ, List, [], ◌∷◌, ◌++◌, map, ℤ, pos, Result, Ok, Err, codes, refl}
 use Rattle.std.specs.Fmt.{digits}
 use Rattle.mars_cell.specs.Grammar.{default_modifier}
@@ -11,12 +11,10 @@ use Rattle.redcode_text.specs.declared.fault.ExprFault.TheVariants.{Syntax, Unkn
 use Rattle.redcode_text.specs.declared.fault.TextProblem.TheVariants.{UnclosedFor, EquDepth, BadToken}
 use Rattle.redcode_text.specs.Expansion.{expansion}
 use Rattle.redcode_text.specs.Expression.{value_of, tree_within}
-use Rattle.redcode_text.specs.Tokens.{scanned}
 use Rattle.redcode_asm.specs.declared.fault.AsmFault.{AsmFault}
 use Rattle.redcode_asm.specs.declared.fault.AsmProblem.{AsmProblem}
 use Rattle.redcode_asm.specs.declared.fault.AsmProblem.TheVariants.{Text, Operation, Operand, Expression, AssertFailed, BadOrigin, Empty, TooLong}
 use Rattle.redcode_asm.specs.Assembly.{assembly}
-use Rattle.redcode_asm.specs.Formula.{formula_of, score_of}
 
 abbrev pub text : List (List ℕ) → List ℕ
 text [] = []
@@ -113,30 +111,3 @@ pub row_small_core :
     × (listed 1 (assembly (parameters 1) 1 1 (text (codes "ADD.F }5, {-7" ∷ []))) ≡ Ok (0, codes "ADD.F }0, {0" ∷ []))
 unfolding assembly expansion value_of tree_within digits default_modifier op_of modifier_of
 row_small_core = (refl, refl)
-
--- the value of the formula of a text
-abbrev pub scored : List ℕ → ℕ → ℕ → Result ℤ ExprFault
-scored t w s = elim (formula_of t) [ Ok f ↦ score_of f (pos w) (pos s) | Err e ↦ Err e ]
-
--- the default formula, and formulas that have no value
-pub row_scores :
-    (scored (codes "(W*W-1)/S") 2 1 ≡ Ok (pos 3))
-    × (scored (codes "(W*W-1)/S") 2 2 ≡ Ok (pos 1))
-    × (scored (codes "(W*W-1)/S") 3 1 ≡ Ok (pos 8))
-    × (scored (codes "(W*W-1)/S") 3 2 ≡ Ok (pos 4))
-    × (scored (codes "(W*W-1)/S") 3 3 ≡ Ok (pos 2))
-    × (scored (codes "1/(S-2)") 2 2 ≡ Err DivideByZero)
-    × (scored (codes "9223372036854775807+W") 1 1 ≡ Err Range)
-unfolding scanned value_of tree_within
-row_scores = (refl, refl, refl, refl, refl, refl, refl)
-
--- texts that are no formulas
-pub row_no_formulas :
-    (scored (codes "1+") 2 1 ≡ Err Syntax)
-    × (scored (codes "") 2 1 ≡ Err Syntax)
-    × (scored (codes "W;") 2 1 ≡ Err Syntax)
-    × (scored (codes "x+") 2 1 ≡ Err Syntax)
-    × (scored (codes "x+1") 2 1 ≡ Err Unknown)
-    × (scored (codes "w") 2 1 ≡ Err Unknown)
-unfolding scanned value_of tree_within
-row_no_formulas = (refl, refl, refl, refl, refl, refl)

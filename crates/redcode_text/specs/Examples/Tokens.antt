@@ -26,9 +26,9 @@ said (Err e) = Err e
 abbrev read : List ℕ → Result (List TokenKind × List (List ℕ)) TextProblem
 read bs = said (tokens [] 1 0 100 [] bs)
 
--- the loops of `i`, in turn 1, and `j`, in turn 12, are open
+-- the loops of `i`, in round 1, and `j`, in round 12, are open
 abbrev loops : List OpenLoop
-loops = record { counter = Some (codes "i"); turn = 1 } ∷ record { counter = None; turn = 3 } ∷ record { counter = Some (codes "j"); turn = 12 } ∷ []
+loops = record { counter = Some (codes "i"); round = 1 } ∷ record { counter = None; round = 3 } ∷ record { counter = Some (codes "j"); round = 12 } ∷ []
 
 abbrev read_inside : List ℕ → Result (List TokenKind × List (List ℕ)) TextProblem
 read_inside bs = said (tokens loops 1 0 100 [] bs)

@@ -1,7 +1,7 @@
--- Where the items of a source end, as places among its rows. This serves the proof alone.
+-- Where the items of a source end, as places among its rows.
 use Rattle.std.specs.Prelude.{◌≡◌, ℕ, ◌+◌, ◌<◌, ◌≤◌, List, length, drop, map, slice_index}
 use Rattle.redcode_text.specs.declared.source.Row as code
-use Rattle.redcode_text.specs.Outcomes.{row_of}
+use Rattle.redcode_text.specs.Code.Rows.{row_of}
 use Rattle.redcode_text.specs.Source.{Items, Nothing, Pairing, paired}
 
 -- what the rows from a place on pair to

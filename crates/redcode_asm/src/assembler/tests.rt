@@ -70,7 +70,7 @@ fn doublings(alloc: Global, last: usize) -> Result<Vec<u8>, Fail> {
     Ok(text)
 }
 
-/// Prose that is never read, two turns of a loop, and a line that names what they made.
+/// Prose that is never read, two rounds of a loop, and a line that names what they made.
 const LOOPS: &[u8] = b"FOR 0\nthis is prose\nROF\ni FOR 2\nx&i DAT i, 0\nROF\nDAT x02, x01\n";
 
 /// An EQU name of two lines in place of an operation.

@@ -1,4 +1,4 @@
--- A set of names beside those that it stands for. This serves the proof alone.
+-- A set of names beside those that it stands for.
 use Rattle.std.specs.Prelude.{◌≡◌, ℕ, List, Bool, ◌==◌}
 use Rattle.std.specs.List.{list_any}
 

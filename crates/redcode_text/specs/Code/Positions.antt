@@ -1,4 +1,4 @@
--- Serves the proof of `eval` alone: the same, over what the code itself holds.
+-- The same as Climbing, over what the code itself holds.
 use Rattle.std.specs.Prelude.{◌≡◌, ℕ, List, [], ◌∷◌, ◌+◌, ◌-◌, ◌<◌, ◌≤◌, slice_range, true, false, ℤ, Option, Result, Ok, Err, if◌then◌else◌, nat_le}
 use Rattle.redcode_text.specs.declared.token.Token.{Token}
 use Rattle.redcode_text.specs.declared.token.TokenKind.{TokenKind}
@@ -13,7 +13,7 @@ use Rattle.redcode_text.specs.declared.expression.evaluation.Pending.TheVariants
 use Rattle.redcode_text.specs.declared.expression.shape.ShapeState.{ShapeState}
 use Rattle.redcode_text.specs.declared.expression.evaluation.Evaluation as code
 use Rattle.redcode_text.specs.Expression.{◌>>=◌, precedence, binary, kinds, known}
-use Rattle.redcode_text.specs.Climbing.{signed, AreInside}
+use Rattle.redcode_text.specs.Code.Climbing.{signed, AreInside}
 
 abbrev pub reduced_on : ℕ → List Pending → ℤ → Result (ℤ × List Pending) ExprFault
 reduced_on k [] v = Ok (v, [])

@@ -1,4 +1,4 @@
--- The lines that take the place of an EQU name, as the code makes them. This serves the proof alone.
+-- The lines that take the place of an EQU name, as the code makes them.
 use Rattle.std.specs.Prelude.{List, [], ◌∷◌, ◌++◌}
 use Rattle.redcode_text.specs.declared.token.Token.{Token}
 
