@@ -1,5 +1,5 @@
 //! The program of a source.
-ghost use Rattle.std.specs.Prelude.{◌≡◌, [], false, IfOk};
+ghost use Rattle.std.specs.Prelude.{◌≡◌};
 ghost use Rattle.redcode_text.specs.Expansion.{expansion, flat, nothing_read, program_of};
 ghost use Rattle.redcode_text.specs.Views.{predefined_of};
 ghost use Rattle.redcode_text.specs.Code.Readings.{reading_of};
@@ -7,41 +7,12 @@ ghost use Rattle.redcode_text.specs.Outcomes.{Answers};
 ghost use Rattle.redcode_text.specs.Source.{tree_of};
 
 use crate::fault::{TextFault, TextProblem};
-use crate::lexer::open_loops::OpenLoops;
-use crate::names::NameTable;
-use crate::names::equates::Equates;
 use crate::names::predefined::Names;
-use crate::names::set::NameSet;
 use crate::program::Program;
 use crate::reader::Reading;
 use crate::reader::repeat::read_all;
 use crate::source::{read_rows, rows_of};
-use std::alloc::{AllocError, Global};
-
-/// A reading of nothing.
-fn nothing_read(alloc: Global) -> Result<Reading, AllocError>
-    ensures value { IfOk result (λ reading. reading_of reading ≡ nothing_read) }
-    ensures loops { IfOk result (λ reading. reading.loops ≡ []) }
-    ensures going { IfOk result (λ reading. reading.ended ≡ false) }
-{
-    let name = String::from_str(alloc, "Unknown")?;
-    let author = String::from_str(alloc, "Anonymous")?;
-    Ok(Reading {
-        loops: OpenLoops::new(alloc),
-        names: NameTable::new(alloc),
-        equates: Equates::new(alloc),
-        equate_grows: false,
-        lines: Vec::new(alloc),
-        labels: NameSet::new(alloc),
-        instructions: 0,
-        lines_read: 0,
-        tokens_read: 0,
-        name,
-        author,
-        asserts: Vec::new(alloc),
-        ended: false,
-    })
-}
+use std::alloc::Global;
 
 /// What is kept of all that was read.
 fn program_of(reading: Reading) -> Program
@@ -74,7 +45,7 @@ fn read_source(alloc: Global, bytes: &[u8], names: &Names) -> Result<Reading, Te
     let Ok(rows) = rows_of(alloc, bytes) else {
         return Err(TextProblem::OutOfMemory.at_line(0));
     };
-    let Ok(mut reading) = nothing_read(alloc) else {
+    let Ok(mut reading) = Reading::new(alloc) else {
         return Err(TextProblem::OutOfMemory.at_line(0));
     };
     read_all(alloc, names, read_rows(&rows), &mut reading)?;

@@ -25,6 +25,7 @@ mod expansion;
 mod expression;
 mod fault;
 mod lexer;
+mod limits;
 mod names;
 mod program;
 mod reader;

@@ -2,7 +2,7 @@
 ghost use Rattle.std.specs.Prelude.{◌≡◌, ◌≤◌, ◌==◌, length, map, not, IfOk, IfSome};
 ghost use Rattle.std.specs.List.{prefix_len};
 ghost use Rattle.redcode_text.specs.Code.Rows.{kind_inside, kind_of, row_of};
-ghost use Rattle.redcode_text.specs.Source.{colon_len, first_word_at, has_word, leading_word_at, line_kind, past_blanks, past_colon, past_word, read_rows, rows_of, second_word_at};
+ghost use Rattle.redcode_text.specs.Source.{first_word_at, has_word, leading_word_at, line_kind, past_blanks, past_colon, past_word, read_rows, rows_of, second_word_at};
 
 pub mod blocks;
 pub mod directives;

@@ -2,11 +2,13 @@
 ghost use Rattle.std.specs.Prelude.{◌≡◌, ℕ, ℤ, List, [], ◌∷◌, ◌<◌, ◌≤◌, length, IfSome, IfNone, Ok, false, slice_get};
 ghost use Rattle.redcode_text.specs.Code.Climbing.{signed, AreInside, StaysAt, IsNoOpen};
 ghost use Rattle.redcode_text.specs.Expression.{precedence, kinds};
+ghost use Rattle.redcode_text.specs.declared.limits.TheConstants.{MAX_WAITING};
 ghost use Rattle.redcode_text.specs.Code.Positions.{GivesOn, reduced_on};
 
 use crate::expression::Env;
 use crate::expression::operators::{apply_binary, apply_unary, precedence};
 use crate::fault::ExprFault;
+use crate::limits::MAX_WAITING;
 use crate::token::{Sign, Token, TokenKind};
 use arrayvec::ArrayVec;
 use std::marker::Model;
@@ -29,7 +31,7 @@ impl Default for Pending {
 /// What waits, the latest first.
 #[derive(Drop)]
 struct Stack {
-    entries: ArrayVec<Pending, 390>,
+    entries: ArrayVec<Pending, MAX_WAITING>,
 }
 
 impl Model for Stack {
@@ -51,7 +53,7 @@ impl Stack {
     }
 
     fn push(&mut self, entry: Pending)
-        requires { length self.old < 390 }
+        requires { length self.old < MAX_WAITING }
         ensures { self.new ≡ entry ∷ self.old }
     {
         self.entries.push(entry);
@@ -143,7 +145,7 @@ impl Evaluation {
 
     /// Takes an opening parenthesis.
     fn open(&mut self, at: usize)
-        requires room { length self.old.stack < 390 }
+        requires room { length self.old.stack < MAX_WAITING }
         requires fits { at < usize.MAX }
 
         ensures gives { self.new ≡ opened_on at self.old }
@@ -165,8 +167,8 @@ impl Evaluation {
         requires first { self.old.first_sign ≤ at }
         requires within { at < length tokens.now }
         requires inside { AreInside at self.old.stack }
-        requires room { length self.old.stack < 390 }
-        requires room_after { (k : ℕ) (w : ℤ) (stack : List Pending) → reduced_on k self.old.stack self.old.value ≡ Ok (w, stack) → length stack < 390 }
+        requires room { length self.old.stack < MAX_WAITING }
+        requires room_after { (k : ℕ) (w : ℤ) (stack : List Pending) → reduced_on k self.old.stack self.old.value ≡ Ok (w, stack) → length stack < MAX_WAITING }
 
         ensures gives { IfSome (slice_get tokens.now at) (λ t. GivesState self.new result (advance (E.value_of env.now) tokens.now at self.old t.kind)) }
     {
@@ -195,7 +197,7 @@ impl Evaluation {
     /// Takes an operator after an operand.
     fn operate(&mut self, at: usize, sign: Sign) -> Result<(), ExprFault>
         requires fits { at < usize.MAX }
-        requires room { (w : ℤ) (stack : List Pending) → reduced_on (precedence sign) self.old.stack self.old.value ≡ Ok (w, stack) → length stack < 390 }
+        requires room { (w : ℤ) (stack : List Pending) → reduced_on (precedence sign) self.old.stack self.old.value ≡ Ok (w, stack) → length stack < MAX_WAITING }
 
         ensures gives { GivesState self.new result (operated at sign self.old) }
     {

@@ -4,10 +4,8 @@ ghost use Rattle.redcode_text.specs.Expression.{after_sign, before_sign, kinds, 
 
 use crate::expression::operators::precedence;
 use crate::fault::ExprFault;
+use crate::limits::{MAX_PARENS, MAX_SIGNS};
 use crate::token::{Sign, Token, TokenKind};
-
-/// How many parentheses may be open at once, and how many unary signs may follow one another.
-const DEEPEST: usize = 64;
 
 /// What has been read of a shape.
 #[derive(Clone, Copy)]
@@ -51,7 +49,7 @@ fn step_before_operand(state: ShapeState, sign: Sign) -> Result<ShapeState, Expr
 {
     match sign {
         Sign::Plus | Sign::Minus | Sign::Bang => {
-            if state.signs >= DEEPEST {
+            if state.signs >= MAX_SIGNS {
                 return Err(ExprFault::Depth);
             }
             Ok(ShapeState {
@@ -61,7 +59,7 @@ fn step_before_operand(state: ShapeState, sign: Sign) -> Result<ShapeState, Expr
             })
         }
         Sign::OpenParen => {
-            if state.opened >= DEEPEST {
+            if state.opened >= MAX_PARENS {
                 return Err(ExprFault::Depth);
             }
             Ok(ShapeState {

@@ -1,5 +1,5 @@
 //! EQU names, and tokens with EQU names replaced.
-ghost use Rattle.std.specs.Prelude.{◌≡◌, ℕ, [], ◌∷◌, ◌++◌, ◌≤◌, length, map, Some, None, IfOk, OnOk, Ok, Err, MatchResult, option_map};
+ghost use Rattle.std.specs.Prelude.{◌≡◌, [], ◌∷◌, ◌++◌, map, Some, None, Ok, Err, MatchResult, option_map};
 ghost use Rattle.redcode_text.specs.Equates.{Replaced, equate_lines, token_lines, one_line, one_more, kept, replaced_name, replaced_token, each_replaced, replacing, depth_limit, each_replaced_at_line, substitution};
 ghost use Rattle.redcode_text.specs.Lines.{with_line};
 ghost use Rattle.redcode_text.specs.Outcomes.{Answers};
@@ -7,16 +7,11 @@ ghost use Rattle.redcode_text.specs.Code.Problems.{Gives};
 ghost use Rattle.redcode_text.specs.Tokens.{at_line};
 
 use crate::fault::{TextFault, TextProblem};
+use crate::limits::{MAX_NESTING, MAX_REPLACED, MAX_REPLACEMENTS};
 use crate::token::{Token, TokenKind};
 use indexmap::IndexMap;
-use std::alloc::{AllocError, Global};
+use std::alloc::Global;
 use std::marker::Model;
-
-/// How many tokens may stand, and how many names may be replaced, where tokens are substituted.
-const LIMIT: usize = 65_536;
-
-/// How deep replacements may nest.
-const DEPTH_LIMIT: usize = 32;
 
 /// The EQU names, in the order of their definitions, each with its lines.
 #[derive(Drop)]
@@ -72,7 +67,7 @@ impl Replaced {
     fn count_one(&mut self) -> Result<(), TextProblem>
         ensures { Gives (λ _. self.new) result (one_more self.old) }
     {
-        if self.count >= LIMIT {
+        if self.count >= MAX_REPLACEMENTS {
             return Err(TextProblem::TooLong);
         }
         self.count += 1;
@@ -83,7 +78,7 @@ impl Replaced {
     fn keep(&mut self, token: Token) -> Result<(), TextProblem>
         ensures { Gives (λ _. self.new) result (kept self.old token) }
     {
-        if self.tokens.len() >= LIMIT {
+        if self.tokens.len() >= MAX_REPLACED {
             return Err(TextProblem::TooLong);
         }
         match self.tokens.push(token) {
@@ -159,7 +154,7 @@ impl Equates {
     fn place_at_line(&self, token: Token, replaced: &mut Replaced) -> Result<(), TextFault>
         ensures { Answers (λ _. replaced.new) result (at_line token.line (replaced_token (replacing depth_limit self.now) replaced.old token (token_lines self.now token.kind))) }
     {
-        match self.place(DEPTH_LIMIT, token, replaced) {
+        match self.place(MAX_NESTING, token, replaced) {
             Ok(()) => Ok(()),
             Err(problem) => Err(problem.at_line(token.line)),
         }

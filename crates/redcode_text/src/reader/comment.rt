@@ -29,7 +29,7 @@ impl Reading {
         self.read_author(alloc, row)
     }
 
-    /// Reads a comment line that isn't `;name`.
+    /// Reads a comment line that isn't `;name`: `;author`, `;assert`, or nothing.
     fn read_author(&mut self, alloc: Global, row: Row<'_>) -> Result<(), TextProblem>
         requires { row.at + length row.bytes.now < 2 ^ 64 }
         ensures { Gives (λ _. reading_of self.new) result (no_name (row_of row.entry) (reading_of self.old)) }
@@ -44,7 +44,7 @@ impl Reading {
         self.read_assert_line(alloc, row)
     }
 
-    /// Reads a comment line that is neither `;name` nor `;author`.
+    /// Reads a comment line that is neither `;name` nor `;author`: `;assert`, or nothing.
     fn read_assert_line(&mut self, alloc: Global, row: Row<'_>) -> Result<(), TextProblem>
         requires { row.at + length row.bytes.now < 2 ^ 64 }
         ensures { Gives (λ _. reading_of self.new) result (no_author (row_of row.entry) (reading_of self.old)) }

@@ -9,14 +9,12 @@ ghost use Rattle.redcode_text.specs.Source.{is_comment};
 
 use crate::characters::blank_len;
 use crate::fault::TextProblem;
+use crate::limits::MAX_NESTING;
 use crate::names::predefined::Names;
 use crate::reader::Reading;
 use crate::source::{LineKind, Row, line_kind};
 use crate::token::Token;
 use std::alloc::Global;
-
-/// How deep EQU names may nest as operations.
-const DEPTH_LIMIT: usize = 32;
 
 /// Whether a line is a comment alone.
 fn is_comment(bytes: &[u8]) -> bool
@@ -49,7 +47,7 @@ impl Reading {
         }
         match kind {
             LineKind::Equ(at) => self.read_equ(alloc, names, row.at + at, tokens),
-            _ => self.read_ordinary(alloc, names, row.number, DEPTH_LIMIT, &tokens),
+            _ => self.read_ordinary(alloc, names, row.number, MAX_NESTING, &tokens),
         }
     }
 

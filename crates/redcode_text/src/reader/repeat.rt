@@ -1,6 +1,7 @@
 //! The items of a source, with the rounds of its loops.
 ghost use Rattle.std.specs.Prelude.{◌≡◌, ◌+◌, ◌<◌, ◌≤◌, ◌^◌, false, length, map, option_map, slice_index, string_bytes, OnOk};
 ghost use Rattle.redcode_text.specs.Expansion.{flat, head_line, rof_line, rounds, unpaired_line};
+ghost use Rattle.redcode_text.specs.declared.limits.TheConstants.{MAX_LOOPS};
 ghost use Rattle.redcode_text.specs.Code.Heads.{head_of};
 ghost use Rattle.redcode_text.specs.Views.{predefined_of};
 ghost use Rattle.redcode_text.specs.Code.Readings.{reading_of};
@@ -11,7 +12,6 @@ ghost use Rattle.redcode_text.specs.Code.Rows.{row_of};
 ghost use Rattle.redcode_text.specs.Code.Pairs.{AreEnds, here_from};
 ghost use Rattle.redcode_text.specs.Source.{ForLine, line_kind, tree_of_rows};
 ghost use Rattle.redcode_text.specs.Tokens.{at_line};
-ghost use Rattle.redcode_text.specs.declared.fault.TextProblem.TheVariants.{RofAlone, UnclosedFor};
 
 mod head;
 
@@ -74,7 +74,7 @@ fn read_for_row(
     requires inside { word_at ≤ length row.bytes.now }
     requires word { ForLine word_at ≡ line_kind row.bytes.now }
     ensures loops { OnOk result (reading.new.loops ≡ reading.old.loops) }
-    ensures depth { OnOk result (length reading.old.loops < 32) }
+    ensures depth { OnOk result (length reading.old.loops < MAX_LOOPS) }
     ensures gives { Answers (head_of (reading_of reading.new)) result (at_line row.entry.number (head_line (predefined_of names.now) (row_of row.entry) (reading_of reading.old))) }
 {
     match reading.read_head(alloc, names, row, word_at) {
@@ -95,22 +95,16 @@ fn read_rof_row(alloc: Global, row: Row<'_>, reading: &mut Reading) -> Result<()
     }
 }
 
-/// Refuses a FOR without its ROF.
-fn refuse_for(row: Row<'_>, reading: &mut Reading) -> Result<(), TextFault>
-    ensures { Answers (λ _. reading_of reading.new) result (at_line row.entry.number (unpaired_line UnclosedFor (reading_of reading.old))) }
+/// Refuses a FOR without its ROF, or a ROF without its FOR, which is this problem.
+fn refuse_unpaired(
+    row: Row<'_>,
+    problem: TextProblem,
+    reading: &mut Reading,
+) -> Result<(), TextFault>
+    ensures { Answers (λ _. reading_of reading.new) result (at_line row.entry.number (unpaired_line problem (reading_of reading.old))) }
 {
     match reading.count_line() {
-        Ok(()) => Err(TextProblem::UnclosedFor.at_line(row.number)),
-        Err(problem) => Err(problem.at_line(row.number)),
-    }
-}
-
-/// Refuses a ROF without its FOR.
-fn refuse_rof(row: Row<'_>, reading: &mut Reading) -> Result<(), TextFault>
-    ensures { Answers (λ _. reading_of reading.new) result (at_line row.entry.number (unpaired_line RofAlone (reading_of reading.old))) }
-{
-    match reading.count_line() {
-        Ok(()) => Err(TextProblem::RofAlone.at_line(row.number)),
+        Ok(()) => Err(problem.at_line(row.number)),
         Err(problem) => Err(problem.at_line(row.number)),
     }
 }
@@ -129,7 +123,7 @@ fn read_items(
     requires same_length { length ends.now ≡ length rows.now }
     requires fits { RowsFit rows.now }
     requires within { first ≤ length rows.now }
-    requires depth { length reading.old.loops ≤ 32 }
+    requires depth { length reading.old.loops ≤ MAX_LOOPS }
     ensures gives { Answers (λ _. reading_of reading.new) result (flat (predefined_of names.now) (here_from rows.now first) (reading_of reading.old)) }
     ensures loops { OnOk result (reading.new.loops ≡ reading.old.loops) }
 {
@@ -139,7 +133,7 @@ fn read_items(
             LineKind::Rof => return Ok(()),
             LineKind::For(word_at) => {
                 if ends[at] >= rows.len() {
-                    return refuse_for(rows[at], reading);
+                    return refuse_unpaired(rows[at], TextProblem::UnclosedFor, reading);
                 }
                 read_loop(alloc, names, rows, ends, at, word_at, reading)?
             }
@@ -169,7 +163,7 @@ fn read_loop(
     requires within { at < length rows.now }
     requires closed { slice_index ends.now at < length rows.now }
     requires word { IsFor rows.now at word_at }
-    requires depth { length reading.old.loops ≤ 32 }
+    requires depth { length reading.old.loops ≤ MAX_LOOPS }
     ensures gives { ReadTo (predefined_of names.now) rows.now at (reading_of reading.old) (reading_of reading.new) result }
     ensures loops { OnOk result (reading.new.loops ≡ reading.old.loops) }
 {
@@ -198,7 +192,7 @@ fn read_rounds(
     requires same_length { length ends.now ≡ length rows.now }
     requires fits { RowsFit rows.now }
     requires within { first < length rows.now }
-    requires depth { length reading.old.loops < 32 }
+    requires depth { length reading.old.loops < MAX_LOOPS }
     ensures gives { Answers (λ _. reading_of reading.new) result
         (rounds (flat (predefined_of names.now) (here_from rows.now first)) (option_map (λ s. string_bytes s) head.counter) 1 head.count (reading_of reading.old)) }
     ensures loops { OnOk result (reading.new.loops ≡ reading.old.loops) }
@@ -228,7 +222,7 @@ pub fn read_all(
     reading: &mut Reading,
 ) -> Result<(), TextFault>
     requires fits { RowsFit rows.now }
-    requires depth { length reading.old.loops ≤ 32 }
+    requires depth { length reading.old.loops ≤ MAX_LOOPS }
     requires going { reading.old.ended ≡ false }
     ensures { Answers (λ _. reading_of reading.new) result (flat (predefined_of names.now) (tree_of_rows (map row_of rows.now)) (reading_of reading.old)) }
 {
@@ -243,5 +237,5 @@ pub fn read_all(
     if end >= rows.len() {
         return Ok(());
     }
-    refuse_rof(rows[end], reading)
+    refuse_unpaired(rows[end], TextProblem::RofAlone, reading)
 }

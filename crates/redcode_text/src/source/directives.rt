@@ -10,6 +10,7 @@ ghost use Rattle.redcode_text.specs.Source.{blank_len, without_blanks};
 
 use crate::characters::{blank_len, is_blank, is_word};
 use crate::fault::TextProblem;
+use crate::limits::MAX_NAME;
 use std::alloc::Global;
 
 /// Whether a line begins, behind blanks, with these bytes in either case.
@@ -88,5 +89,5 @@ pub fn directive_value(alloc: Global, text: &[u8]) -> Result<String, TextProblem
 {
     let front = &text[blank_len(text)..];
     let trimmed = &front[..trimmed_len(front)];
-    printed(alloc, &trimmed[..trimmed.len().min(60)])
+    printed(alloc, &trimmed[..trimmed.len().min(MAX_NAME)])
 }

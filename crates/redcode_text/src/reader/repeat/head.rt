@@ -1,6 +1,6 @@
 //! The head of a loop: its counter and its count.
 ghost use Rattle.std.specs.Prelude.{◌≡◌, ◌<◌, ◌+◌, ◌^◌, length, ◌≤◌, option_map, string_bytes, Ok};
-ghost use Rattle.redcode_text.specs.Expansion.{as_count, count_of, has_label, rof_line, counter_name, head_line};
+ghost use Rattle.redcode_text.specs.Expansion.{as_count, count_of, has_label, counter_name, head_line};
 ghost use Rattle.redcode_text.specs.Expression.{kinds};
 ghost use Rattle.redcode_text.specs.Code.Heads.{head_of};
 ghost use Rattle.redcode_text.specs.Views.{predefined_of};
@@ -11,6 +11,7 @@ ghost use Rattle.redcode_text.specs.Source.{ForLine, line_kind};
 
 use crate::expression::{Env, eval};
 use crate::fault::{ExprFault, TextProblem};
+use crate::limits::{MAX_COUNT, MAX_LOOPS};
 use crate::names::NameTable;
 use crate::names::predefined::Names;
 use crate::reader::Reading;
@@ -51,7 +52,7 @@ fn as_count(value: Result<i64, ExprFault>) -> Result<u32, TextProblem>
     ensures { result ≡ as_count value }
 {
     match value {
-        Ok(count) if 0 <= count && count <= 10_000 => Ok(count as u32),
+        Ok(count) if 0 <= count && count <= MAX_COUNT => Ok(count as u32),
         Ok(_) => Err(TextProblem::BadCount),
         Err(fault) => Err(TextProblem::Expression(fault)),
     }
@@ -98,9 +99,6 @@ impl Reading {
     }
 }
 
-/// How many loops may be open.
-const LOOP_LIMIT: usize = 32;
-
 impl Reading {
     /// The counter of a loop, by its index among the names.
     fn counter_of(&self, alloc: Global, name: Option<usize>) -> Result<Option<String>, TextProblem>
@@ -132,7 +130,7 @@ impl Reading {
         let mut tokens = self.row_tokens(alloc, row, 0)?;
         let at = row.at + word_at;
         let name = name_in_front(&tokens, at)?;
-        if self.loops.len() >= LOOP_LIMIT {
+        if self.loops.len() >= MAX_LOOPS {
             return Err(TextProblem::TooLong);
         }
         keep_after(&mut tokens, at);
