@@ -9,7 +9,7 @@ use Rattle.redcode_text.specs.Lines.{Reading, assert_line}
 use Rattle.redcode_text.specs.Code.Rows.{text_found}
 use Rattle.redcode_text.specs.Source.{Row, blank_len, directive_text_at, ends_word, has_directive_word, without_blanks}
 
-found : (t : Bool) (m at : ℕ) → Some at ≡ cond t (Some m) None → (t ≡ true) × (at ≡ m)
+pub found : (t : Bool) (m at : ℕ) → Some at ≡ cond t (Some m) None → (t ≡ true) × (at ≡ m)
 found true m at e = (refl, cc)
 found false m at e = cc
 

@@ -1,11 +1,11 @@
 -- The items of a source, and the rounds of a loop, one further.
-use Rattle.std.proofs.Common.{◌≡◌, ◌∙◌, ℕ, zero, suc, ◌+◌, ◌-◌, ◌<◌, ◌≤◌, List, [], ◌∷◌, length, Bool, true, false, Option, Result, Ok, Err, ap, refl, subst, sym, arith, get_or}
+use Rattle.std.proofs.Common.{◌≡◌, ◌∙◌, ℕ, zero, suc, ◌+◌, ◌-◌, ◌<◌, ◌≤◌, List, ◌∷◌, length, Bool, true, false, Option, Result, Ok, Err, ap, refl, subst, sym, arith, get_or}
 use Rattle.std.proofs.lemmas.List.{get_or_default}
-use Rattle.redcode_text.specs.declared.source.Row as code
+use Rattle.redcode_text.specs.declared.source.row.Row as code
 use Rattle.redcode_text.specs.Code.Pairs.{here_from, EndsAt}
 use Rattle.redcode_text.proofs.PairSteps.{for-at, paired-drop}
-use Rattle.redcode_text.specs.declared.source.LineKind as code_kind
-use Rattle.redcode_text.specs.declared.source.LineKind.TheVariants as line
+use Rattle.redcode_text.specs.declared.source.row.LineKind as code_kind
+use Rattle.redcode_text.specs.declared.source.row.LineKind.TheVariants as line
 use Rattle.redcode_text.specs.declared.fault.TextFault.{TextFault}
 use Rattle.redcode_text.specs.declared.fault.TextProblem.{TextProblem}
 use Rattle.redcode_text.specs.declared.fault.TextProblem.TheVariants.{NotAscii, BadToken, UnclosedFor, RofAlone, BadCount, LabelInCount, Duplicate, EquDepth, TooLong, Expression, OutOfMemory}
@@ -13,7 +13,8 @@ use Rattle.redcode_text.specs.Expansion.{Head, flat, head_line, in_round, rof_li
 use Rattle.redcode_text.specs.Lines.{Predefined, Reading, plain_line}
 use Rattle.redcode_text.specs.Code.Loops.{IsFor, IsPlain, one_loop}
 use Rattle.redcode_text.specs.Outcomes.{FailsAt}
-use Rattle.redcode_text.specs.Code.Rows.{kind_of, row_of}
+use Rattle.redcode_text.specs.Code.Kinds.{kind_of}
+use Rattle.redcode_text.specs.Code.Rows.{row_of}
 use Rattle.redcode_text.specs.Source.{Items, Nothing, Plain, Loop, Row, EquLine, OtherLine, line_kind}
 use Rattle.redcode_text.specs.Tokens.{◌>>>◌, OpenLoop, at_line}
 use Rattle.redcode_text.proofs.Kept.{Kept, rof-ended}
@@ -169,24 +170,28 @@ pub loop-done : (ps : Predefined) (head : Row) (body : Items) (rof : Row) (st : 
 loop-done ps head body rof st h a b f whole is first t e r =
     is ∙ ap (λ r. r >>> f) (behind-rounds ps head body rof st h a first t ∙ goes-on a (λ b. at_line rof.number (rof_line rof b)) e ∙ r)
 
--- what is read of a row that isn't there
-abbrev pub no_row : code.Row
-no_row = record { number = 0; at = 0; bytes = record { ref_ptr = (0, 0); now = [] } }
+-- the same by the rows themselves
+loop-of : (ps : Predefined) (rows : List code.Row) (i j at : ℕ) (r s : code.Row) (st : Reading) → i < length rows → j < length rows → IsFor rows i at → EndsAt rows (i + 1) j → r ≡ get_or rows i r → s ≡ get_or rows j s
+    → flat ps (here_from rows i) st ≡ (one_loop ps (row_of r) (here_from rows (i + 1)) (row_of s) st >>> λ a. unless_ended a (flat ps (here_from rows (j + 1))))
+loop-of ps rows i j at r s st hi hj is ends ri si =
+    loop-at ps rows i j at r s st hi hj is ends
+    ∙ ap (λ row. one_loop ps (row_of row) (here_from rows (i + 1)) (row_of (get_or rows j s)) st >>> λ a. unless_ended a (flat ps (here_from rows (j + 1)))) (sym ri)
+    ∙ ap (λ row. one_loop ps (row_of r) (here_from rows (i + 1)) (row_of row) st >>> λ a. unless_ended a (flat ps (here_from rows (j + 1)))) (sym si)
 
-pub head-fails-at : (ps : Predefined) (rows : List code.Row) (i j at : ℕ) (st : Reading) (fault : TextFault) → i < length rows → j < length rows → IsFor rows i at → EndsAt rows (i + 1) j → FailsAt fault.problem fault (at_line (row_of (get_or rows i no_row)).number (head_line ps (row_of (get_or rows i no_row)) st)) → FailsAt fault.problem fault (flat ps (here_from rows i) st)
-head-fails-at ps rows i j at st fault hi hj is ends e = head-fails ps (row_of (get_or rows i no_row)) (here_from rows (i + 1)) (row_of (get_or rows j no_row)) st (λ a. unless_ended a (flat ps (here_from rows (j + 1)))) fault (flat ps (here_from rows i) st) (loop-at ps rows i j at no_row no_row st hi hj is ends) e
+pub head-fails-at : (ps : Predefined) (rows : List code.Row) (i j at : ℕ) (r : code.Row) (st : Reading) (fault : TextFault) → i < length rows → j < length rows → IsFor rows i at → EndsAt rows (i + 1) j → r ≡ get_or rows i r → FailsAt fault.problem fault (at_line (row_of r).number (head_line ps (row_of r) st)) → FailsAt fault.problem fault (flat ps (here_from rows i) st)
+head-fails-at ps rows i j at r st fault hi hj is ends ri e = head-fails ps (row_of r) (here_from rows (i + 1)) (row_of (get_or rows j r)) st (λ a. unless_ended a (flat ps (here_from rows (j + 1)))) fault (flat ps (here_from rows i) st) (loop-of ps rows i j at r (get_or rows j r) st hi hj is ends ri (get_or_default rows j r (get_or rows j r) hj)) e
 
-pub rounds-fail-at : (ps : Predefined) (rows : List code.Row) (i j at : ℕ) (st : Reading) (h : Head) (fault : TextFault) → i < length rows → j < length rows → IsFor rows i at → EndsAt rows (i + 1) j → at_line (row_of (get_or rows i no_row)).number (head_line ps (row_of (get_or rows i no_row)) st) ≡ Ok h → FailsAt fault.problem fault (rounds (flat ps (here_from rows (i + 1))) h.counter 1 h.count h.reading) → FailsAt fault.problem fault (flat ps (here_from rows i) st)
-rounds-fail-at ps rows i j at st h fault hi hj is ends e t = rounds-fail ps (row_of (get_or rows i no_row)) (here_from rows (i + 1)) (row_of (get_or rows j no_row)) st h (λ a. unless_ended a (flat ps (here_from rows (j + 1)))) fault (flat ps (here_from rows i) st) (loop-at ps rows i j at no_row no_row st hi hj is ends) e t
+pub rounds-fail-at : (ps : Predefined) (rows : List code.Row) (i j at : ℕ) (r : code.Row) (st : Reading) (h : Head) (fault : TextFault) → i < length rows → j < length rows → IsFor rows i at → EndsAt rows (i + 1) j → r ≡ get_or rows i r → at_line (row_of r).number (head_line ps (row_of r) st) ≡ Ok h → FailsAt fault.problem fault (rounds (flat ps (here_from rows (i + 1))) h.counter 1 h.count h.reading) → FailsAt fault.problem fault (flat ps (here_from rows i) st)
+rounds-fail-at ps rows i j at r st h fault hi hj is ends ri e t = rounds-fail ps (row_of r) (here_from rows (i + 1)) (row_of (get_or rows j r)) st h (λ a. unless_ended a (flat ps (here_from rows (j + 1)))) fault (flat ps (here_from rows i) st) (loop-of ps rows i j at r (get_or rows j r) st hi hj is ends ri (get_or_default rows j r (get_or rows j r) hj)) e t
 
-pub loop-ended-at : (ps : Predefined) (rows : List code.Row) (i j at : ℕ) (st : Reading) (h : Head) (a : Reading) → i < length rows → j < length rows → IsFor rows i at → EndsAt rows (i + 1) j → at_line (row_of (get_or rows i no_row)).number (head_line ps (row_of (get_or rows i no_row)) st) ≡ Ok h → rounds (flat ps (here_from rows (i + 1))) h.counter 1 h.count h.reading ≡ Ok a → a.ended ≡ true → flat ps (here_from rows i) st ≡ unless_ended a (flat ps (here_from rows (j + 1)))
-loop-ended-at ps rows i j at st h a hi hj is ends e t n = loop-ended ps (row_of (get_or rows i no_row)) (here_from rows (i + 1)) (row_of (get_or rows j no_row)) st h a (flat ps (here_from rows (j + 1))) (flat ps (here_from rows i) st) (loop-at ps rows i j at no_row no_row st hi hj is ends) e t n
+pub loop-ended-at : (ps : Predefined) (rows : List code.Row) (i j at : ℕ) (r : code.Row) (st : Reading) (h : Head) (a : Reading) → i < length rows → j < length rows → IsFor rows i at → EndsAt rows (i + 1) j → r ≡ get_or rows i r → at_line (row_of r).number (head_line ps (row_of r) st) ≡ Ok h → rounds (flat ps (here_from rows (i + 1))) h.counter 1 h.count h.reading ≡ Ok a → a.ended ≡ true → flat ps (here_from rows i) st ≡ unless_ended a (flat ps (here_from rows (j + 1)))
+loop-ended-at ps rows i j at r st h a hi hj is ends ri e t n = loop-ended ps (row_of r) (here_from rows (i + 1)) (row_of (get_or rows j r)) st h a (flat ps (here_from rows (j + 1))) (flat ps (here_from rows i) st) (loop-of ps rows i j at r (get_or rows j r) st hi hj is ends ri (get_or_default rows j r (get_or rows j r) hj)) e t n
 
-pub rof-fails-at : (ps : Predefined) (rows : List code.Row) (i j at : ℕ) (st : Reading) (h : Head) (a : Reading) (fault : TextFault) → i < length rows → j < length rows → IsFor rows i at → EndsAt rows (i + 1) j → at_line (row_of (get_or rows i no_row)).number (head_line ps (row_of (get_or rows i no_row)) st) ≡ Ok h → rounds (flat ps (here_from rows (i + 1))) h.counter 1 h.count h.reading ≡ Ok a → a.ended ≡ false → FailsAt fault.problem fault (at_line (row_of (get_or rows j no_row)).number (rof_line (row_of (get_or rows j no_row)) a)) → FailsAt fault.problem fault (flat ps (here_from rows i) st)
-rof-fails-at ps rows i j at st h a fault hi hj is ends e t n r = rof-fails ps (row_of (get_or rows i no_row)) (here_from rows (i + 1)) (row_of (get_or rows j no_row)) st h a (λ a. unless_ended a (flat ps (here_from rows (j + 1)))) fault (flat ps (here_from rows i) st) (loop-at ps rows i j at no_row no_row st hi hj is ends) e t n r
+pub rof-fails-at : (ps : Predefined) (rows : List code.Row) (i j at : ℕ) (r s : code.Row) (st : Reading) (h : Head) (a : Reading) (fault : TextFault) → i < length rows → j < length rows → IsFor rows i at → EndsAt rows (i + 1) j → r ≡ get_or rows i r → s ≡ get_or rows j s → at_line (row_of r).number (head_line ps (row_of r) st) ≡ Ok h → rounds (flat ps (here_from rows (i + 1))) h.counter 1 h.count h.reading ≡ Ok a → a.ended ≡ false → FailsAt fault.problem fault (at_line (row_of s).number (rof_line (row_of s) a)) → FailsAt fault.problem fault (flat ps (here_from rows i) st)
+rof-fails-at ps rows i j at r s st h a fault hi hj is ends ri si e t n w = rof-fails ps (row_of r) (here_from rows (i + 1)) (row_of s) st h a (λ a. unless_ended a (flat ps (here_from rows (j + 1)))) fault (flat ps (here_from rows i) st) (loop-of ps rows i j at r s st hi hj is ends ri si) e t n w
 
-pub loop-done-at : (ps : Predefined) (rows : List code.Row) (i j at : ℕ) (st : Reading) (h : Head) (a b : Reading) → i < length rows → j < length rows → IsFor rows i at → EndsAt rows (i + 1) j → at_line (row_of (get_or rows i no_row)).number (head_line ps (row_of (get_or rows i no_row)) st) ≡ Ok h → rounds (flat ps (here_from rows (i + 1))) h.counter 1 h.count h.reading ≡ Ok a → a.ended ≡ false → at_line (row_of (get_or rows j no_row)).number (rof_line (row_of (get_or rows j no_row)) a) ≡ Ok b → flat ps (here_from rows i) st ≡ unless_ended b (flat ps (here_from rows (j + 1)))
-loop-done-at ps rows i j at st h a b hi hj is ends e t n r = loop-done ps (row_of (get_or rows i no_row)) (here_from rows (i + 1)) (row_of (get_or rows j no_row)) st h a b (λ a. unless_ended a (flat ps (here_from rows (j + 1)))) (flat ps (here_from rows i) st) (loop-at ps rows i j at no_row no_row st hi hj is ends) e t n r
+pub loop-done-at : (ps : Predefined) (rows : List code.Row) (i j at : ℕ) (r s : code.Row) (st : Reading) (h : Head) (a b : Reading) → i < length rows → j < length rows → IsFor rows i at → EndsAt rows (i + 1) j → r ≡ get_or rows i r → s ≡ get_or rows j s → at_line (row_of r).number (head_line ps (row_of r) st) ≡ Ok h → rounds (flat ps (here_from rows (i + 1))) h.counter 1 h.count h.reading ≡ Ok a → a.ended ≡ false → at_line (row_of s).number (rof_line (row_of s) a) ≡ Ok b → flat ps (here_from rows i) st ≡ unless_ended b (flat ps (here_from rows (j + 1)))
+loop-done-at ps rows i j at r s st h a b hi hj is ends ri si e t n w = loop-done ps (row_of r) (here_from rows (i + 1)) (row_of s) st h a b (λ a. unless_ended a (flat ps (here_from rows (j + 1)))) (flat ps (here_from rows i) st) (loop-of ps rows i j at r s st hi hj is ends ri si) e t n w
 
 -- ---- a plain row at a place
 

@@ -17,9 +17,18 @@ use crate::lexer::open_loops::OpenLoops;
 use crate::lexer::signs::{one_byte_sign, two_byte_sign};
 use crate::lexer::words::{Spelled, read_word};
 use crate::names::NameTable;
-use crate::source::Row;
 use crate::token::{Token, TokenKind};
 use std::alloc::Global;
+
+/// The part of a line that is read as tokens.
+#[derive(Clone, Copy)]
+pub struct Text<'a> {
+    /// The number of its line, from 1.
+    pub number: usize,
+    /// The index of its first byte in the source.
+    pub at: usize,
+    pub bytes: &'a [u8],
+}
 
 /// The sign at the front of some bytes: one of two bytes goes before one of one byte.
 fn read_sign(bytes: &[u8]) -> Result<Spelled, TextProblem>
@@ -68,34 +77,34 @@ fn read_token(
     read_sign(bytes)
 }
 
-/// Reads the token that begins at a place of a row, and says how many bytes it takes.
+/// Reads the token that begins at a place of a text, and says how many bytes it takes.
 fn add_token(
     alloc: Global,
     loops: &OpenLoops,
-    row: Row<'_>,
+    text: Text<'_>,
     at: usize,
     room: usize,
     names: &mut NameTable,
     tokens: &mut Vec<Token>,
 ) -> Result<usize, TextProblem>
-    requires within { at ≤ length row.bytes.now }
-    requires fits { row.at + length row.bytes.now < 2 ^ 64 }
+    requires within { at ≤ length text.bytes.now }
+    requires fits { text.at + length text.bytes.now < 2 ^ 64 }
     ensures value { Gives (λ len. (len, scan_of tokens.new names.new)) result
-        (one_token loops.now row.entry.number room (row.entry.at + at) (drop at row.entry.bytes.now) (scan_of tokens.old names.old)) }
-    ensures len { IfOk result (λ len. (1 ≤ len) × (at + len ≤ length row.entry.bytes.now)) }
+        (one_token loops.now text.entry.number room (text.entry.at + at) (drop at text.entry.bytes.now) (scan_of tokens.old names.old)) }
+    ensures len { IfOk result (λ len. (1 ≤ len) × (at + len ≤ length text.entry.bytes.now)) }
     ensures room { vec_len tokens.old ≤ room → vec_len tokens.new ≤ room }
 {
-    let Spelled { kind, len } = match read_token(alloc, loops, names, &row.bytes[at..]) {
+    let Spelled { kind, len } = match read_token(alloc, loops, names, &text.bytes[at..]) {
         Ok(found) => found,
         Err(problem) => return Err(problem),
     };
     if tokens.len() >= room {
         return Err(TextProblem::TooLong);
     }
-    let from = row.at + at;
+    let from = text.at + at;
     let token = Token {
         kind,
-        line: row.number,
+        line: text.number,
         from,
         to: from + len,
     };
@@ -105,27 +114,27 @@ fn add_token(
     }
 }
 
-/// Reads the tokens of a row behind those that are there, up to so many in all.
+/// Reads the tokens of a text behind those that are there, up to so many in all.
 pub fn read_tokens(
     alloc: Global,
     loops: &OpenLoops,
-    row: Row<'_>,
+    text: Text<'_>,
     room: usize,
     names: &mut NameTable,
     tokens: &mut Vec<Token>,
 ) -> Result<(), TextProblem>
-    requires fits { row.at + length row.bytes.now < 2 ^ 64 }
+    requires fits { text.at + length text.bytes.now < 2 ^ 64 }
     requires room { vec_len tokens.old ≤ room }
     ensures value { Gives (λ _. scan_of tokens.new names.new) result
-        (scan_from loops.now row.entry.number room row.entry.at 0 row.entry.bytes.now (scan_of tokens.old names.old)) }
+        (scan_from loops.now text.entry.number room text.entry.at 0 text.entry.bytes.now (scan_of tokens.old names.old)) }
     ensures room { vec_len tokens.new ≤ room }
 {
     let mut at = 0;
-    while at < row.bytes.len() {
-        if is_blank(row.bytes[at]) {
+    while at < text.bytes.len() {
+        if is_blank(text.bytes[at]) {
             at += 1;
         } else {
-            match add_token(alloc, loops, row, at, room, names, tokens) {
+            match add_token(alloc, loops, text, at, room, names, tokens) {
                 Ok(len) => at += len,
                 Err(problem) => return Err(problem),
             }
@@ -152,13 +161,13 @@ pub fn scan(alloc: Global, text: &[u8]) -> Result<LineTokens, TextFault>
 {
     let mut tokens = Vec::new(alloc);
     let mut names = NameTable::new(alloc);
-    let row = Row {
+    let line = Text {
         number: 1,
         at: 0,
         bytes: text,
     };
     let loops = OpenLoops::new(alloc);
-    match read_tokens(alloc, &loops, row, text.len(), &mut names, &mut tokens) {
+    match read_tokens(alloc, &loops, line, text.len(), &mut names, &mut tokens) {
         Ok(()) => Ok(LineTokens { tokens, names }),
         Err(problem) => Err(problem.at_line(1)),
     }

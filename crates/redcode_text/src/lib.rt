@@ -2,7 +2,31 @@
 //!
 //! A source is read line by line. FOR and EQU are done, labels are told from operations, and what is left is a
 //! `Program`: lines in their parts, the names in them, EQU names for operands, a name, an author and asserts. What an
-//! operation or an operand means is not asked here.
+//! operation or an operand means is not asked here. The way of a source, with the file of each step:
+//!
+//! ```text
+//! source             bytes -> rows from the first `;redcode` on, each with its kind; the ROF of each FOR (blocks)
+//! reader/repeat      rows one after another, those of a loop once for each round; its head (repeat/head)
+//!   reader/line        a row that is neither FOR nor ROF
+//!     reader/comment     `;name`, `;author`, `;assert`
+//!     lexer              bytes -> tokens, with joins and counters
+//!     reader/equ         EQU: a name for these tokens
+//!     reader/ordinary    labels, operation, rest; where the operation is an EQU name, its lines in its place
+//! reader             all that has been read so far, within `limits`
+//! expansion          what is kept of it: a `program`
+//! names/equates      later, for each operand: EQU names -> their tokens
+//! expression         tokens -> a value
+//! ```
+//!
+//! A caller reads a source, then the lines, then the operands:
+//!
+//! ```text
+//! let program = expand(alloc, b"step EQU 4\nfirst DAT step*2\n", &predefined)?;
+//! for line in program.lines() {                                  // one line: `first` is its label, `DAT` its operation
+//!     let operand = program.substitute(alloc, &line.rest)?;      // the tokens of `4*2`
+//!     let value = eval(&operand, &labels);                       // Ok(8); `labels` says what other names stand for
+//! }
+//! ```
 //!
 //! The layers above may use:
 //!

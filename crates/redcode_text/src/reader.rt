@@ -15,13 +15,13 @@ mod symbols;
 
 use crate::fault::TextProblem;
 use crate::lexer::open_loops::OpenLoops;
-use crate::lexer::read_tokens;
+use crate::lexer::{Text, read_tokens};
 use crate::limits::{MAX_LINES, MAX_TOKENS};
 use crate::names::NameTable;
 use crate::names::equates::Equates;
 use crate::names::set::NameSet;
 use crate::program::{Assert, Line};
-use crate::source::Row;
+use crate::source::row::Row;
 use crate::token::Token;
 use std::alloc::{AllocError, Global};
 
@@ -133,7 +133,7 @@ impl Reading {
         ensures lines_read { self.new.lines_read ≡ self.old.lines_read }
     {
         let text = &row.bytes[at..];
-        let code = Row {
+        let code = Text {
             number: row.number,
             at: row.at + at,
             bytes: &text[..comment_at(text)],

@@ -1,6 +1,6 @@
 -- Where the items of a source end, as places among its rows.
 use Rattle.std.specs.Prelude.{◌≡◌, ℕ, ◌+◌, ◌<◌, ◌≤◌, List, length, drop, map, slice_index}
-use Rattle.redcode_text.specs.declared.source.Row as code
+use Rattle.redcode_text.specs.declared.source.row.Row as code
 use Rattle.redcode_text.specs.Code.Rows.{row_of}
 use Rattle.redcode_text.specs.Source.{Items, Nothing, Pairing, paired}
 

@@ -1,5 +1,7 @@
-use super::*;
-use crate::fault::{ExprFault, TextProblem};
+use crate::{
+    Env, ExprFault, Line, NameTable, Names, Program, Sign, TextFault, TextProblem, Token,
+    TokenKind, eval, expand,
+};
 use std::test::Fail;
 
 const NAMES: Names = Names {
@@ -436,4 +438,28 @@ fn each_beginning_of_a_source_is_answered(rt: HostRuntime) {
 fn want_of_memory_is_no_fault_of_a_line(rt: HostRuntime) {
     let fault = fault_of(rt, COPIES);
     assert!(rt; fault == None || fault == at(0, TextProblem::OutOfMemory));
+}
+
+/// No name stands for anything.
+struct NoNames;
+
+impl Env for NoNames {
+    ghost use Rattle.std.specs.Prelude.{None};
+
+    ghost value_of = { λ _ _. None };
+
+    fn value(&self, _: usize) -> Option<i64> {
+        None
+    }
+}
+
+#[test]
+fn an_operand_is_replaced_and_has_a_value(rt: HostRuntime) -> Result<(), Fail> {
+    let program = expand(rt.alloc(), b"step EQU 4\nfirst DAT step*2\n", &NAMES)?;
+    assert_eq!(rt; program.lines().len(), 1);
+    for line in program.lines() {
+        let operand = program.substitute(rt.alloc(), &line.rest)?;
+        assert_eq!(rt; eval(&operand, &NoNames), Ok(8));
+    }
+    Ok(())
 }

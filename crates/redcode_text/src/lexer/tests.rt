@@ -1,9 +1,6 @@
-use super::*;
-use crate::fault::TextProblem;
 use crate::lexer::open_loops::{OpenLoop, OpenLoops};
-use crate::lexer::read_tokens;
-use crate::names::NameTable;
-use crate::source::Row;
+use crate::lexer::{Text, read_tokens};
+use crate::{NameTable, Sign, TextFault, TextProblem, Token, TokenKind, scan};
 use std::test::Fail;
 
 /// What the tokens of a text are, outside loops.
@@ -31,7 +28,7 @@ fn read_inside(rt: HostRuntime, text: &[u8]) -> Result<(Option<TokenKind>, Strin
     loops.push(OpenLoop::new(Some(String::from_str(alloc, "i")?), 1))?;
     let mut names = NameTable::new(alloc);
     let mut tokens = Vec::new(alloc);
-    let row = Row {
+    let row = Text {
         number: 1,
         at: 0,
         bytes: text,

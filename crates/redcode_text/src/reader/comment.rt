@@ -9,8 +9,8 @@ ghost use Rattle.redcode_text.specs.Code.Rows.{row_of};
 use crate::fault::TextProblem;
 use crate::program::Assert;
 use crate::reader::Reading;
-use crate::source::Row;
 use crate::source::directives::{directive_text_at, directive_value};
+use crate::source::row::Row;
 use std::alloc::Global;
 
 impl Reading {

@@ -1,10 +1,11 @@
 //! Lines that are neither FOR nor ROF.
-ghost use Rattle.std.specs.Prelude.{◌≡◌, ◌<◌, ◌+◌, ◌^◌, length, vec_len};
+ghost use Rattle.std.specs.Prelude.{◌≡◌, ◌≤◌, ◌<◌, ◌+◌, ◌^◌, length, vec_len};
 ghost use Rattle.redcode_text.specs.Views.{predefined_of};
 ghost use Rattle.redcode_text.specs.Code.Readings.{reading_of};
 ghost use Rattle.redcode_text.specs.Lines.{plain_line, tokens_line};
 ghost use Rattle.redcode_text.specs.Code.Problems.{Gives};
-ghost use Rattle.redcode_text.specs.Code.Rows.{kind_inside, kind_of, row_of};
+ghost use Rattle.redcode_text.specs.Code.Kinds.{kind_of, word_place};
+ghost use Rattle.redcode_text.specs.Code.Rows.{row_of};
 ghost use Rattle.redcode_text.specs.Source.{is_comment};
 
 use crate::characters::blank_len;
@@ -12,7 +13,7 @@ use crate::fault::TextProblem;
 use crate::limits::MAX_NESTING;
 use crate::names::predefined::Names;
 use crate::reader::Reading;
-use crate::source::{LineKind, Row, line_kind};
+use crate::source::row::{LineKind, Row};
 use crate::token::Token;
 use std::alloc::Global;
 
@@ -38,7 +39,7 @@ impl Reading {
     ) -> Result<(), TextProblem>
         requires room { vec_len self.old.lines < self.old.lines_read }
         requires fits { row.at + length row.bytes.now < 2 ^ 64 }
-        requires inside { kind_inside kind (length row.bytes.now) }
+        requires inside { word_place kind ≤ length row.bytes.now }
         ensures { Gives (λ _. reading_of self.new) result
             (tokens_line (predefined_of names.now) (kind_of kind) (row_of row.entry) tokens.items (reading_of self.old)) }
     {
@@ -66,6 +67,6 @@ impl Reading {
             return self.read_comment(alloc, row);
         }
         let tokens = self.row_tokens(alloc, row, 0)?;
-        self.read_kind(alloc, names, line_kind(row.bytes), row, tokens)
+        self.read_kind(alloc, names, row.kind(), row, tokens)
     }
 }

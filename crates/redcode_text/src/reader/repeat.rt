@@ -21,7 +21,7 @@ use crate::names::predefined::Names;
 use crate::reader::Reading;
 use crate::reader::repeat::head::Head;
 use crate::source::blocks::{end_from, ends_of};
-use crate::source::{LineKind, Row, line_kind};
+use crate::source::row::{LineKind, Row};
 use std::alloc::Global;
 
 impl Reading {
@@ -129,7 +129,7 @@ fn read_items(
 {
     let mut at = first;
     while at < rows.len() {
-        at = match line_kind(rows[at].bytes) {
+        at = match rows[at].kind() {
             LineKind::Rof => return Ok(()),
             LineKind::For(word_at) => {
                 if ends[at] >= rows.len() {
@@ -197,7 +197,7 @@ fn read_rounds(
         (rounds (flat (predefined_of names.now) (here_from rows.now first)) (option_map (λ s. string_bytes s) head.counter) 1 head.count (reading_of reading.old)) }
     ensures loops { OnOk result (reading.new.loops ≡ reading.old.loops) }
 {
-    if let LineKind::Rof = line_kind(rows[first].bytes) {
+    if let LineKind::Rof = rows[first].kind() {
         return Ok(());
     }
     let Head { mut counter, count } = head;

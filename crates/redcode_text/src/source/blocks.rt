@@ -2,7 +2,7 @@
 ghost use Rattle.std.specs.Prelude.{◌≡◌, ℕ, ◌+◌, ◌<◌, ◌≤◌, length, slice_index, vec_len, IfOk};
 ghost use Rattle.redcode_text.specs.Code.Pairs.{AreEnds, EndsAt};
 
-use crate::source::{LineKind, Row, line_kind};
+use crate::source::row::{LineKind, Row};
 use std::alloc::{AllocError, Global};
 
 /// Where the items that begin at a place end, where that is known for each later place.
@@ -16,7 +16,7 @@ pub fn end_from(rows: &[Row<'_>], ends: &[usize], first: usize) -> usize
     if first >= rows.len() {
         return first;
     }
-    match line_kind(rows[first].bytes) {
+    match rows[first].kind() {
         LineKind::Rof => first,
         LineKind::Equ(_) | LineKind::Other => ends[first],
         LineKind::For(_) => {

@@ -6,16 +6,16 @@ use Rattle.redcode_text.proofs.lexer.read_tokens.Goals as goal
 
 pub loop-at-preserved : goal.loop-at-preserved
 loop-at-preserved c =
-    let row = c.args.row in let at = c.loop-at.at in
+    let text = c.args.text in let at = c.loop-at.at in
     record {
       within = c.in-Ok.ensures.len.1;
       same =
-          sym (scan-token c.args.loops.now row.number c.args.room row.at at row.bytes.now (scan_of c.loop-at.tokens c.loop-at.names) (scan_of c.add_token.new.tokens c.add_token.new.names) c.in-Ok.len c.loop-at-test.true (sym c.is_blank.ensures ∙ c.if-is_blank.false) c.in-Ok.ensures.len.0 c.in-Ok.ensures.value)
+          sym (scan-token c.args.loops.now text.number c.args.room text.at at text.bytes.now (scan_of c.loop-at.tokens c.loop-at.names) (scan_of c.add_token.new.tokens c.add_token.new.names) c.in-Ok.len c.loop-at-test.true (sym c.is_blank.ensures ∙ c.if-is_blank.false) c.in-Ok.ensures.len.0 c.in-Ok.ensures.value)
           ∙ c.loop-at.invariant.same;
       room = c.in-Ok.ensures.room c.loop-at.invariant.room;
     }
 
 pub returns-in-Err-clause-value : goal.returns-in-Err-clause-value
 returns-in-Err-clause-value c =
-    let row = c.args.row in let at = c.loop-at.at in
-    subst (Fails c.in-Err.problem) c.loop-at.invariant.same (scan-fails c.args.loops.now row.number c.args.room row.at at row.bytes.now (scan_of c.loop-at.tokens c.loop-at.names) c.in-Err.problem c.loop-at-test.true (sym c.is_blank.ensures ∙ c.if-is_blank.false) c.in-Err.ensures.value)
+    let text = c.args.text in let at = c.loop-at.at in
+    subst (Fails c.in-Err.problem) c.loop-at.invariant.same (scan-fails c.args.loops.now text.number c.args.room text.at at text.bytes.now (scan_of c.loop-at.tokens c.loop-at.names) c.in-Err.problem c.loop-at-test.true (sym c.is_blank.ensures ∙ c.if-is_blank.false) c.in-Err.ensures.value)

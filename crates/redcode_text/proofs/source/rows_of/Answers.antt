@@ -1,4 +1,4 @@
-use Rattle.std.proofs.Common.{◌+◌, ◌∙◌, ◌++◌, ap, sym, arith, drop, length-drop, map}
+use Rattle.std.proofs.Common.{◌+◌, ◌∙◌, ◌++◌, ◌∷◌, ap, sym, arith, drop, length-drop, map}
 use Rattle.std.proofs.lemmas.List.{take_rest}
 use Rattle.redcode_text.specs.Code.Rows.{row_of}
 use Rattle.redcode_text.specs.Source.{lines_of, rows_from}
@@ -13,7 +13,8 @@ loop-at-preserved c =
       few = omega arith;
       same =
           ap (λ l. map row_of l ++ rows_from (c.loop-at.number + 1) (at + p + 1) (lines_of (drop (at + p + 1) source))) c.in-Ok.ensures.items
-          ∙ map-snoc row_of c.loop-at.rows.items _ (rows_from (c.loop-at.number + 1) (at + p + 1) (lines_of (drop (at + p + 1) source)))
+          ∙ map-snoc row_of c.loop-at.rows.items c.new-row.result (rows_from (c.loop-at.number + 1) (at + p + 1) (lines_of (drop (at + p + 1) source)))
+          ∙ ap (λ r. map row_of c.loop-at.rows.items ++ r ∷ rows_from (c.loop-at.number + 1) (at + p + 1) (lines_of (drop (at + p + 1) source))) c.new-row.ensures
           ∙ ap (λ l. map row_of c.loop-at.rows.items ++ l) (sym (row-step source c.loop-at.number at p c.loop-at-test.true c.line_len.ensures.value c.line_len.ensures.within))
           ∙ c.loop-at.invariant.same;
     }

@@ -16,7 +16,7 @@ use crate::names::NameTable;
 use crate::names::predefined::Names;
 use crate::reader::Reading;
 use crate::reader::sides::{keep_after, name_in_front};
-use crate::source::Row;
+use crate::source::row::Row;
 use crate::token::{Token, TokenKind};
 use std::alloc::Global;
 

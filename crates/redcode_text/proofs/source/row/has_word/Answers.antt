@@ -2,7 +2,7 @@ use Rattle.std.proofs.Common.{◌∙◌, ◌-◌, ap, drop, length, take}
 use Rattle.std.proofs.lemmas.List.{take_rest}
 use Rattle.std.specs.Str.{str_eq_ignore_ascii_case}
 use Rattle.redcode_text.specs.Tokens.{word_len}
-use Rattle.redcode_text.proofs.source.has_word.Goals as goal
+use Rattle.redcode_text.proofs.source.row.has_word.Goals as goal
 
 pub returns : goal.returns
 returns c =
