@@ -9,7 +9,8 @@ use Rattle.redcode_asm.specs.declared.fault.AsmFault.{AsmFault}
 use Rattle.redcode_asm.specs.declared.fault.AsmProblem.{AsmProblem}
 use Rattle.redcode_asm.specs.declared.fault.AsmProblem.TheVariants.{Text, Operation, Operand, Expression, AssertFailed, BadOrigin, Empty, TooLong, OutOfMemory}
 use Rattle.redcode_asm.specs.Assembly.{◌>>=◌, at_line, text_read}
-use Rattle.redcode_asm.specs.Outcomes.{Fails, FailsAt, Gives, fault_line, problem_of_text}
+use Rattle.redcode_asm.specs.Outcomes.{FailsAt}
+use Rattle.redcode_asm.specs.Code.Problems.{Fails, Gives, fault_line, problem_of_text}
 
 -- a problem that is the defined one
 pub fails-same : {A : Type 0} (p : AsmProblem) (defined : Result A AsmProblem) → defined ≡ Err p → Fails p defined

@@ -1,8 +1,8 @@
 -- The instructions that are left where some are dropped, line by line.
 use Rattle.std.proofs.Common.{◌≡◌, ◌∙◌, ℕ, suc, ◌+◌, ◌-◌, ◌<◌, Bool, true, false, if◌then◌else◌, List, ◌∷◌, drop, filter, length, get_or, map, ap, sym, refl, arith, add-one}
 use Rattle.std.proofs.Math.Seq.{drop-cons}
-use Rattle.redcode_text.specs.declared.state.Line as code
-use Rattle.redcode_text.specs.Held.{line_of}
+use Rattle.redcode_text.specs.declared.program.Line as code
+use Rattle.redcode_text.specs.Views.{line_of}
 use Rattle.redcode_text.specs.Lines.{Line, is_instruction}
 use Rattle.redcode_asm.specs.Assembly.{Placed, placed_from}
 

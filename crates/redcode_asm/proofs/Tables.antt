@@ -4,7 +4,7 @@ use Rattle.std.proofs.lemmas.Bool.{eqb-true}
 use Rattle.std.specs.List.{list_any}
 use Rattle.std.specs.Map.{lookup}
 use Rattle.redcode_asm.specs.Assembly.{Placed, label_among}
-use Rattle.redcode_asm.specs.Labels.{Table, table_with, with_label, with_labels}
+use Rattle.redcode_asm.specs.Code.Labels.{Table, table_with, with_label, with_labels}
 
 -- a label that isn't there comes behind the others
 pub with-new : (index : ℕ) (table : Table) (n : ℕ) → lookup (nat_eq n) table ≡ None → with_label index table n ≡ table ++ (n, index) ∷ []

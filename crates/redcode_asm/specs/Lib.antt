@@ -1,6 +1,7 @@
+-- What a reader of the contracts has to believe; Examples has worked examples of it.
 pub mod Formula
-pub mod Laws
 pub mod Assembly
-pub mod Labels
+pub mod Laws
 pub mod Outcomes
-pub mod Rows
+pub mod Examples
+pub mod Code

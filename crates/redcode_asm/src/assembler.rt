@@ -1,7 +1,7 @@
 //! The assembler.
 ghost use Rattle.std.specs.Prelude.{◌≡◌, All, IfOk};
 ghost use Rattle.mars_cell.specs.Cells.{FitsCore};
-ghost use Rattle.redcode_text.specs.Held.{predefined_of};
+ghost use Rattle.redcode_text.specs.Views.{predefined_of};
 ghost use Rattle.redcode_asm.specs.Assembly.{assembly, predefined};
 ghost use Rattle.redcode_asm.specs.Outcomes.{Answers};
 
@@ -62,3 +62,6 @@ pub fn assemble(
     };
     program_warrior(alloc, &program, &predefined, params)
 }
+
+#[cfg(test)]
+mod tests;

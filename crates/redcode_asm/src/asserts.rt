@@ -1,8 +1,9 @@
 //! The asserts of a source.
 ghost use Rattle.std.specs.Prelude.{◌≡◌, map};
-ghost use Rattle.redcode_text.specs.Held.{assert_of, predefined_of};
+ghost use Rattle.redcode_text.specs.Views.{assert_of, predefined_of};
 ghost use Rattle.redcode_asm.specs.Assembly.{assert_holds, asserts_hold, at_line, holds};
-ghost use Rattle.redcode_asm.specs.Outcomes.{Answers, Gives};
+ghost use Rattle.redcode_asm.specs.Outcomes.{Answers};
+ghost use Rattle.redcode_asm.specs.Code.Problems.{Gives};
 
 use crate::fault::{AsmFault, AsmProblem};
 use crate::sources::{AssertNames, Source};

@@ -2,10 +2,12 @@
 ghost use Rattle.std.specs.Prelude.{◌≡◌, ◌<◌, ◌≤◌, All, IfOk, length, map, vec_len};
 ghost use Rattle.mars_cell.specs.Cells.{FitsCore};
 ghost use Rattle.redcode_text.specs.Equates.{limit};
-ghost use Rattle.redcode_text.specs.Held.{line_of, predefined_of};
+ghost use Rattle.redcode_text.specs.Views.{line_of, predefined_of};
 ghost use Rattle.redcode_text.specs.Lines.{is_instruction};
 ghost use Rattle.redcode_asm.specs.Assembly.{at_line, cell_of, cells_of, instructions};
-ghost use Rattle.redcode_asm.specs.Outcomes.{Answers, Gives, cells_among, placed_of};
+ghost use Rattle.redcode_asm.specs.Outcomes.{Answers};
+ghost use Rattle.redcode_asm.specs.Code.Problems.{Gives};
+ghost use Rattle.redcode_asm.specs.Code.Sources.{cells_among, placed_of};
 
 use crate::fault::{AsmFault, AsmProblem};
 use crate::instruction::{make_cell, read_opcode, take_modifier};

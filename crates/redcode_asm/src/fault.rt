@@ -1,6 +1,6 @@
 //! What is wrong with a source or a formula.
 ghost use Rattle.std.specs.Prelude.{◌≡◌};
-ghost use Rattle.redcode_asm.specs.Outcomes.{fault_line, problem_of_text};
+ghost use Rattle.redcode_asm.specs.Code.Problems.{fault_line, problem_of_text};
 
 use redcode_text::{ExprFault, TextFault, TextProblem};
 use thiserror::Error;

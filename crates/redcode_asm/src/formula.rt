@@ -1,5 +1,5 @@
 //! Score formulas.
-ghost use Rattle.std.specs.Prelude.{◌≡◌, ◌≤◌};
+ghost use Rattle.std.specs.Prelude.{◌≡◌};
 ghost use Rattle.redcode_text.specs.Expression.{kinds};
 ghost use Rattle.std.specs.List.{list_all};
 ghost use Rattle.redcode_asm.specs.Formula.{Checks, formula_of, is_variable, may_occur, score_of, variable_value};
@@ -22,7 +22,7 @@ pub struct Formula {
 
 impl Model for Formula {
     ghost use Rattle.std.specs.Prelude.{◌≡◌, Ok};
-    ghost use Rattle.redcode_text.specs.Outcomes.{scan_of};
+    ghost use Rattle.redcode_text.specs.Views.{scan_of};
     ghost use Rattle.redcode_text.specs.Tokens.{Scanned};
     ghost use Rattle.redcode_asm.specs.Formula.{checked_formula};
 
@@ -123,3 +123,6 @@ impl Formula {
         eval(&self.line.tokens, &variables)
     }
 }
+
+#[cfg(test)]
+mod tests;

@@ -2,9 +2,9 @@
 ghost use Rattle.std.specs.Prelude.{◌≡◌, ◌≤◌, [], length, map, nat_eq, IfOk, OnOk};
 ghost use Rattle.std.specs.Map.{lookup};
 ghost use Rattle.redcode_text.specs.Equates.{limit};
-ghost use Rattle.redcode_text.specs.Held.{line_of};
+ghost use Rattle.redcode_text.specs.Views.{line_of};
 ghost use Rattle.redcode_asm.specs.Assembly.{placed_from};
-ghost use Rattle.redcode_asm.specs.Labels.{table_with, with_label, with_labels};
+ghost use Rattle.redcode_asm.specs.Code.Labels.{table_with, with_label, with_labels};
 
 use crate::places::index_after;
 use indexmap::IndexMap;
@@ -19,7 +19,7 @@ pub struct Labels {
 }
 
 impl Model for Labels {
-    ghost use Rattle.redcode_asm.specs.Labels.{Table};
+    ghost use Rattle.redcode_asm.specs.Code.Labels.{Table};
 
     ghost Value = { Table };
 

@@ -23,8 +23,3 @@ mod warriors;
 pub use assembler::assemble;
 pub use fault::{AsmFault, AsmProblem, FormulaFault};
 pub use formula::Formula;
-
-#[cfg(test)]
-mod assemble_tests;
-#[cfg(test)]
-mod tests;

@@ -1,7 +1,7 @@
 //! The operands of an instruction.
 ghost use Rattle.std.specs.Prelude.{◌≡◌, ◌<◌, ◌∷◌, [], Ok, Err, None, Some, MatchOption, MatchResult, IfOk, option_map};
 ghost use Rattle.redcode_asm.specs.Assembly.{reduced, mode_sign, mode_of, split_mode, is_comma, parts_at_commas, given_operands, operand_value as spec_operand_value};
-ghost use Rattle.redcode_asm.specs.Outcomes.{operands_in};
+ghost use Rattle.redcode_asm.specs.Code.Sources.{operands_in};
 
 use crate::fault::AsmProblem;
 use mars_cell::{Mode, Op};

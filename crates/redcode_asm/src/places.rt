@@ -1,10 +1,10 @@
 //! Lines, and how many instructions stand before them.
 ghost use Rattle.std.specs.Prelude.{◌≡◌, ◌+◌, ◌<◌, ◌≤◌, length, map, option_map, drop, filter};
 ghost use Rattle.redcode_text.specs.Equates.{limit};
-ghost use Rattle.redcode_text.specs.Held.{line_of};
+ghost use Rattle.redcode_text.specs.Views.{line_of};
 ghost use Rattle.redcode_text.specs.Lines.{is_instruction, is_spelled};
 ghost use Rattle.redcode_asm.specs.Assembly.{index_after, last_where, none_past, placed_from};
-ghost use Rattle.redcode_asm.specs.Outcomes.{placed_of};
+ghost use Rattle.redcode_asm.specs.Code.Sources.{placed_of};
 
 use crate::fault::{AsmFault, AsmProblem};
 use redcode_text::{Line, NameTable, is_instruction, is_spelled};
@@ -16,7 +16,7 @@ pub struct Place<'a> {
     pub line: &'a Line,
 }
 
-/// The number of instructions up to behind a line, of `index` before it.
+/// The number of instructions up to and with this line, where `index` stand before it.
 pub fn index_after(names: &NameTable, index: u32, line: &Line) -> u32
     requires { index < limit }
     ensures value { result ≡ index_after names.now index (line_of line.now) }

@@ -1,10 +1,11 @@
 //! A source, and what its names stand for.
 ghost use Rattle.std.specs.Prelude.{◌≡◌, [], pos, ◌-ℤ◌, option_map};
-ghost use Rattle.redcode_text.specs.Held.{predefined_of};
+ghost use Rattle.redcode_text.specs.Views.{predefined_of};
 ghost use Rattle.redcode_text.specs.Lines.{is_spelled, name_at, predefined_value, with_current_line};
 ghost use Rattle.redcode_asm.specs.Assembly.{last_where, placed, replaced};
-ghost use Rattle.redcode_asm.specs.Labels.{table_with};
-ghost use Rattle.redcode_asm.specs.Outcomes.{Gives, placed_of};
+ghost use Rattle.redcode_asm.specs.Code.Labels.{table_with};
+ghost use Rattle.redcode_asm.specs.Code.Problems.{Gives};
+ghost use Rattle.redcode_asm.specs.Code.Sources.{placed_of};
 
 use crate::fault::AsmProblem;
 use crate::labels::Labels;
@@ -44,7 +45,7 @@ fn distance(index: u32, origin: u32) -> i64
 }
 
 impl<'a> Env for LineNames<'a> {
-    ghost use Rattle.redcode_text.specs.Held.{predefined_of};
+    ghost use Rattle.redcode_text.specs.Views.{predefined_of};
     ghost use Rattle.redcode_asm.specs.Assembly.{name_value};
 
     ghost value_of = { λ e n. name_value (predefined_of e.source.predefined.now) e.source.program.now e.origin e.index n };
@@ -70,7 +71,7 @@ pub struct AssertNames<'a> {
 }
 
 impl<'a> Env for AssertNames<'a> {
-    ghost use Rattle.redcode_text.specs.Held.{predefined_of};
+    ghost use Rattle.redcode_text.specs.Views.{predefined_of};
     ghost use Rattle.redcode_asm.specs.Assembly.{known_value};
 
     ghost value_of = { λ e n. known_value (predefined_of e.source.predefined.now) e.source.program.now e.index n };

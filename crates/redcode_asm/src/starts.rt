@@ -1,8 +1,10 @@
 //! The start of a warrior.
-ghost use Rattle.std.specs.Prelude.{◌≡◌, ◌<◌, ◌≤◌, IfOk, option_map};
-ghost use Rattle.redcode_text.specs.Held.{predefined_of};
-ghost use Rattle.redcode_asm.specs.Assembly.{as_start, at_line, end_operand, end_start, org_start, start_at, start_by, start_of};
-ghost use Rattle.redcode_asm.specs.Outcomes.{Answers, Gives, placed_of};
+ghost use Rattle.std.specs.Prelude.{◌≡◌, ◌<◌, IfOk, option_map};
+ghost use Rattle.redcode_text.specs.Views.{predefined_of};
+ghost use Rattle.redcode_asm.specs.Assembly.{as_start, at_line, end_start, org_start, start_at, start_by, start_of};
+ghost use Rattle.redcode_asm.specs.Outcomes.{Answers};
+ghost use Rattle.redcode_asm.specs.Code.Problems.{Gives};
+ghost use Rattle.redcode_asm.specs.Code.Sources.{placed_of};
 
 use crate::fault::{AsmFault, AsmProblem};
 use crate::places::Place;

@@ -1,9 +1,10 @@
 //! The warrior of a program.
 ghost use Rattle.std.specs.Prelude.{◌≡◌, ◌<◌, length, All, IfOk, Ok};
 ghost use Rattle.mars_cell.specs.Cells.{FitsCore};
-ghost use Rattle.redcode_text.specs.Held.{predefined_of};
+ghost use Rattle.redcode_text.specs.Views.{predefined_of};
 ghost use Rattle.redcode_asm.specs.Assembly.{instructions, length_checked, warrior_of};
-ghost use Rattle.redcode_asm.specs.Outcomes.{Answers, warrior_from};
+ghost use Rattle.redcode_asm.specs.Outcomes.{Answers};
+ghost use Rattle.redcode_asm.specs.Code.Sources.{warrior_from};
 
 use crate::fault::{AsmFault, AsmProblem};
 use crate::labels::Labels;

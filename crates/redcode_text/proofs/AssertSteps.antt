@@ -4,12 +4,12 @@ use Rattle.std.specs.Prelude.{codes}
 use Rattle.std.specs.List.{starts_with}
 use Rattle.std.specs.Str.{str_to_ascii_lowercase}
 use Rattle.redcode_text.specs.declared.fault.TextProblem.{TextProblem}
-use Rattle.redcode_text.specs.Held.{assert_at, no_author}
+use Rattle.redcode_text.specs.Code.Comments.{assert_at, no_author}
 use Rattle.redcode_text.specs.Lines.{Reading, assert_line}
-use Rattle.redcode_text.specs.Outcomes.{text_found}
+use Rattle.redcode_text.specs.Code.Rows.{text_found}
 use Rattle.redcode_text.specs.Source.{Row, blank_len, directive_text_at, ends_word, has_directive_word, without_blanks}
 
-found : (t : Bool) (m at : ℕ) → Some at ≡ cond t (Some m) None → (t ≡ true) × (at ≡ m)
+pub found : (t : Bool) (m at : ℕ) → Some at ≡ cond t (Some m) None → (t ≡ true) × (at ≡ m)
 found true m at e = (refl, cc)
 found false m at e = cc
 

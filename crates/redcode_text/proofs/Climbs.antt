@@ -7,7 +7,7 @@ use Rattle.redcode_text.specs.declared.token.Sign.{Sign}
 use Rattle.redcode_text.specs.declared.token.Sign.TheVariants.{Plus, OpenParen, CloseParen}
 use Rattle.redcode_text.specs.declared.fault.ExprFault.{ExprFault}
 use Rattle.redcode_text.specs.Expression.{◌>>=◌, precedence, unary, binary, known, value, Tree, Numeral, Named, Parens, Unary, Binary, Missing}
-use Rattle.redcode_text.specs.Climbing.{Waiting, Left, Opened, State, wants, has, signed, reduced, operand, reach, placed, before_mark, run, IsLooser}
+use Rattle.redcode_text.specs.Code.Climbing.{Waiting, Left, Opened, State, wants, has, signed, reduced, operand, reach, placed, before_mark, run, IsLooser}
 use Rattle.redcode_text.proofs.Trees.{spelling, rank, is_prefix, IsLevelled, precedence-≤5, rank-≤5}
 use Rattle.std.proofs.lemmas.Bool.{le-leb, lt-leb}
 

@@ -7,7 +7,7 @@ use Rattle.redcode_text.specs.Equates.{substitution}
 use Rattle.redcode_text.specs.Expansion.{as_count, count_of, has_label}
 use Rattle.redcode_text.specs.Expression.{kinds, value_of}
 use Rattle.redcode_text.specs.Lines.{Predefined, Reading, name_at, predefined_value, with_current_line}
-use Rattle.redcode_text.specs.Outcomes.{Gives}
+use Rattle.redcode_text.specs.Code.Problems.{Gives}
 use Rattle.redcode_text.specs.Tokens.{◌>>=◌, without_line}
 use Rattle.redcode_text.proofs.Failing.{fails-itself}
 

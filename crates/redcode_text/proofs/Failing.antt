@@ -3,7 +3,8 @@ use Rattle.std.proofs.Common.{◌≡◌, ◌∙◌, ℕ, Result, Ok, Err, ap, re
 use Rattle.redcode_text.specs.declared.fault.TextFault.{TextFault}
 use Rattle.redcode_text.specs.declared.fault.TextProblem.{TextProblem}
 use Rattle.redcode_text.specs.declared.fault.TextProblem.TheVariants.{NotAscii, BadToken, UnclosedFor, RofAlone, BadCount, LabelInCount, Duplicate, EquDepth, TooLong, Expression, OutOfMemory}
-use Rattle.redcode_text.specs.Outcomes.{Fails, FailsAt, line_of}
+use Rattle.redcode_text.specs.Outcomes.{FailsAt}
+use Rattle.redcode_text.specs.Code.Problems.{Fails, fault_line}
 use Rattle.redcode_text.specs.Tokens.{◌>>=◌, at_line, without_line}
 
 pub fails-bind : {A B : Type 0} (e : TextProblem) (r : Result A TextProblem) (f : A → Result B TextProblem) → Fails e r → Fails e (r >>= f)
@@ -39,7 +40,7 @@ fails-itself A OutOfMemory = tt
 fault-at : {A : Type 0} (n : ℕ) (p : TextProblem) (f : TextFault) (r : Result A TextProblem) → f.problem ≡ p → f.line ≡ n → r ≡ Err p → at_line n r ≡ Err f
 fault-at n p f r e l h = ap (at_line n) h ∙ (λ i. Err (record { line = sym l i; problem = sym e i }))
 
-at-problem : {A : Type 0} (n : ℕ) (p : TextProblem) (f : TextFault) (r : Result A TextProblem) → f.problem ≡ p → f.line ≡ line_of n p → Fails p r → FailsAt p f (at_line n r)
+at-problem : {A : Type 0} (n : ℕ) (p : TextProblem) (f : TextFault) (r : Result A TextProblem) → f.problem ≡ p → f.line ≡ fault_line n p → Fails p r → FailsAt p f (at_line n r)
 at-problem n NotAscii f r e l h = fault-at n NotAscii f r e l h
 at-problem n BadToken f r e l h = fault-at n BadToken f r e l h
 at-problem n UnclosedFor f r e l h = fault-at n UnclosedFor f r e l h
@@ -52,7 +53,7 @@ at-problem n TooLong f r e l h = fault-at n TooLong f r e l h
 at-problem n (Expression x) f r e l h = fault-at n (Expression x) f r e l h
 at-problem n OutOfMemory f r e l h = l
 
-pub fails-at : {A : Type 0} (n : ℕ) (p : TextProblem) (f : TextFault) (r : Result A TextProblem) → f.problem ≡ p → f.line ≡ line_of n p → Fails p r → FailsAt f.problem f (at_line n r)
+pub fails-at : {A : Type 0} (n : ℕ) (p : TextProblem) (f : TextFault) (r : Result A TextProblem) → f.problem ≡ p → f.line ≡ fault_line n p → Fails p r → FailsAt f.problem f (at_line n r)
 fails-at n p f r e l h = subst (λ q. FailsAt q f (at_line n r)) (sym e) (at-problem n p f r e l h)
 
 -- a fault seen without its line

@@ -3,7 +3,7 @@ use Rattle.std.proofs.Common.{◌≡◌, ℕ, suc, ◌+◌, ◌-◌, ◌<◌, Li
 use Rattle.std.proofs.Math.Seq.{drop-cons}
 use Rattle.std.specs.List.{onto_first, prefix_len, list_any}
 use Rattle.redcode_text.specs.declared.fault.TextProblem.TheVariants.{BadToken}
-use Rattle.redcode_text.specs.Tokens.{◌>>=◌, OpenLoop, turn_of, turn_or_bad, turn_digits, parts_at_joins, join_counters, join_parts, joined}
+use Rattle.redcode_text.specs.Tokens.{◌>>=◌, OpenLoop, round_of, round_or_bad, round_digits, parts_at_joins, join_counters, join_parts, joined}
 
 -- the names of the joins of a text that begins with one
 abbrev pub names_of : List ℕ → List (List ℕ)
@@ -44,19 +44,19 @@ names-found bs i p h e =
     let q : part_len (drop (i + 1) bs) ≡ i + 1 + p - (i + 1) = omega (arith, e) in
     names-first bs i h ∙ (λ j. take (q j) (drop (i + 1) bs) ∷ names_of (drop (i + 1 + sym e j) bs))
 
-pub join-ok : (loops : List OpenLoop) (front bs : List ℕ) (i p turn : ℕ) → i < length bs → p ≡ part_len (drop (i + 1) bs)
-    → Some turn ≡ turn_of loops (take (i + 1 + p - (i + 1)) (drop (i + 1) bs))
-    → join_counters loops front (names_of (drop i bs)) ≡ join_counters loops (front ++ turn_digits turn) (names_of (drop (i + 1 + p) bs))
-join-ok loops front bs i p turn h e is =
+pub join-ok : (loops : List OpenLoop) (front bs : List ℕ) (i p round : ℕ) → i < length bs → p ≡ part_len (drop (i + 1) bs)
+    → Some round ≡ round_of loops (take (i + 1 + p - (i + 1)) (drop (i + 1) bs))
+    → join_counters loops front (names_of (drop i bs)) ≡ join_counters loops (front ++ round_digits round) (names_of (drop (i + 1 + p) bs))
+join-ok loops front bs i p round h e is =
     ap (join_counters loops front) (names-found bs i p h e)
-    ∙ ap (λ o. turn_or_bad o >>= λ n. join_counters loops (front ++ turn_digits n) (names_of (drop (i + 1 + p) bs))) (sym is)
+    ∙ ap (λ o. round_or_bad o >>= λ n. join_counters loops (front ++ round_digits n) (names_of (drop (i + 1 + p) bs))) (sym is)
 
 pub join-bad : (loops : List OpenLoop) (front bs : List ℕ) (i p : ℕ) → i < length bs → p ≡ part_len (drop (i + 1) bs)
-    → None ≡ turn_of loops (take (i + 1 + p - (i + 1)) (drop (i + 1) bs))
+    → None ≡ round_of loops (take (i + 1 + p - (i + 1)) (drop (i + 1) bs))
     → join_counters loops front (names_of (drop i bs)) ≡ Err BadToken
 join-bad loops front bs i p h e is =
     ap (join_counters loops front) (names-found bs i p h e)
-    ∙ ap (λ o. turn_or_bad o >>= λ n. join_counters loops (front ++ turn_digits n) (names_of (drop (i + 1 + p) bs))) (sym is)
+    ∙ ap (λ o. round_or_bad o >>= λ n. join_counters loops (front ++ round_digits n) (names_of (drop (i + 1 + p) bs))) (sym is)
 
 -- a word without joins
 parts-none : (bs : List ℕ) → list_any (λ b. b == 38) bs ≡ false → parts_at_joins bs ≡ bs ∷ []

@@ -24,6 +24,7 @@ pub mod UsedSteps
 pub mod OrdinarySteps
 pub mod TextSteps
 pub mod AssertSteps
+pub mod CommentSteps
 pub mod PlainSteps
 pub mod CountSteps
 pub mod Kept

@@ -3,16 +3,17 @@ use Rattle.std.proofs.Common.{◌≡◌, ◌∙◌, ℕ, ◌<◌, List, [], ◌�
 use Rattle.redcode_text.specs.declared.fault.TextFault.{TextFault}
 use Rattle.redcode_text.specs.declared.fault.TextProblem.{TextProblem}
 use Rattle.redcode_text.specs.declared.fault.TextProblem.TheVariants.{UnclosedFor, RofAlone}
-use Rattle.redcode_text.specs.declared.rows.Row as code
+use Rattle.redcode_text.specs.declared.source.row.Row as code
 use Rattle.redcode_text.specs.Expansion.{flat, unless_ended, unpaired_line}
 use Rattle.redcode_text.specs.Lines.{Predefined, Reading, line_read, plain_line}
-use Rattle.redcode_text.specs.Loops.{one_loop}
-use Rattle.redcode_text.specs.Outcomes.{FailsAt, row_of}
-use Rattle.redcode_text.specs.Pairs.{here_from, EndsAt}
+use Rattle.redcode_text.specs.Code.Loops.{one_loop}
+use Rattle.redcode_text.specs.Outcomes.{FailsAt}
+use Rattle.redcode_text.specs.Code.Rows.{row_of}
+use Rattle.redcode_text.specs.Code.Pairs.{here_from, EndsAt}
 use Rattle.redcode_text.specs.Source.{Items, Nothing, Plain, Loop, LoneRof, Row, paired, then_lone, tree_of_rows, with_lone}
 use Rattle.redcode_text.specs.Source as source
 use Rattle.redcode_text.specs.Tokens.{◌>>>◌, ◌>>=◌, at_line}
-use Rattle.redcode_text.proofs.LoopSteps.{flat-loop, goes-on, no_row, stops, then-fails}
+use Rattle.redcode_text.proofs.LoopSteps.{flat-loop, goes-on, stops, then-fails}
 use Rattle.redcode_text.proofs.PairSteps.{rof-at}
 
 abbrev lone : Row → Reading → Result Reading TextFault
@@ -54,11 +55,12 @@ lone-ended ps items [] st a e h ended = h
 lone-ended ps items (rof ∷ waiting) st a e h ended = flat-lone ps rof.0 items st e ∙ ap (λ r. r >>> λ a. unless_ended a (lone rof.0)) h ∙ stops a (lone rof.0) ended
 
 -- the items of all rows end at a ROF
-pub lone-at : (ps : Predefined) (rows : List code.Row) (j : ℕ) (st a : Reading) → st.ended ≡ false → flat ps (here_from rows 0) st ≡ Ok a → a.ended ≡ false → EndsAt rows 0 j → j < length rows
-    → flat ps (tree_of_rows (map row_of rows)) st ≡ at_line (row_of (get_or rows j no_row)).number (unpaired_line RofAlone a)
-lone-at ps rows j st a e h going ends inside =
-    let rof = row_of (get_or rows j no_row) in
-    ap (λ w. flat ps (with_lone (here_from rows 0) w) st) (ends.waiting ∙ rof-at rows j no_row inside ends.at_end)
+pub lone-at : (ps : Predefined) (rows : List code.Row) (j : ℕ) (s : code.Row) (st a : Reading) → st.ended ≡ false → flat ps (here_from rows 0) st ≡ Ok a → a.ended ≡ false → EndsAt rows 0 j → j < length rows → s ≡ get_or rows j s
+    → flat ps (tree_of_rows (map row_of rows)) st ≡ at_line (row_of s).number (unpaired_line RofAlone a)
+lone-at ps rows j s st a e h going ends inside si =
+    let rof = row_of (get_or rows j s) in
+    ap (λ w. flat ps (with_lone (here_from rows 0) w) st) (ends.waiting ∙ rof-at rows j s inside ends.at_end)
     ∙ flat-lone ps rof (here_from rows 0) st e
     ∙ ap (λ r. r >>> λ a. unless_ended a (lone rof)) h
     ∙ goes-on a (lone rof) going
+    ∙ ap (λ row. at_line (row_of row).number (unpaired_line RofAlone a)) (sym si)

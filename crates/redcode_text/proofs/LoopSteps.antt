@@ -1,18 +1,20 @@
--- The items of a source, and the turns of a loop, one further.
-use Rattle.std.proofs.Common.{◌≡◌, ◌∙◌, ℕ, zero, suc, ◌+◌, ◌-◌, ◌<◌, ◌≤◌, List, [], ◌∷◌, length, Bool, true, false, Option, Result, Ok, Err, ap, refl, subst, sym, arith, get_or}
+-- The items of a source, and the rounds of a loop, one further.
+use Rattle.std.proofs.Common.{◌≡◌, ◌∙◌, ℕ, zero, suc, ◌+◌, ◌-◌, ◌<◌, ◌≤◌, List, ◌∷◌, length, Bool, true, false, Option, Result, Ok, Err, ap, refl, subst, sym, arith, get_or}
 use Rattle.std.proofs.lemmas.List.{get_or_default}
-use Rattle.redcode_text.specs.declared.rows.Row as code
-use Rattle.redcode_text.specs.Pairs.{here_from, EndsAt}
+use Rattle.redcode_text.specs.declared.source.row.Row as code
+use Rattle.redcode_text.specs.Code.Pairs.{here_from, EndsAt}
 use Rattle.redcode_text.proofs.PairSteps.{for-at, paired-drop}
-use Rattle.redcode_text.specs.declared.rows.LineKind as code_kind
-use Rattle.redcode_text.specs.declared.rows.LineKind.TheVariants as line
+use Rattle.redcode_text.specs.declared.source.row.LineKind as code_kind
+use Rattle.redcode_text.specs.declared.source.row.LineKind.TheVariants as line
 use Rattle.redcode_text.specs.declared.fault.TextFault.{TextFault}
 use Rattle.redcode_text.specs.declared.fault.TextProblem.{TextProblem}
 use Rattle.redcode_text.specs.declared.fault.TextProblem.TheVariants.{NotAscii, BadToken, UnclosedFor, RofAlone, BadCount, LabelInCount, Duplicate, EquDepth, TooLong, Expression, OutOfMemory}
-use Rattle.redcode_text.specs.Expansion.{Head, flat, head_line, in_turn, rof_line, turns, unless_ended}
+use Rattle.redcode_text.specs.Expansion.{Head, flat, head_line, in_round, rof_line, rounds, unless_ended}
 use Rattle.redcode_text.specs.Lines.{Predefined, Reading, plain_line}
-use Rattle.redcode_text.specs.Loops.{IsFor, IsPlain, one_loop}
-use Rattle.redcode_text.specs.Outcomes.{FailsAt, kind_of, row_of}
+use Rattle.redcode_text.specs.Code.Loops.{IsFor, IsPlain, one_loop}
+use Rattle.redcode_text.specs.Outcomes.{FailsAt}
+use Rattle.redcode_text.specs.Code.Kinds.{kind_of}
+use Rattle.redcode_text.specs.Code.Rows.{row_of}
 use Rattle.redcode_text.specs.Source.{Items, Nothing, Plain, Loop, Row, EquLine, OtherLine, line_kind}
 use Rattle.redcode_text.specs.Tokens.{◌>>>◌, OpenLoop, at_line}
 use Rattle.redcode_text.proofs.Kept.{Kept, rof-ended}
@@ -62,64 +64,64 @@ pub flat-loop : (ps : Predefined) (head : Row) (body : Items) (rof : Row) (rest 
     → flat ps (Loop head body rof rest) st ≡ (one_loop ps head body rof st >>> λ a. unless_ended a (flat ps rest))
 flat-loop ps head body rof rest st = go (at_line head.number (head_line ps head st))
   where
-    turned : (r : Result Reading TextFault) → (r >>> λ a. unless_ended a (λ b. at_line rof.number (rof_line rof b) >>> flat ps rest)) ≡ ((r >>> λ a. unless_ended a (λ b. at_line rof.number (rof_line rof b))) >>> λ a. unless_ended a (flat ps rest))
-    turned (Ok a) = after-rof ps rof rest a a.ended refl
-    turned (Err p) = refl
+    rounds_then : (r : Result Reading TextFault) → (r >>> λ a. unless_ended a (λ b. at_line rof.number (rof_line rof b) >>> flat ps rest)) ≡ ((r >>> λ a. unless_ended a (λ b. at_line rof.number (rof_line rof b))) >>> λ a. unless_ended a (flat ps rest))
+    rounds_then (Ok a) = after-rof ps rof rest a a.ended refl
+    rounds_then (Err p) = refl
 
-    go : (r : Result Head TextFault) → (r >>> λ h. turns (flat ps body) h.counter 1 h.count h.reading >>> λ a. unless_ended a (λ b. at_line rof.number (rof_line rof b) >>> flat ps rest))
-        ≡ ((r >>> λ h. turns (flat ps body) h.counter 1 h.count h.reading >>> λ a. unless_ended a (λ b. at_line rof.number (rof_line rof b))) >>> λ a. unless_ended a (flat ps rest))
-    go (Ok h) = turned (turns (flat ps body) h.counter 1 h.count h.reading)
+    go : (r : Result Head TextFault) → (r >>> λ h. rounds (flat ps body) h.counter 1 h.count h.reading >>> λ a. unless_ended a (λ b. at_line rof.number (rof_line rof b) >>> flat ps rest))
+        ≡ ((r >>> λ h. rounds (flat ps body) h.counter 1 h.count h.reading >>> λ a. unless_ended a (λ b. at_line rof.number (rof_line rof b))) >>> λ a. unless_ended a (flat ps rest))
+    go (Ok h) = rounds_then (rounds (flat ps body) h.counter 1 h.count h.reading)
     go (Err p) = refl
 
--- ---- turns
+-- ---- rounds
 
-pub one-turn : (body : Reading → Result Reading TextFault) (counter : Option (List ℕ)) (n t : ℕ) (st : Reading) → t ≤ n
-    → turns body counter t (n + 1 - t) st ≡ (body (in_turn counter t st) >>> λ a. unless_ended (record a { loops = st.loops }) (turns body counter (t + 1) (n + 1 - (t + 1))))
-one-turn body counter n t st h =
+pub one-round : (body : Reading → Result Reading TextFault) (counter : Option (List ℕ)) (n t : ℕ) (st : Reading) → t ≤ n
+    → rounds body counter t (n + 1 - t) st ≡ (body (in_round counter t st) >>> λ a. unless_ended (record a { loops = st.loops }) (rounds body counter (t + 1) (n + 1 - (t + 1))))
+one-round body counter n t st h =
     let e : n + 1 - t ≡ suc (n + 1 - (t + 1)) = omega arith in
-    ap (λ m. turns body counter t m st) e
+    ap (λ m. rounds body counter t m st) e
 
 -- a loop without a body
-pub empty-turns : (ps : Predefined) (counter : Option (List ℕ)) (n t : ℕ) (st : Reading) → turns (flat ps Nothing) counter t n st ≡ Ok st
-empty-turns ps counter zero t st = refl
-empty-turns ps counter (suc n) t st = go st.ended (empty-turns ps counter n (t + 1) st)
+pub empty-rounds : (ps : Predefined) (counter : Option (List ℕ)) (n t : ℕ) (st : Reading) → rounds (flat ps Nothing) counter t n st ≡ Ok st
+empty-rounds ps counter zero t st = refl
+empty-rounds ps counter (suc n) t st = go st.ended (empty-rounds ps counter n (t + 1) st)
   where
-    go : (c : Bool) → turns (flat ps Nothing) counter (t + 1) n st ≡ Ok st → elim c as (λ _. Result Reading TextFault) [ true ↦ Ok st | false ↦ turns (flat ps Nothing) counter (t + 1) n st ] ≡ Ok st
+    go : (c : Bool) → rounds (flat ps Nothing) counter (t + 1) n st ≡ Ok st → elim c as (λ _. Result Reading TextFault) [ true ↦ Ok st | false ↦ rounds (flat ps Nothing) counter (t + 1) n st ] ≡ Ok st
     go true ih = refl
     go false ih = ih
 
--- one turn, whose loop was opened and closed
-turned-once : (body : Reading → Result Reading TextFault) (counter : Option (List ℕ)) (n t : ℕ) (st : Reading) (l : List OpenLoop) (whole : Result Reading TextFault)
-    → t ≤ n → turns body counter t (n + 1 - t) st ≡ whole → l ≡ record { counter = counter; turn = t } ∷ st.loops
-    → whole ≡ (body (record st { loops = l }) >>> λ a. unless_ended (record a { loops = st.loops }) (turns body counter (t + 1) (n + 1 - (t + 1))))
-turned-once body counter n t st l whole h is opened =
-    sym is ∙ one-turn body counter n t st h ∙ ap (λ l. body (record st { loops = l }) >>> λ a. unless_ended (record a { loops = st.loops }) (turns body counter (t + 1) (n + 1 - (t + 1)))) (sym opened)
+-- one round, whose loop was opened and closed
+round-once : (body : Reading → Result Reading TextFault) (counter : Option (List ℕ)) (n t : ℕ) (st : Reading) (l : List OpenLoop) (whole : Result Reading TextFault)
+    → t ≤ n → rounds body counter t (n + 1 - t) st ≡ whole → l ≡ record { counter = counter; round = t } ∷ st.loops
+    → whole ≡ (body (record st { loops = l }) >>> λ a. unless_ended (record a { loops = st.loops }) (rounds body counter (t + 1) (n + 1 - (t + 1))))
+round-once body counter n t st l whole h is opened =
+    sym is ∙ one-round body counter n t st h ∙ ap (λ l. body (record st { loops = l }) >>> λ a. unless_ended (record a { loops = st.loops }) (rounds body counter (t + 1) (n + 1 - (t + 1)))) (sym opened)
 
-pub turn-fails : (body : Reading → Result Reading TextFault) (counter : Option (List ℕ)) (n t : ℕ) (st : Reading) (l : List OpenLoop) (whole : Result Reading TextFault) (fault : TextFault)
-    → t ≤ n → turns body counter t (n + 1 - t) st ≡ whole → l ≡ record { counter = counter; turn = t } ∷ st.loops → FailsAt fault.problem fault (body (record st { loops = l })) → FailsAt fault.problem fault whole
-turn-fails body counter n t st l whole fault h is opened f =
-    subst (FailsAt fault.problem fault) (sym (turned-once body counter n t st l whole h is opened))
-    (then-fails fault (body (record st { loops = l })) (λ a. unless_ended (record a { loops = st.loops }) (turns body counter (t + 1) (n + 1 - (t + 1)))) f)
+pub round-fails : (body : Reading → Result Reading TextFault) (counter : Option (List ℕ)) (n t : ℕ) (st : Reading) (l : List OpenLoop) (whole : Result Reading TextFault) (fault : TextFault)
+    → t ≤ n → rounds body counter t (n + 1 - t) st ≡ whole → l ≡ record { counter = counter; round = t } ∷ st.loops → FailsAt fault.problem fault (body (record st { loops = l })) → FailsAt fault.problem fault whole
+round-fails body counter n t st l whole fault h is opened f =
+    subst (FailsAt fault.problem fault) (sym (round-once body counter n t st l whole h is opened))
+    (then-fails fault (body (record st { loops = l })) (λ a. unless_ended (record a { loops = st.loops }) (rounds body counter (t + 1) (n + 1 - (t + 1)))) f)
 
-turn-ok : (body : Reading → Result Reading TextFault) (counter : Option (List ℕ)) (n t : ℕ) (st a : Reading) (l k : List OpenLoop) (whole : Result Reading TextFault)
-    → t ≤ n → turns body counter t (n + 1 - t) st ≡ whole → l ≡ record { counter = counter; turn = t } ∷ st.loops → body (record st { loops = l }) ≡ Ok a → k ≡ st.loops
-    → whole ≡ unless_ended (record a { loops = k }) (turns body counter (t + 1) (n + 1 - (t + 1)))
-turn-ok body counter n t st a l k whole h is opened b close =
-    turned-once body counter n t st l whole h is opened
-    ∙ ap (λ r. r >>> λ a. unless_ended (record a { loops = st.loops }) (turns body counter (t + 1) (n + 1 - (t + 1)))) b
-    ∙ ap (λ k. unless_ended (record a { loops = k }) (turns body counter (t + 1) (n + 1 - (t + 1)))) (sym close)
+round-ok : (body : Reading → Result Reading TextFault) (counter : Option (List ℕ)) (n t : ℕ) (st a : Reading) (l k : List OpenLoop) (whole : Result Reading TextFault)
+    → t ≤ n → rounds body counter t (n + 1 - t) st ≡ whole → l ≡ record { counter = counter; round = t } ∷ st.loops → body (record st { loops = l }) ≡ Ok a → k ≡ st.loops
+    → whole ≡ unless_ended (record a { loops = k }) (rounds body counter (t + 1) (n + 1 - (t + 1)))
+round-ok body counter n t st a l k whole h is opened b close =
+    round-once body counter n t st l whole h is opened
+    ∙ ap (λ r. r >>> λ a. unless_ended (record a { loops = st.loops }) (rounds body counter (t + 1) (n + 1 - (t + 1)))) b
+    ∙ ap (λ k. unless_ended (record a { loops = k }) (rounds body counter (t + 1) (n + 1 - (t + 1)))) (sym close)
 
-pub turn-done : (body : Reading → Result Reading TextFault) (counter : Option (List ℕ)) (n t : ℕ) (st a : Reading) (l k : List OpenLoop) (whole : Result Reading TextFault)
-    → t ≤ n → turns body counter t (n + 1 - t) st ≡ whole → l ≡ record { counter = counter; turn = t } ∷ st.loops → body (record st { loops = l }) ≡ Ok a → k ≡ st.loops
-    → a.ended ≡ false → turns body counter (t + 1) (n + 1 - (t + 1)) (record a { loops = k }) ≡ whole
-turn-done body counter n t st a l k whole h is opened b close e =
-    sym (turn-ok body counter n t st a l k whole h is opened b close ∙ goes-on (record a { loops = k }) (turns body counter (t + 1) (n + 1 - (t + 1))) e)
+pub round-done : (body : Reading → Result Reading TextFault) (counter : Option (List ℕ)) (n t : ℕ) (st a : Reading) (l k : List OpenLoop) (whole : Result Reading TextFault)
+    → t ≤ n → rounds body counter t (n + 1 - t) st ≡ whole → l ≡ record { counter = counter; round = t } ∷ st.loops → body (record st { loops = l }) ≡ Ok a → k ≡ st.loops
+    → a.ended ≡ false → rounds body counter (t + 1) (n + 1 - (t + 1)) (record a { loops = k }) ≡ whole
+round-done body counter n t st a l k whole h is opened b close e =
+    sym (round-ok body counter n t st a l k whole h is opened b close ∙ goes-on (record a { loops = k }) (rounds body counter (t + 1) (n + 1 - (t + 1))) e)
 
-pub turn-ended : (body : Reading → Result Reading TextFault) (counter : Option (List ℕ)) (n t : ℕ) (st a : Reading) (l k : List OpenLoop) (whole : Result Reading TextFault)
-    → t ≤ n → turns body counter t (n + 1 - t) st ≡ whole → l ≡ record { counter = counter; turn = t } ∷ st.loops → body (record st { loops = l }) ≡ Ok a → k ≡ st.loops
+pub round-ended : (body : Reading → Result Reading TextFault) (counter : Option (List ℕ)) (n t : ℕ) (st a : Reading) (l k : List OpenLoop) (whole : Result Reading TextFault)
+    → t ≤ n → rounds body counter t (n + 1 - t) st ≡ whole → l ≡ record { counter = counter; round = t } ∷ st.loops → body (record st { loops = l }) ≡ Ok a → k ≡ st.loops
     → a.ended ≡ true → whole ≡ Ok (record a { loops = k })
-turn-ended body counter n t st a l k whole h is opened b close e =
-    turn-ok body counter n t st a l k whole h is opened b close ∙ stops (record a { loops = k }) (turns body counter (t + 1) (n + 1 - (t + 1))) e
+round-ended body counter n t st a l k whole h is opened b close e =
+    round-ok body counter n t st a l k whole h is opened b close ∙ stops (record a { loops = k }) (rounds body counter (t + 1) (n + 1 - (t + 1))) e
 
 -- ---- a loop at a place
 
@@ -130,62 +132,66 @@ loop-at ps rows i j at dh dr st hi hj is ends =
     ∙ flat-loop ps (row_of (get_or rows i dr)) (here_from rows (i + 1)) (row_of (get_or rows j dr)) (here_from rows (j + 1)) st
     ∙ ap (λ row. one_loop ps (row_of row) (here_from rows (i + 1)) (row_of (get_or rows j dr)) st >>> λ a. unless_ended a (flat ps (here_from rows (j + 1)))) (get_or_default rows i dr dh hi)
 
--- a loop whose head, turns or ROF fail, and what follows
+-- a loop whose head, rounds or ROF fail, and what follows
 pub head-fails : (ps : Predefined) (head : Row) (body : Items) (rof : Row) (st : Reading) (f : Reading → Result Reading TextFault) (fault : TextFault) (whole : Result Reading TextFault)
     → whole ≡ (one_loop ps head body rof st >>> f) → FailsAt fault.problem fault (at_line head.number (head_line ps head st)) → FailsAt fault.problem fault whole
 head-fails ps head body rof st f fault whole is h =
-    subst (FailsAt fault.problem fault) (sym is) (then-fails fault (one_loop ps head body rof st) f (then-fails fault (at_line head.number (head_line ps head st)) (λ h. turns (flat ps body) h.counter 1 h.count h.reading >>> λ a. unless_ended a (λ b. at_line rof.number (rof_line rof b))) h))
+    subst (FailsAt fault.problem fault) (sym is) (then-fails fault (one_loop ps head body rof st) f (then-fails fault (at_line head.number (head_line ps head st)) (λ h. rounds (flat ps body) h.counter 1 h.count h.reading >>> λ a. unless_ended a (λ b. at_line rof.number (rof_line rof b))) h))
 
-pub turned : (ps : Predefined) (head : Row) (body : Items) (rof : Row) (st : Reading) (h : Head) → at_line head.number (head_line ps head st) ≡ Ok h
-    → one_loop ps head body rof st ≡ (turns (flat ps body) h.counter 1 h.count h.reading >>> λ a. unless_ended a (λ b. at_line rof.number (rof_line rof b)))
-turned ps head body rof st h is = then-ok (at_line head.number (head_line ps head st)) h (λ h. turns (flat ps body) h.counter 1 h.count h.reading >>> λ a. unless_ended a (λ b. at_line rof.number (rof_line rof b))) is
+pub rounds_then : (ps : Predefined) (head : Row) (body : Items) (rof : Row) (st : Reading) (h : Head) → at_line head.number (head_line ps head st) ≡ Ok h
+    → one_loop ps head body rof st ≡ (rounds (flat ps body) h.counter 1 h.count h.reading >>> λ a. unless_ended a (λ b. at_line rof.number (rof_line rof b)))
+rounds_then ps head body rof st h is = then-ok (at_line head.number (head_line ps head st)) h (λ h. rounds (flat ps body) h.counter 1 h.count h.reading >>> λ a. unless_ended a (λ b. at_line rof.number (rof_line rof b))) is
 
-pub turns-fail : (ps : Predefined) (head : Row) (body : Items) (rof : Row) (st : Reading) (h : Head) (f : Reading → Result Reading TextFault) (fault : TextFault) (whole : Result Reading TextFault)
-    → whole ≡ (one_loop ps head body rof st >>> f) → at_line head.number (head_line ps head st) ≡ Ok h → FailsAt fault.problem fault (turns (flat ps body) h.counter 1 h.count h.reading) → FailsAt fault.problem fault whole
-turns-fail ps head body rof st h f fault whole is first t =
-    subst (FailsAt fault.problem fault) (sym (is ∙ ap (λ r. r >>> f) (turned ps head body rof st h first)))
-    (then-fails fault (turns (flat ps body) h.counter 1 h.count h.reading >>> λ a. unless_ended a (λ b. at_line rof.number (rof_line rof b))) f
-    (then-fails fault (turns (flat ps body) h.counter 1 h.count h.reading) (λ a. unless_ended a (λ b. at_line rof.number (rof_line rof b))) t))
+pub rounds-fail : (ps : Predefined) (head : Row) (body : Items) (rof : Row) (st : Reading) (h : Head) (f : Reading → Result Reading TextFault) (fault : TextFault) (whole : Result Reading TextFault)
+    → whole ≡ (one_loop ps head body rof st >>> f) → at_line head.number (head_line ps head st) ≡ Ok h → FailsAt fault.problem fault (rounds (flat ps body) h.counter 1 h.count h.reading) → FailsAt fault.problem fault whole
+rounds-fail ps head body rof st h f fault whole is first t =
+    subst (FailsAt fault.problem fault) (sym (is ∙ ap (λ r. r >>> f) (rounds_then ps head body rof st h first)))
+    (then-fails fault (rounds (flat ps body) h.counter 1 h.count h.reading >>> λ a. unless_ended a (λ b. at_line rof.number (rof_line rof b))) f
+    (then-fails fault (rounds (flat ps body) h.counter 1 h.count h.reading) (λ a. unless_ended a (λ b. at_line rof.number (rof_line rof b))) t))
 
-pub behind-turns : (ps : Predefined) (head : Row) (body : Items) (rof : Row) (st : Reading) (h : Head) (a : Reading) → at_line head.number (head_line ps head st) ≡ Ok h → turns (flat ps body) h.counter 1 h.count h.reading ≡ Ok a
+pub behind-rounds : (ps : Predefined) (head : Row) (body : Items) (rof : Row) (st : Reading) (h : Head) (a : Reading) → at_line head.number (head_line ps head st) ≡ Ok h → rounds (flat ps body) h.counter 1 h.count h.reading ≡ Ok a
     → one_loop ps head body rof st ≡ unless_ended a (λ b. at_line rof.number (rof_line rof b))
-behind-turns ps head body rof st h a first t = turned ps head body rof st h first ∙ then-ok (turns (flat ps body) h.counter 1 h.count h.reading) a (λ a. unless_ended a (λ b. at_line rof.number (rof_line rof b))) t
+behind-rounds ps head body rof st h a first t = rounds_then ps head body rof st h first ∙ then-ok (rounds (flat ps body) h.counter 1 h.count h.reading) a (λ a. unless_ended a (λ b. at_line rof.number (rof_line rof b))) t
 
 pub loop-ended : (ps : Predefined) (head : Row) (body : Items) (rof : Row) (st : Reading) (h : Head) (a : Reading) (f : Reading → Result Reading TextFault) (whole : Result Reading TextFault)
-    → whole ≡ (one_loop ps head body rof st >>> λ a. unless_ended a f) → at_line head.number (head_line ps head st) ≡ Ok h → turns (flat ps body) h.counter 1 h.count h.reading ≡ Ok a → a.ended ≡ true → whole ≡ unless_ended a f
-loop-ended ps head body rof st h a f whole is first t e = is ∙ ap (λ r. r >>> λ a. unless_ended a f) (behind-turns ps head body rof st h a first t ∙ stops a (λ b. at_line rof.number (rof_line rof b)) e)
+    → whole ≡ (one_loop ps head body rof st >>> λ a. unless_ended a f) → at_line head.number (head_line ps head st) ≡ Ok h → rounds (flat ps body) h.counter 1 h.count h.reading ≡ Ok a → a.ended ≡ true → whole ≡ unless_ended a f
+loop-ended ps head body rof st h a f whole is first t e = is ∙ ap (λ r. r >>> λ a. unless_ended a f) (behind-rounds ps head body rof st h a first t ∙ stops a (λ b. at_line rof.number (rof_line rof b)) e)
 
 pub rof-fails : (ps : Predefined) (head : Row) (body : Items) (rof : Row) (st : Reading) (h : Head) (a : Reading) (f : Reading → Result Reading TextFault) (fault : TextFault) (whole : Result Reading TextFault)
-    → whole ≡ (one_loop ps head body rof st >>> f) → at_line head.number (head_line ps head st) ≡ Ok h → turns (flat ps body) h.counter 1 h.count h.reading ≡ Ok a → a.ended ≡ false
+    → whole ≡ (one_loop ps head body rof st >>> f) → at_line head.number (head_line ps head st) ≡ Ok h → rounds (flat ps body) h.counter 1 h.count h.reading ≡ Ok a → a.ended ≡ false
     → FailsAt fault.problem fault (at_line rof.number (rof_line rof a)) → FailsAt fault.problem fault whole
 rof-fails ps head body rof st h a f fault whole is first t e r =
-    subst (FailsAt fault.problem fault) (sym (is ∙ ap (λ r. r >>> f) (behind-turns ps head body rof st h a first t ∙ goes-on a (λ b. at_line rof.number (rof_line rof b)) e)))
+    subst (FailsAt fault.problem fault) (sym (is ∙ ap (λ r. r >>> f) (behind-rounds ps head body rof st h a first t ∙ goes-on a (λ b. at_line rof.number (rof_line rof b)) e)))
     (then-fails fault (at_line rof.number (rof_line rof a)) f r)
 
 pub loop-done : (ps : Predefined) (head : Row) (body : Items) (rof : Row) (st : Reading) (h : Head) (a b : Reading) (f : Reading → Result Reading TextFault) (whole : Result Reading TextFault)
-    → whole ≡ (one_loop ps head body rof st >>> f) → at_line head.number (head_line ps head st) ≡ Ok h → turns (flat ps body) h.counter 1 h.count h.reading ≡ Ok a → a.ended ≡ false
+    → whole ≡ (one_loop ps head body rof st >>> f) → at_line head.number (head_line ps head st) ≡ Ok h → rounds (flat ps body) h.counter 1 h.count h.reading ≡ Ok a → a.ended ≡ false
     → at_line rof.number (rof_line rof a) ≡ Ok b → whole ≡ f b
 loop-done ps head body rof st h a b f whole is first t e r =
-    is ∙ ap (λ r. r >>> f) (behind-turns ps head body rof st h a first t ∙ goes-on a (λ b. at_line rof.number (rof_line rof b)) e ∙ r)
+    is ∙ ap (λ r. r >>> f) (behind-rounds ps head body rof st h a first t ∙ goes-on a (λ b. at_line rof.number (rof_line rof b)) e ∙ r)
 
--- what is read of a row that isn't there
-abbrev pub no_row : code.Row
-no_row = record { number = 0; at = 0; bytes = record { ref_ptr = (0, 0); now = [] } }
+-- the same by the rows themselves
+loop-of : (ps : Predefined) (rows : List code.Row) (i j at : ℕ) (r s : code.Row) (st : Reading) → i < length rows → j < length rows → IsFor rows i at → EndsAt rows (i + 1) j → r ≡ get_or rows i r → s ≡ get_or rows j s
+    → flat ps (here_from rows i) st ≡ (one_loop ps (row_of r) (here_from rows (i + 1)) (row_of s) st >>> λ a. unless_ended a (flat ps (here_from rows (j + 1))))
+loop-of ps rows i j at r s st hi hj is ends ri si =
+    loop-at ps rows i j at r s st hi hj is ends
+    ∙ ap (λ row. one_loop ps (row_of row) (here_from rows (i + 1)) (row_of (get_or rows j s)) st >>> λ a. unless_ended a (flat ps (here_from rows (j + 1)))) (sym ri)
+    ∙ ap (λ row. one_loop ps (row_of r) (here_from rows (i + 1)) (row_of row) st >>> λ a. unless_ended a (flat ps (here_from rows (j + 1)))) (sym si)
 
-pub head-fails-at : (ps : Predefined) (rows : List code.Row) (i j at : ℕ) (st : Reading) (fault : TextFault) → i < length rows → j < length rows → IsFor rows i at → EndsAt rows (i + 1) j → FailsAt fault.problem fault (at_line (row_of (get_or rows i no_row)).number (head_line ps (row_of (get_or rows i no_row)) st)) → FailsAt fault.problem fault (flat ps (here_from rows i) st)
-head-fails-at ps rows i j at st fault hi hj is ends e = head-fails ps (row_of (get_or rows i no_row)) (here_from rows (i + 1)) (row_of (get_or rows j no_row)) st (λ a. unless_ended a (flat ps (here_from rows (j + 1)))) fault (flat ps (here_from rows i) st) (loop-at ps rows i j at no_row no_row st hi hj is ends) e
+pub head-fails-at : (ps : Predefined) (rows : List code.Row) (i j at : ℕ) (r : code.Row) (st : Reading) (fault : TextFault) → i < length rows → j < length rows → IsFor rows i at → EndsAt rows (i + 1) j → r ≡ get_or rows i r → FailsAt fault.problem fault (at_line (row_of r).number (head_line ps (row_of r) st)) → FailsAt fault.problem fault (flat ps (here_from rows i) st)
+head-fails-at ps rows i j at r st fault hi hj is ends ri e = head-fails ps (row_of r) (here_from rows (i + 1)) (row_of (get_or rows j r)) st (λ a. unless_ended a (flat ps (here_from rows (j + 1)))) fault (flat ps (here_from rows i) st) (loop-of ps rows i j at r (get_or rows j r) st hi hj is ends ri (get_or_default rows j r (get_or rows j r) hj)) e
 
-pub turns-fail-at : (ps : Predefined) (rows : List code.Row) (i j at : ℕ) (st : Reading) (h : Head) (fault : TextFault) → i < length rows → j < length rows → IsFor rows i at → EndsAt rows (i + 1) j → at_line (row_of (get_or rows i no_row)).number (head_line ps (row_of (get_or rows i no_row)) st) ≡ Ok h → FailsAt fault.problem fault (turns (flat ps (here_from rows (i + 1))) h.counter 1 h.count h.reading) → FailsAt fault.problem fault (flat ps (here_from rows i) st)
-turns-fail-at ps rows i j at st h fault hi hj is ends e t = turns-fail ps (row_of (get_or rows i no_row)) (here_from rows (i + 1)) (row_of (get_or rows j no_row)) st h (λ a. unless_ended a (flat ps (here_from rows (j + 1)))) fault (flat ps (here_from rows i) st) (loop-at ps rows i j at no_row no_row st hi hj is ends) e t
+pub rounds-fail-at : (ps : Predefined) (rows : List code.Row) (i j at : ℕ) (r : code.Row) (st : Reading) (h : Head) (fault : TextFault) → i < length rows → j < length rows → IsFor rows i at → EndsAt rows (i + 1) j → r ≡ get_or rows i r → at_line (row_of r).number (head_line ps (row_of r) st) ≡ Ok h → FailsAt fault.problem fault (rounds (flat ps (here_from rows (i + 1))) h.counter 1 h.count h.reading) → FailsAt fault.problem fault (flat ps (here_from rows i) st)
+rounds-fail-at ps rows i j at r st h fault hi hj is ends ri e t = rounds-fail ps (row_of r) (here_from rows (i + 1)) (row_of (get_or rows j r)) st h (λ a. unless_ended a (flat ps (here_from rows (j + 1)))) fault (flat ps (here_from rows i) st) (loop-of ps rows i j at r (get_or rows j r) st hi hj is ends ri (get_or_default rows j r (get_or rows j r) hj)) e t
 
-pub loop-ended-at : (ps : Predefined) (rows : List code.Row) (i j at : ℕ) (st : Reading) (h : Head) (a : Reading) → i < length rows → j < length rows → IsFor rows i at → EndsAt rows (i + 1) j → at_line (row_of (get_or rows i no_row)).number (head_line ps (row_of (get_or rows i no_row)) st) ≡ Ok h → turns (flat ps (here_from rows (i + 1))) h.counter 1 h.count h.reading ≡ Ok a → a.ended ≡ true → flat ps (here_from rows i) st ≡ unless_ended a (flat ps (here_from rows (j + 1)))
-loop-ended-at ps rows i j at st h a hi hj is ends e t n = loop-ended ps (row_of (get_or rows i no_row)) (here_from rows (i + 1)) (row_of (get_or rows j no_row)) st h a (flat ps (here_from rows (j + 1))) (flat ps (here_from rows i) st) (loop-at ps rows i j at no_row no_row st hi hj is ends) e t n
+pub loop-ended-at : (ps : Predefined) (rows : List code.Row) (i j at : ℕ) (r : code.Row) (st : Reading) (h : Head) (a : Reading) → i < length rows → j < length rows → IsFor rows i at → EndsAt rows (i + 1) j → r ≡ get_or rows i r → at_line (row_of r).number (head_line ps (row_of r) st) ≡ Ok h → rounds (flat ps (here_from rows (i + 1))) h.counter 1 h.count h.reading ≡ Ok a → a.ended ≡ true → flat ps (here_from rows i) st ≡ unless_ended a (flat ps (here_from rows (j + 1)))
+loop-ended-at ps rows i j at r st h a hi hj is ends ri e t n = loop-ended ps (row_of r) (here_from rows (i + 1)) (row_of (get_or rows j r)) st h a (flat ps (here_from rows (j + 1))) (flat ps (here_from rows i) st) (loop-of ps rows i j at r (get_or rows j r) st hi hj is ends ri (get_or_default rows j r (get_or rows j r) hj)) e t n
 
-pub rof-fails-at : (ps : Predefined) (rows : List code.Row) (i j at : ℕ) (st : Reading) (h : Head) (a : Reading) (fault : TextFault) → i < length rows → j < length rows → IsFor rows i at → EndsAt rows (i + 1) j → at_line (row_of (get_or rows i no_row)).number (head_line ps (row_of (get_or rows i no_row)) st) ≡ Ok h → turns (flat ps (here_from rows (i + 1))) h.counter 1 h.count h.reading ≡ Ok a → a.ended ≡ false → FailsAt fault.problem fault (at_line (row_of (get_or rows j no_row)).number (rof_line (row_of (get_or rows j no_row)) a)) → FailsAt fault.problem fault (flat ps (here_from rows i) st)
-rof-fails-at ps rows i j at st h a fault hi hj is ends e t n r = rof-fails ps (row_of (get_or rows i no_row)) (here_from rows (i + 1)) (row_of (get_or rows j no_row)) st h a (λ a. unless_ended a (flat ps (here_from rows (j + 1)))) fault (flat ps (here_from rows i) st) (loop-at ps rows i j at no_row no_row st hi hj is ends) e t n r
+pub rof-fails-at : (ps : Predefined) (rows : List code.Row) (i j at : ℕ) (r s : code.Row) (st : Reading) (h : Head) (a : Reading) (fault : TextFault) → i < length rows → j < length rows → IsFor rows i at → EndsAt rows (i + 1) j → r ≡ get_or rows i r → s ≡ get_or rows j s → at_line (row_of r).number (head_line ps (row_of r) st) ≡ Ok h → rounds (flat ps (here_from rows (i + 1))) h.counter 1 h.count h.reading ≡ Ok a → a.ended ≡ false → FailsAt fault.problem fault (at_line (row_of s).number (rof_line (row_of s) a)) → FailsAt fault.problem fault (flat ps (here_from rows i) st)
+rof-fails-at ps rows i j at r s st h a fault hi hj is ends ri si e t n w = rof-fails ps (row_of r) (here_from rows (i + 1)) (row_of s) st h a (λ a. unless_ended a (flat ps (here_from rows (j + 1)))) fault (flat ps (here_from rows i) st) (loop-of ps rows i j at r s st hi hj is ends ri si) e t n w
 
-pub loop-done-at : (ps : Predefined) (rows : List code.Row) (i j at : ℕ) (st : Reading) (h : Head) (a b : Reading) → i < length rows → j < length rows → IsFor rows i at → EndsAt rows (i + 1) j → at_line (row_of (get_or rows i no_row)).number (head_line ps (row_of (get_or rows i no_row)) st) ≡ Ok h → turns (flat ps (here_from rows (i + 1))) h.counter 1 h.count h.reading ≡ Ok a → a.ended ≡ false → at_line (row_of (get_or rows j no_row)).number (rof_line (row_of (get_or rows j no_row)) a) ≡ Ok b → flat ps (here_from rows i) st ≡ unless_ended b (flat ps (here_from rows (j + 1)))
-loop-done-at ps rows i j at st h a b hi hj is ends e t n r = loop-done ps (row_of (get_or rows i no_row)) (here_from rows (i + 1)) (row_of (get_or rows j no_row)) st h a b (λ a. unless_ended a (flat ps (here_from rows (j + 1)))) (flat ps (here_from rows i) st) (loop-at ps rows i j at no_row no_row st hi hj is ends) e t n r
+pub loop-done-at : (ps : Predefined) (rows : List code.Row) (i j at : ℕ) (r s : code.Row) (st : Reading) (h : Head) (a b : Reading) → i < length rows → j < length rows → IsFor rows i at → EndsAt rows (i + 1) j → r ≡ get_or rows i r → s ≡ get_or rows j s → at_line (row_of r).number (head_line ps (row_of r) st) ≡ Ok h → rounds (flat ps (here_from rows (i + 1))) h.counter 1 h.count h.reading ≡ Ok a → a.ended ≡ false → at_line (row_of s).number (rof_line (row_of s) a) ≡ Ok b → flat ps (here_from rows i) st ≡ unless_ended b (flat ps (here_from rows (j + 1)))
+loop-done-at ps rows i j at r s st h a b hi hj is ends ri si e t n w = loop-done ps (row_of r) (here_from rows (i + 1)) (row_of s) st h a b (λ a. unless_ended a (flat ps (here_from rows (j + 1)))) (flat ps (here_from rows i) st) (loop-of ps rows i j at r s st hi hj is ends ri si) e t n w
 
 -- ---- a plain row at a place
 

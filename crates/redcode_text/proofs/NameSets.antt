@@ -5,10 +5,10 @@ use Rattle.std.proofs.lemmas.List.{take_more}
 use Rattle.std.proofs.lemmas.List.Folds.{list_any-append}
 use Rattle.std.specs.List.{list_any}
 use Rattle.indexmap.specs.IndexSet.{insert_key}
-use Rattle.redcode_text.specs.declared.state.Line as line
-use Rattle.redcode_text.specs.Held.{line_of}
+use Rattle.redcode_text.specs.declared.program.Line as line
+use Rattle.redcode_text.specs.Views.{line_of}
 use Rattle.redcode_text.specs.Lines.{Predefined, Reading, is_label, is_predefined, may_label}
-use Rattle.redcode_text.specs.Labels.{AreLabels, HasSame, has}
+use Rattle.redcode_text.specs.Code.Labels.{AreLabels, HasSame, has}
 
 same-either : (n m : ℕ) → (n == m) ≡ (m == n)
 same-either n m = grind arith

@@ -3,9 +3,9 @@ use Rattle.std.proofs.Common.{◌≡◌, ℕ, zero, suc, ◌-◌, List, Option, 
 use Rattle.redcode_text.specs.declared.fault.TextProblem.{TextProblem}
 use Rattle.redcode_text.specs.declared.token.Token.{Token}
 use Rattle.redcode_text.specs.Lines.{Parts, Predefined, Reading, Step, before_first, behind_last, each_line, line_added, operation_lines, ordinary_line, parts_of, parts_read}
-use Rattle.redcode_text.specs.Outcomes.{Fails}
+use Rattle.redcode_text.specs.Code.Problems.{Fails}
 use Rattle.redcode_text.specs.Tokens.{◌>>=◌}
-use Rattle.redcode_text.specs.Used.{used}
+use Rattle.redcode_text.specs.Code.Used.{used}
 use Rattle.redcode_text.proofs.Failing.{fails-bind}
 use Rattle.redcode_text.proofs.UsedSteps.{used-is}
 

@@ -1,9 +1,9 @@
 -- The pairs of FOR and ROF, one row further.
 use Rattle.std.proofs.Common.{◌≡◌, ℕ, suc, ◌+◌, ◌<◌, ◌≤◌, List, [], ◌∷◌, length, length-drop, drop, map, get_or, refl, ap, sym, ◌∙◌, arith, add-one}
 use Rattle.std.proofs.Math.Seq.{drop-cons}
-use Rattle.redcode_text.specs.declared.rows.Row as code
-use Rattle.redcode_text.specs.Outcomes.{row_of}
-use Rattle.redcode_text.specs.Pairs.{paired_from, here_from, EndsAt}
+use Rattle.redcode_text.specs.declared.source.row.Row as code
+use Rattle.redcode_text.specs.Code.Rows.{row_of}
+use Rattle.redcode_text.specs.Code.Pairs.{paired_from, here_from, EndsAt}
 use Rattle.redcode_text.specs.Source.{Row, LineKind, RofLine, ForLine, EquLine, OtherLine, line_kind, Items, Nothing, Loop, UnclosedFor, Pairing, opened, paired_with, paired}
 
 pub paired-drop : (rows : List code.Row) (i : ℕ) (d : code.Row) (kind : LineKind) → i < length rows → kind ≡ line_kind (row_of (get_or rows i d)).bytes

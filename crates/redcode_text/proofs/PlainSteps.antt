@@ -1,10 +1,10 @@
 -- A line that is no EQU line is an ordinary one.
 use Rattle.std.proofs.Common.{◌≡◌, ℕ, ◌<◌, List, [], ◌∷◌, length, refl, arith}
-use Rattle.redcode_text.specs.declared.rows.LineKind as code
-use Rattle.redcode_text.specs.declared.rows.LineKind.TheVariants as line
+use Rattle.redcode_text.specs.declared.source.row.LineKind as code
+use Rattle.redcode_text.specs.declared.source.row.LineKind.TheVariants as line
 use Rattle.redcode_text.specs.declared.token.Token.{Token}
 use Rattle.redcode_text.specs.Lines.{Predefined, Reading, ordinary_line, tokens_line}
-use Rattle.redcode_text.specs.Outcomes.{kind_of}
+use Rattle.redcode_text.specs.Code.Kinds.{kind_of}
 use Rattle.redcode_text.specs.Source.{Row}
 
 pub plain-ordinary : (ps : Predefined) (kind : code.LineKind) (row : Row) (ts : List Token) (st : Reading) → ((at : ℕ) → kind ≡ line.Equ at → ⊥) → 0 < length ts

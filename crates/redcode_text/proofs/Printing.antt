@@ -6,7 +6,7 @@ use Rattle.std.specs.List.{All}
 use Rattle.std.specs.Result.{IfOk}
 use Rattle.redcode_text.specs.declared.fault.TextProblem.{TextProblem}
 use Rattle.redcode_text.specs.Lines.{printable}
-use Rattle.redcode_text.specs.Outcomes.{Gives}
+use Rattle.redcode_text.specs.Code.Problems.{Gives}
 use Rattle.redcode_text.specs.Programs.{IsPrinted}
 
 in-range : (b : ℕ) → (32 ≤ printable b) × (printable b ≤ 126)

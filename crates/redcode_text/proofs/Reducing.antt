@@ -4,10 +4,10 @@ use Rattle.redcode_text.specs.declared.token.Token.{Token}
 use Rattle.redcode_text.specs.declared.token.Sign.{Sign}
 use Rattle.redcode_text.specs.declared.token.Sign.TheVariants.{Plus, CloseParen}
 use Rattle.redcode_text.specs.declared.fault.ExprFault.{ExprFault}
-use Rattle.redcode_text.specs.declared.evaluation.Pending.{Pending}
-use Rattle.redcode_text.specs.declared.evaluation.Pending.TheVariants.{Value, Open}
+use Rattle.redcode_text.specs.declared.expression.evaluation.Pending.{Pending}
+use Rattle.redcode_text.specs.declared.expression.evaluation.Pending.TheVariants.{Value, Open}
 use Rattle.redcode_text.specs.Expression.{◌>>=◌, precedence, binary, kinds}
-use Rattle.redcode_text.specs.Climbing.{Waiting, Left, wants, reach, placed, reduced, waiting_all, AreInside, StaysAt}
+use Rattle.redcode_text.specs.Code.Climbing.{Waiting, Left, wants, reach, placed, reduced, waiting_all, AreInside, StaysAt}
 use Rattle.redcode_text.proofs.Climbs.{reduced-tighter, reduced-looser}
 
 pub reduced-pop : (ts : List Token) (k : ℕ) (u v w : ℤ) (s : Sign) (old new : List Pending) → old ≡ Value u s ∷ new → precedence s ≤ k → binary s u v ≡ Ok w → reduced k (waiting_all ts old) v ≡ reduced k (waiting_all ts new) w

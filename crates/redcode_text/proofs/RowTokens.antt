@@ -6,7 +6,7 @@ use Rattle.redcode_text.specs.declared.fault.TextProblem.{TextProblem}
 use Rattle.redcode_text.specs.declared.token.Token.{Token}
 use Rattle.redcode_text.specs.Equates.{limit}
 use Rattle.redcode_text.specs.Lines.{Reading, WithTokens, before_comment, row_tokens}
-use Rattle.redcode_text.specs.Outcomes.{Fails}
+use Rattle.redcode_text.specs.Code.Problems.{Fails}
 use Rattle.redcode_text.specs.Source.{Row}
 use Rattle.redcode_text.specs.Tokens.{◌>>=◌, Scanned, scan_from, tokens}
 use Rattle.redcode_text.proofs.Failing.{fails-bind}

@@ -3,7 +3,7 @@ use Rattle.std.proofs.Common.{◌≡◌, ℕ, ◌+◌, ◌<◌, drop, length, ge
 use Rattle.std.proofs.Math.Seq.{drop-cons}
 use Rattle.redcode_text.specs.declared.token.Token.{Token}
 use Rattle.redcode_text.specs.declared.fault.ExprFault.{ExprFault}
-use Rattle.redcode_text.specs.declared.shape.ShapeState.{ShapeState}
+use Rattle.redcode_text.specs.declared.expression.shape.ShapeState.{ShapeState}
 use Rattle.redcode_text.specs.Expression.{next_state, kinds, shape, ◌>>=◌}
 
 -- the token at i, and the tokens after it

@@ -9,7 +9,7 @@ use Rattle.redcode_text.specs.declared.token.Sign.{Sign}
 use Rattle.redcode_text.specs.declared.token.Sign.TheVariants.{Plus, Minus, Bang, OpenParen, CloseParen}
 use Rattle.redcode_text.specs.declared.fault.ExprFault.{ExprFault}
 use Rattle.redcode_text.specs.declared.fault.ExprFault.TheVariants.{Syntax, Depth}
-use Rattle.redcode_text.specs.declared.shape.ShapeState.{ShapeState}
+use Rattle.redcode_text.specs.declared.expression.shape.ShapeState.{ShapeState}
 use Rattle.redcode_text.specs.Expression.{◌>>=◌, precedence, Tree, Numeral, Named, Parens, Unary, Binary, shape, start, after_sign}
 use Rattle.redcode_text.proofs.Trees.{spelling, rank, is_prefix, IsLevelled, precedence-≤5, rank-≤5}
 

@@ -3,9 +3,9 @@ use Rattle.std.proofs.Common.{◌≡◌, ◌∙◌, ℕ, suc, ◌+◌, ◌<◌, 
 use Rattle.std.proofs.lemmas.List.Elements.{All-cons, All-get_or, All-nil}
 use Rattle.std.specs.List.{All, list_any, onto_first}
 use Rattle.std.specs.Prelude.{⊤}
-use Rattle.redcode_text.specs.declared.rows.Row as code
-use Rattle.redcode_text.specs.Loops.{RowsFit}
-use Rattle.redcode_text.specs.Outcomes.{row_of}
+use Rattle.redcode_text.specs.declared.source.row.Row as code
+use Rattle.redcode_text.specs.Code.Loops.{RowsFit}
+use Rattle.redcode_text.specs.Code.Rows.{row_of}
 use Rattle.redcode_text.specs.Source.{Row, begins_redcode, from_redcode, lines_of, read_rows, rows_from, rows_of}
 
 -- each row ends at most here

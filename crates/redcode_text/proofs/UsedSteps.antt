@@ -4,7 +4,7 @@ use Rattle.std.proofs.Math.Seq.{drop-cons}
 use Rattle.redcode_text.specs.declared.fault.TextProblem.{TextProblem}
 use Rattle.redcode_text.specs.declared.token.Token.{Token}
 use Rattle.redcode_text.specs.Lines.{before_first, behind_last}
-use Rattle.redcode_text.specs.Used.{used}
+use Rattle.redcode_text.specs.Code.Used.{used}
 use Rattle.redcode_text.proofs.SourceLines.{map-snoc}
 
 behind-used : (l : List Token) (ls : List (List Token)) (behind : List Token) → used [] (l ∷ ls) behind ≡ behind_last (l ∷ ls) behind

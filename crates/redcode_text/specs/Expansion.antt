@@ -73,21 +73,21 @@ unpaired_line problem st = line_read st >>= λ _. Err problem
 abbrev pub unless_ended : Reading → (Reading → Result Reading TextFault) → Result Reading TextFault
 unless_ended st rest = elim st.ended [ true ↦ Ok st | false ↦ rest st ]
 
-abbrev pub in_turn : Option (List ℕ) → ℕ → Reading → Reading
-in_turn counter turn st = record st { loops = record { counter = counter; turn = turn } ∷ st.loops }
+abbrev pub in_round : Option (List ℕ) → ℕ → Reading → Reading
+in_round counter round st = record st { loops = record { counter = counter; round = round } ∷ st.loops }
 
--- a body so many times, from this turn on; between the turns the loop isn't open
-abbrev pub turns : (Reading → Result Reading TextFault) → Option (List ℕ) → ℕ → ℕ → Reading → Result Reading TextFault
-turns body counter turn zero st = Ok st
-turns body counter turn (suc n) st =
-    body (in_turn counter turn st) >>> λ a. unless_ended (record a { loops = st.loops }) (turns body counter (turn + 1) n)
+-- a body so many times, from this round on; between the rounds the loop isn't open
+abbrev pub rounds : (Reading → Result Reading TextFault) → Option (List ℕ) → ℕ → ℕ → Reading → Result Reading TextFault
+rounds body counter round zero st = Ok st
+rounds body counter round (suc n) st =
+    body (in_round counter round st) >>> λ a. unless_ended (record a { loops = st.loops }) (rounds body counter (round + 1) n)
 
 abbrev pub flat : Predefined → Items → Reading → Result Reading TextFault
 flat ps source.Nothing st = Ok st
 flat ps (Plain row rest) st = at_line row.number (plain_line ps row st) >>> λ a. unless_ended a (flat ps rest)
 flat ps (Loop head body rof rest) st =
     at_line head.number (head_line ps head st) >>> λ h.
-    turns (flat ps body) h.counter 1 h.count h.reading >>> λ a.
+    rounds (flat ps body) h.counter 1 h.count h.reading >>> λ a.
     unless_ended a (λ b. at_line rof.number (rof_line rof b) >>> flat ps rest)
 flat ps (source.UnclosedFor row rest) st = at_line row.number (unpaired_line UnclosedFor st)
 flat ps (source.LoneRof row rest) st = at_line row.number (unpaired_line RofAlone st)

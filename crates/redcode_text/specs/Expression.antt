@@ -9,7 +9,7 @@ use Rattle.redcode_text.specs.declared.token.Sign.{Sign}
 use Rattle.redcode_text.specs.declared.token.Sign.TheVariants.{Equal, NotEqual, LessEqual, GreaterEqual, And, Or, Plus, Minus, Star, Slash, Percent, Bang, Less, Greater, OpenParen, CloseParen}
 use Rattle.redcode_text.specs.declared.fault.ExprFault.{ExprFault}
 use Rattle.redcode_text.specs.declared.fault.ExprFault.TheVariants.{Syntax, Unknown, DivideByZero, Range, Depth}
-use Rattle.redcode_text.specs.declared.shape.ShapeState.{ShapeState}
+use Rattle.redcode_text.specs.declared.expression.shape.ShapeState.{ShapeState}
 
 infixl 10 ◌>>=◌
 -- the second, with what the first gives; a fault of the first is the fault

@@ -1,20 +1,12 @@
+-- What a reader of the contracts has to believe, in this order; Examples has worked examples of it.
 pub mod Tokens
-pub mod TokenRows
-pub mod Outcomes
-pub mod Pairs
-pub mod Scanning
 pub mod Expression
-pub mod Climbing
-pub mod Positions
-pub mod Rows
 pub mod Source
 pub mod Equates
 pub mod Lines
-pub mod Held
-pub mod Used
-pub mod Labels
 pub mod Expansion
 pub mod Programs
-pub mod ExpansionRows
-pub mod Heads
-pub mod Loops
+pub mod Views
+pub mod Outcomes
+pub mod Examples
+pub mod Code

@@ -63,37 +63,37 @@ word_len (b ∷ bs) = elim (begins_word (b ∷ bs)) [ true ↦ word_len bs + 1 |
 
 -- ---- joins and counters
 
--- an open loop: its counter, if it has one, and the number of its turn, from 1
+-- an open loop: its counter, if it has one, and the number of its round, from 1
 pub record OpenLoop : Type 0 where
   pub counter : Option (List ℕ)
-  pub turn : ℕ
+  pub round : ℕ
 
 abbrev pub is_counter : List ℕ → Option (List ℕ) → Bool
 is_counter name (Some counter) = bytes_eq counter name
 is_counter name None = false
 
--- the turn of the loop whose counter has this name
-abbrev pub turn_of : List OpenLoop → List ℕ → Option ℕ
-turn_of [] name = None
-turn_of (l ∷ ls) name = elim (is_counter name l.counter) [ true ↦ Some l.turn | false ↦ turn_of ls name ]
+-- the round of the loop whose counter has this name
+abbrev pub round_of : List OpenLoop → List ℕ → Option ℕ
+round_of [] name = None
+round_of (l ∷ ls) name = elim (is_counter name l.counter) [ true ↦ Some l.round | false ↦ round_of ls name ]
 
 -- at least two digits
-abbrev pub turn_digits : ℕ → List ℕ
-turn_digits n = if nat_lt n 10 then 48 ∷ decimal n else decimal n
+abbrev pub round_digits : ℕ → List ℕ
+round_digits n = if nat_lt n 10 then 48 ∷ decimal n else decimal n
 
 -- what stands before the first join of a word, and the name of each join
 abbrev pub parts_at_joins : List ℕ → List (List ℕ)
 parts_at_joins [] = [] ∷ []
 parts_at_joins (b ∷ bs) = elim (b == 38) [ true ↦ [] ∷ parts_at_joins bs | false ↦ onto_first b (parts_at_joins bs) ]
 
-abbrev pub turn_or_bad : Option ℕ → Result ℕ TextProblem
-turn_or_bad (Some n) = Ok n
-turn_or_bad None = Err BadToken
+abbrev pub round_or_bad : Option ℕ → Result ℕ TextProblem
+round_or_bad (Some n) = Ok n
+round_or_bad None = Err BadToken
 
 -- the digits of the counter of each name, behind what stands in front
 abbrev pub join_counters : List OpenLoop → List ℕ → List (List ℕ) → Result (List ℕ) TextProblem
 join_counters loops front [] = Ok front
-join_counters loops front (name ∷ names) = turn_or_bad (turn_of loops name) >>= λ n. join_counters loops (front ++ turn_digits n) names
+join_counters loops front (name ∷ names) = round_or_bad (round_of loops name) >>= λ n. join_counters loops (front ++ round_digits n) names
 
 abbrev pub join_parts : List OpenLoop → List (List ℕ) → Result (List ℕ) TextProblem
 join_parts loops [] = Ok []
@@ -136,11 +136,11 @@ plain_word_found names len word = if list_all is_ascii_digit word then number_fo
 
 -- a word with its joins done, whose bytes were `len`
 abbrev pub word_found : List (List ℕ) → ℕ → List ℕ → Option ℕ → Result Found TextProblem
-word_found names len word (Some turn) = Ok (record { kind = Number (pos turn); len = len; names = names })
+word_found names len word (Some round) = Ok (record { kind = Number (pos round); len = len; names = names })
 word_found names len word None = plain_word_found names len word
 
 abbrev pub word_token : List OpenLoop → List (List ℕ) → List ℕ → Result Found TextProblem
-word_token loops names raw = joined loops raw >>= λ word. word_found names (length raw) word (turn_of loops word)
+word_token loops names raw = joined loops raw >>= λ word. word_found names (length raw) word (round_of loops word)
 
 -- ---- signs
 

@@ -1,46 +1,18 @@
 //! The program of a source.
-ghost use Rattle.std.specs.Prelude.{◌≡◌, [], false, IfOk};
+ghost use Rattle.std.specs.Prelude.{◌≡◌};
 ghost use Rattle.redcode_text.specs.Expansion.{expansion, flat, nothing_read, program_of};
-ghost use Rattle.redcode_text.specs.Held.{predefined_of, reading_of};
+ghost use Rattle.redcode_text.specs.Views.{predefined_of};
+ghost use Rattle.redcode_text.specs.Code.Readings.{reading_of};
 ghost use Rattle.redcode_text.specs.Outcomes.{Answers};
 ghost use Rattle.redcode_text.specs.Source.{tree_of};
 
-use crate::equates::Equates;
 use crate::fault::{TextFault, TextProblem};
-use crate::loops::read_all;
-use crate::name_set::NameSet;
-use crate::names::NameTable;
-use crate::open_loops::OpenLoops;
-use crate::predefined::Names;
+use crate::names::predefined::Names;
 use crate::program::Program;
-use crate::rows::{read_rows, rows_of};
-use crate::state::Reading;
-use std::alloc::{AllocError, Global};
-
-/// A reading of nothing.
-fn nothing_read(alloc: Global) -> Result<Reading, AllocError>
-    ensures value { IfOk result (λ reading. reading_of reading ≡ nothing_read) }
-    ensures loops { IfOk result (λ reading. reading.loops ≡ []) }
-    ensures going { IfOk result (λ reading. reading.ended ≡ false) }
-{
-    let name = String::from_str(alloc, "Unknown")?;
-    let author = String::from_str(alloc, "Anonymous")?;
-    Ok(Reading {
-        loops: OpenLoops::new(alloc),
-        names: NameTable::new(alloc),
-        equates: Equates::new(alloc),
-        equate_grows: false,
-        lines: Vec::new(alloc),
-        labels: NameSet::new(alloc),
-        instructions: 0,
-        lines_read: 0,
-        tokens_read: 0,
-        name,
-        author,
-        asserts: Vec::new(alloc),
-        ended: false,
-    })
-}
+use crate::reader::Reading;
+use crate::reader::repeat::read_all;
+use crate::source::{read_rows, rows_of};
+use std::alloc::Global;
 
 /// What is kept of all that was read.
 fn program_of(reading: Reading) -> Program
@@ -73,7 +45,7 @@ fn read_source(alloc: Global, bytes: &[u8], names: &Names) -> Result<Reading, Te
     let Ok(rows) = rows_of(alloc, bytes) else {
         return Err(TextProblem::OutOfMemory.at_line(0));
     };
-    let Ok(mut reading) = nothing_read(alloc) else {
+    let Ok(mut reading) = Reading::new(alloc) else {
         return Err(TextProblem::OutOfMemory.at_line(0));
     };
     read_all(alloc, names, read_rows(&rows), &mut reading)?;
@@ -97,7 +69,7 @@ fn read_source(alloc: Global, bytes: &[u8], names: &Names) -> Result<Reading, Te
 ///
 /// OutOfMemory, with the line 0, comes only where a growth was refused, in place of what would have come later.
 ///
-/// The time is linear in the length of the source and of the lines that are read, those of a loop once for each turn,
+/// The time is linear in the length of the source and of the lines that are read, those of a loop once for each round,
 /// and in the replacements in counts, of which each count has at most 65,536.
 #[tactic(auto, unfolding(crate::specs::Expansion::expansion))]
 pub fn expand(alloc: Global, bytes: &[u8], names: &Names) -> Result<Program, TextFault>
@@ -106,3 +78,6 @@ pub fn expand(alloc: Global, bytes: &[u8], names: &Names) -> Result<Program, Tex
     let reading = read_source(alloc, bytes, names)?;
     Ok(program_of(reading))
 }
+
+#[cfg(test)]
+mod tests;

@@ -2,9 +2,13 @@
 ghost use Rattle.std.specs.Prelude.{◌≡◌, Ok};
 ghost use Rattle.redcode_text.specs.Expression.{kinds, shape, start, value_of};
 
-use crate::evaluation::Reading;
+mod evaluation;
+mod operators;
+pub mod shape;
+
+use crate::expression::evaluation::Evaluation;
+use crate::expression::shape::check_shape;
 use crate::fault::ExprFault;
-use crate::shape::check_shape;
 use crate::token::Token;
 
 /// What names stand for.
@@ -23,11 +27,11 @@ fn evaluate<E: Env>(tokens: &[Token], env: &E) -> Result<i64, ExprFault>
     requires { shape start (kinds tokens.now) ≡ Ok tt }
     ensures { result ≡ value_of (E.value_of env.now) (kinds tokens.now) }
 {
-    let mut reading = Reading::new();
+    let mut evaluation = Evaluation::new();
     for at in 0..tokens.len() {
-        reading.advance(tokens, at, env)?;
+        evaluation.advance(tokens, at, env)?;
     }
-    reading.finish()
+    evaluation.finish()
 }
 
 /// The value of an expression, or its first fault: those of the shape first, then those of the values from the left.
@@ -38,3 +42,6 @@ pub fn eval<E: Env>(tokens: &[Token], env: &E) -> Result<i64, ExprFault>
     check_shape(tokens)?;
     evaluate(tokens, env)
 }
+
+#[cfg(test)]
+mod tests;

@@ -1,6 +1,6 @@
 //! What is wrong with a text or an expression.
 ghost use Rattle.std.specs.Prelude.{◌≡◌};
-ghost use Rattle.redcode_text.specs.Outcomes.{line_of};
+ghost use Rattle.redcode_text.specs.Code.Problems.{fault_line};
 
 use thiserror::Error;
 
@@ -75,7 +75,7 @@ impl TextProblem {
     /// The problem of a line; want of memory has none.
     pub(crate) fn at_line(self, line: usize) -> TextFault
         ensures problem { result.problem ≡ self }
-        ensures line { result.line ≡ line_of line self }
+        ensures line { result.line ≡ fault_line line self }
     {
         match self {
             TextProblem::OutOfMemory => TextFault {

@@ -2,7 +2,31 @@
 //!
 //! A source is read line by line. FOR and EQU are done, labels are told from operations, and what is left is a
 //! `Program`: lines in their parts, the names in them, EQU names for operands, a name, an author and asserts. What an
-//! operation or an operand means is not asked here.
+//! operation or an operand means is not asked here. The way of a source, with the file of each step:
+//!
+//! ```text
+//! source             bytes -> rows from the first `;redcode` on, each with its kind; the ROF of each FOR (blocks)
+//! reader/repeat      rows one after another, those of a loop once for each round; its head (repeat/head)
+//!   reader/line        a row that is neither FOR nor ROF
+//!     reader/comment     `;name`, `;author`, `;assert`
+//!     lexer              bytes -> tokens, with joins and counters
+//!     reader/equ         EQU: a name for these tokens
+//!     reader/ordinary    labels, operation, rest; where the operation is an EQU name, its lines in its place
+//! reader             all that has been read so far, within `limits`
+//! expansion          what is kept of it: a `program`
+//! names/equates      later, for each operand: EQU names -> their tokens
+//! expression         tokens -> a value
+//! ```
+//!
+//! A caller reads a source, then the lines, then the operands:
+//!
+//! ```text
+//! let program = expand(alloc, b"step EQU 4\nfirst DAT step*2\n", &predefined)?;
+//! for line in program.lines() {                                  // one line: `first` is its label, `DAT` its operation
+//!     let operand = program.substitute(alloc, &line.rest)?;      // the tokens of `4*2`
+//!     let value = eval(&operand, &labels);                       // Ok(8); `labels` says what other names stand for
+//! }
+//! ```
 //!
 //! The layers above may use:
 //!
@@ -20,55 +44,24 @@
 //! What takes memory answers OutOfMemory where a growth was refused, and that alone isn't defined.
 #![tactic(auto)]
 
-mod bytes;
-mod comments;
-mod counts;
-mod directives;
-mod equ_lines;
-mod equates;
-mod evaluation;
+mod characters;
 mod expansion;
 mod expression;
 mod fault;
-mod heads;
-mod instructions;
-mod loop_heads;
-mod loops;
-mod name_set;
+mod lexer;
+mod limits;
 mod names;
-mod open_loops;
-mod operations;
-mod operators;
-mod ordinary;
-mod pairs;
-mod parts;
-mod plain;
-mod predefined;
 mod program;
-mod reading;
-mod rows;
-mod shape;
-mod signs;
-mod state;
+mod reader;
+mod source;
 mod token;
-mod tokens;
-mod words;
 
 pub use expansion::expand;
+pub use expression::shape::check_shape;
 pub use expression::{Env, eval};
 pub use fault::{ExprFault, TextFault, TextProblem};
-pub use instructions::{is_instruction, is_spelled};
+pub use lexer::{LineTokens, scan};
 pub use names::NameTable;
-pub use predefined::Names;
-pub use program::Program;
-pub use shape::check_shape;
-pub use state::{Assert, Line};
+pub use names::predefined::Names;
+pub use program::{Assert, Line, Program, is_instruction, is_spelled};
 pub use token::{Sign, Token, TokenKind};
-pub use tokens::{LineTokens, scan};
-
-#[cfg(test)]
-mod expand_tests;
-#[cfg(test)]
-mod scan_tests;
-#[cfg(test)]
-mod tests;

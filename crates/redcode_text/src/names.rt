@@ -3,6 +3,10 @@ ghost use Rattle.std.specs.Prelude.{◌≡◌, length, [], IfOk, OnOk, IsAscii, 
 ghost use Rattle.redcode_text.specs.Lines.{name_at};
 ghost use Rattle.redcode_text.specs.Tokens.{name_index, with_name};
 
+pub mod equates;
+pub mod predefined;
+pub mod set;
+
 use indexmap::IndexSet;
 use std::alloc::{AllocError, Global};
 use std::marker::Model;

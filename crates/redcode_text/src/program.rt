@@ -1,11 +1,38 @@
 //! A program: what is kept of a source.
-use crate::equates::Equates;
+ghost use Rattle.std.specs.Prelude.{◌≡◌};
+ghost use Rattle.redcode_text.specs.Lines.{is_end, is_instruction, is_spelled};
+
+use crate::characters::is_word;
 use crate::fault::TextFault;
 use crate::names::NameTable;
-use crate::state::{Assert, Line};
+use crate::names::equates::Equates;
 use crate::token::Token;
 use std::alloc::Global;
 use std::marker::Model;
+
+/// A line that was read.
+#[derive(Drop)]
+pub struct Line {
+    /// The number of its line in the source, from 1.
+    pub number: usize,
+    /// Its labels, by their indices among the names.
+    pub labels: Vec<usize>,
+    /// Its operation, by its index among the names, if it has one.
+    pub operation: Option<usize>,
+    /// The tokens behind the operation; all of them where no name is first.
+    pub rest: Vec<Token>,
+}
+
+/// An assert.
+#[derive(Drop)]
+pub struct Assert {
+    /// The number of its line in the source, from 1.
+    pub number: usize,
+    /// The number of instructions before it.
+    pub current_line: u32,
+    /// Its expression.
+    pub tokens: Vec<Token>,
+}
 
 /// What is kept of a source: its lines with FOR and EQU done, and the names in them.
 ///
@@ -23,7 +50,7 @@ pub struct Program {
 impl Model for Program {
     ghost use Rattle.std.specs.Prelude.{map, string_bytes};
     ghost use Rattle.redcode_text.specs.Expansion.{ProgramValue};
-    ghost use Rattle.redcode_text.specs.Held.{assert_of, line_of};
+    ghost use Rattle.redcode_text.specs.Views.{assert_of, line_of};
     ghost use Rattle.redcode_text.specs.Programs.{IsProgram};
 
     ghost Value = { ProgramValue };
@@ -50,7 +77,7 @@ impl Model for Program {
 impl Program {
     ghost use Rattle.std.specs.Prelude.{◌≡◌, ◌≤◌, length, map};
     ghost use Rattle.redcode_text.specs.Equates.{limit, substitution};
-    ghost use Rattle.redcode_text.specs.Held.{assert_of, line_of};
+    ghost use Rattle.redcode_text.specs.Views.{assert_of, line_of};
     ghost use Rattle.redcode_text.specs.Outcomes.{Answers};
     ghost use Rattle.redcode_text.specs.Programs.{IsPrinted};
 
@@ -103,4 +130,29 @@ impl Program {
     {
         self.equates.substitute(alloc, tokens)
     }
+}
+
+/// Whether an operation, by its index among the names, is this word in either case.
+pub fn is_spelled(names: &NameTable, word: &[u8], operation: Option<usize>) -> bool
+    ensures { result ≡ is_spelled names.now word.now operation }
+{
+    match operation {
+        Some(name) => is_word(names.bytes_of(name), word),
+        None => false,
+    }
+}
+
+/// Whether an operation is END.
+pub(crate) fn is_end(names: &NameTable, operation: Option<usize>) -> bool
+    ensures { result ≡ is_end names.now operation }
+{
+    is_spelled(names, b"end", operation)
+}
+
+/// Whether a line is an instruction: one with an operation or a rest, other than ORG and END.
+pub fn is_instruction(names: &NameTable, operation: Option<usize>, rest: &[Token]) -> bool
+    ensures { result ≡ is_instruction names.now operation rest.now }
+{
+    (operation.is_some() || !rest.is_empty())
+        && !(is_spelled(names, b"org", operation) || is_end(names, operation))
 }

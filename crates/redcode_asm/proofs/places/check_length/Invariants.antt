@@ -1,5 +1,5 @@
 use Rattle.std.proofs.Common.{◌≡◌, ◌≤◌, ◌-◌, drop, map, filter}
-use Rattle.redcode_text.specs.Held.{line_of}
+use Rattle.redcode_text.specs.Views.{line_of}
 use Rattle.redcode_text.specs.Lines.{is_instruction}
 use Rattle.redcode_asm.specs.Assembly.{none_past, placed_from}
 use Rattle.redcode_asm.proofs.places.check_length.Given as goal

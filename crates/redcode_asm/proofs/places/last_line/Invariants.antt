@@ -1,9 +1,9 @@
 use Rattle.std.proofs.Common.{◌≡◌, ◌≤◌, drop, map, option_map, filter}
 use Rattle.std.specs.List.{last_or}
-use Rattle.redcode_text.specs.Held.{line_of}
+use Rattle.redcode_text.specs.Views.{line_of}
 use Rattle.redcode_text.specs.Lines.{is_spelled}
 use Rattle.redcode_asm.specs.Assembly.{placed_from, last_where}
-use Rattle.redcode_asm.specs.Outcomes.{placed_of}
+use Rattle.redcode_asm.specs.Code.Sources.{placed_of}
 use Rattle.redcode_asm.proofs.places.last_line.Given as goal
 
 abbrev pub invariant-loop-line : goal.invariant-loop-line

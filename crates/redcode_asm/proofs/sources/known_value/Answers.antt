@@ -1,5 +1,5 @@
 use Rattle.std.proofs.Common.{◌∙◌, ap}
-use Rattle.redcode_text.specs.Held.{predefined_of}
+use Rattle.redcode_text.specs.Views.{predefined_of}
 use Rattle.redcode_text.specs.Lines.{predefined_value, with_current_line}
 use Rattle.redcode_asm.proofs.sources.known_value.Goals as goal
 

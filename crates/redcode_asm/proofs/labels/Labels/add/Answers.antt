@@ -1,7 +1,7 @@
 use Rattle.std.proofs.Common.{◌≡◌, ◌∙◌, sym, ap, nat_eq, None, rules}
 use Rattle.std.specs.Map.{lookup}
 use Rattle.indexmap.proofs.CallerLemmas.{insert_entry-new}
-use Rattle.redcode_asm.specs.Labels.{with_label}
+use Rattle.redcode_asm.specs.Code.Labels.{with_label}
 use Rattle.redcode_asm.proofs.Tables.{with-new}
 use Rattle.redcode_asm.proofs.labels.Labels.add.Goals as goal
 

@@ -1,5 +1,5 @@
 use Rattle.std.proofs.Common.{◌≡◌, drop}
-use Rattle.redcode_asm.specs.Labels.{with_labels}
+use Rattle.redcode_asm.specs.Code.Labels.{with_labels}
 use Rattle.redcode_asm.proofs.labels.Labels.add_each.Given as goal
 
 abbrev pub invariant-loop-label : goal.invariant-loop-label

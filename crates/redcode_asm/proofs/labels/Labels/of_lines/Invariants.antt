@@ -1,7 +1,7 @@
 use Rattle.std.proofs.Common.{◌≡◌, ◌≤◌, [], drop, map}
-use Rattle.redcode_text.specs.Held.{line_of}
+use Rattle.redcode_text.specs.Views.{line_of}
 use Rattle.redcode_asm.specs.Assembly.{placed_from}
-use Rattle.redcode_asm.specs.Labels.{table_with}
+use Rattle.redcode_asm.specs.Code.Labels.{table_with}
 use Rattle.redcode_asm.proofs.labels.Labels.of_lines.Given as goal
 
 abbrev pub invariant-loop-line : goal.invariant-loop-line

@@ -1,7 +1,7 @@
 use Rattle.std.proofs.Common.{◌≡◌, ◌∙◌, sym, ap, Some, None, nat_eq, [], rules, w64}
 use Rattle.std.proofs.lemmas.Int.{to_z-of_z}
 use Rattle.std.specs.Map.{lookup}
-use Rattle.redcode_text.specs.Held.{predefined_of}
+use Rattle.redcode_text.specs.Views.{predefined_of}
 use Rattle.redcode_text.specs.Lines.{name_at, predefined_value, with_current_line}
 use Rattle.redcode_asm.specs.Assembly.{label_among, placed}
 use Rattle.redcode_asm.proofs.Tables.{lookup-table}

@@ -1,8 +1,8 @@
 use Rattle.std.proofs.Common.{◌∙◌, ap, rules}
 use Rattle.redcode_asm.specs.declared.sources.LineNames.{LineNames}
-use Rattle.redcode_text.specs.Held.{predefined_of}
+use Rattle.redcode_text.specs.Views.{predefined_of}
 use Rattle.redcode_asm.specs.Assembly.{cell_from, name_value}
-use Rattle.redcode_asm.specs.Outcomes.{placed_of}
+use Rattle.redcode_asm.specs.Code.Sources.{placed_of}
 use Rattle.redcode_asm.proofs.Failing.{gives-same}
 use Rattle.redcode_asm.proofs.Makes.{cell-made}
 use Rattle.redcode_asm.proofs.sources.Source.cell_of.Goals as goal

@@ -1,4 +1,4 @@
-use Rattle.redcode_text.specs.Held.{predefined_of}
+use Rattle.redcode_text.specs.Views.{predefined_of}
 use Rattle.redcode_asm.specs.Assembly.{instructions}
 use Rattle.redcode_asm.proofs.Counts.{each_counted}
 use Rattle.redcode_asm.proofs.sources.Source.cells.Goals as goal

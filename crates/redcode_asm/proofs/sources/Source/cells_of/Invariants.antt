@@ -1,8 +1,8 @@
 use Rattle.std.proofs.Common.{◌≡◌, ◌≤◌, drop, map, vec_len}
 use Rattle.std.specs.Prelude.{All}
 use Rattle.mars_cell.specs.Cells.{FitsCore}
-use Rattle.redcode_text.specs.Held.{line_of, predefined_of}
-use Rattle.redcode_asm.specs.Outcomes.{behind_cells, cells_among}
+use Rattle.redcode_text.specs.Views.{line_of, predefined_of}
+use Rattle.redcode_asm.specs.Code.Sources.{behind_cells, cells_among}
 use Rattle.redcode_asm.proofs.sources.Source.cells_of.Given as goal
 
 abbrev pub invariant-loop-line : goal.invariant-loop-line

@@ -1,5 +1,5 @@
 use Rattle.std.proofs.Common.{◌≡◌, drop, map}
-use Rattle.redcode_text.specs.Held.{assert_of, predefined_of}
+use Rattle.redcode_text.specs.Views.{assert_of, predefined_of}
 use Rattle.redcode_asm.specs.Assembly.{asserts_hold}
 use Rattle.redcode_asm.proofs.sources.Source.check_each.Given as goal
 

@@ -1,6 +1,6 @@
 use Rattle.std.proofs.Common.{rules}
-use Rattle.redcode_text.specs.Held.{predefined_of}
-use Rattle.redcode_asm.specs.Outcomes.{placed_of}
+use Rattle.redcode_text.specs.Views.{predefined_of}
+use Rattle.redcode_asm.specs.Code.Sources.{placed_of}
 use Rattle.redcode_asm.proofs.Failing.{gives-same}
 use Rattle.redcode_asm.proofs.Makes.{end-made}
 use Rattle.redcode_asm.proofs.sources.Source.end_start.Goals as goal

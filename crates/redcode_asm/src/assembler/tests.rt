@@ -1,0 +1,397 @@
+//! Sources and their warriors or faults: values that players know, limits at their values and one past them.
+
+use crate::{AsmFault, AsmProblem, assemble};
+use mars_cell::{Params, write_load};
+use redcode_text::{ExprFault, TextProblem};
+use std::alloc::Global;
+use std::test::Fail;
+
+/// The parameters of a core of this size, with warriors as long as it.
+fn core_of(core_size: u32) -> Result<Params, Fail> {
+    let params = Params::new(
+        core_size, 8000, 80_000, core_size, core_size, core_size, core_size,
+    )
+    .ok()
+    .ok_or("parameters")?;
+    Ok(params)
+}
+
+/// The parameters of a core of 8000 cells, with warriors of at most 4.
+fn short_warriors() -> Result<Params, Fail> {
+    let params = Params::new(8000, 8000, 80_000, 8000, 8000, 4, 4)
+        .ok()
+        .ok_or("parameters")?;
+    Ok(params)
+}
+
+/// The load file of the warrior of a source.
+fn listing(alloc: Global, params: &Params, source: &[u8]) -> Result<String, Fail> {
+    let warrior = assemble(alloc, source, params, 2, 3)?;
+    let text = write_load(alloc, &warrior, params.core_size())?;
+    let text = String::from_str(alloc, str::from_utf8(&text).ok().ok_or("text")?)?;
+    Ok(text)
+}
+
+fn fault_of(alloc: Global, params: &Params, source: &[u8]) -> Option<AsmFault> {
+    match assemble(alloc, source, params, 2, 3) {
+        Ok(_) => None,
+        Err(fault) => Some(fault),
+    }
+}
+
+fn at(line: usize, problem: AsmProblem) -> Option<AsmFault> {
+    Some(AsmFault { line, problem })
+}
+
+/// A text, so many copies of another, and an end.
+fn repeated(
+    alloc: Global,
+    front: &[u8],
+    part: &[u8],
+    count: usize,
+    end: &[u8],
+) -> Result<Vec<u8>, Fail> {
+    let mut text = Vec::from_slice(alloc, front)?;
+    for _ in 0..count {
+        text.extend_from_slice(part)?;
+    }
+    text.extend_from_slice(end)?;
+    Ok(text)
+}
+
+/// `e0 EQU 1`, each next name twice the one before, up to this one, and a DAT of the last.
+fn doublings(alloc: Global, last: usize) -> Result<Vec<u8>, Fail> {
+    let mut text = Vec::from_slice(alloc, b"e0 EQU 1\n")?;
+    for number in 0..last {
+        let line = format!(in alloc; "e{} EQU e{number}+e{number}\n", number + 1)?;
+        text.extend_from_slice(line.as_bytes())?;
+    }
+    text.extend_from_slice(format!(in alloc; "DAT e{last}\n")?.as_bytes())?;
+    Ok(text)
+}
+
+/// Prose that is never read, two rounds of a loop, and a line that names what they made.
+const LOOPS: &[u8] = b"FOR 0\nthis is prose\nROF\ni FOR 2\nx&i DAT i, 0\nROF\nDAT x02, x01\n";
+
+/// An EQU name of two lines in place of an operation.
+const COPIES: &[u8] =
+    b"step EQU 4\ncopy EQU MOV.I target, step\n     EQU ADD.AB #step, target\ntarget DAT 0, 0\ncopy\nEND target\n";
+
+#[test]
+fn listings(rt: HostRuntime) -> Result<(), Fail> {
+    let params = core_of(8000)?;
+    let cases = [
+        (
+            "ADD #4, 3\nMOV 2, @2\nJMP -2\nDAT #0, #0\n",
+            "ORG 0\nADD.AB #4, $3\nMOV.I $2, @2\nJMP.B $-2, $0\nDAT.F #0, #0\n",
+        ),
+        (
+            "DAT 5\nSPL 2\nCMP 1, #2\nNOP\n",
+            "ORG 0\nDAT.F $0, $5\nSPL.B $2, $0\nSEQ.B $1, #2\nNOP.F $0, $0\n",
+        ),
+        (
+            "SLT 1, #2\nSLT #1, 2\nmov . ba * 1, { -1",
+            "ORG 0\nSLT.B $1, #2\nSLT.AB #1, $2\nMOV.BA *1, {-1\n",
+        ),
+        (
+            "DAT 8000, -8000\nDAT 8001, -1\nDAT 4000, 4001",
+            "ORG 0\nDAT.F $0, $0\nDAT.F $1, $-1\nDAT.F $4000, $-3999\n",
+        ),
+        (
+            "a NOP a, b\nNOP a, b\nb: NOP a, CURLINE\nORG b-CURLINE+1",
+            "ORG 0\nNOP.F $0, $2\nNOP.F $-1, $1\nNOP.F $-2, $2\n",
+        ),
+        (
+            "NOP\nb NOP\nEND b\nNOP 1x",
+            "ORG 1\nNOP.F $0, $0\nNOP.F $0, $0\n",
+        ),
+        (
+            "NOP ROUNDS, WARRIORS\nNOP VERSION, MAXCYCLES-80000\n;assert CURLINE==2\nNOP",
+            "ORG 0\nNOP.F $2, $3\nNOP.F $80, $0\nNOP.F $0, $0\n",
+        ),
+    ];
+    for (source, text) in cases {
+        assert_eq!(rt;
+            listing(rt.alloc(), &params, source.as_bytes())?.as_str(),
+            text
+        );
+    }
+    assert_eq!(rt;
+        listing(rt.alloc(), &params, LOOPS)?.as_str(),
+        "ORG 0\nDAT.F $1, $0\nDAT.F $2, $0\nDAT.F $-1, $-2\n"
+    );
+    assert_eq!(rt;
+        listing(rt.alloc(), &params, COPIES)?.as_str(),
+        "ORG 0\nDAT.F $0, $0\nMOV.I $-1, $4\nADD.AB #4, $-2\n"
+    );
+    Ok(())
+}
+
+#[test]
+fn names_of_warriors(rt: HostRuntime) -> Result<(), Fail> {
+    let params = core_of(8000)?;
+    let source = b";name One\n;author Two\nNOP\n;name Three \n";
+    let warrior = assemble(rt.alloc(), source, &params, 1, 1)?;
+    assert_eq!(rt; warrior.name(), "Three");
+    assert_eq!(rt; warrior.author(), "Two");
+    let nameless = assemble(rt.alloc(), b"NOP", &params, 1, 1)?;
+    assert_eq!(rt; nameless.name(), "Unknown");
+    assert_eq!(rt; nameless.author(), "Anonymous");
+    Ok(())
+}
+
+#[test]
+fn each_fault(rt: HostRuntime) -> Result<(), Fail> {
+    let params = core_of(8000)?;
+    let unknown = AsmProblem::Expression(ExprFault::Unknown);
+    let syntax = AsmProblem::Expression(ExprFault::Syntax);
+    let cases = [
+        ("JMP", 1, AsmProblem::Operand),
+        ("NOP 1, 2, 3", 1, AsmProblem::Operand),
+        ("NOP\nNOP 1,", 2, AsmProblem::Operand),
+        ("STP 1, 2", 1, AsmProblem::Operation),
+        ("MOV.Q 1, 2", 1, AsmProblem::Operation),
+        ("5 NOP", 1, AsmProblem::Operation),
+        ("NOP 1, #", 1, syntax),
+        ("NOP x, 1/0", 1, unknown),
+        (
+            "NOP 1/0, x",
+            1,
+            AsmProblem::Expression(ExprFault::DivideByZero),
+        ),
+        (
+            "NOP 9223372036854775807+1",
+            1,
+            AsmProblem::Expression(ExprFault::Range),
+        ),
+        ("NOP\nORG 4\nNOP\nNOP\nNOP", 2, AsmProblem::BadOrigin),
+        (
+            "ORG 4\nADD #4, 3\nMOV 2, @2\nJMP -2\nDAT #0, #0",
+            1,
+            AsmProblem::BadOrigin,
+        ),
+        ("NOP\nORG -1", 2, AsmProblem::BadOrigin),
+        ("NOP\nORG", 2, syntax),
+        ("NOP\nEND x", 2, unknown),
+        (";assert 0\nNOP", 1, AsmProblem::AssertFailed),
+        (";assert a\na NOP", 1, unknown),
+        (";assert 1\n", 0, AsmProblem::Empty),
+        ("", 0, AsmProblem::Empty),
+        (
+            "x EQU 1\n EQU 2\nDAT x",
+            3,
+            AsmProblem::Text(TextProblem::BadToken),
+        ),
+        (
+            "FOR 0\nthis is prose\nROF\ni FOR 2\nx&i DAT i, 0\n",
+            4,
+            AsmProblem::Text(TextProblem::UnclosedFor),
+        ),
+    ];
+    for (source, line, problem) in cases {
+        assert_eq!(rt;
+            fault_of(rt.alloc(), &params, source.as_bytes()),
+            at(line, problem)
+        );
+    }
+    Ok(())
+}
+
+#[test]
+fn order_of_faults(rt: HostRuntime) -> Result<(), Fail> {
+    let params = short_warriors()?;
+    let cases = [
+        ("NOP x\nNOP 1x", 2, AsmProblem::Text(TextProblem::BadToken)),
+        (
+            ";assert 0\nORG 9\nNOP\nNOP\nNOP\nNOP\nNOP\nNOP x\n",
+            8,
+            AsmProblem::Expression(ExprFault::Unknown),
+        ),
+        (
+            ";assert 0\nORG 9\nNOP\nNOP\nNOP\nNOP\nNOP\nNOP 1\n",
+            7,
+            AsmProblem::TooLong,
+        ),
+        (";assert 0\nORG 9\nNOP\n", 2, AsmProblem::BadOrigin),
+        (
+            ";assert 1\n;assert 0\n;assert x\nNOP\n",
+            2,
+            AsmProblem::AssertFailed,
+        ),
+        (
+            "m EQU 1\n EQU 2\nMOV m",
+            3,
+            AsmProblem::Text(TextProblem::BadToken),
+        ),
+        ("m EQU 1\n EQU 2\nMOV.Q m", 3, AsmProblem::Operation),
+        ("m EQU\nJMP m", 2, AsmProblem::Operand),
+    ];
+    for (source, line, problem) in cases {
+        assert_eq!(rt;
+            fault_of(rt.alloc(), &params, source.as_bytes()),
+            at(line, problem)
+        );
+    }
+    Ok(())
+}
+
+#[test]
+fn one_cell(rt: HostRuntime) -> Result<(), Fail> {
+    let params = core_of(1)?;
+    assert_eq!(rt;
+        listing(rt.alloc(), &params, b"ADD.F }5, {-7")?.as_str(),
+        "ORG 0\nADD.F }0, {0\n"
+    );
+    assert_eq!(rt;
+        fault_of(rt.alloc(), &params, b";assert CORESIZE==8000\nADD.F }0, {0"),
+        at(1, AsmProblem::AssertFailed)
+    );
+    Ok(())
+}
+
+#[test]
+fn limits_of_equ_names(rt: HostRuntime) -> Result<(), Fail> {
+    let alloc = rt.alloc();
+    let params = core_of(8000)?;
+    let depth = AsmProblem::Text(TextProblem::EquDepth);
+    assert_eq!(rt; fault_of(alloc, &params, b"x EQU x\nx"), at(2, depth));
+    assert_eq!(rt;
+        fault_of(alloc, &params, b"x EQU y+y\ny EQU x+x\nDAT x"),
+        at(3, depth)
+    );
+    assert_eq!(rt;
+        listing(alloc, &params, &doublings(alloc, 15)?)?.as_str(),
+        "ORG 0\nDAT.F $0, $768\n"
+    );
+    assert_eq!(rt;
+        fault_of(alloc, &params, &doublings(alloc, 16)?),
+        at(18, AsmProblem::Text(TextProblem::TooLong))
+    );
+    Ok(())
+}
+
+#[test]
+fn limits_of_lines_and_signs(rt: HostRuntime) -> Result<(), Fail> {
+    let alloc = rt.alloc();
+    let params = core_of(8000)?;
+    let too_long = AsmProblem::Text(TextProblem::TooLong);
+    let depth = AsmProblem::Expression(ExprFault::Depth);
+    assert_eq!(rt;
+        fault_of(alloc, &params, b"FOR 10000\nFOR 10000\nNOP\nROF\nROF\n"),
+        at(3, too_long)
+    );
+    assert_eq!(rt;
+        fault_of(
+            alloc,
+            &params,
+            &repeated(alloc, b"DAT ", b"(", 10_000, b"")?
+        ),
+        at(1, depth)
+    );
+    assert_eq!(rt;
+        listing(alloc, &params, &repeated(alloc, b"DAT ", b"-", 64, b"1")?)?.as_str(),
+        "ORG 0\nDAT.F $0, $1\n"
+    );
+    assert_eq!(rt;
+        fault_of(alloc, &params, &repeated(alloc, b"DAT ", b"-", 65, b"1")?),
+        at(1, depth)
+    );
+    assert_eq!(rt;
+        fault_of(alloc, &params, &repeated(alloc, b"", b"\n", 65_537, b"")?),
+        at(65_537, too_long)
+    );
+    assert_eq!(rt;
+        fault_of(alloc, &params, &repeated(alloc, b"", b" ", 1_048_576, b"")?),
+        at(0, AsmProblem::Empty)
+    );
+    assert_eq!(rt;
+        fault_of(alloc, &params, &repeated(alloc, b"", b"1", 1_048_576, b"")?),
+        at(1, AsmProblem::Text(TextProblem::BadToken))
+    );
+    Ok(())
+}
+
+#[test]
+fn longest_warriors(rt: HostRuntime) -> Result<(), Fail> {
+    let alloc = rt.alloc();
+    let params = core_of(8000)?;
+    assert_eq!(rt;
+        fault_of(alloc, &params, &repeated(alloc, b"", b"NOP\n", 8000, b"")?),
+        None
+    );
+    assert_eq!(rt;
+        fault_of(
+            alloc,
+            &params,
+            &repeated(alloc, b"", b"NOP\n", 8001, b"NOP x")?
+        ),
+        at(8002, AsmProblem::Expression(ExprFault::Unknown))
+    );
+    assert_eq!(rt;
+        fault_of(alloc, &params, &repeated(alloc, b"", b"NOP\n", 8002, b"")?),
+        at(8001, AsmProblem::TooLong)
+    );
+    Ok(())
+}
+
+#[test]
+fn bytes_outside_ascii(rt: HostRuntime) -> Result<(), Fail> {
+    let alloc = rt.alloc();
+    let params = core_of(8000)?;
+    assert_eq!(rt;
+        fault_of(alloc, &params, b"NOP \xC8"),
+        at(1, AsmProblem::Text(TextProblem::NotAscii))
+    );
+    for source in [
+        b"NOP ;\xC8".as_slice(),
+        b"FOR 0\n\xC8\nROF\nNOP\n".as_slice(),
+        b"\xC8\n;redcode\nNOP\n".as_slice(),
+    ] {
+        assert_eq!(rt;
+            listing(alloc, &params, source)?.as_str(),
+            "ORG 0\nNOP.F $0, $0\n"
+        );
+    }
+    Ok(())
+}
+
+#[test]
+fn beginnings(rt: HostRuntime) -> Result<(), Fail> {
+    let params = core_of(8000)?;
+    let mut any = false;
+    for source in [LOOPS, COPIES] {
+        for end in 0..=source.len() {
+            if fault_of(rt.alloc(), &params, &source[..end]).is_none() {
+                any = true;
+            }
+        }
+    }
+    assert!(rt; any);
+    Ok(())
+}
+
+#[test]
+fn faults_as_they_are_displayed(rt: HostRuntime) -> Result<(), Fail> {
+    let cases = [
+        (
+            AsmProblem::Text(TextProblem::UnclosedFor),
+            "1 Text 3 UnclosedFor",
+        ),
+        (AsmProblem::Operation, "2 Operation"),
+        (AsmProblem::Operand, "3 Operand"),
+        (
+            AsmProblem::Expression(ExprFault::Depth),
+            "4 Expression 5 Depth",
+        ),
+        (AsmProblem::AssertFailed, "5 AssertFailed"),
+        (AsmProblem::BadOrigin, "6 BadOrigin"),
+        (AsmProblem::Empty, "7 Empty"),
+        (AsmProblem::TooLong, "8 TooLong"),
+        (AsmProblem::OutOfMemory, "9 OutOfMemory"),
+    ];
+    for (problem, text) in cases {
+        let fault = AsmFault { line: 7, problem };
+        assert_eq!(rt; format!(in rt.alloc(); "{fault}")?.as_str(), text);
+    }
+    Ok(())
+}

@@ -1,7 +1,0 @@
-use Rattle.std.proofs.Common.{◌∙◌, ap}
-use Rattle.redcode_text.specs.Held.{predefined_of}
-use Rattle.redcode_text.specs.Lines.{predefined_value, with_current_line}
-use Rattle.redcode_text.proofs.counts.CountNamesEnv.value.Goals as goal
-
-pub returns : goal.returns
-returns c = c.value_at.ensures ∙ ap (predefined_value (with_current_line (predefined_of c.args.self.now.predefined.now) c.args.self.now.current_line)) c.bytes_of.ensures

@@ -1,0 +1,21 @@
+use Rattle.std.proofs.Common.{◌∙◌, sym, subst}
+use Rattle.redcode_text.specs.Views.{scan_of}
+use Rattle.redcode_text.specs.Code.Problems.{Fails}
+use Rattle.redcode_text.proofs.Scans.{scan-token, scan-fails}
+use Rattle.redcode_text.proofs.lexer.read_tokens.Goals as goal
+
+pub loop-at-preserved : goal.loop-at-preserved
+loop-at-preserved c =
+    let text = c.args.text in let at = c.loop-at.at in
+    record {
+      within = c.in-Ok.ensures.len.1;
+      same =
+          sym (scan-token c.args.loops.now text.number c.args.room text.at at text.bytes.now (scan_of c.loop-at.tokens c.loop-at.names) (scan_of c.add_token.new.tokens c.add_token.new.names) c.in-Ok.len c.loop-at-test.true (sym c.is_blank.ensures ∙ c.if-is_blank.false) c.in-Ok.ensures.len.0 c.in-Ok.ensures.value)
+          ∙ c.loop-at.invariant.same;
+      room = c.in-Ok.ensures.room c.loop-at.invariant.room;
+    }
+
+pub returns-in-Err-clause-value : goal.returns-in-Err-clause-value
+returns-in-Err-clause-value c =
+    let text = c.args.text in let at = c.loop-at.at in
+    subst (Fails c.in-Err.problem) c.loop-at.invariant.same (scan-fails c.args.loops.now text.number c.args.room text.at at text.bytes.now (scan_of c.loop-at.tokens c.loop-at.names) c.in-Err.problem c.loop-at-test.true (sym c.is_blank.ensures ∙ c.if-is_blank.false) c.in-Err.ensures.value)

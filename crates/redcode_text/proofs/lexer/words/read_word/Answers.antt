@@ -1,0 +1,7 @@
+use Rattle.std.proofs.Common.{◌∙◌, sym}
+use Rattle.redcode_text.proofs.Joins.{joined-none}
+use Rattle.redcode_text.proofs.lexer.words.read_word.Goals as goal
+
+pub returns-then-not-contains-clause-value : goal.returns-then-not-contains-clause-value
+returns-then-not-contains-clause-value c =
+    rw (joined-none c.args.loops.now c.args.word.now (sym c.contains.ensures.value ∙ c.if-not-contains.true)) c.joined_word.ensures.value

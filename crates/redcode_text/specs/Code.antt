@@ -1,0 +1,14 @@
+-- How the code holds and reaches what is defined. All of this serves the proofs alone.
+pub mod Problems
+pub mod Kinds
+pub mod Rows
+pub mod Pairs
+pub mod Scanning
+pub mod Climbing
+pub mod Positions
+pub mod Labels
+pub mod Readings
+pub mod Comments
+pub mod Used
+pub mod Heads
+pub mod Loops

@@ -1,0 +1,135 @@
+-- How an expression that has the shape of one is evaluated from the left, with what waits on a stack.
+use Rattle.std.specs.Prelude.{◌≡◌, ℕ, List, [], ◌∷◌, ◌++◌, ◌-◌, ◌<◌, ◌≤◌, map, slice_range, Bool, true, false, ℤ, Option, Result, Ok, Err, if◌then◌else◌, nat_le}
+use Rattle.redcode_text.specs.declared.token.TokenKind.{TokenKind}
+use Rattle.redcode_text.specs.declared.token.TokenKind.TheVariants.{Number, Name}
+use Rattle.redcode_text.specs.declared.token.TokenKind.TheVariants as token
+use Rattle.redcode_text.specs.declared.token.Sign.{Sign}
+use Rattle.redcode_text.specs.declared.token.Sign.TheVariants.{OpenParen, CloseParen}
+use Rattle.redcode_text.specs.declared.fault.ExprFault.{ExprFault}
+use Rattle.redcode_text.specs.declared.fault.ExprFault.TheVariants.{Syntax}
+use Rattle.redcode_text.specs.declared.token.Token.{Token}
+use Rattle.redcode_text.specs.declared.expression.evaluation.Pending.{Pending}
+use Rattle.redcode_text.specs.declared.expression.evaluation.Pending.TheVariants.{Value, Open}
+use Rattle.redcode_text.specs.declared.expression.shape.ShapeState.{ShapeState}
+use Rattle.redcode_text.specs.declared.expression.evaluation.Evaluation as code
+use Rattle.redcode_text.specs.Expression.{◌>>=◌, precedence, unary, binary, known, kinds}
+
+-- a value with an operator that waits for its right side, or a parenthesis with the unary signs before it
+pub data Waiting : Type 0 where
+  Left : ℤ → Sign → Waiting
+  Opened : List TokenKind → Waiting
+
+-- the value behind these unary signs
+abbrev pub signed : List TokenKind → ℤ → Result ℤ ExprFault
+signed [] v = Ok v
+signed (token.Sign s ∷ xs) v = signed xs v >>= λ w. unary s w
+signed (_ ∷ xs) v = signed xs v
+
+-- the value, once all is applied that waits and binds at least as tightly
+abbrev pub reduced : ℕ → List Waiting → ℤ → Result (ℤ × List Waiting) ExprFault
+reduced k [] v = Ok (v, [])
+reduced k (Left u s ∷ stack) v = if nat_le (precedence s) k then (binary s u v >>= λ w. reduced k stack w) else Ok (v, Left u s ∷ stack)
+reduced k (Opened signs ∷ stack) v = Ok (v, Opened signs ∷ stack)
+
+-- the reading so far; `value` is the last operand's where one stands directly before
+pub record State : Type 0 where
+  pub stack : List Waiting
+  pub signs : List TokenKind
+  pub value : ℤ
+  pub after : Bool
+
+abbrev pub wants : ℤ → List Waiting → List TokenKind → State
+wants v stack signs = record { stack = stack; signs = signs; value = v; after = false }
+
+abbrev pub has : ℤ → List Waiting → State
+has v stack = record { stack = stack; signs = []; value = v; after = true }
+
+abbrev pub operand : State → ℤ → Result State ExprFault
+operand st n = signed st.signs n >>= λ v. Ok (has v st.stack)
+
+-- how loose an operator may be to be applied before this sign
+abbrev pub reach : Sign → ℕ
+reach CloseParen = 5
+reach s = precedence s
+
+abbrev pub placed : Sign → ℤ → List Waiting → Result State ExprFault
+placed CloseParen v (Opened signs ∷ stack) = signed signs v >>= λ w. Ok (has w stack)
+placed CloseParen v _ = Err Syntax
+placed s v stack = Ok (wants v (Left v s ∷ stack) [])
+
+abbrev pub before_mark : State → Sign → Result State ExprFault
+before_mark st OpenParen = Ok (wants st.value (Opened st.signs ∷ st.stack) [])
+before_mark st s = Ok (wants st.value st.stack (st.signs ++ token.Sign s ∷ []))
+
+abbrev pub after_mark : State → Sign → Result State ExprFault
+after_mark st s = reduced (reach s) st.stack st.value >>= λ r. placed s r.0 r.1
+
+abbrev pub move : (ℕ → Option ℤ) → State → TokenKind → Result State ExprFault
+move names st (Number n) = operand st n
+move names st (Name n) = known (names n) >>= λ v. operand st v
+move names st (token.Sign s) = if st.after then after_mark st s else before_mark st s
+
+abbrev pub run : (ℕ → Option ℤ) → State → List TokenKind → Result ℤ ExprFault
+run names st [] = reduced 5 st.stack st.value >>= λ r. Ok r.0
+run names st (x ∷ xs) = move names st x >>= λ next. run names next xs
+
+-- ---- what the code holds
+
+-- what an entry of the code's stack stands for, among these tokens
+abbrev pub waiting : List Token → Pending → Waiting
+waiting ts (Value v s) = Left v s
+waiting ts (Open from to) = Opened (kinds (slice_range ts from to))
+
+abbrev pub waiting_all : List Token → List Pending → List Waiting
+waiting_all ts stack = map (waiting ts) stack
+
+-- the signs of each parenthesis lie among the first n tokens
+abbrev pub AreInside : ℕ → List Pending → Type 0
+AreInside n [] = Unit {0}
+AreInside n (Value v s ∷ stack) = AreInside n stack
+AreInside n (Open from to ∷ stack) = (from ≤ to) × (to ≤ n) × AreInside n stack
+
+-- the top of the stack is looser than k
+abbrev pub StaysAt : ℕ → List Pending → Type 0
+StaysAt k [] = Unit {0}
+StaysAt k (Value v s ∷ stack) = k < precedence s
+StaysAt k (Open from to ∷ stack) = Unit {0}
+
+-- no parenthesis is the latest
+abbrev pub IsNoOpen : List Pending → Type 0
+IsNoOpen [] = Unit {0}
+IsNoOpen (Value v s ∷ stack) = Unit {0}
+IsNoOpen (Open from to ∷ stack) = ⊥
+
+-- what the code returns and leaves is what reading gives
+abbrev pub GivesReduced : List Token → Result ℤ ExprFault → List Pending → Result (ℤ × List Waiting) ExprFault → Type 0
+GivesReduced ts (Ok v) stack read = read ≡ Ok (v, waiting_all ts stack)
+GivesReduced ts (Err e) stack read = read ≡ Err e
+
+-- what the code holds before the token at a place
+abbrev pub seen : List Token → ℕ → code.Evaluation → State
+seen ts at r = record { stack = waiting_all ts r.stack; signs = kinds (slice_range ts r.first_sign at); value = r.value; after = r.after_operand }
+
+-- what the code returns and leaves before the token at a place is what reading gives
+abbrev pub Gives : List Token → ℕ → Result (Unit {0}) ExprFault → code.Evaluation → Result State ExprFault → Type 0
+Gives ts at (Ok x) r read = read ≡ Ok (seen ts at r)
+Gives ts at (Err e) r read = read ≡ Err e
+
+-- what waits is looser below, with this many parentheses open
+abbrev pub IsLooser : ℕ → List Waiting → Type 0
+IsLooser k [] = Unit {0}
+IsLooser k (Left u s ∷ stack) = k < precedence s
+IsLooser k (Opened signs ∷ stack) = Unit {0}
+
+abbrev pub IsOrdered : List Waiting → ℕ → Type 0
+IsOrdered [] n = n ≡ 0
+IsOrdered (Left u s ∷ stack) n = (0 < precedence s) × IsLooser (precedence s) stack × IsOrdered stack n
+IsOrdered (Opened signs ∷ stack) n = (0 < n) × IsOrdered stack (n - 1)
+
+-- the reading stands at this state of the shape
+pub record Stands (n : ℕ) (r : code.Evaluation) (st : State) (p : ShapeState) : Type 0 where
+  pub ordered : IsOrdered st.stack p.opened
+  pub opened : p.opened ≤ 64
+  pub after : st.after ≡ p.after_operand
+  pub inside : AreInside n r.stack
+  pub first : r.first_sign ≤ n

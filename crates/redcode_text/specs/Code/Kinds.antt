@@ -1,0 +1,22 @@
+-- The kinds of lines as the code holds them.
+use Rattle.std.specs.Prelude.{◌≡◌, ℕ, ◌≤◌, List, length}
+use Rattle.redcode_text.specs.declared.source.row.LineKind as code
+use Rattle.redcode_text.specs.declared.source.row.LineKind.TheVariants as line
+use Rattle.redcode_text.specs.Source.{LineKind, RofLine, ForLine, EquLine, OtherLine, line_kind}
+
+abbrev pub kind_of : code.LineKind → LineKind
+kind_of line.Rof = RofLine
+kind_of (line.For at) = ForLine at
+kind_of (line.Equ at) = EquLine at
+kind_of line.Other = OtherLine
+
+-- where the word FOR or EQU of a line stands
+abbrev pub word_place : code.LineKind → ℕ
+word_place (line.For at) = at
+word_place (line.Equ at) = at
+word_place kind = 0
+
+-- this is the kind of a line
+pub record IsKind (kind : code.LineKind) (bytes : List ℕ) : Type 0 where
+  pub is : kind_of kind ≡ line_kind bytes
+  pub inside : word_place kind ≤ length bytes

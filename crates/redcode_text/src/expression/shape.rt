@@ -1,0 +1,115 @@
+//! The shape of an expression: operands and operators in turn, parentheses closed.
+ghost use Rattle.std.specs.Prelude.{◌≡◌};
+ghost use Rattle.redcode_text.specs.Expression.{after_sign, before_sign, kinds, next_state, shape, start};
+
+use crate::expression::operators::precedence;
+use crate::fault::ExprFault;
+use crate::limits::{MAX_PARENS, MAX_SIGNS};
+use crate::token::{Sign, Token, TokenKind};
+
+/// What has been read of a shape.
+#[derive(Clone, Copy)]
+pub struct ShapeState {
+    /// How many parentheses are open.
+    pub opened: usize,
+    /// How many unary signs stand directly before.
+    pub signs: usize,
+    /// Whether an operand stands directly before.
+    pub after_operand: bool,
+}
+
+/// The state after one more token, or the fault of that token.
+fn step(state: ShapeState, kind: TokenKind) -> Result<ShapeState, ExprFault>
+    ensures { result ≡ next_state state kind }
+{
+    match kind {
+        TokenKind::Number(_) | TokenKind::Name(_) => {
+            if state.after_operand {
+                return Err(ExprFault::Syntax);
+            }
+            Ok(ShapeState {
+                opened: state.opened,
+                signs: 0,
+                after_operand: true,
+            })
+        }
+        TokenKind::Sign(sign) => {
+            if state.after_operand {
+                step_after_operand(state, sign)
+            } else {
+                step_before_operand(state, sign)
+            }
+        }
+    }
+}
+
+/// The state after a sign where an operand is wanted.
+fn step_before_operand(state: ShapeState, sign: Sign) -> Result<ShapeState, ExprFault>
+    ensures { result ≡ before_sign state sign }
+{
+    match sign {
+        Sign::Plus | Sign::Minus | Sign::Bang => {
+            if state.signs >= MAX_SIGNS {
+                return Err(ExprFault::Depth);
+            }
+            Ok(ShapeState {
+                opened: state.opened,
+                signs: state.signs + 1,
+                after_operand: false,
+            })
+        }
+        Sign::OpenParen => {
+            if state.opened >= MAX_PARENS {
+                return Err(ExprFault::Depth);
+            }
+            Ok(ShapeState {
+                opened: state.opened + 1,
+                signs: 0,
+                after_operand: false,
+            })
+        }
+        _ => Err(ExprFault::Syntax),
+    }
+}
+
+/// The state after a sign where an operator is wanted.
+fn step_after_operand(state: ShapeState, sign: Sign) -> Result<ShapeState, ExprFault>
+    ensures { result ≡ after_sign state sign }
+{
+    if sign == Sign::CloseParen {
+        if state.opened == 0 {
+            return Err(ExprFault::Syntax);
+        }
+        return Ok(ShapeState {
+            opened: state.opened - 1,
+            signs: 0,
+            after_operand: true,
+        });
+    }
+    if precedence(sign) == 0 {
+        return Err(ExprFault::Syntax);
+    }
+    Ok(ShapeState {
+        opened: state.opened,
+        signs: 0,
+        after_operand: false,
+    })
+}
+
+/// Whether the tokens have the shape of an expression, or the fault of the first that can't go on.
+pub fn check_shape(tokens: &[Token]) -> Result<(), ExprFault>
+    ensures { result ≡ shape start (kinds tokens.now) }
+{
+    let mut state = ShapeState {
+        opened: 0,
+        signs: 0,
+        after_operand: false,
+    };
+    for token in tokens {
+        state = step(state, token.kind)?;
+    }
+    if state.opened != 0 || !state.after_operand {
+        return Err(ExprFault::Syntax);
+    }
+    Ok(())
+}

@@ -1,0 +1,177 @@
+//! The tokens of a line.
+ghost use Rattle.std.specs.Prelude.{◌≡◌, ◌≤◌, ◌<◌, ◌+◌, ◌^◌, [], drop, length, vec_len, IfOk};
+ghost use Rattle.redcode_text.specs.Outcomes.{Answers};
+ghost use Rattle.redcode_text.specs.Views.{scan_of};
+ghost use Rattle.redcode_text.specs.Code.Problems.{Gives};
+ghost use Rattle.redcode_text.specs.Code.Scanning.{found_alone, with_names};
+ghost use Rattle.redcode_text.specs.Code.Scanning.{one_token};
+ghost use Rattle.redcode_text.specs.Tokens.{scan_from, scanned, sign_token, token_at};
+
+pub mod open_loops;
+mod signs;
+mod words;
+
+use crate::characters::{begins_word, is_blank, word_len};
+use crate::fault::{TextFault, TextProblem};
+use crate::lexer::open_loops::OpenLoops;
+use crate::lexer::signs::{one_byte_sign, two_byte_sign};
+use crate::lexer::words::{Spelled, read_word};
+use crate::names::NameTable;
+use crate::token::{Token, TokenKind};
+use std::alloc::Global;
+
+/// The part of a line that is read as tokens.
+#[derive(Clone, Copy)]
+pub struct Text<'a> {
+    /// The number of its line, from 1.
+    pub number: usize,
+    /// The index of its first byte in the source.
+    pub at: usize,
+    pub bytes: &'a [u8],
+}
+
+/// The sign at the front of some bytes: one of two bytes goes before one of one byte.
+fn read_sign(bytes: &[u8]) -> Result<Spelled, TextProblem>
+    ensures value { found_alone result ≡ sign_token [] bytes.now }
+    ensures len { IfOk result (λ s. (1 ≤ s.len) × (s.len ≤ length bytes.now)) }
+{
+    let [first, rest @ ..] = bytes else {
+        return Err(TextProblem::BadToken);
+    };
+    if let [second, ..] = rest {
+        if let Some(sign) = two_byte_sign(*first, *second) {
+            return Ok(Spelled {
+                kind: TokenKind::Sign(sign),
+                len: 2,
+            });
+        }
+    }
+    match one_byte_sign(*first) {
+        Some(sign) => Ok(Spelled {
+            kind: TokenKind::Sign(sign),
+            len: 1,
+        }),
+        None => Err(TextProblem::BadToken),
+    }
+}
+
+/// The token at the front of some bytes, which begin with no blank.
+fn read_token(
+    alloc: Global,
+    loops: &OpenLoops,
+    names: &mut NameTable,
+    bytes: &[u8],
+) -> Result<Spelled, TextProblem>
+    ensures value { Gives (with_names names.new) result (token_at loops.now names.old bytes.now) }
+    ensures len { IfOk result (λ s. (1 ≤ s.len) × (s.len ≤ length bytes.now)) }
+{
+    let [first, ..] = bytes else {
+        return Err(TextProblem::BadToken);
+    };
+    if !first.is_ascii() {
+        return Err(TextProblem::NotAscii);
+    }
+    if begins_word(bytes) {
+        return read_word(alloc, loops, names, &bytes[..word_len(bytes)]);
+    }
+    read_sign(bytes)
+}
+
+/// Reads the token that begins at a place of a text, and says how many bytes it takes.
+fn add_token(
+    alloc: Global,
+    loops: &OpenLoops,
+    text: Text<'_>,
+    at: usize,
+    room: usize,
+    names: &mut NameTable,
+    tokens: &mut Vec<Token>,
+) -> Result<usize, TextProblem>
+    requires within { at ≤ length text.bytes.now }
+    requires fits { text.at + length text.bytes.now < 2 ^ 64 }
+    ensures value { Gives (λ len. (len, scan_of tokens.new names.new)) result
+        (one_token loops.now text.entry.number room (text.entry.at + at) (drop at text.entry.bytes.now) (scan_of tokens.old names.old)) }
+    ensures len { IfOk result (λ len. (1 ≤ len) × (at + len ≤ length text.entry.bytes.now)) }
+    ensures room { vec_len tokens.old ≤ room → vec_len tokens.new ≤ room }
+{
+    let Spelled { kind, len } = match read_token(alloc, loops, names, &text.bytes[at..]) {
+        Ok(found) => found,
+        Err(problem) => return Err(problem),
+    };
+    if tokens.len() >= room {
+        return Err(TextProblem::TooLong);
+    }
+    let from = text.at + at;
+    let token = Token {
+        kind,
+        line: text.number,
+        from,
+        to: from + len,
+    };
+    match tokens.push(token) {
+        Ok(()) => Ok(len),
+        Err(_) => Err(TextProblem::OutOfMemory),
+    }
+}
+
+/// Reads the tokens of a text behind those that are there, up to so many in all.
+pub fn read_tokens(
+    alloc: Global,
+    loops: &OpenLoops,
+    text: Text<'_>,
+    room: usize,
+    names: &mut NameTable,
+    tokens: &mut Vec<Token>,
+) -> Result<(), TextProblem>
+    requires fits { text.at + length text.bytes.now < 2 ^ 64 }
+    requires room { vec_len tokens.old ≤ room }
+    ensures value { Gives (λ _. scan_of tokens.new names.new) result
+        (scan_from loops.now text.entry.number room text.entry.at 0 text.entry.bytes.now (scan_of tokens.old names.old)) }
+    ensures room { vec_len tokens.new ≤ room }
+{
+    let mut at = 0;
+    while at < text.bytes.len() {
+        if is_blank(text.bytes[at]) {
+            at += 1;
+        } else {
+            match add_token(alloc, loops, text, at, room, names, tokens) {
+                Ok(len) => at += len,
+                Err(problem) => return Err(problem),
+            }
+        }
+    }
+    Ok(())
+}
+
+/// The tokens and the names of a text of one line.
+#[derive(Drop)]
+pub struct LineTokens {
+    pub tokens: Vec<Token>,
+    /// The names, by whose indices the tokens call them.
+    pub names: NameTable,
+}
+
+/// Reads the tokens of a text of one line, outside loops, whose number is 1.
+///
+/// The longest token is taken. The faults are NotAscii and BadToken, of the first byte that begins no token; LF and `;`
+/// begin none. OutOfMemory, with the line 0, comes only where a growth was refused, in place of what would have come
+/// later.
+pub fn scan(alloc: Global, text: &[u8]) -> Result<LineTokens, TextFault>
+    ensures { Answers (λ s. scan_of s.tokens s.names) result (scanned text.now) }
+{
+    let mut tokens = Vec::new(alloc);
+    let mut names = NameTable::new(alloc);
+    let line = Text {
+        number: 1,
+        at: 0,
+        bytes: text,
+    };
+    let loops = OpenLoops::new(alloc);
+    match read_tokens(alloc, &loops, line, text.len(), &mut names, &mut tokens) {
+        Ok(()) => Ok(LineTokens { tokens, names }),
+        Err(problem) => Err(problem.at_line(1)),
+    }
+}
+
+#[cfg(test)]
+mod tests;

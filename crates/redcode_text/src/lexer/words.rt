@@ -1,0 +1,165 @@
+//! Words: numbers, names and counters, with their joins.
+ghost use Rattle.std.specs.Prelude.{◌≡◌, ◌++◌, ◌≤◌, ◌^◌, length, not, ◌==◌, true, IfOk, OnOk, IsAscii, MatchOption};
+ghost use Rattle.std.specs.Char.{is_ascii_digit};
+ghost use Rattle.std.specs.List.{list_all, prefix_len};
+ghost use Rattle.std.specs.Str.Parse.{digits_value};
+ghost use Rattle.redcode_text.specs.Code.Problems.{Gives};
+ghost use Rattle.redcode_text.specs.Code.Scanning.{with_names};
+ghost use Rattle.redcode_text.specs.Tokens.{joined, number_kind, plain_word_found, round_digits, round_of, word_found, word_token};
+
+use crate::characters::begins_name;
+use crate::fault::TextProblem;
+use crate::lexer::open_loops::OpenLoops;
+use crate::names::NameTable;
+use crate::token::TokenKind;
+use itoa::Buffer;
+use std::alloc::{AllocError, Global};
+
+fn are_digits(word: &[u8]) -> bool
+    ensures { result ≡ list_all is_ascii_digit word.now }
+{
+    word.iter().all(|byte| byte.is_ascii_digit())
+}
+
+/// The number that decimal digits spell, where it is below 2^64.
+fn number_of(digits: &[u8]) -> Option<u64>
+    requires { list_all is_ascii_digit digits.now ≡ true }
+    ensures { MatchOption result (2 ^ 64 ≤ digits_value 10 digits.now) (λ n. n ≡ digits_value 10 digits.now) }
+{
+    let mut number: u64 = 0;
+    for digit in digits {
+        number = number
+            .checked_mul(10)?
+            .checked_add(u64::from(*digit - b'0'))?;
+    }
+    Some(number)
+}
+
+/// The token of a number.
+fn number_kind(digits: &[u8]) -> Result<TokenKind, TextProblem>
+    requires { list_all is_ascii_digit digits.now ≡ true }
+    ensures { result ≡ number_kind (digits_value 10 digits.now) }
+{
+    match number_of(digits) {
+        Some(number) if number <= i64::MAX as u64 => Ok(TokenKind::Number(number as i64)),
+        _ => Err(TextProblem::BadToken),
+    }
+}
+
+/// What stands at the front of a text, and how many bytes spell it.
+#[derive(Clone, Copy)]
+pub struct Spelled {
+    pub kind: TokenKind,
+    pub len: usize,
+}
+
+/// A word that is no counter.
+fn plain_word(
+    alloc: Global,
+    names: &mut NameTable,
+    word: &[u8],
+    len: usize,
+) -> Result<Spelled, TextProblem>
+    requires { IsAscii word.now }
+    ensures value { Gives (with_names names.new) result (plain_word_found names.old len word.now) }
+    ensures len { IfOk result (λ s. s.len ≡ len) }
+{
+    if are_digits(word) {
+        let kind = number_kind(word)?;
+        return Ok(Spelled { kind, len });
+    }
+    if !begins_name(word) {
+        return Err(TextProblem::BadToken);
+    }
+    match names.index_of(alloc, word) {
+        Ok(index) => Ok(Spelled {
+            kind: TokenKind::Name(index),
+            len,
+        }),
+        Err(_) => Err(TextProblem::OutOfMemory),
+    }
+}
+
+/// A word with its joins done, which `len` bytes spell.
+fn joined_word(
+    alloc: Global,
+    loops: &OpenLoops,
+    names: &mut NameTable,
+    word: &[u8],
+    len: usize,
+) -> Result<Spelled, TextProblem>
+    requires { IsAscii word.now }
+    ensures value { Gives (with_names names.new) result (word_found names.old len word.now (round_of loops.now word.now)) }
+    ensures len { IfOk result (λ s. s.len ≡ len) }
+{
+    match loops.round_of(word) {
+        Some(round) => Ok(Spelled {
+            kind: TokenKind::Number(i64::from(round)),
+            len,
+        }),
+        None => plain_word(alloc, names, word, len),
+    }
+}
+
+/// Puts the digits of a round behind a word.
+fn push_round(word: &mut Vec<u8>, round: u32) -> Result<(), AllocError>
+    ensures digits { OnOk result (word.new.items ≡ word.old.items ++ round_digits round) }
+    ensures ascii { IsAscii word.old.items → OnOk result (IsAscii word.new.items) }
+{
+    if round < 10 {
+        word.push(b'0')?;
+    }
+    let mut buffer = Buffer::new();
+    word.extend_from_slice(buffer.format(round).as_bytes())?;
+    Ok(())
+}
+
+/// How many bytes stand before the next join.
+fn part_len(bytes: &[u8]) -> usize
+    ensures value { result ≡ prefix_len (λ b. not (b == 38)) bytes.now }
+    ensures within { result ≤ length bytes.now }
+{
+    bytes.iter().take_while(|byte| **byte != b'&').count()
+}
+
+/// A word with the digits of counters in place of its joins.
+fn join_word(alloc: Global, loops: &OpenLoops, word: &[u8]) -> Result<Vec<u8>, TextProblem>
+    requires { IsAscii word.now }
+    ensures value { Gives (λ w. w.items) result (joined loops.now word.now) }
+    ensures ascii { IfOk result (λ w. IsAscii w.items) }
+{
+    let mut at = part_len(word);
+    let Ok(mut joined) = Vec::from_slice(alloc, &word[..at]) else {
+        return Err(TextProblem::OutOfMemory);
+    };
+    while at < word.len() {
+        let from = at + 1;
+        let to = from + part_len(&word[from..]);
+        let Some(round) = loops.round_of(&word[from..to]) else {
+            return Err(TextProblem::BadToken);
+        };
+        let Ok(()) = push_round(&mut joined, round) else {
+            return Err(TextProblem::OutOfMemory);
+        };
+        at = to;
+    }
+    Ok(joined)
+}
+
+/// The token of a word as it is written.
+pub fn read_word(
+    alloc: Global,
+    loops: &OpenLoops,
+    names: &mut NameTable,
+    word: &[u8],
+) -> Result<Spelled, TextProblem>
+    requires { IsAscii word.now }
+    ensures value { Gives (with_names names.new) result (word_token loops.now names.old word.now) }
+    ensures len { IfOk result (λ s. s.len ≡ length word.now) }
+{
+    if !word.contains(&b'&') {
+        return joined_word(alloc, loops, names, word, word.len());
+    }
+    let joined = join_word(alloc, loops, word)?;
+    joined_word(alloc, loops, names, &joined, word.len())
+}

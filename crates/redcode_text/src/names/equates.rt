@@ -1,0 +1,223 @@
+//! EQU names, and tokens with EQU names replaced.
+ghost use Rattle.std.specs.Prelude.{◌≡◌, [], ◌∷◌, ◌++◌, map, Some, None, Ok, Err, MatchResult, option_map};
+ghost use Rattle.redcode_text.specs.Equates.{Replaced, equate_lines, token_lines, one_line, one_more, kept, replaced_name, replaced_token, each_replaced, replacing, depth_limit, each_replaced_at_line, substitution};
+ghost use Rattle.redcode_text.specs.Lines.{with_line};
+ghost use Rattle.redcode_text.specs.Outcomes.{Answers};
+ghost use Rattle.redcode_text.specs.Code.Problems.{Gives};
+ghost use Rattle.redcode_text.specs.Tokens.{at_line};
+
+use crate::fault::{TextFault, TextProblem};
+use crate::limits::{MAX_NESTING, MAX_REPLACED, MAX_REPLACEMENTS};
+use crate::token::{Token, TokenKind};
+use indexmap::IndexMap;
+use std::alloc::Global;
+use std::marker::Model;
+
+/// The EQU names, in the order of their definitions, each with its lines.
+#[derive(Drop)]
+pub struct Equates {
+    lines: IndexMap<usize, Vec<Vec<Token>>>,
+}
+
+impl Model for Equates {
+    ghost use Rattle.std.specs.Prelude.{List, map};
+    ghost use Rattle.redcode_text.specs.Equates.{Equate};
+
+    ghost Value = { List Equate };
+
+    ghost view = { λ s. map (λ e. record { name = e.0; lines = map (λ line. line.items) e.1.items }) s.lines.entries };
+}
+
+impl Equates {
+    /// No EQU name.
+    pub fn new(alloc: Global) -> Self
+        ensures { result ≡ [] }
+    {
+        Equates {
+            lines: IndexMap::new(alloc),
+        }
+    }
+
+    /// The lines of an EQU name, by its index among the names.
+    pub fn lines_of(&self, name: usize) -> Option<&[Vec<Token>]>
+        ensures { option_map (λ lines. map (λ line. line.items) lines.now) result ≡ equate_lines self.now name }
+    {
+        let lines = self.lines.get(&name)?;
+        Some(lines)
+    }
+}
+
+/// The tokens that stand so far, and how many names were replaced.
+#[derive(Drop)]
+struct Replaced {
+    tokens: Vec<Token>,
+    count: usize,
+}
+
+impl Model for Replaced {
+    ghost use Rattle.redcode_text.specs.Equates.{Replaced};
+
+    ghost Value = { Replaced };
+
+    ghost view = { λ r. record { tokens = r.tokens.items; count = r.count } };
+}
+
+impl Replaced {
+    /// One name more is replaced.
+    fn count_one(&mut self) -> Result<(), TextProblem>
+        ensures { Gives (λ _. self.new) result (one_more self.old) }
+    {
+        if self.count >= MAX_REPLACEMENTS {
+            return Err(TextProblem::TooLong);
+        }
+        self.count += 1;
+        Ok(())
+    }
+
+    /// A token that is no EQU name.
+    fn keep(&mut self, token: Token) -> Result<(), TextProblem>
+        ensures { Gives (λ _. self.new) result (kept self.old token) }
+    {
+        if self.tokens.len() >= MAX_REPLACED {
+            return Err(TextProblem::TooLong);
+        }
+        match self.tokens.push(token) {
+            Ok(()) => Ok(()),
+            Err(_) => Err(TextProblem::OutOfMemory),
+        }
+    }
+}
+
+/// The one line of an EQU name.
+fn only_line(lines: &[Vec<Token>]) -> Result<&[Token], TextProblem>
+    ensures { let defined = one_line (map (λ line. line.items) lines.now) in MatchResult result (λ line. defined ≡ Ok line.now) (λ problem. defined ≡ Err problem) }
+{
+    match lines {
+        [] => Ok(&[]),
+        [line] => Ok(line),
+        _ => Err(TextProblem::BadToken),
+    }
+}
+
+impl Equates {
+    /// Puts what these lines of an EQU name stand for behind the tokens that stand; `depth` replacements may nest.
+    #[cycle(replacing)]
+    fn replace(
+        &self,
+        depth: usize,
+        lines: &[Vec<Token>],
+        replaced: &mut Replaced,
+    ) -> Result<(), TextProblem>
+        ensures { Gives (λ _. replaced.new) result (replaced_name (replacing depth self.now) replaced.old (map (λ line. line.items) lines.now)) }
+    {
+        if depth == 0 {
+            return Err(TextProblem::EquDepth);
+        }
+        let line = only_line(lines)?;
+        replaced.count_one()?;
+        self.replace_each(depth - 1, line, replaced)
+    }
+
+    /// Puts a token, or what it stands for, behind the tokens that stand.
+    #[cycle(replacing)]
+    fn place(&self, depth: usize, token: Token, replaced: &mut Replaced) -> Result<(), TextProblem>
+        ensures { Gives (λ _. replaced.new) result (replaced_token (replacing depth self.now) replaced.old token (token_lines self.now token.kind)) }
+    {
+        let TokenKind::Name(name) = token.kind else {
+            return replaced.keep(token);
+        };
+        match self.lines_of(name) {
+            Some(lines) => self.replace(depth, lines, replaced),
+            None => replaced.keep(token),
+        }
+    }
+
+    /// The same for tokens, one after another.
+    #[cycle(replacing)]
+    fn replace_each(
+        &self,
+        depth: usize,
+        tokens: &[Token],
+        replaced: &mut Replaced,
+    ) -> Result<(), TextProblem>
+        ensures { Gives (λ _. replaced.new) result (each_replaced self.now (replacing depth self.now) replaced.old tokens.now) }
+    {
+        for token in tokens {
+            self.place(depth, *token, replaced)?;
+        }
+        Ok(())
+    }
+}
+
+impl Equates {
+    /// Puts a token of a source, or what it stands for, behind the tokens that stand; a fault has its line.
+    fn place_at_line(&self, token: Token, replaced: &mut Replaced) -> Result<(), TextFault>
+        ensures { Answers (λ _. replaced.new) result (at_line token.line (replaced_token (replacing depth_limit self.now) replaced.old token (token_lines self.now token.kind))) }
+    {
+        match self.place(MAX_NESTING, token, replaced) {
+            Ok(()) => Ok(()),
+            Err(problem) => Err(problem.at_line(token.line)),
+        }
+    }
+
+    /// The same for tokens, one after another.
+    fn place_each(&self, tokens: &[Token], replaced: &mut Replaced) -> Result<(), TextFault>
+        ensures { Answers (λ _. replaced.new) result (each_replaced_at_line self.now replaced.old tokens.now) }
+    {
+        for token in tokens {
+            self.place_at_line(*token, replaced)?;
+        }
+        Ok(())
+    }
+
+    /// Tokens with each EQU name replaced by its line, and the names in it in turn, at most 32 deep.
+    pub fn substitute(&self, alloc: Global, tokens: &[Token]) -> Result<Vec<Token>, TextFault>
+        ensures { Answers (λ made. made.items) result (substitution self.now tokens.now) }
+    {
+        let mut replaced = Replaced {
+            tokens: Vec::new(alloc),
+            count: 0,
+        };
+        self.place_each(tokens, &mut replaced)?;
+        let Replaced { tokens, count: _ } = replaced;
+        Ok(tokens)
+    }
+}
+
+impl Equates {
+    /// One EQU name more, with its first line.
+    pub fn define(
+        &mut self,
+        alloc: Global,
+        name: usize,
+        line: Vec<Token>,
+    ) -> Result<(), TextProblem>
+        requires { equate_lines self.old name ≡ None }
+        ensures { Gives (λ _. self.new) result (Ok (self.old ++ record { name = name; lines = line.items ∷ [] } ∷ [])) }
+    {
+        let mut lines = Vec::new(alloc);
+        let Ok(()) = lines.push(line) else {
+            return Err(TextProblem::OutOfMemory);
+        };
+        match self.lines.insert(name, lines) {
+            Ok(_) => Ok(()),
+            Err(_) => Err(TextProblem::OutOfMemory),
+        }
+    }
+
+    /// One line more for the last EQU name.
+    pub fn add_line(&mut self, line: Vec<Token>) -> Result<(), TextProblem>
+        ensures { Gives (λ _. self.new) result (Ok (with_line self.old line.items)) }
+    {
+        let Some((name, mut lines)) = self.lines.pop() else {
+            return Ok(());
+        };
+        let Ok(()) = lines.push(line) else {
+            return Err(TextProblem::OutOfMemory);
+        };
+        match self.lines.insert(name, lines) {
+            Ok(_) => Ok(()),
+            Err(_) => Err(TextProblem::OutOfMemory),
+        }
+    }
+}

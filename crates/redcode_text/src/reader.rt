@@ -1,0 +1,151 @@
+//! All that has been read of a source, and what a line adds to it.
+ghost use Rattle.std.specs.Prelude.{◌≡◌, ◌≤◌, ◌<◌, ◌+◌, ◌^◌, ◌==◌, not, length, string_bytes, vec_len, [], false, IfOk, OnOk};
+ghost use Rattle.std.specs.List.{prefix_len};
+ghost use Rattle.redcode_text.specs.Code.Labels.{AreLabels};
+ghost use Rattle.redcode_text.specs.Programs.{IsPrinted};
+ghost use Rattle.redcode_text.specs.declared.limits.TheConstants.{MAX_LINES, MAX_TOKENS};
+
+mod comment;
+mod equ;
+mod line;
+mod ordinary;
+pub mod repeat;
+mod sides;
+mod symbols;
+
+use crate::fault::TextProblem;
+use crate::lexer::open_loops::OpenLoops;
+use crate::lexer::{Text, read_tokens};
+use crate::limits::{MAX_LINES, MAX_TOKENS};
+use crate::names::NameTable;
+use crate::names::equates::Equates;
+use crate::names::set::NameSet;
+use crate::program::{Assert, Line};
+use crate::source::row::Row;
+use crate::token::Token;
+use std::alloc::{AllocError, Global};
+
+/// All that has been read.
+#[derive(Drop)]
+pub struct Reading {
+    /// The open loops.
+    pub loops: OpenLoops,
+    pub names: NameTable,
+    pub equates: Equates,
+    /// Whether an EQU line without a name adds to the last EQU name.
+    pub equate_grows: bool,
+    pub lines: Vec<Line>,
+    /// The labels of all lines.
+    pub labels: NameSet,
+    pub instructions: usize,
+    pub lines_read: usize,
+    pub tokens_read: usize,
+    pub name: String,
+    pub author: String,
+    pub asserts: Vec<Assert>,
+    /// Whether END was read.
+    pub ended: bool,
+    ghost few_lines: { lines_read ≤ MAX_LINES },
+    ghost few_tokens: { tokens_read ≤ MAX_TOKENS },
+    ghost each_read: { vec_len lines ≤ lines_read },
+    ghost each_counted: { instructions ≤ vec_len lines },
+    ghost known_labels: { AreLabels (λ l. l.labels.items) labels lines.items },
+    ghost printed_name: { IsPrinted (string_bytes name) },
+    ghost printed_author: { IsPrinted (string_bytes author) },
+}
+
+/// How many bytes stand before a comment.
+fn comment_at(bytes: &[u8]) -> usize
+    ensures value { result ≡ prefix_len (λ b. not (b == 59)) bytes.now }
+    ensures within { result ≤ length bytes.now }
+{
+    bytes.iter().take_while(|byte| **byte != b';').count()
+}
+
+impl Reading {
+    ghost use Rattle.redcode_text.specs.Code.Readings.{reading_of};
+    ghost use Rattle.redcode_text.specs.Expansion.{nothing_read};
+    ghost use Rattle.redcode_text.specs.Lines.{line_read, row_tokens, tokens_counted};
+    ghost use Rattle.redcode_text.specs.Code.Problems.{Gives};
+    ghost use Rattle.redcode_text.specs.Code.Rows.{row_of};
+
+    /// Nothing, before a source is read.
+    pub fn new(alloc: Global) -> Result<Reading, AllocError>
+        ensures value { IfOk result (λ reading. reading_of reading ≡ nothing_read) }
+        ensures loops { IfOk result (λ reading. reading.loops ≡ []) }
+        ensures going { IfOk result (λ reading. reading.ended ≡ false) }
+    {
+        let name = String::from_str(alloc, "Unknown")?;
+        let author = String::from_str(alloc, "Anonymous")?;
+        Ok(Reading {
+            loops: OpenLoops::new(alloc),
+            names: NameTable::new(alloc),
+            equates: Equates::new(alloc),
+            equate_grows: false,
+            lines: Vec::new(alloc),
+            labels: NameSet::new(alloc),
+            instructions: 0,
+            lines_read: 0,
+            tokens_read: 0,
+            name,
+            author,
+            asserts: Vec::new(alloc),
+            ended: false,
+        })
+    }
+
+    /// One more line is read.
+    pub fn count_line(&mut self) -> Result<(), TextProblem>
+        ensures value { Gives (λ _. reading_of self.new) result (line_read (reading_of self.old)) }
+        ensures room { OnOk result (vec_len self.new.lines < self.new.lines_read) }
+    {
+        if self.lines_read >= MAX_LINES {
+            return Err(TextProblem::TooLong);
+        }
+        self.lines_read += 1;
+        Ok(())
+    }
+
+    /// These tokens of a line that comes from EQU are read.
+    pub fn count_tokens(&mut self, tokens: &[Token]) -> Result<(), TextProblem>
+        ensures value { Gives (λ _. reading_of self.new) result (tokens_counted tokens.now (reading_of self.old)) }
+        ensures lines { vec_len self.new.lines ≡ vec_len self.old.lines }
+        ensures lines_read { self.new.lines_read ≡ self.old.lines_read }
+    {
+        if tokens.len() > MAX_TOKENS - self.tokens_read {
+            return Err(TextProblem::TooLong);
+        }
+        self.tokens_read += tokens.len();
+        Ok(())
+    }
+
+    /// The tokens of a row from a place on up to a comment.
+    pub fn row_tokens(
+        &mut self,
+        alloc: Global,
+        row: Row<'_>,
+        at: usize,
+    ) -> Result<Vec<Token>, TextProblem>
+        requires within { at ≤ length row.bytes.now }
+        requires fits { row.at + length row.bytes.now < 2 ^ 64 }
+        ensures value { Gives (λ tokens. (tokens.items, reading_of self.new)) result (row_tokens (row_of row.entry) at (reading_of self.old)) }
+        ensures lines { vec_len self.new.lines ≡ vec_len self.old.lines }
+        ensures lines_read { self.new.lines_read ≡ self.old.lines_read }
+    {
+        let text = &row.bytes[at..];
+        let code = Text {
+            number: row.number,
+            at: row.at + at,
+            bytes: &text[..comment_at(text)],
+        };
+        let mut tokens = Vec::new(alloc);
+        let room = MAX_TOKENS - self.tokens_read;
+        match read_tokens(alloc, &self.loops, code, room, &mut self.names, &mut tokens) {
+            Ok(()) => {
+                self.tokens_read += tokens.len();
+                Ok(tokens)
+            }
+            Err(problem) => Err(problem),
+        }
+    }
+}

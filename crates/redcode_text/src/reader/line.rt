@@ -1,0 +1,72 @@
+//! Lines that are neither FOR nor ROF.
+ghost use Rattle.std.specs.Prelude.{◌≡◌, ◌≤◌, ◌<◌, ◌+◌, ◌^◌, length, vec_len};
+ghost use Rattle.redcode_text.specs.Views.{predefined_of};
+ghost use Rattle.redcode_text.specs.Code.Readings.{reading_of};
+ghost use Rattle.redcode_text.specs.Lines.{plain_line, tokens_line};
+ghost use Rattle.redcode_text.specs.Code.Problems.{Gives};
+ghost use Rattle.redcode_text.specs.Code.Kinds.{kind_of, word_place};
+ghost use Rattle.redcode_text.specs.Code.Rows.{row_of};
+ghost use Rattle.redcode_text.specs.Source.{is_comment};
+
+use crate::characters::blank_len;
+use crate::fault::TextProblem;
+use crate::limits::MAX_NESTING;
+use crate::names::predefined::Names;
+use crate::reader::Reading;
+use crate::source::row::{LineKind, Row};
+use crate::token::Token;
+use std::alloc::Global;
+
+/// Whether a line is a comment alone.
+fn is_comment(bytes: &[u8]) -> bool
+    ensures { result ≡ is_comment bytes.now }
+{
+    match &bytes[blank_len(bytes)..] {
+        [b';', ..] => true,
+        _ => false,
+    }
+}
+
+impl Reading {
+    /// Reads the tokens of a line of this kind, which isn't FOR or ROF.
+    fn read_kind(
+        &mut self,
+        alloc: Global,
+        names: &Names,
+        kind: LineKind,
+        row: Row<'_>,
+        tokens: Vec<Token>,
+    ) -> Result<(), TextProblem>
+        requires room { vec_len self.old.lines < self.old.lines_read }
+        requires fits { row.at + length row.bytes.now < 2 ^ 64 }
+        requires inside { word_place kind ≤ length row.bytes.now }
+        ensures { Gives (λ _. reading_of self.new) result
+            (tokens_line (predefined_of names.now) (kind_of kind) (row_of row.entry) tokens.items (reading_of self.old)) }
+    {
+        if tokens.is_empty() {
+            return Ok(());
+        }
+        match kind {
+            LineKind::Equ(at) => self.read_equ(alloc, names, row.at + at, tokens),
+            _ => self.read_ordinary(alloc, names, row.number, MAX_NESTING, &tokens),
+        }
+    }
+
+    /// Reads a line that is neither FOR nor ROF.
+    pub fn read_plain(
+        &mut self,
+        alloc: Global,
+        names: &Names,
+        row: Row<'_>,
+    ) -> Result<(), TextProblem>
+        requires { row.at + length row.bytes.now < 2 ^ 64 }
+        ensures { Gives (λ _. reading_of self.new) result (plain_line (predefined_of names.now) (row_of row.entry) (reading_of self.old)) }
+    {
+        self.count_line()?;
+        if is_comment(row.bytes) {
+            return self.read_comment(alloc, row);
+        }
+        let tokens = self.row_tokens(alloc, row, 0)?;
+        self.read_kind(alloc, names, row.kind(), row, tokens)
+    }
+}

@@ -1,0 +1,241 @@
+//! The items of a source, with the rounds of its loops.
+ghost use Rattle.std.specs.Prelude.{◌≡◌, ◌+◌, ◌<◌, ◌≤◌, ◌^◌, false, length, map, option_map, slice_index, string_bytes, OnOk};
+ghost use Rattle.redcode_text.specs.Expansion.{flat, head_line, rof_line, rounds, unpaired_line};
+ghost use Rattle.redcode_text.specs.declared.limits.TheConstants.{MAX_LOOPS};
+ghost use Rattle.redcode_text.specs.Code.Heads.{head_of};
+ghost use Rattle.redcode_text.specs.Views.{predefined_of};
+ghost use Rattle.redcode_text.specs.Code.Readings.{reading_of};
+ghost use Rattle.redcode_text.specs.Code.Loops.{IsFor, IsPlain, ReadTo, RowsFit};
+ghost use Rattle.redcode_text.specs.Outcomes.{Answers};
+ghost use Rattle.redcode_text.specs.Code.Problems.{Gives};
+ghost use Rattle.redcode_text.specs.Code.Rows.{row_of};
+ghost use Rattle.redcode_text.specs.Code.Pairs.{AreEnds, here_from};
+ghost use Rattle.redcode_text.specs.Source.{ForLine, line_kind, tree_of_rows};
+ghost use Rattle.redcode_text.specs.Tokens.{at_line};
+
+mod head;
+
+use crate::fault::{TextFault, TextProblem};
+use crate::lexer::open_loops::OpenLoop;
+use crate::names::predefined::Names;
+use crate::reader::Reading;
+use crate::reader::repeat::head::Head;
+use crate::source::blocks::{end_from, ends_of};
+use crate::source::row::{LineKind, Row};
+use std::alloc::Global;
+
+impl Reading {
+    /// Reads the line of a ROF, whose tokens mean nothing.
+    pub fn read_rof(&mut self, alloc: Global, row: Row<'_>) -> Result<(), TextProblem>
+        requires { row.at + length row.bytes.now < 2 ^ 64 }
+        ensures { Gives (λ _. reading_of self.new) result (rof_line (row_of row.entry) (reading_of self.old)) }
+    {
+        self.count_line()?;
+        match self.row_tokens(alloc, row, 0) {
+            Ok(_) => {
+                self.equate_grows = false;
+                Ok(())
+            }
+            Err(problem) => Err(problem),
+        }
+    }
+}
+
+/// Reads the row at a place, which is neither FOR nor ROF, and gives the next place.
+fn read_row(
+    alloc: Global,
+    names: &Names,
+    rows: &[Row<'_>],
+    at: usize,
+    reading: &mut Reading,
+) -> Result<usize, TextFault>
+    requires fits { RowsFit rows.now }
+    requires within { at < length rows.now }
+    requires plain { IsPlain rows.now at }
+    ensures gives { ReadTo (predefined_of names.now) rows.now at (reading_of reading.old) (reading_of reading.new) result }
+    ensures loops { OnOk result (reading.new.loops ≡ reading.old.loops) }
+{
+    let row = rows[at];
+    match reading.read_plain(alloc, names, row) {
+        Ok(()) => Ok(at + 1),
+        Err(problem) => Err(problem.at_line(row.number)),
+    }
+}
+
+/// Reads the row of a FOR.
+fn read_for_row(
+    alloc: Global,
+    names: &Names,
+    row: Row<'_>,
+    word_at: usize,
+    reading: &mut Reading,
+) -> Result<Head, TextFault>
+    requires fits { row.at + length row.bytes.now < 2 ^ 64 }
+    requires inside { word_at ≤ length row.bytes.now }
+    requires word { ForLine word_at ≡ line_kind row.bytes.now }
+    ensures loops { OnOk result (reading.new.loops ≡ reading.old.loops) }
+    ensures depth { OnOk result (length reading.old.loops < MAX_LOOPS) }
+    ensures gives { Answers (head_of (reading_of reading.new)) result (at_line row.entry.number (head_line (predefined_of names.now) (row_of row.entry) (reading_of reading.old))) }
+{
+    match reading.read_head(alloc, names, row, word_at) {
+        Ok(head) => Ok(head),
+        Err(problem) => Err(problem.at_line(row.number)),
+    }
+}
+
+/// Reads the row of a ROF.
+fn read_rof_row(alloc: Global, row: Row<'_>, reading: &mut Reading) -> Result<(), TextFault>
+    requires { row.at + length row.bytes.now < 2 ^ 64 }
+    ensures loops { OnOk result (reading.new.loops ≡ reading.old.loops) }
+    ensures gives { Answers (λ _. reading_of reading.new) result (at_line row.entry.number (rof_line (row_of row.entry) (reading_of reading.old))) }
+{
+    match reading.read_rof(alloc, row) {
+        Ok(()) => Ok(()),
+        Err(problem) => Err(problem.at_line(row.number)),
+    }
+}
+
+/// Refuses a FOR without its ROF, or a ROF without its FOR, which is this problem.
+fn refuse_unpaired(
+    row: Row<'_>,
+    problem: TextProblem,
+    reading: &mut Reading,
+) -> Result<(), TextFault>
+    ensures { Answers (λ _. reading_of reading.new) result (at_line row.entry.number (unpaired_line problem (reading_of reading.old))) }
+{
+    match reading.count_line() {
+        Ok(()) => Err(problem.at_line(row.number)),
+        Err(problem) => Err(problem.at_line(row.number)),
+    }
+}
+
+/// Reads the items from `first` on, up to the ROF that ends them, END or the end.
+#[cycle(items)]
+fn read_items(
+    alloc: Global,
+    names: &Names,
+    rows: &[Row<'_>],
+    ends: &[usize],
+    first: usize,
+    reading: &mut Reading,
+) -> Result<(), TextFault>
+    requires ends { AreEnds rows.now ends.now }
+    requires same_length { length ends.now ≡ length rows.now }
+    requires fits { RowsFit rows.now }
+    requires within { first ≤ length rows.now }
+    requires depth { length reading.old.loops ≤ MAX_LOOPS }
+    ensures gives { Answers (λ _. reading_of reading.new) result (flat (predefined_of names.now) (here_from rows.now first) (reading_of reading.old)) }
+    ensures loops { OnOk result (reading.new.loops ≡ reading.old.loops) }
+{
+    let mut at = first;
+    while at < rows.len() {
+        at = match rows[at].kind() {
+            LineKind::Rof => return Ok(()),
+            LineKind::For(word_at) => {
+                if ends[at] >= rows.len() {
+                    return refuse_unpaired(rows[at], TextProblem::UnclosedFor, reading);
+                }
+                read_loop(alloc, names, rows, ends, at, word_at, reading)?
+            }
+            LineKind::Equ(_) | LineKind::Other => read_row(alloc, names, rows, at, reading)?,
+        };
+        if reading.ended {
+            return Ok(());
+        }
+    }
+    Ok(())
+}
+
+/// Reads the loop whose FOR is at a place, and says where the items behind its ROF begin.
+#[cycle(items)]
+fn read_loop(
+    alloc: Global,
+    names: &Names,
+    rows: &[Row<'_>],
+    ends: &[usize],
+    at: usize,
+    word_at: usize,
+    reading: &mut Reading,
+) -> Result<usize, TextFault>
+    requires ends { AreEnds rows.now ends.now }
+    requires same_length { length ends.now ≡ length rows.now }
+    requires fits { RowsFit rows.now }
+    requires within { at < length rows.now }
+    requires closed { slice_index ends.now at < length rows.now }
+    requires word { IsFor rows.now at word_at }
+    requires depth { length reading.old.loops ≤ MAX_LOOPS }
+    ensures gives { ReadTo (predefined_of names.now) rows.now at (reading_of reading.old) (reading_of reading.new) result }
+    ensures loops { OnOk result (reading.new.loops ≡ reading.old.loops) }
+{
+    let last = ends[at];
+    let head = read_for_row(alloc, names, rows[at], word_at, reading)?;
+    read_rounds(alloc, names, rows, ends, at + 1, head, reading)?;
+    if reading.ended {
+        return Ok(last + 1);
+    }
+    read_rof_row(alloc, rows[last], reading)?;
+    Ok(last + 1)
+}
+
+/// Reads the items from `first` on as often as the head of their loop says, up to END.
+#[cycle(items)]
+fn read_rounds(
+    alloc: Global,
+    names: &Names,
+    rows: &[Row<'_>],
+    ends: &[usize],
+    first: usize,
+    head: Head,
+    reading: &mut Reading,
+) -> Result<(), TextFault>
+    requires ends { AreEnds rows.now ends.now }
+    requires same_length { length ends.now ≡ length rows.now }
+    requires fits { RowsFit rows.now }
+    requires within { first < length rows.now }
+    requires depth { length reading.old.loops < MAX_LOOPS }
+    ensures gives { Answers (λ _. reading_of reading.new) result
+        (rounds (flat (predefined_of names.now) (here_from rows.now first)) (option_map (λ s. string_bytes s) head.counter) 1 head.count (reading_of reading.old)) }
+    ensures loops { OnOk result (reading.new.loops ≡ reading.old.loops) }
+{
+    if let LineKind::Rof = rows[first].kind() {
+        return Ok(());
+    }
+    let Head { mut counter, count } = head;
+    for round in 1..=count {
+        let Ok(()) = reading.loops.push(OpenLoop::new(counter, round)) else {
+            return Err(TextProblem::OutOfMemory.at_line(0));
+        };
+        read_items(alloc, names, rows, ends, first, reading)?;
+        counter = reading.loops.close();
+        if reading.ended {
+            return Ok(());
+        }
+    }
+    Ok(())
+}
+
+/// Reads all rows, up to END.
+pub fn read_all(
+    alloc: Global,
+    names: &Names,
+    rows: &[Row<'_>],
+    reading: &mut Reading,
+) -> Result<(), TextFault>
+    requires fits { RowsFit rows.now }
+    requires depth { length reading.old.loops ≤ MAX_LOOPS }
+    requires going { reading.old.ended ≡ false }
+    ensures { Answers (λ _. reading_of reading.new) result (flat (predefined_of names.now) (tree_of_rows (map row_of rows.now)) (reading_of reading.old)) }
+{
+    let Ok(ends) = ends_of(alloc, rows) else {
+        return Err(TextProblem::OutOfMemory.at_line(0));
+    };
+    read_items(alloc, names, rows, &ends, 0, reading)?;
+    if reading.ended {
+        return Ok(());
+    }
+    let end = end_from(rows, &ends, 0);
+    if end >= rows.len() {
+        return Ok(());
+    }
+    refuse_unpaired(rows[end], TextProblem::RofAlone, reading)
+}

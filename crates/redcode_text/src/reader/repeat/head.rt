@@ -1,0 +1,142 @@
+//! The head of a loop: its counter and its count.
+ghost use Rattle.std.specs.Prelude.{◌≡◌, ◌<◌, ◌+◌, ◌^◌, length, ◌≤◌, option_map, string_bytes, Ok};
+ghost use Rattle.redcode_text.specs.Expansion.{as_count, count_of, has_label, counter_name, head_line};
+ghost use Rattle.redcode_text.specs.Expression.{kinds};
+ghost use Rattle.redcode_text.specs.Code.Heads.{head_of};
+ghost use Rattle.redcode_text.specs.Views.{predefined_of};
+ghost use Rattle.redcode_text.specs.Code.Readings.{reading_of};
+ghost use Rattle.redcode_text.specs.Code.Problems.{Gives};
+ghost use Rattle.redcode_text.specs.Code.Rows.{row_of};
+ghost use Rattle.redcode_text.specs.Source.{ForLine, line_kind};
+
+use crate::expression::{Env, eval};
+use crate::fault::{ExprFault, TextProblem};
+use crate::limits::{MAX_COUNT, MAX_LOOPS};
+use crate::names::NameTable;
+use crate::names::predefined::Names;
+use crate::reader::Reading;
+use crate::reader::sides::{keep_after, name_in_front};
+use crate::source::row::Row;
+use crate::token::{Token, TokenKind};
+use std::alloc::Global;
+
+/// The head of a loop: its counter, if it has one, and how often its body is read.
+#[derive(Drop)]
+pub struct Head {
+    pub counter: Option<String>,
+    pub count: u32,
+}
+
+/// What names stand for in a count.
+#[derive(Clone, Copy)]
+struct CountNames<'a> {
+    predefined: &'a Names,
+    names: &'a NameTable,
+    current_line: u32,
+}
+
+impl<'a> Env for CountNames<'a> {
+    ghost use Rattle.redcode_text.specs.Views.{predefined_of};
+    ghost use Rattle.redcode_text.specs.Lines.{name_at, predefined_value, with_current_line};
+
+    ghost value_of = { λ c n. predefined_value (with_current_line (predefined_of c.predefined.now) c.current_line) (name_at c.names.now n) };
+
+    fn value(&self, name: usize) -> Option<i64> {
+        self.predefined
+            .value_at(self.current_line, self.names.bytes_of(name))
+    }
+}
+
+/// A count is a value from 0 to 10,000.
+fn as_count(value: Result<i64, ExprFault>) -> Result<u32, TextProblem>
+    ensures { result ≡ as_count value }
+{
+    match value {
+        Ok(count) if 0 <= count && count <= MAX_COUNT => Ok(count as u32),
+        Ok(_) => Err(TextProblem::BadCount),
+        Err(fault) => Err(TextProblem::Expression(fault)),
+    }
+}
+
+impl Reading {
+    /// Whether a name that isn't predefined is among the tokens.
+    fn has_label(&self, names: &Names, tokens: &[Token]) -> bool
+        ensures { result ≡ has_label (predefined_of names.now) (reading_of self.now) (kinds tokens.now) }
+    {
+        for token in tokens {
+            if let TokenKind::Name(name) = token.kind {
+                if !self.is_predefined(names, name) {
+                    return true;
+                }
+            }
+        }
+        false
+    }
+
+    /// How often the body of a loop is read.
+    #[tactic(auto, using(crate::proofs::Failing::fails_bare))]
+    pub fn count_of(
+        &self,
+        alloc: Global,
+        names: &Names,
+        tokens: &[Token],
+    ) -> Result<u32, TextProblem>
+        ensures { Gives (λ count. count) result (count_of (predefined_of names.now) (reading_of self.now) tokens.now) }
+    {
+        let tokens = match self.equates.substitute(alloc, tokens) {
+            Ok(tokens) => tokens,
+            Err(fault) => return Err(fault.problem),
+        };
+        if self.has_label(names, &tokens) {
+            return Err(TextProblem::LabelInCount);
+        }
+        let env = CountNames {
+            predefined: names,
+            names: &self.names,
+            current_line: self.instructions as u32,
+        };
+        as_count(eval(&tokens, &env))
+    }
+}
+
+impl Reading {
+    /// The counter of a loop, by its index among the names.
+    fn counter_of(&self, alloc: Global, name: Option<usize>) -> Result<Option<String>, TextProblem>
+        ensures { Gives (λ c. option_map (λ s. string_bytes s) c) result (Ok (counter_name (reading_of self.now) name)) }
+    {
+        let Some(name) = name else {
+            return Ok(None);
+        };
+        match String::from_str(alloc, self.names.name(name).unwrap_or("")) {
+            Ok(text) => Ok(Some(text)),
+            Err(_) => Err(TextProblem::OutOfMemory),
+        }
+    }
+
+    /// Reads a FOR line, whose word FOR begins at this place of it.
+    pub fn read_head(
+        &mut self,
+        alloc: Global,
+        names: &Names,
+        row: Row<'_>,
+        word_at: usize,
+    ) -> Result<Head, TextProblem>
+        requires fits { row.at + length row.bytes.now < 2 ^ 64 }
+        requires inside { word_at ≤ length row.bytes.now }
+        requires word { ForLine word_at ≡ line_kind row.bytes.now }
+        ensures { Gives (head_of (reading_of self.new)) result (head_line (predefined_of names.now) (row_of row.entry) (reading_of self.old)) }
+    {
+        self.count_line()?;
+        let mut tokens = self.row_tokens(alloc, row, 0)?;
+        let at = row.at + word_at;
+        let name = name_in_front(&tokens, at)?;
+        if self.loops.len() >= MAX_LOOPS {
+            return Err(TextProblem::TooLong);
+        }
+        keep_after(&mut tokens, at);
+        let count = self.count_of(alloc, names, &tokens)?;
+        let counter = self.counter_of(alloc, name)?;
+        self.equate_grows = false;
+        Ok(Head { counter, count })
+    }
+}

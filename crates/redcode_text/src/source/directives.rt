@@ -1,0 +1,93 @@
+//! Directives: comments that say something.
+ghost use Rattle.std.specs.Prelude.{◌≡◌, ◌≤◌, ◌<◌, ◌+◌, length, map, reverse, string_bytes, take, true, nat_eq, IfOk, IfSome, Ok};
+ghost use Rattle.std.specs.List.{starts_with};
+ghost use Rattle.std.specs.Str.{str_to_ascii_lowercase};
+ghost use Rattle.redcode_text.specs.Lines.{directive_value, printable};
+ghost use Rattle.redcode_text.specs.Code.Problems.{Gives};
+ghost use Rattle.redcode_text.specs.Code.Rows.{text_found};
+ghost use Rattle.redcode_text.specs.Programs.{IsPrinted};
+ghost use Rattle.redcode_text.specs.Source.{blank_len, without_blanks};
+
+use crate::characters::{blank_len, is_blank, is_word};
+use crate::fault::TextProblem;
+use crate::limits::MAX_NAME;
+use std::alloc::Global;
+
+/// Whether a line begins, behind blanks, with these bytes in either case.
+pub fn has_directive(directive: &[u8], bytes: &[u8]) -> bool
+    requires { str_to_ascii_lowercase directive.now ≡ directive.now }
+    ensures value { result ≡ starts_with nat_eq (str_to_ascii_lowercase (without_blanks bytes.now)) directive.now }
+    ensures within { result ≡ true → blank_len bytes.now + length directive.now ≤ length bytes.now }
+{
+    let text = &bytes[blank_len(bytes)..];
+    if text.len() < directive.len() {
+        return false;
+    }
+    is_word(directive, &text[..directive.len()])
+}
+
+/// Where the text of a directive begins, where a line is that directive: a blank or nothing stands behind its word.
+pub fn directive_text_at(directive: &[u8], bytes: &[u8]) -> Option<usize>
+    requires { str_to_ascii_lowercase directive.now ≡ directive.now }
+    ensures value { result ≡ text_found directive.now bytes.now }
+    ensures within { IfSome result (λ at. at ≤ length bytes.now) }
+{
+    if !has_directive(directive, bytes) {
+        return None;
+    }
+    let at = blank_len(bytes) + directive.len();
+    match &bytes[at..] {
+        [first, ..] if !is_blank(*first) => None,
+        _ => Some(at),
+    }
+}
+
+/// A byte as it stands in a name: `?` where it can't be printed.
+fn printable(byte: u8) -> u8
+    ensures value { result ≡ printable byte }
+    ensures ascii { result < 128 }
+{
+    if b' ' <= byte && byte <= b'~' {
+        byte
+    } else {
+        b'?'
+    }
+}
+
+/// How many bytes stand before the blanks at the end.
+fn trimmed_len(text: &[u8]) -> usize
+    ensures value { take result text.now ≡ reverse (without_blanks (reverse text.now)) }
+    ensures within { result ≤ length text.now }
+{
+    let mut len = text.len();
+    while len > 0 {
+        if !is_blank(text[len - 1]) {
+            return len;
+        }
+        len -= 1;
+    }
+    0
+}
+
+/// Bytes as they stand in a name.
+fn printed(alloc: Global, bytes: &[u8]) -> Result<String, TextProblem>
+    ensures { Gives (λ text. string_bytes text) result (Ok (map printable bytes.now)) }
+{
+    let mut text = String::new(alloc);
+    for byte in bytes {
+        let Ok(()) = text.push(char::from(printable(*byte))) else {
+            return Err(TextProblem::OutOfMemory);
+        };
+    }
+    Ok(text)
+}
+
+/// The text of `;name` or `;author`: without the blanks at both ends, in printable bytes, 60 of them at most.
+pub fn directive_value(alloc: Global, text: &[u8]) -> Result<String, TextProblem>
+    ensures value { Gives (λ value. string_bytes value) result (Ok (directive_value text.now)) }
+    ensures printed { IfOk result (λ value. IsPrinted (string_bytes value)) }
+{
+    let front = &text[blank_len(text)..];
+    let trimmed = &front[..trimmed_len(front)];
+    printed(alloc, &trimmed[..trimmed.len().min(MAX_NAME)])
+}
