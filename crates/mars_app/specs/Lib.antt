@@ -1,4 +1,5 @@
 pub mod Contests
+pub mod Debugging
 pub mod LineBuffer
 pub mod Lines
 pub mod Loading
