@@ -7,6 +7,7 @@ pub mod Options
 pub mod Readings
 pub mod Replies
 pub mod Requests
+pub mod Runs
 pub mod Status
 pub mod Steps
 pub mod Transcript

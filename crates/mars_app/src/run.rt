@@ -11,6 +11,7 @@ ghost use Rattle.mars_app.specs.Contests.{BreaksOff, contest_size};
 ghost use Rattle.mars_app.specs.Debugging.{DebugsInPart, DebugsWell, StartsNothing, first_round, session_at};
 ghost use Rattle.mars_app.specs.Loading.{AllFit, FitsTwo};
 ghost use Rattle.mars_app.specs.Options.{parameters_of};
+ghost use Rattle.mars_app.specs.Runs.{RunsWell};
 ghost use Rattle.mars_cell.specs.ParameterFaults.{checked_parameters};
 
 use crate::contest::{match_fault, run_contest, write_load_file, write_part};
@@ -29,7 +30,8 @@ use std::io::{Read, Write};
 
 /// Runs the program on the words after its name, and gives its exit status.
 ///
-/// A fault is one line on `faults`; where that can't be written, the status is the same.
+/// With status 0 it has written the help, a load file, the transcript of a debugged battle, or the listing and results of a
+/// match or a league. A fault is one line on `faults`; where that can't be written, the status is the same.
 pub fn run<F: WarriorFiles, R: Read, W: Write, E: Write>(
     alloc: Global,
     words: &[String],
@@ -38,7 +40,8 @@ pub fn run<F: WarriorFiles, R: Read, W: Write, E: Write>(
     output: &mut W,
     faults: &mut E,
 ) -> u8
-    ensures { result ≤ 2 }
+    ensures status { result ≤ 2 }
+    ensures done { result ≡ 0 → RunsWell (F.known files.now) (R.remaining input.old) (R.remaining input.new) (W.contents output.old) (W.contents output.new) }
 {
     match run_words(alloc, words, files, input, output) {
         Ok(()) => 0,
@@ -65,7 +68,9 @@ fn run_words<F: WarriorFiles, R: Read, W: Write>(
     files: &F,
     input: &mut R,
     output: &mut W,
-) -> Result<(), RunFault> {
+) -> Result<(), RunFault>
+    ensures { OnOk result (RunsWell (F.known files.now) (R.remaining input.old) (R.remaining input.new) (W.contents output.old) (W.contents output.new)) }
+{
     let options = match read_options(alloc, words) {
         Ok(options) => options,
         Err(WordsFault::BadWords) => return Err(RunFault::Words),
@@ -158,7 +163,7 @@ fn debug_round<R: Read, W: Write>(
         × DebugsWell (session_at options.now.history s) s.params.core_size (R.remaining input.old) (R.remaining input.new) (W.contents output.old) (W.contents output.new)) }
     ensures err { IfErr result (λ fault. StartsNothing fault (first_round options.now params.now warriors.now) (W.contents output.old) (W.contents output.new)
         ⊎ ((s : State) × (first_round options.now params.now warriors.now ≡ Ok s)
-            × DebugsInPart fault (session_at options.now.history s) s.params.core_size (R.remaining input.old) (R.remaining input.new) (W.contents output.old) (W.contents output.new))) }
+        × DebugsInPart fault (session_at options.now.history s) s.params.core_size (R.remaining input.old) (R.remaining input.new) (W.contents output.old) (W.contents output.new))) }
 {
     let (starts, _seed) = match place_first(alloc, options, params, warriors.len() as u32) {
         Ok(placed) => placed,
