@@ -1,5 +1,4 @@
 pub mod Contests
-pub mod Debugging
 pub mod LineBuffer
 pub mod Lines
 pub mod Loading
@@ -7,7 +6,6 @@ pub mod Options
 pub mod Readings
 pub mod Replies
 pub mod Requests
-pub mod Runs
 pub mod Status
 pub mod Steps
 pub mod Transcript
