@@ -1,4 +1,5 @@
 pub mod Contests
+pub mod Debugging
 pub mod LineBuffer
 pub mod Lines
 pub mod Loading
@@ -6,6 +7,7 @@ pub mod Options
 pub mod Readings
 pub mod Replies
 pub mod Requests
+pub mod Runs
 pub mod Status
 pub mod Steps
 pub mod Transcript

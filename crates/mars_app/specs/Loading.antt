@@ -1,5 +1,7 @@
 -- Warriors as they are loaded.
-use Rattle.std.specs.Prelude.{◌≡◌, ℕ, ◌-◌, ◌≤◌, List, All, Bool, Option, IfSome, if◌then◌else◌, codes, nat_eq}
+use Rattle.std.specs.Prelude.{◌≡◌, ℕ, ◌-◌, ◌≤◌, List, [], ◌∷◌, All, Bool, Option, None, Some, IfSome, String, Vec, if◌then◌else◌, codes, nat_eq, string_bytes}
+use Rattle.std.specs.Global.{Global}
+use Rattle.std.specs.Str.{bytes_eq}
 use Rattle.std.specs.List.{ends_with}
 use Rattle.std.specs.Result.{result_ok}
 use Rattle.mars_cell.specs.Cells.{FitsCore}
@@ -23,3 +25,21 @@ is_load_file name = ends_with nat_eq name (codes ".load")
 -- the warrior of a file, for a contest of so many rounds and warriors, where it has one: of a load file, or of a source
 abbrev pub warrior_of_file : Parameters → ℕ → ℕ → List ℕ → List ℕ → Option WarriorValue
 warrior_of_file p rounds warriors name bytes = if is_load_file name then result_ok (load p.core_size p.max_length bytes) else result_ok (assembly p rounds warriors bytes)
+
+-- the bytes of the first of some files that has this name
+abbrev pub file_named : List (String Global × Vec ℕ Global) → List ℕ → Option (List ℕ)
+file_named [] name = None
+file_named (file ∷ files) name = if bytes_eq (string_bytes file.0) name then Some file.1.items else file_named files name
+
+-- the warrior is that of a file of this name, whose bytes are the known ones where they are known
+abbrev pub IsLoaded : (List ℕ → Option (List ℕ)) → Parameters → ℕ → ℕ → List ℕ → WarriorValue → Type 0
+IsLoaded known p rounds count name w =
+    (bytes : List ℕ) × IfSome (known name) (λ whole. bytes ≡ whole) × (warrior_of_file p rounds count name bytes ≡ Some w)
+
+-- each warrior is that of the file beside it
+abbrev pub AreLoaded : (List ℕ → Option (List ℕ)) → Parameters → ℕ → ℕ → List (List ℕ) → List WarriorValue → Type 0
+AreLoaded known p rounds count [] [] = Unit {0}
+AreLoaded known p rounds count [] (w ∷ warriors) = ⊥
+AreLoaded known p rounds count (name ∷ names) [] = ⊥
+AreLoaded known p rounds count (name ∷ names) (w ∷ warriors) =
+    IsLoaded known p rounds count name w × AreLoaded known p rounds count names warriors

@@ -1,5 +1,7 @@
 -- What the options promise.
 use Rattle.std.specs.Prelude.{◌≡◌, ℕ, ◌+◌, ◌≤◌, false, true, ◌&&◌, IfSome, vec_len}
+use Rattle.std.specs.Option.{unwrap_or}
+use Rattle.mars_cell.specs.Parameters.{Parameters}
 use Rattle.mars_app.specs.declared.options.Options.{Options}
 
 abbrev pub IsBetween : ℕ → ℕ → ℕ → Type 0
@@ -20,6 +22,18 @@ pub record IsFittingPosition (o : Options) (position : ℕ) : Type 0 where
 
 abbrev pub HaveFittingPosition : Options → Type 0
 HaveFittingPosition o = IfSome o.fixed (IsFittingPosition o)
+
+-- the parameters that the words ask for: a limit that isn't given is the core size
+abbrev pub parameters_of : Options → Parameters
+parameters_of o = record {
+  core_size = o.core;
+  processes = o.processes;
+  cycles = o.cycles;
+  read_limit = unwrap_or o.read_limit o.core;
+  write_limit = unwrap_or o.write_limit o.core;
+  max_length = o.longest;
+  distance = o.distance;
+}
 
 -- each number is in its range
 pub record AreInRange (o : Options) : Type 0 where

@@ -1,5 +1,5 @@
 //! Where warriors are read from.
-ghost use Rattle.std.specs.Prelude.{◌≡◌, ◌≤◌, IfOk, vec_len};
+ghost use Rattle.std.specs.Prelude.{◌≡◌, ◌≤◌, ℕ, List, Option, None, IfOk, IfSome, vec_len};
 
 use std::alloc::{AllocError, Global};
 use std::fs;
@@ -19,9 +19,13 @@ pub enum FileFault {
 
 /// Files by their names.
 pub trait WarriorFiles {
+    /// The bytes of the file of a name, where they are known.
+    ghost known: { Self → List ℕ → Option (List ℕ) } = { λ _ _. None };
+
     /// The bytes of a file of at most `limit` bytes.
     fn read(&self, alloc: Global, name: &str, limit: usize) -> Result<Vec<u8>, FileFault>
-        ensures { IfOk result (λ bytes. vec_len bytes ≤ limit) };
+        ensures few { IfOk result (λ bytes. vec_len bytes ≤ limit) }
+        ensures whole { IfOk result (λ bytes. IfSome (known self.now name.now) (λ whole. bytes.items ≡ whole)) };
 }
 
 /// Files that are held in memory, for tests.
@@ -50,6 +54,10 @@ impl MemoryFiles {
 }
 
 impl WarriorFiles for MemoryFiles {
+    ghost use Rattle.mars_app.specs.Loading.{file_named};
+
+    ghost known = { λ held name. file_named held.files.items name };
+
     fn read(&self, alloc: Global, name: &str, limit: usize) -> Result<Vec<u8>, FileFault> {
         for (held, bytes) in &self.files {
             if held.as_str() == name {

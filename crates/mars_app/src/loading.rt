@@ -1,7 +1,7 @@
 //! Warriors from their files.
-ghost use Rattle.std.specs.Prelude.{◌≡◌, ◌≤◌, All, IfOk, Some, length, vec_len};
+ghost use Rattle.std.specs.Prelude.{◌≡◌, ◌≤◌, All, IfOk, IfSome, Some, length, map, string_bytes, vec_len};
 ghost use Rattle.mars_cell.specs.Cells.{FitsCore};
-ghost use Rattle.mars_app.specs.Loading.{AllFit, is_load_file, warrior_of_file};
+ghost use Rattle.mars_app.specs.Loading.{AllFit, AreLoaded, is_load_file, warrior_of_file};
 
 use crate::fault::RunFault;
 use crate::files::{FileFault, WarriorFiles};
@@ -30,6 +30,7 @@ pub fn load_warriors<F: WarriorFiles>(
 ) -> Result<Vec<Warrior>, RunFault>
     ensures fit { IfOk result (λ warriors. AllFit contest.entry.params.now.core_size warriors.items) }
     ensures many { IfOk result (λ warriors. vec_len warriors ≡ length names.now) }
+    ensures loaded { let c = contest.entry in IfOk result (λ warriors. AreLoaded (F.known files.now) c.params.now c.rounds c.warriors (map (λ name. string_bytes name) names.now) warriors.items) }
 {
     let mut warriors = Vec::new(alloc);
     for name in names {
@@ -43,7 +44,8 @@ pub fn load_warriors<F: WarriorFiles>(
 }
 
 fn read_file<F: WarriorFiles>(alloc: Global, files: &F, name: &str) -> Result<Vec<u8>, RunFault>
-    ensures { IfOk result (λ bytes. vec_len bytes ≤ 1048576) }
+    ensures few { IfOk result (λ bytes. vec_len bytes ≤ 1048576) }
+    ensures whole { IfOk result (λ bytes. IfSome (F.known files.now name.now) (λ whole. bytes.items ≡ whole)) }
 {
     let fault = match files.read(alloc, name, LARGEST_FILE) {
         Ok(bytes) => return Ok(bytes),

@@ -1,10 +1,18 @@
 //! The program `mars`, over files and streams that are handed in.
-ghost use Rattle.std.specs.Prelude.{◌≡◌, ◌≤◌, IfErr, IfOk, OnOk, length, vec_len};
-ghost use Rattle.std.specs.Io.KnownBytes.{Appends};
+ghost use Rattle.std.specs.Prelude.{◌≡◌, ◌≤◌, ◌⊎◌, ℕ, IfErr, IfOk, Ok, OnOk, Vec, length, vec_len};
+ghost use Rattle.std.specs.Global.{Global};
+ghost use Rattle.std.specs.Io.KnownBytes.{Appends, Keeps};
 ghost use Rattle.std.specs.List.{flat_map};
 ghost use Rattle.mars_cell.specs.Written.{load_text};
+ghost use Rattle.mars_core.specs.State.{State};
+ghost use Rattle.mars_match.specs.Answers.{IsAnswer};
+ghost use Rattle.mars_match.specs.Rounds.{placed_for};
 ghost use Rattle.mars_app.specs.Contests.{BreaksOff, contest_size};
-ghost use Rattle.mars_app.specs.Loading.{AllFit};
+ghost use Rattle.mars_app.specs.Debugging.{DebugsInPart, DebugsWell, StartsNothing, first_round, session_at};
+ghost use Rattle.mars_app.specs.Loading.{AllFit, FitsTwo};
+ghost use Rattle.mars_app.specs.Options.{parameters_of};
+ghost use Rattle.mars_app.specs.Runs.{RunsWell};
+ghost use Rattle.mars_cell.specs.ParameterFaults.{checked_parameters};
 
 use crate::contest::{match_fault, run_contest, write_load_file, write_part};
 use crate::debugger::{DebugFault, debug};
@@ -14,7 +22,7 @@ use crate::loading::{Contest, load_warriors};
 use crate::options::{Options, WordsFault, read_options};
 use mars_cell::{ParamFault, Params, Warrior};
 use mars_core::Battle;
-use mars_match::{MatchFault, place};
+use mars_match::{MatchFault, PlaceFault, place};
 use mars_session::{DeltaTape, Session};
 use redcode_asm::{Formula, FormulaFault};
 use std::alloc::Global;
@@ -22,7 +30,8 @@ use std::io::{Read, Write};
 
 /// Runs the program on the words after its name, and gives its exit status.
 ///
-/// A fault is one line on `faults`; where that can't be written, the status is the same.
+/// With status 0 it has written the help, a load file, the transcript of a debugged battle, or the listing and results of a
+/// match or a league. A fault is one line on `faults`; where that can't be written, the status is the same.
 pub fn run<F: WarriorFiles, R: Read, W: Write, E: Write>(
     alloc: Global,
     words: &[String],
@@ -31,7 +40,8 @@ pub fn run<F: WarriorFiles, R: Read, W: Write, E: Write>(
     output: &mut W,
     faults: &mut E,
 ) -> u8
-    ensures { result ≤ 2 }
+    ensures status { result ≤ 2 }
+    ensures done { result ≡ 0 → RunsWell (F.known files.now) (R.remaining input.old) (R.remaining input.new) (W.contents output.old) (W.contents output.new) }
 {
     match run_words(alloc, words, files, input, output) {
         Ok(()) => 0,
@@ -58,7 +68,9 @@ fn run_words<F: WarriorFiles, R: Read, W: Write>(
     files: &F,
     input: &mut R,
     output: &mut W,
-) -> Result<(), RunFault> {
+) -> Result<(), RunFault>
+    ensures { OnOk result (RunsWell (F.known files.now) (R.remaining input.old) (R.remaining input.new) (W.contents output.old) (W.contents output.new)) }
+{
     let options = match read_options(alloc, words) {
         Ok(options) => options,
         Err(WordsFault::BadWords) => return Err(RunFault::Words),
@@ -91,6 +103,7 @@ fn run_words<F: WarriorFiles, R: Read, W: Write>(
 
 /// The parameters that the words ask for: a limit that isn't given is the core size.
 fn parameters(options: &Options) -> Result<Params, ParamFault>
+    ensures value { result ≡ checked_parameters (parameters_of options.now) }
     ensures core { IfOk result (λ p. p.core_size ≡ options.now.core) }
     ensures distance { IfOk result (λ p. p.distance ≡ options.now.distance) }
 {
@@ -145,36 +158,46 @@ fn debug_round<R: Read, W: Write>(
 ) -> Result<(), RunFault>
     requires some { 1 ≤ length warriors.now }
     requires few { length warriors.now ≤ 16 }
+    requires position { FitsTwo params.now (length warriors.now) options.now.fixed }
+    ensures ok { OnOk result ((s : State) × (first_round options.now params.now warriors.now ≡ Ok s)
+        × DebugsWell (session_at options.now.history s) s.params.core_size (R.remaining input.old) (R.remaining input.new) (W.contents output.old) (W.contents output.new)) }
+    ensures err { IfErr result (λ fault. StartsNothing fault (first_round options.now params.now warriors.now) (W.contents output.old) (W.contents output.new)
+        ⊎ ((s : State) × (first_round options.now params.now warriors.now ≡ Ok s)
+        × DebugsInPart fault (session_at options.now.history s) s.params.core_size (R.remaining input.old) (R.remaining input.new) (W.contents output.old) (W.contents output.new))) }
 {
-    let starts = starts_of(alloc, options, params, warriors.len() as u32)?;
-    if warriors.len() != starts.len() {
-        return Err(RunFault::Words);
-    }
+    let (starts, _seed) = match place_first(alloc, options, params, warriors.len() as u32) {
+        Ok(placed) => placed,
+        Err(fault) => return Err(match_fault(fault)),
+    };
     match Battle::new(alloc, params, warriors, &starts) {
         Ok(battle) => debug_battle(alloc, battle, u64::from(options.history), input, output),
         Err(fault) => Err(match_fault(MatchFault::Battle(fault))),
     }
 }
 
-/// Where the warriors of round 0 are laid.
-fn starts_of(
+/// Where the warriors of round 0 are laid, and the seed that is left.
+fn place_first(
     alloc: Global,
     options: &Options,
     params: &Params,
     warriors: u32,
-) -> Result<Vec<u32>, RunFault>
+) -> Result<(Vec<u32>, u32), MatchFault>
     requires some { 1 ≤ warriors }
     requires few { warriors ≤ 16 }
+    requires position { FitsTwo params.now warriors options.now.fixed }
+    ensures value { IsAnswer (λ (placed : Vec ℕ Global × ℕ). (placed.0.items, placed.1)) (placed_for params.now warriors options.now.fixed options.now.seed) result }
+    ensures many { IfOk result (λ placed. vec_len placed.0 ≡ warriors) }
 {
-    match options.fixed {
-        Some(position) => match vec![in alloc; 0, position] {
-            Ok(starts) => Ok(starts),
-            Err(_) => Err(RunFault::OutOfMemory),
-        },
-        None => match place(alloc, params, warriors, options.seed) {
-            Ok((starts, _seed)) => Ok(starts),
-            Err(fault) => Err(match_fault(MatchFault::Place(fault))),
-        },
+    let Some(position) = options.fixed else {
+        return match place(alloc, params, warriors, options.seed) {
+            Ok(placed) => Ok(placed),
+            Err(PlaceFault::OutOfMemory) => Err(MatchFault::OutOfMemory),
+            Err(fault) => Err(MatchFault::Place(fault)),
+        };
+    };
+    match vec![in alloc; 0, position] {
+        Ok(starts) => Ok((starts, options.seed)),
+        Err(_) => Err(MatchFault::OutOfMemory),
     }
 }
 
@@ -185,7 +208,11 @@ fn debug_battle<R: Read, W: Write>(
     history: u64,
     input: &mut R,
     output: &mut W,
-) -> Result<(), RunFault> {
+) -> Result<(), RunFault>
+    ensures ok { OnOk result (DebugsWell (session_at history battle) battle.params.core_size (R.remaining input.old) (R.remaining input.new) (W.contents output.old) (W.contents output.new)) }
+    ensures err { IfErr result (λ fault. ((fault ≡ RunFault.OutOfMemory) × Keeps (W.contents output.old) (W.contents output.new))
+        ⊎ DebugsInPart fault (session_at history battle) battle.params.core_size (R.remaining input.old) (R.remaining input.new) (W.contents output.old) (W.contents output.new)) }
+{
     let Ok(tape) = DeltaTape::new(alloc, battle) else {
         return Err(RunFault::OutOfMemory);
     };

@@ -1,7 +1,9 @@
-use Rattle.std.proofs.Common.{rules, All, sym, subst}
+use Rattle.std.proofs.Common.{◌≡◌, rules, All, arith, get_or, string_bytes, sym, subst, take}
+use Rattle.std.proofs.lemmas.List.{take_all}
+use Rattle.mars_app.proofs.Loaded.{loaded_more}
 use Rattle.std.proofs.lemmas.List.Elements.{All-push}
 use Rattle.mars_cell.specs.Cells.{FitsCore}
-use Rattle.mars_app.specs.Loading.{AllFit}
+use Rattle.mars_app.specs.Loading.{AllFit, IsLoaded}
 use Rattle.mars_app.proofs.loading.load_warriors.Goals as goal
 
 pub loop-name-preserved : goal.loop-name-preserved
@@ -9,4 +11,21 @@ loop-name-preserved g c = (
   subst (AllFit c.args.contest.params.now.core_size) (sym c.in-Ok.ensures.items)
       (All-push (λ w. All (FitsCore c.args.contest.params.now.core_size) w.cells) _ _ c.loop-name.invariant.0 c.in_ok-warrior.ensures.fits),
   search rules,
+  (
+      let contest = c.args.contest in
+      let names = c.args.names.now in
+      let i = c.loop-name.name-index in
+      let d = c.name-item.result in
+      let known = g.F.WarriorFiles.known c.args.files.now in
+      let there : get_or names i d ≡ d = cc in
+      let whole = rw c.as_str.ensures.value at c.in_ok-bytes.ensures.whole in
+      let value = rw (c.as_str-in-loop-name.ensures.value, c.deref.ensures.value) at c.in_ok-warrior.ensures.value in
+      let one : IsLoaded known contest.params.now contest.rounds contest.warriors (string_bytes (get_or names i d)) c.in_ok-warrior.warrior = rw there (c.in_ok-bytes.bytes.items, whole, value) in
+      rw c.in-Ok.ensures.items (loaded_more known contest.params.now contest.rounds contest.warriors names i d _ c.in_ok-warrior.warrior c.loop-name-test.true c.loop-name.invariant.2 one)
+      ),
 )
+
+pub returns-clause-loaded : goal.returns-clause-loaded
+returns-clause-loaded g c =
+    let all : take c.loop-name.name-index c.args.names.now ≡ c.args.names.now = take_all _ _ (omega arith) in
+    rw all at c.loop-name.invariant.2

@@ -1,0 +1,17 @@
+-- A battle that is refused its start.
+use Rattle.std.proofs.Common.{◌≡◌, refl, ap, Option, Some, None, IfSome, Result, Ok, Err, IfErr, ◌⊎◌, inl, inr}
+use Rattle.mars_core.specs.State.{State}
+use Rattle.mars_core.specs.declared.starts.BattleFault.{BattleFault}
+use Rattle.mars_core.specs.declared.starts.BattleFault.TheVariants.{OutOfMemory}
+use Rattle.mars_match.specs.Battles.{unless}
+use Rattle.mars_match.specs.declared.fault.MatchFault.{MatchFault}
+use Rattle.mars_match.specs.declared.fault.MatchFault.TheVariants.{Battle}
+
+-- its fault is want of memory, or the defined one
+pub start_refused : {X : Type 0} (o : Option BattleFault) (s : State) (result : Result X BattleFault) (fault : BattleFault) →
+    IfSome o (λ f. result ≡ Err f) → (o ≡ None → IfErr result (λ f. f ≡ OutOfMemory)) → result ≡ Err fault →
+    (fault ≡ OutOfMemory) ⊎ (unless o s ≡ Err (Battle fault))
+start_refused None s result fault some none e = inl (rw e at (none refl))
+start_refused (Some f) s result fault some none e =
+    let same : f ≡ fault = cc in
+    inr (ap (λ x. Err (Battle x)) same)
