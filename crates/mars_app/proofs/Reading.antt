@@ -10,13 +10,13 @@ use Rattle.mars_session.specs.Script.{SessionState}
 use Rattle.mars_app.specs.declared.line_buffer.LineBuffer.{LineBuffer}
 use Rattle.mars_app.specs.declared.request.Request.{Request}
 use Rattle.mars_app.specs.declared.request.Request.TheVariants.{Quit}
-use Rattle.mars_app.specs.LineBuffer.{Holds}
+use Rattle.mars_app.specs.Code.LineBuffer.{Holds}
 use Rattle.mars_app.specs.Lines.{IsLine, ended, line_asks, lines_of}
 use Rattle.mars_match.specs.Writing.{CutShort}
 use Rattle.mars_app.specs.Transcript.{Transcript, GoesOn, Completes, WriteFails, answer, until_quit}
 use Rattle.mars_app.specs.Transcript.EndsIn.{at_newline, at_end}
 use Rattle.mars_app.specs.Transcript.Transcript.{none, line}
-use Rattle.mars_app.specs.Steps.{GoesThrough, Quits, Breaks, Reading, Quitting, Finishes, BreaksAtEnd}
+use Rattle.mars_app.specs.Code.Steps.{GoesThrough, Quits, Breaks, Reading, Quitting, Finishes, BreaksAtEnd}
 use Rattle.mars_app.proofs.LinesOf.{executed_lines, last_of, lines_of-line, lines_of-lines, until_quit-lines, until_quit-one, until_quit-quit}
 
 -- ---- the core's size under another name

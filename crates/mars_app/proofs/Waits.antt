@@ -3,8 +3,8 @@ use Rattle.std.proofs.Common.{◌∙◌, ℕ, List, [], ◌++◌, Option, ap, sy
 use Rattle.std.proofs.KnownBytes.{Appends-trans}
 use Rattle.std.specs.Io.KnownBytes.{Appends}
 use Rattle.mars_match.specs.Writing.{CutShort}
-use Rattle.mars_match.proofs.Writing.{CutShort-back}
-use Rattle.mars_app.specs.Waiting.{Waits}
+use Rattle.mars_match.proofs.CallerLemmas.{CutShort-back}
+use Rattle.mars_app.specs.Code.Waiting.{Waits}
 
 -- what waits goes out
 pub sent_all : (a b c : Option (List ℕ)) (waiting text : List ℕ) → Appends b c waiting → Waits a b waiting text → Appends a c text

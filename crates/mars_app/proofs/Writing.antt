@@ -6,7 +6,7 @@ use Rattle.std.proofs.lemmas.List.{take-append-le, take_all}
 use Rattle.std.proofs.KnownBytes.{Appends-trans}
 use Rattle.std.specs.Io.KnownBytes.{Appends}
 use Rattle.mars_match.specs.Writing.{CutShort}
-use Rattle.mars_match.proofs.Writing.{CutShort-after, CutShort-back, CutShort-front, flat_map-around}
+use Rattle.mars_match.proofs.CallerLemmas.{CutShort-after, CutShort-back, CutShort-front, flat_map-around}
 use Rattle.mars_app.specs.Contests.{BreaksOff}
 use Rattle.mars_app.specs.Readings.{texts}
 use Rattle.mars_app.specs.declared.fault.RunFault.{RunFault}

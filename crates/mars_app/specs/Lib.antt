@@ -1,15 +1,14 @@
+-- What a reader of the contracts has to believe, in this order.
+pub mod Words
+pub mod Requests
+pub mod Lines
+pub mod Replies
+pub mod Readings
+pub mod Transcript
+pub mod Options
+pub mod Loading
 pub mod Contests
 pub mod Debugging
-pub mod LineBuffer
-pub mod Lines
-pub mod Loading
-pub mod Options
-pub mod Readings
-pub mod Replies
-pub mod Requests
 pub mod Runs
 pub mod Status
-pub mod Steps
-pub mod Transcript
-pub mod Waiting
-pub mod Words
+pub mod Code

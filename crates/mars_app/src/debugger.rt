@@ -3,7 +3,7 @@ ghost use Rattle.std.specs.Prelude.{◌≡◌, Bool, [], ◌∷◌, ◌<◌, ◌
 ghost use Rattle.std.specs.Io.KnownBytes.{Appends};
 ghost use Rattle.mars_match.specs.Writing.{CutShort};
 ghost use Rattle.mars_app.specs.Transcript.{answer, core_size_of, Completes, NothingDone, ReadFails, TakesAtMost, WriteFails};
-ghost use Rattle.mars_app.specs.Steps.{Breaks, BreaksAtEnd, Finishes, GoesThrough, Quits};
+ghost use Rattle.mars_app.specs.Code.Steps.{Breaks, BreaksAtEnd, Finishes, GoesThrough, Quits};
 
 use crate::line_buffer::LineBuffer;
 use crate::readings::{write_list, write_queue, write_show};

@@ -15,7 +15,7 @@ pub struct LineBuffer {
 }
 
 impl LineBuffer {
-    ghost use Rattle.mars_app.specs.LineBuffer.{Holds};
+    ghost use Rattle.mars_app.specs.Code.LineBuffer.{Holds};
 
     pub fn new() -> LineBuffer
         ensures { Holds result [] }

@@ -2,7 +2,7 @@
 ghost use Rattle.std.specs.Prelude.{◌≡◌, ℕ, List, Option, [], ◌++◌, OnOk, OnErr};
 ghost use Rattle.std.specs.Io.KnownBytes.{Appends};
 ghost use Rattle.mars_match.specs.Writing.{CutShort};
-ghost use Rattle.mars_app.specs.Waiting.{Waits};
+ghost use Rattle.mars_app.specs.Code.Waiting.{Waits};
 
 use crate::replies::Line;
 use arrayvec::ArrayString;

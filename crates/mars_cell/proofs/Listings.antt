@@ -10,7 +10,7 @@ use Rattle.mars_cell.specs.declared.statements.Statement.TheVariants as statemen
 use Rattle.mars_cell.specs.declared.load.LoadFault.{LoadFault}
 use Rattle.mars_cell.specs.declared.load.LoadFault.TheVariants as fault
 use Rattle.mars_cell.specs.Load.{Loads, with_rest, cells_of, end_in, is_index, line_statement, lines_of, load, nameless_warrior, origin_in, statements, statements_from, warrior_of}
-use Rattle.mars_cell.specs.Listing.{Listing, ReadsListing, load_from, nothing_read}
+use Rattle.mars_cell.specs.Code.Listing.{Listing, ReadsListing, load_from, nothing_read}
 use Rattle.mars_cell.specs.Warriors.{WarriorValue}
 
 -- what is read in all, after s

@@ -2,7 +2,7 @@
 ghost use Rattle.std.specs.Prelude.{◌≡◌, ◌∷◌, ◌<◌, ◌==◌, [], length, not, All, IfOk, MatchOption, Ok, take_while};
 ghost use Rattle.mars_cell.specs.Cells.{FitsCore};
 ghost use Rattle.mars_cell.specs.Load.{lines_of, load, is_index, nameless_warrior, Loads};
-ghost use Rattle.mars_cell.specs.Listing.{ReadsListing, load_from, nothing_read};
+ghost use Rattle.mars_cell.specs.Code.Listing.{ReadsListing, load_from, nothing_read};
 
 use crate::instruction::Cell;
 use crate::numbers::Number;
@@ -74,7 +74,7 @@ struct Reading {
 }
 
 /// Reads the lines up to END.
-#[tactic(auto, unfolding(crate::specs::Listing::load_from))]
+#[tactic(auto, unfolding(crate::specs::Code::Listing::load_from))]
 fn read_listing(alloc: Global, bytes: &[u8], core_size: u32) -> Result<Reading, LoadFault>
     requires { 0 < core_size }
     ensures value { ReadsListing result (load_from core_size 1 nothing_read (lines_of bytes.now)) }

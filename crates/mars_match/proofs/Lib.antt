@@ -1,7 +1,7 @@
 pub mod Ascending
 pub mod Draws
 pub mod Spacing
-pub mod Writing
+pub mod CallerLemmas
 pub mod Ranking
 pub mod Rotations
 pub mod Ends

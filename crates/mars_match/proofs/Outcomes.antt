@@ -14,7 +14,7 @@ use Rattle.redcode_text.specs.Tokens.{Scanned}
 use Rattle.mars_match.specs.Answers.{IsAnswer}
 use Rattle.mars_match.specs.Battles.{lives, in_load_order, fought}
 use Rattle.mars_match.specs.Rounds.{Outcome, placed_for, round_score, ended, as_score, fits_in_64, checked_rows}
-use Rattle.mars_match.specs.Tallies.{tallied, all_added, row_with, rows_with}
+use Rattle.mars_match.specs.Code.Tallies.{tallied, all_added, row_with, rows_with}
 use Rattle.mars_match.specs.declared.fault.MatchFault.{MatchFault}
 use Rattle.mars_match.specs.declared.fault.MatchFault.TheVariants.{OutOfMemory, Score}
 use Rattle.mars_match.specs.declared.tallies.Tally.{Tally}

@@ -9,9 +9,9 @@ use Rattle.redcode_text.specs.Tokens.{Scanned}
 use Rattle.redcode_text.specs.declared.fault.ExprFault.TheVariants.{Range}
 use Rattle.mars_match.specs.Rounds.{◌>>=◌, table_of, checked_rows, fits_in_64}
 use Rattle.mars_match.specs.Tables.{RowValue}
-use Rattle.mars_match.specs.Tallies.{IsOf, no_rounds, tallied, row_with, rows_with}
+use Rattle.mars_match.specs.Code.Tallies.{IsOf, no_rounds, tallied, row_with, rows_with}
 use Rattle.mars_match.specs.Leagues.{Pair, pairs_with, all_pairs, placed_rows}
-use Rattle.mars_match.specs.LeagueSteps.{pairs_of_first, joined, joined_at, with_rows, after_matches}
+use Rattle.mars_match.specs.Code.LeagueSteps.{pairs_of_first, joined, joined_at, with_rows, after_matches}
 use Rattle.mars_match.specs.declared.fault.MatchFault.{MatchFault}
 use Rattle.mars_match.specs.declared.fault.MatchFault.TheVariants.{Score}
 use Rattle.mars_match.specs.declared.tallies.Tally.{Tally}

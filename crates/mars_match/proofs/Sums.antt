@@ -7,7 +7,7 @@ use Rattle.std.proofs.lemmas.List.Sums.{sum_by-append, sum_by-cons}
 use Rattle.mars_core.specs.State.{State, is_empty, survivors_of}
 use Rattle.mars_match.specs.Battles.{rotated, lives, in_load_order}
 use Rattle.mars_match.specs.Rounds.{Outcome, how_many}
-use Rattle.mars_match.specs.Tallies.{added, all_added}
+use Rattle.mars_match.specs.Code.Tallies.{added, all_added}
 use Rattle.mars_match.specs.declared.tallies.Tally.{Tally}
 
 -- one more tally has the round

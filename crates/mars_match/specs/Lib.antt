@@ -1,13 +1,12 @@
+-- What a reader of the contracts has to believe, in this order; Examples has worked examples of it.
 pub mod Placement
-pub mod Laws
-pub mod Writing
 pub mod Tables
-pub mod Results
-pub mod Levels
 pub mod Battles
-pub mod Answers
 pub mod Rounds
-pub mod Tallies
 pub mod Leagues
-pub mod LeagueSteps
-pub mod Rows
+pub mod Results
+pub mod Writing
+pub mod Answers
+pub mod Laws
+pub mod Examples
+pub mod Code

@@ -2,9 +2,9 @@
 ghost use Rattle.std.specs.Prelude.{◌≡◌, ◌+◌, ◌*◌, ◌<◌, ◌≤◌, All, length, drop, [], ◌∷◌, ◌-◌, IfSome, IfOk, MatchResult, true, false};
 ghost use Rattle.mars_match.specs.Answers.{IsAnswer};
 ghost use Rattle.mars_match.specs.Rounds.{table_of, fits_in_64};
-ghost use Rattle.mars_match.specs.Tallies.{IsOf, row_with};
+ghost use Rattle.mars_match.specs.Code.Tallies.{IsOf, row_with};
 ghost use Rattle.mars_match.specs.Leagues.{all_pairs, league_of};
-ghost use Rattle.mars_match.specs.LeagueSteps.{joined as spec_joined, pairs_of_first, after_matches};
+ghost use Rattle.mars_match.specs.Code.LeagueSteps.{joined as spec_joined, pairs_of_first, after_matches};
 ghost use Rattle.mars_match.specs.declared.table.Table.{Table};
 ghost use Rattle.mars_match.specs.declared.tallies.Tally.{Tally};
 

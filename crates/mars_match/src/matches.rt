@@ -6,7 +6,7 @@ ghost use Rattle.mars_match.specs.Battles.{in_load_order, lives, count_fault, fo
 ghost use Rattle.mars_match.specs.Rounds.{Outcome, placed_for, round_score, ended, fits_in_64, checked_rows, table_of};
 ghost use Rattle.mars_match.specs.declared.table.Table.{Table};
 ghost use Rattle.mars_match.specs.Tables.{RowValue};
-ghost use Rattle.mars_match.specs.Tallies.{no_rounds as spec_no_rounds, outcome_by, tallied, IsOf, row_with, rows_with};
+ghost use Rattle.mars_match.specs.Code.Tallies.{no_rounds as spec_no_rounds, outcome_by, tallied, IsOf, row_with, rows_with};
 ghost use Rattle.std.specs.Global.{Global};
 
 use crate::fault::MatchFault;

@@ -16,9 +16,7 @@ use Rattle.redcode_text.specs.declared.fault.TextFault.{TextFault}
 use Rattle.redcode_text.specs.Expression.{◌>>=◌, Tree, Numeral, Named, Parens, Unary, Binary, Missing, binary, in_range, kinds, known, precedence, shape, start, tree_within, unary, value, value_of}
 use Rattle.redcode_text.specs.Lines.{name_at}
 use Rattle.redcode_text.specs.Tokens.{Scanned, scanned}
-use Rattle.redcode_text.proofs.Trees.{spelling, is_prefix, IsLevelled, rank-≤5}
-use Rattle.redcode_text.proofs.Shapes.{shaped}
-use Rattle.redcode_text.proofs.Splits.{tree-spelled}
+use Rattle.redcode_text.proofs.CallerLemmas.{spelling, is_prefix, IsLevelled, rank-≤5, shaped, tree-spelled}
 use Rattle.redcode_asm.specs.Formula.{checked_formula, may_occur, scanned_formula, score_of, variable_value}
 use Rattle.redcode_asm.specs.Laws.{IsValueFault, ScoresHaveValues}
 

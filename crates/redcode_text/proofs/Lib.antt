@@ -1,3 +1,4 @@
+pub mod CallerLemmas
 pub mod ShapeSteps
 pub mod Trees
 pub mod Climbs

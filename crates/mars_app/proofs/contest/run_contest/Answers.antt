@@ -1,6 +1,6 @@
 use Rattle.std.proofs.Common.{◌∙◌, ap, refl, inl, inr}
 use Rattle.std.proofs.KnownBytes.{Appends-trans}
-use Rattle.mars_match.proofs.Writing.{CutShort-back}
+use Rattle.mars_match.proofs.CallerLemmas.{CutShort-back}
 use Rattle.mars_app.specs.Contests.{fault_of}
 use Rattle.mars_app.proofs.Writing.{whole_breaks}
 use Rattle.mars_app.proofs.contest.run_contest.Goals as goal

@@ -1,5 +1,5 @@
 use Rattle.std.proofs.Common.{take}
-use Rattle.mars_app.specs.Steps.{GoesThrough}
+use Rattle.mars_app.specs.Code.Steps.{GoesThrough}
 use Rattle.mars_app.proofs.debugger.take_bytes.Given as goal
 
 abbrev pub invariant-loop-byte : goal.invariant-loop-byte

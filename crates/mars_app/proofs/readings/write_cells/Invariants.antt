@@ -1,5 +1,5 @@
 use Rattle.mars_app.specs.Readings.{texts, line_at}
-use Rattle.mars_app.specs.Waiting.{Waits}
+use Rattle.mars_app.specs.Code.Waiting.{Waits}
 use Rattle.mars_app.proofs.readings.write_cells.Given as goal
 
 abbrev pub invariant-loop-i : goal.invariant-loop-i

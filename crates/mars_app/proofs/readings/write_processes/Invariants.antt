@@ -2,7 +2,7 @@ use Rattle.std.proofs.Common.{take}
 use Rattle.std.specs.List.{flat_map}
 use Rattle.mars_core.specs.State.{queue_of}
 use Rattle.mars_app.specs.Readings.{process_text}
-use Rattle.mars_app.specs.Waiting.{Waits}
+use Rattle.mars_app.specs.Code.Waiting.{Waits}
 use Rattle.mars_app.proofs.readings.write_processes.Given as goal
 
 abbrev pub invariant-loop-place : goal.invariant-loop-place

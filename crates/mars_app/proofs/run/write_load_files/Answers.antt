@@ -1,7 +1,7 @@
 use Rattle.std.proofs.Common.{◌≡◌, refl, get_or}
 use Rattle.std.proofs.KnownBytes.{Appends-trans}
 use Rattle.mars_cell.specs.Written.{load_text}
-use Rattle.mars_match.proofs.Writing.{flat_map-one_more}
+use Rattle.mars_match.proofs.CallerLemmas.{flat_map-one_more}
 use Rattle.std.proofs.lemmas.Result.{err_from_is_err_and}
 use Rattle.mars_app.proofs.Writing.{flat_map_breaks}
 use Rattle.mars_app.proofs.run.write_load_files.Goals as goal

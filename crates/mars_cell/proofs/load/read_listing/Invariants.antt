@@ -2,7 +2,7 @@ use Rattle.std.proofs.Common.{◌≡◌, ◌+◌, ◌≤◌, length}
 use Rattle.std.specs.Prelude.{All}
 use Rattle.mars_cell.specs.Cells.{FitsCore}
 use Rattle.mars_cell.specs.Load.{lines_of}
-use Rattle.mars_cell.specs.Listing.{listing, load_from, nothing_read}
+use Rattle.mars_cell.specs.Code.Listing.{listing, load_from, nothing_read}
 use Rattle.mars_cell.proofs.load.read_listing.Given as goal
 
 abbrev pub invariant-loop-line : goal.invariant-loop-line

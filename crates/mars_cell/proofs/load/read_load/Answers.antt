@@ -1,5 +1,5 @@
 use Rattle.std.proofs.Common.{rules}
-use Rattle.mars_cell.specs.Listing.{listing}
+use Rattle.mars_cell.specs.Code.Listing.{listing}
 use Rattle.mars_cell.proofs.Listings.{load-listing, fault_from_listing}
 use Rattle.mars_cell.proofs.load.read_load.Goals as goal
 

@@ -1,9 +1,9 @@
 use Rattle.std.proofs.Common.{◌≡◌, ◌∙◌, inl, inr, length, replicate, Ok, Err, arith}
 use Rattle.std.proofs.lemmas.Grind.{common_steps}
 use Rattle.std.proofs.lemmas.Result.{err_from_is_err_and}
-use Rattle.mars_match.specs.Tallies.{no_rounds}
+use Rattle.mars_match.specs.Code.Tallies.{no_rounds}
 use Rattle.mars_match.specs.Leagues.{all_pairs}
-use Rattle.mars_match.specs.LeagueSteps.{after_matches}
+use Rattle.mars_match.specs.Code.LeagueSteps.{after_matches}
 use Rattle.mars_match.proofs.Outcomes.{fault_answer}
 use Rattle.mars_match.proofs.LeagueTotals.{league_err, league_with}
 use Rattle.mars_match.proofs.leagues.league.Goals as goal

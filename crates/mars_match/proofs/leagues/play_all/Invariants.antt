@@ -1,7 +1,7 @@
 use Rattle.std.proofs.Common.{◌≡◌, ◌*◌, All, drop}
 use Rattle.mars_match.specs.Leagues.{all_pairs}
-use Rattle.mars_match.specs.LeagueSteps.{after_matches}
-use Rattle.mars_match.specs.Tallies.{IsOf}
+use Rattle.mars_match.specs.Code.LeagueSteps.{after_matches}
+use Rattle.mars_match.specs.Code.Tallies.{IsOf}
 use Rattle.mars_match.proofs.leagues.play_all.Given as goal
 
 -- the matches that are left lead to the tallies of all

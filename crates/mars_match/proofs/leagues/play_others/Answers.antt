@@ -1,8 +1,8 @@
 use Rattle.std.proofs.Common.{◌∙◌, sym, ap, refl, inl, inr, ◌+◌, ◌*◌, ◌<◌, length, get_or, set, arith}
 use Rattle.std.proofs.lemmas.List.Elements.{All-get_or}
 use Rattle.std.proofs.lemmas.Result.{err_from_is_err_and}
-use Rattle.mars_match.specs.Tallies.{IsOf, no_rounds}
-use Rattle.mars_match.specs.LeagueSteps.{after_matches}
+use Rattle.mars_match.specs.Code.Tallies.{IsOf, no_rounds}
+use Rattle.mars_match.specs.Code.LeagueSteps.{after_matches}
 use Rattle.mars_match.proofs.Outcomes.{fault_answer}
 use Rattle.mars_match.proofs.Pairs.{IsOf-more, all_more, set_both, other_bound, set_both_bounds, from_first, match_err, match_more}
 use Rattle.mars_match.proofs.leagues.play_others.Goals as goal

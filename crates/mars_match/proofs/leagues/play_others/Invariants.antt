@@ -1,6 +1,6 @@
 use Rattle.std.proofs.Common.{◌≡◌, ◌+◌, ◌*◌, All, drop}
-use Rattle.mars_match.specs.LeagueSteps.{pairs_of_first, after_matches}
-use Rattle.mars_match.specs.Tallies.{IsOf}
+use Rattle.mars_match.specs.Code.LeagueSteps.{pairs_of_first, after_matches}
+use Rattle.mars_match.specs.Code.Tallies.{IsOf}
 use Rattle.mars_match.proofs.Pairs.{pairs_left}
 use Rattle.mars_match.proofs.leagues.play_others.Given as goal
 

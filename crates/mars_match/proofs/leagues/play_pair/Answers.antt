@@ -1,6 +1,6 @@
 use Rattle.std.proofs.Common.{◌≡◌, ◌∙◌, inl, inr, Ok, Err, [], ◌∷◌, length, arith}
 use Rattle.std.proofs.lemmas.Result.{err_from_is_err_and}
-use Rattle.mars_match.specs.Tallies.{no_rounds, tallied}
+use Rattle.mars_match.specs.Code.Tallies.{no_rounds, tallied}
 use Rattle.mars_match.proofs.Outcomes.{fault_answer}
 use Rattle.mars_match.proofs.Pairs.{pair_err, first_unfit, second_unfit, both_fit}
 use Rattle.mars_match.proofs.leagues.play_pair.Goals as goal

@@ -1,5 +1,5 @@
 use Rattle.std.proofs.Common.{◌≡◌, replicate}
-use Rattle.mars_match.specs.Tallies.{no_rounds}
+use Rattle.mars_match.specs.Code.Tallies.{no_rounds}
 use Rattle.mars_match.proofs.matches.first_tallies.Given as goal
 
 abbrev pub invariant-loop-warrior : goal.invariant-loop-warrior

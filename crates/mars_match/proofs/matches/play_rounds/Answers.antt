@@ -4,7 +4,7 @@ use Rattle.std.proofs.lemmas.Int.{to_z-of_z}
 use Rattle.std.proofs.lemmas.Result.{err_from_is_err_and}
 use Rattle.std.specs.Int.RustNames.{FitsSigned}
 use Rattle.mars_match.specs.Rounds.{placed_for, ended}
-use Rattle.mars_match.specs.Tallies.{outcome_by, all_added}
+use Rattle.mars_match.specs.Code.Tallies.{outcome_by, all_added}
 use Rattle.mars_match.proofs.Outcomes.{tallied_place_err, tallied_round_err, tallied_more, fault_answer}
 use Rattle.mars_match.proofs.Pairs.{all_more}
 use Rattle.mars_match.proofs.matches.play_rounds.Goals as goal

@@ -1,7 +1,7 @@
 use Rattle.std.proofs.Common.{◌≡◌, ◌-◌, All, length}
 use Rattle.std.specs.Prelude.{IfSome}
 use Rattle.mars_match.specs.Battles.{HasRoom}
-use Rattle.mars_match.specs.Tallies.{tallied, IsOf}
+use Rattle.mars_match.specs.Code.Tallies.{tallied, IsOf}
 use Rattle.mars_match.proofs.matches.play_rounds.Given as goal
 
 -- the rounds that are left lead to the tallies of all

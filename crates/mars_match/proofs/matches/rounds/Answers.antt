@@ -2,7 +2,7 @@ use Rattle.std.proofs.Common.{◌≡◌, ◌∙◌, inl, inr, length, replicate,
 use Rattle.std.proofs.lemmas.Grind.{common_steps}
 use Rattle.std.proofs.lemmas.Result.{err_from_is_err_and}
 use Rattle.mars_match.specs.Battles.{count_fault}
-use Rattle.mars_match.specs.Tallies.{no_rounds, tallied}
+use Rattle.mars_match.specs.Code.Tallies.{no_rounds, tallied}
 use Rattle.mars_match.proofs.Totals.{table_err, table_with, counted_err, refused_count, good_count}
 use Rattle.mars_match.proofs.Outcomes.{fault_answer}
 use Rattle.mars_match.proofs.matches.rounds.Goals as goal

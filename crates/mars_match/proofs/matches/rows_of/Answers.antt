@@ -3,7 +3,7 @@ use Rattle.std.proofs.lemmas.List.{take_all, take_more}
 use Rattle.std.proofs.lemmas.List.Folds.{list_all_more}
 use Rattle.std.proofs.lemmas.Result.{err_from_is_err_and}
 use Rattle.mars_match.specs.Rounds.{fits_in_64}
-use Rattle.mars_match.specs.Tallies.{no_rounds, rows_with, row_with}
+use Rattle.mars_match.specs.Code.Tallies.{no_rounds, rows_with, row_with}
 use Rattle.mars_match.proofs.Outcomes.{length-rows, row_at, unfit, fit, fault_answer}
 use Rattle.mars_match.proofs.matches.rows_of.Goals as goal
 

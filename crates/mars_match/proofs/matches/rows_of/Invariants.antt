@@ -1,7 +1,7 @@
 use Rattle.std.proofs.Common.{◌≡◌, true, take}
 use Rattle.std.specs.List.{list_all}
 use Rattle.mars_match.specs.Rounds.{fits_in_64}
-use Rattle.mars_match.specs.Tallies.{rows_with}
+use Rattle.mars_match.specs.Code.Tallies.{rows_with}
 use Rattle.mars_match.proofs.matches.rows_of.Given as goal
 
 abbrev pub invariant-loop-i : goal.invariant-loop-i

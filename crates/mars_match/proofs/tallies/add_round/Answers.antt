@@ -2,7 +2,7 @@ use Rattle.std.proofs.Common.{◌≡◌, ◌+◌, ◌%◌, ◌<◌, ◌∙◌, l
 use Rattle.std.proofs.lemmas.Int.{to_z-of_z}
 use Rattle.mars_match.specs.Battles.{in_load_order}
 use Rattle.mars_match.specs.Rounds.{Outcome}
-use Rattle.mars_match.specs.Tallies.{IsOf, added, no_rounds}
+use Rattle.mars_match.specs.Code.Tallies.{IsOf, added, no_rounds}
 use Rattle.mars_match.proofs.Sums.{added_more, left_more, done_more, how_many-in_order, at_left}
 use Rattle.mars_match.proofs.tallies.add_round.Goals as goal
 

@@ -1,7 +1,7 @@
 use Rattle.std.proofs.Common.{◌≡◌, ◌+◌, ◌++◌, All, take, drop}
 use Rattle.mars_match.specs.Battles.{in_load_order}
 use Rattle.mars_match.specs.Rounds.{Outcome}
-use Rattle.mars_match.specs.Tallies.{all_added, IsOf}
+use Rattle.mars_match.specs.Code.Tallies.{all_added, IsOf}
 use Rattle.mars_match.proofs.tallies.add_round.Given as goal
 
 abbrev pub invariant-loop-i : goal.invariant-loop-i

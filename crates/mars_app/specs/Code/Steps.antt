@@ -4,7 +4,7 @@ use Rattle.std.specs.List.{flat_map, AllByRecursion}
 use Rattle.std.specs.Io.KnownBytes.{Appends}
 use Rattle.mars_session.specs.Script.{SessionState}
 use Rattle.mars_app.specs.declared.line_buffer.LineBuffer.{LineBuffer}
-use Rattle.mars_app.specs.LineBuffer.{Holds}
+use Rattle.mars_app.specs.Code.LineBuffer.{Holds}
 use Rattle.mars_app.specs.declared.request.Request.TheVariants.{Quit}
 use Rattle.mars_app.specs.Lines.{line_asks, lines_of, Splits, IsLine, ended}
 use Rattle.mars_app.specs.Transcript.{Transcript, BrokenAt, GoesOn, until_quit}

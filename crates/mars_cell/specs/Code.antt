@@ -1,0 +1,2 @@
+-- How the code holds and reaches what is defined. All of this serves the proofs alone.
+pub mod Listing

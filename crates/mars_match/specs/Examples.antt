@@ -1,0 +1,4 @@
+-- Worked examples. The check computes each of them.
+pub mod Placements
+pub mod Listings
+pub mod Contests

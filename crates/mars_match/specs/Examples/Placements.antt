@@ -1,0 +1,80 @@
+-- Worked examples: where warriors are placed, and the seed that is left.
+use Rattle.std.specs.Prelude.{◌≡◌, ℕ, [], ◌∷◌, Some, refl}
+use Rattle.mars_cell.specs.Parameters.{Parameters}
+use Rattle.mars_match.specs.Placement.{drawn, starts_of, next_seed, place_fault}
+use Rattle.mars_match.specs.declared.placement.PlaceFault.TheVariants.{NoRoom, BadSeed}
+
+
+-- a core of m cells, with the least distance d
+abbrev pub sizes : ℕ → ℕ → Parameters
+sizes m d = record {
+  core_size = m;
+  processes = 1;
+  cycles = 1;
+  read_limit = m;
+  write_limit = m;
+  max_length = 1;
+  distance = d;
+}
+
+pub starts_of_two : starts_of (sizes 8000 100) 2 1 ≡ 0 ∷ 1305 ∷ []
+unfolding starts_of drawn
+starts_of_two = refl
+
+pub seed_after_two : next_seed 2 1 ≡ 16807
+unfolding next_seed drawn
+seed_after_two = refl
+
+pub starts_of_three : starts_of (sizes 8000 100) 3 1 ≡ 0 ∷ 1505 ∷ 2769 ∷ []
+unfolding starts_of drawn
+starts_of_three = refl
+
+pub seed_after_three : next_seed 3 1 ≡ 1622650073
+unfolding next_seed drawn
+seed_after_three = refl
+
+-- there is one place alone, whatever the seed
+pub one_place_alone : starts_of (sizes 200 100) 2 5 ≡ 0 ∷ 100 ∷ []
+unfolding starts_of drawn
+one_place_alone = refl
+
+pub no_room : place_fault (sizes 199 100) 2 1 ≡ Some NoRoom
+no_room = refl
+
+pub seed_zero : place_fault (sizes 8000 100) 1 0 ≡ Some BadSeed
+seed_zero = refl
+
+pub seed_too_great : place_fault (sizes 8000 100) 1 2147483647 ≡ Some BadSeed
+seed_too_great = refl
+
+pub starts_of_second_round : starts_of (sizes 8000 100) 2 16807 ≡ 0 ∷ 1139 ∷ []
+unfolding starts_of drawn
+starts_of_second_round = refl
+
+pub seed_after_second_round : next_seed 2 16807 ≡ 282475249
+unfolding next_seed drawn
+seed_after_second_round = refl
+
+pub starts_of_third_round : starts_of (sizes 8000 100) 2 282475249 ≡ 0 ∷ 3168 ∷ []
+unfolding starts_of drawn
+starts_of_third_round = refl
+
+pub seed_after_third_round : next_seed 2 282475249 ≡ 1622650073
+unfolding next_seed drawn
+seed_after_third_round = refl
+
+pub starts_of_four : starts_of (sizes 400 100) 4 1 ≡ 0 ∷ 200 ∷ 100 ∷ 300 ∷ []
+unfolding starts_of drawn
+starts_of_four = refl
+
+pub seed_after_four : next_seed 4 1 ≡ 1144108930
+unfolding next_seed drawn
+seed_after_four = refl
+
+pub start_of_one : starts_of (sizes 400 100) 1 1 ≡ 0 ∷ []
+unfolding starts_of drawn
+start_of_one = refl
+
+pub seed_after_one : next_seed 1 1 ≡ 1
+unfolding next_seed
+seed_after_one = refl
