@@ -1,7 +1,9 @@
-ghost use Rattle.std.specs.Prelude.{◌≡◌};
+ghost use Rattle.std.specs.Prelude.{◌≡◌, IfOk};
 
 use super::*;
 use std::test::Fail;
+
+mod memory;
 
 fn cell(op: Op, modifier: Modifier, a_mode: Mode, a: u32, b_mode: Mode, b: u32) -> Cell
     ensures { result ≡ record { op = op; modifier = modifier; a_mode = a_mode; a = a; b_mode = b_mode; b = b } }
@@ -17,7 +19,9 @@ fn cell(op: Op, modifier: Modifier, a_mode: Mode, a: u32, b_mode: Mode, b: u32) 
 }
 
 /// Parameters of that core size and longest warrior.
-fn sizes(core_size: u32, max_length: u32) -> Result<Params, ParamFault> {
+fn sizes(core_size: u32, max_length: u32) -> Result<Params, ParamFault>
+    ensures { IfOk result (λ params. params.core_size ≡ core_size) }
+{
     Params::new(
         core_size, 8, 10, core_size, core_size, max_length, max_length,
     )

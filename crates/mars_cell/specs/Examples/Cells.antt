@@ -14,7 +14,6 @@ use Rattle.mars_cell.specs.Parts.{begins_word, joins, parts}
 use Rattle.mars_cell.specs.Text.{cell_text, number_text}
 use Rattle.mars_cell.specs.Words.{mode_of, modifier_of, op_of}
 
-
 -- a cell, written in the order of its text
 abbrev pub cell : Op → Modifier → Mode → ℕ → Mode → ℕ → Cell
 cell op modifier a_mode a b_mode b = record { op = op; modifier = modifier; a_mode = a_mode; a = a; b_mode = b_mode; b = b }
