@@ -15,6 +15,8 @@ use std::io::{self, ErrorKind, Write};
 use std::process::Abort;
 use std::test::Fail;
 
+mod memory;
+
 /// Parameters of a core size and a least distance.
 fn sizes(core_size: u32, distance: u32) -> Result<Params, Fail> {
     let params = Params::new(core_size, 8, 10, core_size, core_size, 1, distance)

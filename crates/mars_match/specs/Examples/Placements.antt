@@ -4,7 +4,6 @@ use Rattle.mars_cell.specs.Parameters.{Parameters}
 use Rattle.mars_match.specs.Placement.{drawn, starts_of, next_seed, place_fault}
 use Rattle.mars_match.specs.declared.placement.PlaceFault.TheVariants.{NoRoom, BadSeed}
 
-
 -- a core of m cells, with the least distance d
 abbrev pub sizes : ℕ → ℕ → Parameters
 sizes m d = record {
