@@ -6,6 +6,8 @@ use redcode_text::{ExprFault, TextProblem};
 use std::alloc::Global;
 use std::test::Fail;
 
+mod memory;
+
 /// The parameters of a core of this size, with warriors as long as it.
 fn core_of(core_size: u32) -> Result<Params, Fail> {
     let params = Params::new(

@@ -4,6 +4,8 @@ use crate::{
 };
 use std::test::Fail;
 
+mod memory;
+
 const NAMES: Names = Names {
     core_size: 8000,
     max_processes: 8000,
