@@ -4,7 +4,7 @@ use Rattle.std.specs.List.{find, flat_map}
 use Rattle.mars_cell.specs.declared.instruction.Cell.{Cell}
 use Rattle.mars_cell.specs.Text.{cell_text}
 use Rattle.mars_core.specs.State.{State, cell_at, queue_of, is_over_of}
-use Rattle.mars_core.specs.declared.journal.Death.{Death}
+use Rattle.mars_core.specs.declared.deaths.Death.{Death}
 use Rattle.mars_session.specs.declared.calls.Standing.{Standing}
 use Rattle.mars_session.specs.declared.calls.Refusal.TheVariants.{Count, Address, NoSuchWarrior}
 use Rattle.mars_app.specs.Replies.{standing_text, refusal_text}

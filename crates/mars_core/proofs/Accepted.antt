@@ -9,8 +9,8 @@ use Rattle.mars_cell.specs.Cells.{FitsCore}
 use Rattle.mars_core.specs.State.{State, is_empty, queue_of}
 use Rattle.mars_core.specs.Edit.{address_fault, cell_fault, warrior_fault, process_fault, life_fault, room_fault, edit_fault, IsProcess, CanSpawn}
 use Rattle.mars_core.specs.Validity.{IsQueue, IsValid}
-use Rattle.mars_core.specs.declared.journal.Edit.TheVariants as edit
-use Rattle.mars_core.specs.declared.journal.EditFault.{EditFault}
+use Rattle.mars_core.specs.declared.battle.edit.Edit.TheVariants as edit
+use Rattle.mars_core.specs.declared.battle.edit.EditFault.{EditFault}
 
 none_or : (x y : Option EditFault) → option_or x y ≡ None → (x ≡ None) × (y ≡ None)
 none_or None y e = (refl, e)

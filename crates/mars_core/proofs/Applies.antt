@@ -10,13 +10,13 @@ use Rattle.mars_core.specs.Queue.{Queue, addresses_of}
 use Rattle.mars_core.specs.Turn.{front_of, front_execution, accepted, turn_record}
 use Rattle.mars_core.specs.Edit.{edit_fault, edit_record, IsProcess, CanSpawn}
 use Rattle.mars_core.specs.Leads.{Leads}
-use Rattle.mars_core.specs.Journal.{rewritten, warrior_of, queue_after_work, with_queue, deaths_after, turns_of, cycles_of, applied}
-use Rattle.mars_core.specs.Steps.{CanRequeue, HasQueue}
-use Rattle.mars_core.specs.declared.journal.Atom.{Atom}
-use Rattle.mars_core.specs.declared.journal.CellChange.{CellChange}
-use Rattle.mars_core.specs.declared.journal.Death.{Death}
-use Rattle.mars_core.specs.declared.journal.Edit.{Edit}
-use Rattle.mars_core.specs.declared.journal.Edit.TheVariants as edit
+use Rattle.mars_core.specs.Record.{rewritten, warrior_of, queue_after_work, with_queue, deaths_after, turns_of, cycles_of, applied}
+use Rattle.mars_core.specs.Code.Records.{CanRequeue, HasQueue}
+use Rattle.mars_core.specs.declared.record.Atom.{Atom}
+use Rattle.mars_core.specs.declared.record.CellChange.{CellChange}
+use Rattle.mars_core.specs.declared.deaths.Death.{Death}
+use Rattle.mars_core.specs.declared.battle.edit.Edit.{Edit}
+use Rattle.mars_core.specs.declared.battle.edit.Edit.TheVariants as edit
 use Rattle.mars_core.proofs.Accepted.{accepted_set_cell, accepted_move, accepted_kill, accepted_spawn}
 use Rattle.mars_core.proofs.Counted.{valid_counted}
 use Rattle.mars_core.proofs.EditClocks.{live_survives}
@@ -53,7 +53,7 @@ module _ (s : State) (v : IsValid s) where
       let kept = length-take (p.processes - length (drop 1 q)) (front_execution p s.core q).queued in
       let fewer = length-drop 1 q in
       record {
-        cells = subst (λ m. AreInside m (front_execution p s.core q).logged.changes) (sym v.core.size) (execution_inside p v.params.core_least s.core (front_of q));
+        cells = subst (λ m. AreInside m (front_execution p s.core q).written.changes) (sym v.core.size) (execution_inside p v.params.core_least s.core (front_of q));
         queue = (v.clock.next, (filled_length q lives, omega (arith, kept, fewer, fits.room)));
         deaths = λ _. room_for_death s.next v.clock.next lives;
       }

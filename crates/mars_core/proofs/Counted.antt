@@ -6,7 +6,7 @@ use Rattle.std.proofs.lemmas.List.Elements.{All-head, All-tail}
 use Rattle.std.proofs.lemmas.List.Sums.{sum_by-cons}
 use Rattle.mars_core.specs.State.{State, is_empty, queue_of, survivors_of}
 use Rattle.mars_core.specs.Validity.{times_died, IsValid}
-use Rattle.mars_core.specs.declared.journal.Death.{Death}
+use Rattle.mars_core.specs.declared.deaths.Death.{Death}
 
 -- f 0 and so on, n numbers together
 abbrev total : (ℕ → ℕ) → ℕ → ℕ

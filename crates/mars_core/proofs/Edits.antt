@@ -8,8 +8,8 @@ use Rattle.mars_cell.specs.Cells.{FitsCore}
 use Rattle.mars_core.specs.State.{State, is_empty, queue_of, clock_of}
 use Rattle.mars_core.specs.Edit.{left_of, killed, edit_fault, edited, IsProcess, CanSpawn}
 use Rattle.mars_core.specs.Validity.{IsQueue, IsValid}
-use Rattle.mars_core.specs.declared.journal.Edit.{Edit}
-use Rattle.mars_core.specs.declared.journal.Edit.TheVariants as edit
+use Rattle.mars_core.specs.declared.battle.edit.Edit.{Edit}
+use Rattle.mars_core.specs.declared.battle.edit.Edit.TheVariants as edit
 use Rattle.mars_core.proofs.Accepted.{accepted_set_cell, accepted_move, accepted_kill, accepted_spawn}
 use Rattle.mars_core.proofs.EditClocks.{clock_after_death, clock_kept}
 use Rattle.mars_core.proofs.Live.{is_filled}

@@ -9,7 +9,7 @@ use Rattle.std.proofs.lemmas.List.Folds.{list_any-append}
 use Rattle.std.proofs.lemmas.List.{at_drop_more, drop_all}
 use Rattle.mars_cell.specs.Warriors.{WarriorValue}
 use Rattle.mars_core.specs.Start.{addresses_from, loaded_addresses, is_in, has_duplicate, overlap}
-use Rattle.mars_core.specs.Arcs.{distance, share}
+use Rattle.mars_core.specs.Code.Distances.{distance, share}
 
 -- an address b, seen from an address a
 record IsAway (m a b d : ℕ) : Type 0 where

@@ -2,9 +2,9 @@
 use Rattle.std.proofs.Common.{◌≡◌, ℕ, ◌<◌, List, length, get_or, set, All, ap, sym, ◌∙◌, subst, Option, Some}
 use Rattle.std.proofs.lemmas.List.{length-map}
 use Rattle.std.proofs.lemmas.List.Elements.{All-get_or}
-use Rattle.mars_core.specs.Journal.{with_queue}
+use Rattle.mars_core.specs.Record.{with_queue}
 use Rattle.mars_core.specs.Queue.{Queue, addresses_of}
-use Rattle.mars_core.specs.Steps.{HasQueue}
+use Rattle.mars_core.specs.Code.Records.{HasQueue}
 use Rattle.mars_core.proofs.Live.{addresses_at}
 use Rattle.mars_core.proofs.TurnState.{addresses-set}
 

@@ -10,21 +10,22 @@ use Rattle.mars_cell.specs.declared.instruction.Mode.TheVariants.{Immediate, Dir
 use Rattle.mars_cell.specs.Cells.{empty_cell}
 use Rattle.mars_cell.specs.Parameters.{Parameters}
 use Rattle.mars_core.specs.State.{State, cell_at, queue_of, is_empty, advanced, moved_clock, live_from, clock_of, is_over_of}
-use Rattle.mars_core.specs.LoggedCore.{address_after, LoggedCore, written, with_field_changed}
+use Rattle.mars_core.specs.Addresses.{address_after}
+use Rattle.mars_core.specs.Writes.{WrittenCore, write_cell, write_field}
 use Rattle.mars_core.specs.Operand.{predecremented, postincremented, evaluated}
 use Rattle.mars_core.specs.Effect.{effect_of}
 use Rattle.mars_core.specs.Turn.{after_effect, execution_of, front_of, accepted, queue_after, with_death, executed, turn_of, turn_record}
 use Rattle.mars_core.specs.Validity.{IsValid}
-use Rattle.mars_core.specs.Journal.{restored, without_last, cycles_of, reverted}
-use Rattle.mars_core.specs.declared.journal.CellChange.{CellChange}
-use Rattle.mars_core.specs.declared.journal.Death.{Death}
-use Rattle.mars_core.specs.declared.queues.Clock.{Clock}
+use Rattle.mars_core.specs.Record.{restored, without_last, cycles_of, reverted}
+use Rattle.mars_core.specs.declared.record.CellChange.{CellChange}
+use Rattle.mars_core.specs.declared.deaths.Death.{Death}
+use Rattle.mars_core.specs.declared.machine.clock.Clock.{Clock}
 use Rattle.mars_core.specs.Edit.{left_of, killed, edit_fault, edited, edit_record, IsProcess, CanSpawn}
 use Rattle.mars_core.specs.Leads.{Leads}
-use Rattle.mars_core.specs.declared.journal.Atom.{Atom}
-use Rattle.mars_core.specs.declared.journal.Work.TheVariants as work
-use Rattle.mars_core.specs.declared.journal.Edit.{Edit}
-use Rattle.mars_core.specs.declared.journal.Edit.TheVariants as edit
+use Rattle.mars_core.specs.declared.record.Atom.{Atom}
+use Rattle.mars_core.specs.declared.record.Work.TheVariants as work
+use Rattle.mars_core.specs.declared.battle.edit.Edit.{Edit}
+use Rattle.mars_core.specs.declared.battle.edit.Edit.TheVariants as edit
 use Rattle.mars_core.proofs.Accepted.{accepted_move, accepted_kill, accepted_spawn}
 use Rattle.mars_core.proofs.Turns.{running, same_eq}
 
@@ -38,53 +39,53 @@ set_back (y ∷ xs) zero x d = refl
 set_back (y ∷ xs) (suc i) x d = ap (λ l. y ∷ l) (set_back xs i x d)
 
 -- what the writes to a core lead back to
-abbrev origin : LoggedCore → List Cell
-origin logged = restored logged.changes logged.core
+abbrev origin : WrittenCore → List Cell
+origin written = restored written.changes written.core
 
-origin-written : (logged : LoggedCore) (a : ℕ) (cell : Cell) → origin (written logged a cell) ≡ origin logged
-unfolding written
-origin-written logged a cell =
-    restored-append logged.changes _ _ ∙ ap (restored logged.changes) (set_back logged.core a cell empty_cell)
+origin-written : (written : WrittenCore) (a : ℕ) (cell : Cell) → origin (write_cell written a cell) ≡ origin written
+unfolding write_cell
+origin-written written a cell =
+    restored-append written.changes _ _ ∙ ap (restored written.changes) (set_back written.core a cell empty_cell)
 
-origin-changed : (f : ℕ → ℕ) (field : Field) (logged : LoggedCore) (a : ℕ) → origin (with_field_changed f field logged a) ≡ origin logged
-unfolding with_field_changed
-origin-changed f field logged a = origin-written logged a _
+origin-changed : (f : ℕ → ℕ) (field : Field) (written : WrittenCore) (a : ℕ) → origin (write_field f field written a) ≡ origin written
+unfolding write_field
+origin-changed f field written a = origin-written written a _
 
-origin-predecremented : (p : Parameters) (field : Field) (logged : LoggedCore) (pc n : ℕ) → origin (predecremented p field logged pc n).logged ≡ origin logged
+origin-predecremented : (p : Parameters) (field : Field) (written : WrittenCore) (pc n : ℕ) → origin (predecremented p field written pc n).written ≡ origin written
 unfolding predecremented
-origin-predecremented p field logged pc n = origin-changed _ field logged _
+origin-predecremented p field written pc n = origin-changed _ field written _
 
-origin-postincremented : (p : Parameters) (field : Field) (logged : LoggedCore) (pc n : ℕ) → origin (postincremented p field logged pc n).logged ≡ origin logged
+origin-postincremented : (p : Parameters) (field : Field) (written : WrittenCore) (pc n : ℕ) → origin (postincremented p field written pc n).written ≡ origin written
 unfolding postincremented
-origin-postincremented p field logged pc n = origin-changed _ field logged _
+origin-postincremented p field written pc n = origin-changed _ field written _
 
-origin-evaluated : (p : Parameters) (logged : LoggedCore) (pc : ℕ) (mode : Mode) (n : ℕ) → origin (evaluated p logged pc mode n).logged ≡ origin logged
+origin-evaluated : (p : Parameters) (written : WrittenCore) (pc : ℕ) (mode : Mode) (n : ℕ) → origin (evaluated p written pc mode n).written ≡ origin written
 unfolding evaluated
-origin-evaluated p logged pc Immediate n = refl
-origin-evaluated p logged pc Direct n = refl
-origin-evaluated p logged pc AIndirect n = refl
-origin-evaluated p logged pc BIndirect n = refl
-origin-evaluated p logged pc APredecrement n = origin-predecremented p _ logged pc n
-origin-evaluated p logged pc BPredecrement n = origin-predecremented p _ logged pc n
-origin-evaluated p logged pc APostincrement n = origin-postincremented p _ logged pc n
-origin-evaluated p logged pc BPostincrement n = origin-postincremented p _ logged pc n
+origin-evaluated p written pc Immediate n = refl
+origin-evaluated p written pc Direct n = refl
+origin-evaluated p written pc AIndirect n = refl
+origin-evaluated p written pc BIndirect n = refl
+origin-evaluated p written pc APredecrement n = origin-predecremented p _ written pc n
+origin-evaluated p written pc BPredecrement n = origin-predecremented p _ written pc n
+origin-evaluated p written pc APostincrement n = origin-postincremented p _ written pc n
+origin-evaluated p written pc BPostincrement n = origin-postincremented p _ written pc n
 
-origin-after_effect : (logged : LoggedCore) (a : ℕ) (target : Option Cell) → origin (after_effect logged a target) ≡ origin logged
-origin-after_effect logged a None = refl
-origin-after_effect logged a (Some cell) = origin-written logged a cell
+origin-after_effect : (written : WrittenCore) (a : ℕ) (target : Option Cell) → origin (after_effect written a target) ≡ origin written
+origin-after_effect written a None = refl
+origin-after_effect written a (Some cell) = origin-written written a cell
 
 -- the writes of an execution lead back to the core before it
-pub origin-execution : (p : Parameters) (core : List Cell) (pc : ℕ) → origin (execution_of p core pc).logged ≡ core
+pub origin-execution : (p : Parameters) (core : List Cell) (pc : ℕ) → origin (execution_of p core pc).written ≡ core
 unfolding execution_of
 origin-execution p core pc =
     let instruction = cell_at core pc in
-    let start : LoggedCore = record { core = core; changes = [] } in
+    let start : WrittenCore = record { core = core; changes = [] } in
     let a = evaluated p start pc instruction.a_mode instruction.a in
-    let b = evaluated p a.logged pc instruction.b_mode instruction.b in
+    let b = evaluated p a.written pc instruction.b_mode instruction.b in
     let address = address_after p.core_size pc b.operand.write in
-    let effect = effect_of p.core_size instruction.op instruction.modifier a.operand.copy b.operand.copy (cell_at b.logged.core address) pc a.operand.read in
-    origin-after_effect b.logged address effect.target
-    ∙ origin-evaluated p a.logged pc instruction.b_mode instruction.b
+    let effect = effect_of p.core_size instruction.op instruction.modifier a.operand.copy b.operand.copy (cell_at b.written.core address) pc a.operand.read in
+    origin-after_effect b.written address effect.target
+    ∙ origin-evaluated p a.written pc instruction.b_mode instruction.b
     ∙ origin-evaluated p start pc instruction.a_mode instruction.a
 
 without_last-append : {X : Type 0} (xs ys : List X) → without_last (length ys) (xs ++ ys) ≡ xs

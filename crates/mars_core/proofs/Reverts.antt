@@ -13,14 +13,14 @@ use Rattle.mars_core.specs.Queue.{Queue, addresses_of}
 use Rattle.mars_core.specs.Turn.{front_of, front_execution, accepted, queue_after, executed, turn_of, turn_record}
 use Rattle.mars_core.specs.Edit.{left_of, killed, edit_fault, edited, edit_record, IsProcess, CanSpawn}
 use Rattle.mars_core.specs.Leads.{Leads}
-use Rattle.mars_core.specs.Journal.{restored, without_last, warrior_of, queue_before, with_queue, turns_of, cycles_of, reverted}
-use Rattle.mars_core.specs.Steps.{CanRestore, HasQueue}
-use Rattle.mars_core.specs.declared.journal.Atom.{Atom}
-use Rattle.mars_core.specs.declared.journal.CellChange.{CellChange}
-use Rattle.mars_core.specs.declared.journal.Death.{Death}
-use Rattle.mars_core.specs.declared.journal.Edit.{Edit}
-use Rattle.mars_core.specs.declared.journal.Edit.TheVariants as edit
-use Rattle.mars_core.specs.declared.queues.Clock.{Clock}
+use Rattle.mars_core.specs.Record.{restored, without_last, warrior_of, queue_before, with_queue, turns_of, cycles_of, reverted}
+use Rattle.mars_core.specs.Code.Records.{CanRestore, HasQueue}
+use Rattle.mars_core.specs.declared.record.Atom.{Atom}
+use Rattle.mars_core.specs.declared.record.CellChange.{CellChange}
+use Rattle.mars_core.specs.declared.deaths.Death.{Death}
+use Rattle.mars_core.specs.declared.battle.edit.Edit.{Edit}
+use Rattle.mars_core.specs.declared.battle.edit.Edit.TheVariants as edit
+use Rattle.mars_core.specs.declared.machine.clock.Clock.{Clock}
 use Rattle.mars_core.proofs.Accepted.{accepted_set_cell, accepted_move, accepted_kill, accepted_spawn}
 use Rattle.mars_core.proofs.Fits.{execution_keeps}
 use Rattle.mars_core.proofs.Inside.{AreInside, execution_inside}
@@ -66,7 +66,7 @@ module _ (s : State) (v : IsValid s) where
       let many = length-append (drop 1 q) (accepted p s.core q) in
       let fewer = length-drop 1 q in
       record {
-        cells = subst (λ m. AreInside m (front_execution p s.core q).logged.changes) (sym (execution_keeps p s.core (front_of q) v.params v.core).core.size) (execution_inside p v.params.core_least s.core (front_of q));
+        cells = subst (λ m. AreInside m (front_execution p s.core q).written.changes) (sym (execution_keeps p s.core (front_of q) v.params v.core).core.size) (execution_inside p v.params.core_least s.core (front_of q));
         queue = (simp length-set v.clock.next, (rw at (omega (arith, many)), rw at (omega (arith, many, fewer, fits.room, filled))));
         turns = omega arith;
         cycle = added s.cycle _ (advanced_up (set s.queues s.next after) (clock_of s) (s.next + 1));

@@ -8,20 +8,21 @@ use Rattle.mars_cell.specs.declared.instruction.Mode.{Mode}
 use Rattle.mars_cell.specs.declared.instruction.Mode.TheVariants.{Immediate, Direct, AIndirect, BIndirect, APredecrement, BPredecrement, APostincrement, BPostincrement}
 use Rattle.mars_cell.specs.Parameters.{Parameters}
 use Rattle.mars_core.specs.State.{State, cell_at, queue_of, advanced, moved_clock, live_from, clock_of}
-use Rattle.mars_core.specs.LoggedCore.{address_after, LoggedCore, written, with_field_changed}
+use Rattle.mars_core.specs.Addresses.{address_after}
+use Rattle.mars_core.specs.Writes.{WrittenCore, write_cell, write_field}
 use Rattle.mars_core.specs.Operand.{predecremented, postincremented, evaluated}
 use Rattle.mars_core.specs.Effect.{effect_of}
 use Rattle.mars_core.specs.Turn.{after_effect, execution_of, front_of, queue_after, executed, turn_of, turn_record}
-use Rattle.mars_core.specs.Journal.{rewritten, cycles_of, applied}
+use Rattle.mars_core.specs.Record.{rewritten, cycles_of, applied}
 use Rattle.mars_core.specs.Edit.{left_of, killed, edited, edit_record}
 use Rattle.mars_core.specs.Leads.{Leads}
-use Rattle.mars_core.specs.declared.journal.Atom.{Atom}
-use Rattle.mars_core.specs.declared.journal.Edit.{Edit}
-use Rattle.mars_core.specs.declared.journal.Edit.TheVariants as edit
+use Rattle.mars_core.specs.declared.record.Atom.{Atom}
+use Rattle.mars_core.specs.declared.battle.edit.Edit.{Edit}
+use Rattle.mars_core.specs.declared.battle.edit.Edit.TheVariants as edit
 use Rattle.mars_core.proofs.Turns.{same_eq}
 use Rattle.mars_core.proofs.Restored.{killing}
-use Rattle.mars_core.specs.declared.journal.CellChange.{CellChange}
-use Rattle.mars_core.specs.declared.queues.Clock.{Clock}
+use Rattle.mars_core.specs.declared.record.CellChange.{CellChange}
+use Rattle.mars_core.specs.declared.machine.clock.Clock.{Clock}
 
 rewritten-append : (xs ys : List CellChange) (core : List Cell) → rewritten (xs ++ ys) core ≡ rewritten ys (rewritten xs core)
 rewritten-append [] ys core = refl
@@ -29,51 +30,51 @@ rewritten-append (x ∷ xs) ys core = rewritten-append xs ys (set core x.address
 
 module _ (core : List Cell) where
   -- the changes of a logged core lead from the core to it
-  abbrev Replays : LoggedCore → Type 0
-  Replays logged = rewritten logged.changes core ≡ logged.core
+  abbrev Replays : WrittenCore → Type 0
+  Replays written = rewritten written.changes core ≡ written.core
 
-  written_replays : (logged : LoggedCore) (a : ℕ) (cell : Cell) → Replays logged → Replays (written logged a cell)
-  unfolding written
-  written_replays logged a cell r = rewritten-append logged.changes _ core ∙ ap (λ (c : List Cell). set c a cell) r
+  written_replays : (written : WrittenCore) (a : ℕ) (cell : Cell) → Replays written → Replays (write_cell written a cell)
+  unfolding write_cell
+  written_replays written a cell r = rewritten-append written.changes _ core ∙ ap (λ (c : List Cell). set c a cell) r
 
-  changed_replays : (f : ℕ → ℕ) (field : Field) (logged : LoggedCore) (a : ℕ) → Replays logged → Replays (with_field_changed f field logged a)
-  unfolding with_field_changed
-  changed_replays f field logged a r = written_replays logged a _ r
+  changed_replays : (f : ℕ → ℕ) (field : Field) (written : WrittenCore) (a : ℕ) → Replays written → Replays (write_field f field written a)
+  unfolding write_field
+  changed_replays f field written a r = written_replays written a _ r
 
-  before_replays : (p : Parameters) (field : Field) (logged : LoggedCore) (pc n : ℕ) → Replays logged → Replays (predecremented p field logged pc n).logged
+  before_replays : (p : Parameters) (field : Field) (written : WrittenCore) (pc n : ℕ) → Replays written → Replays (predecremented p field written pc n).written
   unfolding predecremented
-  before_replays p field logged pc n r = changed_replays _ field logged _ r
+  before_replays p field written pc n r = changed_replays _ field written _ r
 
-  after_replays : (p : Parameters) (field : Field) (logged : LoggedCore) (pc n : ℕ) → Replays logged → Replays (postincremented p field logged pc n).logged
+  after_replays : (p : Parameters) (field : Field) (written : WrittenCore) (pc n : ℕ) → Replays written → Replays (postincremented p field written pc n).written
   unfolding postincremented
-  after_replays p field logged pc n r = changed_replays _ field logged _ r
+  after_replays p field written pc n r = changed_replays _ field written _ r
 
-  evaluated_replays : (p : Parameters) (logged : LoggedCore) (pc : ℕ) (mode : Mode) (n : ℕ) → Replays logged → Replays (evaluated p logged pc mode n).logged
+  evaluated_replays : (p : Parameters) (written : WrittenCore) (pc : ℕ) (mode : Mode) (n : ℕ) → Replays written → Replays (evaluated p written pc mode n).written
   unfolding evaluated
-  evaluated_replays p logged pc Immediate n r = r
-  evaluated_replays p logged pc Direct n r = r
-  evaluated_replays p logged pc AIndirect n r = r
-  evaluated_replays p logged pc BIndirect n r = r
-  evaluated_replays p logged pc APredecrement n r = before_replays p _ logged pc n r
-  evaluated_replays p logged pc BPredecrement n r = before_replays p _ logged pc n r
-  evaluated_replays p logged pc APostincrement n r = after_replays p _ logged pc n r
-  evaluated_replays p logged pc BPostincrement n r = after_replays p _ logged pc n r
+  evaluated_replays p written pc Immediate n r = r
+  evaluated_replays p written pc Direct n r = r
+  evaluated_replays p written pc AIndirect n r = r
+  evaluated_replays p written pc BIndirect n r = r
+  evaluated_replays p written pc APredecrement n r = before_replays p _ written pc n r
+  evaluated_replays p written pc BPredecrement n r = before_replays p _ written pc n r
+  evaluated_replays p written pc APostincrement n r = after_replays p _ written pc n r
+  evaluated_replays p written pc BPostincrement n r = after_replays p _ written pc n r
 
-  effect_replays : (logged : LoggedCore) (a : ℕ) (target : Option Cell) → Replays logged → Replays (after_effect logged a target)
-  effect_replays logged a None r = r
-  effect_replays logged a (Some cell) r = written_replays logged a cell r
+  effect_replays : (written : WrittenCore) (a : ℕ) (target : Option Cell) → Replays written → Replays (after_effect written a target)
+  effect_replays written a None r = r
+  effect_replays written a (Some cell) r = written_replays written a cell r
 
-execution_replays : (p : Parameters) (core : List Cell) (pc : ℕ) → Replays core (execution_of p core pc).logged
+execution_replays : (p : Parameters) (core : List Cell) (pc : ℕ) → Replays core (execution_of p core pc).written
 unfolding execution_of
 execution_replays p core pc =
     let instruction = cell_at core pc in
-    let start : LoggedCore = record { core = core; changes = [] } in
+    let start : WrittenCore = record { core = core; changes = [] } in
     let a = evaluated p start pc instruction.a_mode instruction.a in
-    let b = evaluated p a.logged pc instruction.b_mode instruction.b in
+    let b = evaluated p a.written pc instruction.b_mode instruction.b in
     let address = address_after p.core_size pc b.operand.write in
-    let effect = effect_of p.core_size instruction.op instruction.modifier a.operand.copy b.operand.copy (cell_at b.logged.core address) pc a.operand.read in
-    effect_replays core b.logged address effect.target
-    (evaluated_replays core p a.logged pc instruction.b_mode instruction.b (evaluated_replays core p start pc instruction.a_mode instruction.a refl))
+    let effect = effect_of p.core_size instruction.op instruction.modifier a.operand.copy b.operand.copy (cell_at b.written.core address) pc a.operand.read in
+    effect_replays core b.written address effect.target
+    (evaluated_replays core p a.written pc instruction.b_mode instruction.b (evaluated_replays core p start pc instruction.a_mode instruction.a refl))
 
 cycle_on : (clock : Clock) (o z : Option ℕ) → let c = (moved_clock clock o z).cycle in clock.cycle + cycles_of (not (c == clock.cycle)) ≡ c
 cycle_on clock (Some k) z = grind (arith, nat_tests)

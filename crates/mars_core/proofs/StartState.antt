@@ -12,13 +12,12 @@ use Rattle.mars_cell.specs.Cells.{FitsCore, empty_cell}
 use Rattle.mars_cell.specs.Parameters.{Parameters, AreInRange}
 use Rattle.mars_cell.specs.Warriors.{WarriorValue}
 use Rattle.mars_core.specs.State.{is_empty, survivors_of, queue_of, state_of}
-use Rattle.mars_core.specs.LoggedCore.{IsCore}
+use Rattle.mars_core.specs.Validity.{IsCore, IsQueue, IsValid}
 use Rattle.mars_core.specs.Start.{is_inside, fields_inside, first_processes, start_fault}
 use Rattle.std.proofs.Math.Nat.{mod-lt}
 use Rattle.std.proofs.lemmas.Bool.{true≢false}
-use Rattle.mars_core.specs.declared.journal.Death.{Death}
+use Rattle.mars_core.specs.declared.deaths.Death.{Death}
 use Rattle.mars_core.specs.Queue.{Queue, addresses_of}
-use Rattle.mars_core.specs.Validity.{IsQueue, IsValid}
 
 both_inside : (m : ℕ) (cell : Cell) → is_inside m cell ≡ true → FitsCore m cell
 both_inside m cell h = record { a = grind (arith, nat_tests); b = grind (arith, nat_tests) }

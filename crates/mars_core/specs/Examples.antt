@@ -14,19 +14,20 @@ use Rattle.mars_cell.specs.declared.instruction.Mode.TheVariants.{Direct}
 use Rattle.mars_cell.specs.Cells.{empty_cell}
 use Rattle.mars_cell.specs.Parameters.{Parameters}
 use Rattle.mars_core.specs.State.{State, is_over_of, ends, advanced}
-use Rattle.mars_core.specs.LoggedCore.{address_after, fold, raised, lowered, written, with_field_changed}
+use Rattle.mars_core.specs.Addresses.{address_after, fold, raised, lowered}
+use Rattle.mars_core.specs.Writes.{write_cell, write_field}
 use Rattle.mars_core.specs.Operand.{evaluated, direct_operand, indirect_operand, predecremented, postincremented}
 use Rattle.mars_core.specs.Effect.{effect_of, division, are_equal}
 use Rattle.mars_core.specs.Turn.{turn_of, turn_record, executed, accepted, execution_of}
 use Rattle.mars_core.specs.Edit.{edited, edit_fault, edit_record, killed}
-use Rattle.mars_core.specs.Journal.{reverted, applied}
+use Rattle.mars_core.specs.Record.{reverted, applied}
 use Rattle.mars_core.specs.Start.{overlap, start_state}
-use Rattle.mars_core.specs.declared.journal.CellChange.{CellChange}
-use Rattle.mars_core.specs.declared.journal.Edit.{Edit}
+use Rattle.mars_core.specs.declared.record.CellChange.{CellChange}
+use Rattle.mars_core.specs.declared.battle.edit.Edit.{Edit}
 
 -- what an example unfolds to compute the machine
 unfoldable pub the_machine : ⊤
-unfolding turn_of turn_record executed accepted execution_of evaluated predecremented postincremented indirect_operand direct_operand with_field_changed effect_of division are_equal address_after fold raised lowered written ends advanced edited edit_fault edit_record killed reverted applied overlap start_state
+unfolding turn_of turn_record executed accepted execution_of evaluated predecremented postincremented indirect_operand direct_operand write_field effect_of division are_equal address_after fold raised lowered write_cell ends advanced edited edit_fault edit_record killed reverted applied overlap start_state
 the_machine = tt
 
 -- a cell, written in the order of its text

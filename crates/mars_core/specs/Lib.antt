@@ -1,17 +1,17 @@
+-- What a reader of the contracts has to believe, in this order; Examples has worked examples of it.
 pub mod Queue
 pub mod State
-pub mod LoggedCore
+pub mod Addresses
+pub mod Writes
 pub mod Operand
 pub mod Effect
-pub mod Steps
-pub mod Reached
 pub mod Turn
 pub mod Edit
 pub mod Validity
-pub mod Leads
-pub mod Journal
-pub mod Examples
-pub mod Laws
 pub mod Start
 pub mod Shape
-pub mod Arcs
+pub mod Leads
+pub mod Record
+pub mod Laws
+pub mod Examples
+pub mod Code

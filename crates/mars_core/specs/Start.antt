@@ -7,8 +7,8 @@ use Rattle.mars_cell.specs.Cells.{empty_cell}
 use Rattle.mars_cell.specs.Parameters.{Parameters}
 use Rattle.mars_cell.specs.Warriors.{WarriorValue}
 use Rattle.mars_core.specs.State.{State}
-use Rattle.mars_core.specs.declared.starts.BattleFault.{BattleFault}
-use Rattle.mars_core.specs.declared.starts.BattleFault.TheVariants.{NoWarrior, TooMany, Overlap, StartOutside, FieldOutside}
+use Rattle.mars_core.specs.declared.battle.start.BattleFault.{BattleFault}
+use Rattle.mars_core.specs.declared.battle.start.BattleFault.TheVariants.{NoWarrior, TooMany, Overlap, StartOutside, FieldOutside}
 
 -- the addresses of n cells in a row, the first of them at s
 abbrev pub addresses_from : ℕ → ℕ → ℕ → List ℕ

@@ -8,7 +8,7 @@ use Rattle.mars_cell.specs.Warriors.{WarriorValue}
 use Rattle.redcode_text.specs.Tokens.{Scanned}
 use Rattle.mars_match.specs.Rounds.{Outcome, ◌>>=◌, placed_for, ended, outcomes, has_won, has_tied, has_lost, points_of, row_of, rows_from, checked_rows, table_of}
 use Rattle.mars_match.specs.Code.Tallies.{no_rounds, added, all_added, tallied, row_with, rows_with}
-use Rattle.mars_core.specs.declared.starts.BattleFault.{BattleFault}
+use Rattle.mars_core.specs.declared.battle.start.BattleFault.{BattleFault}
 use Rattle.mars_match.specs.Battles.{count_fault}
 use Rattle.mars_match.specs.declared.fault.MatchFault.{MatchFault}
 use Rattle.mars_match.specs.declared.fault.MatchFault.TheVariants as fault

@@ -4,9 +4,9 @@ use Rattle.mars_cell.specs.Parameters.{Parameters}
 use Rattle.mars_cell.specs.Warriors.{WarriorValue}
 use Rattle.mars_core.specs.State.{State, is_empty}
 use Rattle.mars_core.specs.Start.{start_state, start_fault}
-use Rattle.mars_core.specs.Laws.{after_turns}
-use Rattle.mars_core.specs.declared.starts.BattleFault.{BattleFault}
-use Rattle.mars_core.specs.declared.starts.BattleFault.TheVariants.{NoWarrior, TooMany}
+use Rattle.mars_core.specs.Turn.{after_turns}
+use Rattle.mars_core.specs.declared.battle.start.BattleFault.{BattleFault}
+use Rattle.mars_core.specs.declared.battle.start.BattleFault.TheVariants.{NoWarrior, TooMany}
 use Rattle.mars_match.specs.declared.fault.MatchFault.{MatchFault}
 use Rattle.mars_match.specs.declared.fault.MatchFault.TheVariants as fault
 

@@ -3,7 +3,7 @@ use Rattle.std.specs.Prelude.{ℕ, zero, suc, ◌+◌, ◌^◌, ℤ, pos, negsuc
 use Rattle.std.specs.List.{list_all}
 use Rattle.mars_cell.specs.Parameters.{Parameters}
 use Rattle.mars_cell.specs.Warriors.{WarriorValue}
-use Rattle.mars_core.specs.declared.starts.BattleFault.{BattleFault}
+use Rattle.mars_core.specs.declared.battle.start.BattleFault.{BattleFault}
 use Rattle.redcode_text.specs.Tokens.{Scanned}
 use Rattle.redcode_text.specs.declared.fault.ExprFault.{ExprFault}
 use Rattle.redcode_text.specs.declared.fault.ExprFault.TheVariants.{Range}

@@ -8,7 +8,7 @@ use Rattle.mars_session.specs.declared.calls.Call.TheVariants.{Step, Run, Until,
 use Rattle.mars_session.specs.declared.calls.Standing.{Standing}
 use Rattle.mars_session.specs.declared.calls.Refusal.{Refusal}
 use Rattle.mars_session.specs.declared.calls.Refusal.TheVariants.{NothingToUndo, NothingToRedo, NotInHistory}
-use Rattle.mars_core.specs.declared.journal.Edit.TheVariants as edits
+use Rattle.mars_core.specs.declared.battle.edit.Edit.TheVariants as edits
 use Rattle.mars_core.specs.State.{State}
 use Rattle.mars_session.specs.History.{History, position_of, accepted, undo, redo, goto, first_turns, last_turns}
 use Rattle.mars_session.specs.Commands.{States, step_states, run_states, until_bound, until_states, edit_states, cells_between, fill_states}

@@ -5,8 +5,8 @@ use Rattle.std.proofs.Math.ListN.{length-set}
 use Rattle.std.proofs.lemmas.Bool.{eqb-true, eqb-false}
 use Rattle.mars_core.specs.State.{State}
 use Rattle.mars_core.specs.Leads.{Leads}
-use Rattle.mars_core.specs.Journal.{reverted, applied}
-use Rattle.mars_core.specs.declared.journal.Atom.{Atom}
+use Rattle.mars_core.specs.Record.{reverted, applied}
+use Rattle.mars_core.specs.declared.record.Atom.{Atom}
 use Rattle.mars_core.proofs.CallerLemmas.{record_reverted, record_applied}
 use Rattle.mars_session.specs.History.{Place, History, position_of, following, last_of, places, marked, cut, append, back, forward, rewound}
 use Rattle.mars_session.specs.Journals.{no_entry, entry_at, mark_at, journal_before, journal_after, journal_history, LeadHere, LeadOn, IsJournal, LeadsFrom, LeadsAt}

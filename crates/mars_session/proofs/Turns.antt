@@ -6,10 +6,10 @@ use Rattle.std.proofs.lemmas.Grind.{common_steps}
 use Rattle.mars_cell.specs.declared.instruction.Cell.{Cell}
 use Rattle.mars_core.specs.Edit.{edit_fault, edited, cell_fault}
 use Rattle.mars_core.proofs.CallerLemmas.{shape-edited}
-use Rattle.mars_core.specs.declared.journal.Edit.{Edit}
-use Rattle.mars_core.specs.declared.journal.Edit.TheVariants as edits
-use Rattle.mars_core.specs.declared.journal.EditFault.{EditFault}
-use Rattle.mars_core.specs.declared.journal.EditFault.TheVariants as faults
+use Rattle.mars_core.specs.declared.battle.edit.Edit.{Edit}
+use Rattle.mars_core.specs.declared.battle.edit.Edit.TheVariants as edits
+use Rattle.mars_core.specs.declared.battle.edit.EditFault.{EditFault}
+use Rattle.mars_core.specs.declared.battle.edit.EditFault.TheVariants as faults
 use Rattle.mars_core.specs.State.{State}
 use Rattle.mars_core.specs.Turn.{turn_of}
 use Rattle.mars_session.specs.Commands.{turns_until, fills}

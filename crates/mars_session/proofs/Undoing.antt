@@ -2,8 +2,8 @@
 use Rattle.std.proofs.Common.{◌≡◌, ℕ, zero, suc, ◌+◌, Bool, true, false, List, [], ◌∷◌, ◌++◌, length, Option, Some, None, refl, ap, sym, ◌∙◌, arith, if◌then◌else◌}
 use Rattle.std.specs.Prelude.{option_and_then, IsOk, IsTrue, Result, Ok, Err}
 use Rattle.mars_core.specs.State.{State}
-use Rattle.mars_core.specs.declared.journal.Edit.{Edit}
-use Rattle.mars_core.specs.declared.journal.Edit.TheVariants as edits
+use Rattle.mars_core.specs.declared.battle.edit.Edit.{Edit}
+use Rattle.mars_core.specs.declared.battle.edit.Edit.TheVariants as edits
 use Rattle.mars_session.specs.History.{Place, History, position_of, append, append_all, accepted, cut, marked, marked_before, undo, marked_after, redo}
 use Rattle.mars_session.specs.declared.calls.Call.{Call}
 use Rattle.mars_session.specs.declared.calls.Call.TheVariants.{Step, Run, Until, SetCell, Fill, MoveProcess, Kill, Spawn, Undo, Redo, Goto}

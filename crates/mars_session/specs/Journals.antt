@@ -2,9 +2,9 @@
 use Rattle.std.specs.Prelude.{ℕ, zero, suc, ◌+◌, ◌-◌, ◌≤◌, Bool, false, List, [], ◌∷◌, length, slice_index_or}
 use Rattle.mars_core.specs.State.{State}
 use Rattle.mars_core.specs.Leads.{Leads}
-use Rattle.mars_core.specs.Journal.{reverted, applied}
-use Rattle.mars_core.specs.declared.journal.Atom.{Atom}
-use Rattle.mars_core.specs.declared.journal.Work.TheVariants as work
+use Rattle.mars_core.specs.Record.{reverted, applied}
+use Rattle.mars_core.specs.declared.record.Atom.{Atom}
+use Rattle.mars_core.specs.declared.record.Work.TheVariants as work
 use Rattle.mars_session.specs.History.{Place, History}
 
 -- what a list of records and marks has past its end

@@ -1,7 +1,7 @@
 -- What calls make of a history, and the replies to them.
 use Rattle.std.specs.Prelude.{◌≡◌, ℕ, Bool, true, false, ◌+◌, ◌-◌, ◌&&◌, nat_lt, List, [], ◌∷◌, map, Option, Some, None, Result, Ok, Err, if◌then◌else◌}
 use Rattle.mars_core.specs.State.{survivors_of}
-use Rattle.mars_core.specs.declared.journal.Edit.TheVariants as edits
+use Rattle.mars_core.specs.declared.battle.edit.Edit.TheVariants as edits
 use Rattle.mars_session.specs.declared.calls.Call.{Call}
 use Rattle.mars_session.specs.declared.calls.Call.TheVariants.{Step, Run, Until, SetCell, Fill, MoveProcess, Kill, Spawn, Undo, Redo, Goto}
 use Rattle.mars_session.specs.declared.calls.Standing.{Standing}

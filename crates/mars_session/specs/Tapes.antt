@@ -4,7 +4,7 @@ use Rattle.mars_core.specs.State.{State, is_over_of}
 use Rattle.mars_core.specs.Turn.{turn_of}
 use Rattle.mars_core.specs.Edit.{edit_fault, edited}
 use Rattle.mars_core.specs.Validity.{IsValid}
-use Rattle.mars_core.specs.declared.journal.Edit.{Edit}
+use Rattle.mars_core.specs.declared.battle.edit.Edit.{Edit}
 use Rattle.mars_session.specs.History.{Place, History, rewound, last_place}
 
 -- a tape: its history, and how many places may be appended once what follows is dropped

@@ -9,8 +9,8 @@ use Rattle.mars_core.specs.State.{State}
 use Rattle.mars_core.specs.Turn.{turn_of}
 use Rattle.mars_core.specs.Edit.{edited, edit_fault}
 use Rattle.mars_core.specs.Examples.{the_machine, cell_of, sizes, of_eight, eight, battle_of, lone, lone_after, IsEdit}
-use Rattle.mars_core.specs.declared.journal.Edit.TheVariants.{SetCell, KillProcess, MoveProcess, Spawn}
-use Rattle.mars_core.specs.declared.journal.EditFault.TheVariants.{QueueFull, WarriorDead, NoSuchProcess}
+use Rattle.mars_core.specs.declared.battle.edit.Edit.TheVariants.{SetCell, KillProcess, MoveProcess, Spawn}
+use Rattle.mars_core.specs.declared.battle.edit.EditFault.TheVariants.{QueueFull, WarriorDead, NoSuchProcess}
 
 -- JMP.B $0, $0
 abbrev waiting : Cell

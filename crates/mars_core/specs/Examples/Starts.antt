@@ -9,7 +9,7 @@ use Rattle.mars_cell.specs.Cells.{empty_cell}
 use Rattle.mars_cell.specs.Warriors.{WarriorValue}
 use Rattle.mars_core.specs.Start.{start_fault, start_state}
 use Rattle.mars_core.specs.Examples.{the_machine, cell_of, numbers, of_eight, battle_of}
-use Rattle.mars_core.specs.declared.starts.BattleFault.TheVariants.{NoWarrior, TooMany, Overlap, StartOutside, FieldOutside}
+use Rattle.mars_core.specs.declared.battle.start.BattleFault.TheVariants.{NoWarrior, TooMany, Overlap, StartOutside, FieldOutside}
 
 -- a warrior of these cells, which starts at one of them
 abbrev warrior : List Cell → ℕ → WarriorValue

@@ -8,7 +8,8 @@ use Rattle.mars_cell.specs.declared.instruction.Op.TheVariants.{Dat, Mov, Jmp}
 use Rattle.mars_cell.specs.declared.instruction.Modifier.{Modifier}
 use Rattle.mars_cell.specs.declared.instruction.Modifier.TheVariants as modifiers
 use Rattle.mars_cell.specs.declared.instruction.Mode.TheVariants.{Direct}
-use Rattle.mars_core.specs.LoggedCore.{address_after, fold, raised, lowered, written}
+use Rattle.mars_core.specs.Addresses.{address_after, fold, raised, lowered}
+use Rattle.mars_core.specs.Writes.{write_cell}
 use Rattle.mars_core.specs.Operand.{evaluated, direct_operand}
 use Rattle.mars_core.specs.Effect.{effect_of}
 use Rattle.mars_core.specs.Turn.{turn_of, executed, accepted, execution_of}
@@ -59,7 +60,7 @@ all_three =
     ∷ one_cell (codes "Dead") (codes "Anonymous") Dat modifiers.F 0 ∷ []
 
 pub league_of_three : league_of (sizes 4 2) all_three by_default None 1 1 ≡ Ok (imp ∷ stay ∷ dead ∷ [])
-unfolding league_of table_of starts_of drawn next_seed survivors_of_round end_of start_state overlap scanned value_of tree_within turn_of executed accepted execution_of effect_of evaluated direct_operand address_after fold raised lowered written advanced ends
+unfolding league_of table_of starts_of drawn next_seed survivors_of_round end_of start_state overlap scanned value_of tree_within turn_of executed accepted execution_of effect_of evaluated direct_operand address_after fold raised lowered write_cell advanced ends
 league_of_three = refl
 
 -- no seed but one from 1 on

@@ -1,6 +1,6 @@
 -- Each edit of the loop is the first of those that are left.
 use Rattle.std.proofs.Common.{◌+◌, ◌-◌, ◌∙◌, refl, arith}
-use Rattle.mars_core.specs.declared.journal.Edit.TheVariants as edits
+use Rattle.mars_core.specs.declared.battle.edit.Edit.TheVariants as edits
 use Rattle.mars_session.specs.History.{append_all}
 use Rattle.mars_session.specs.Commands.{fills}
 use Rattle.mars_session.proofs.Turns.{one_filled, fault_kept}

@@ -1,7 +1,7 @@
 use Rattle.std.proofs.Common.{◌≡◌, ◌≤◌, ◌+◌, ◌-◌, []}
 use Rattle.std.specs.Prelude.{None}
 use Rattle.mars_core.specs.Edit.{edit_fault}
-use Rattle.mars_core.specs.declared.journal.Edit.TheVariants as edits
+use Rattle.mars_core.specs.declared.battle.edit.Edit.TheVariants as edits
 use Rattle.mars_session.specs.History.{append_all}
 use Rattle.mars_session.specs.Commands.{fills}
 use Rattle.mars_session.proofs.commands.fill_cells.Given as goal

@@ -1,5 +1,5 @@
 use Rattle.std.proofs.Common.{◌<◌, ◌-◌, ◌∙◌, ap, length, arith, true}
-use Rattle.mars_core.specs.Journal.{reverted}
+use Rattle.mars_core.specs.Record.{reverted}
 use Rattle.mars_session.specs.Journals.{entry_at}
 use Rattle.mars_session.specs.Tapes.{Taped}
 use Rattle.mars_session.specs.History.{back}

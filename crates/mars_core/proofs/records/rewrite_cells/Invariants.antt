@@ -1,6 +1,0 @@
-use Rattle.std.proofs.Common.{◌≡◌, drop}
-use Rattle.mars_core.specs.Journal.{rewritten}
-use Rattle.mars_core.proofs.records.rewrite_cells.Given as goal
-
-abbrev pub invariant-loop-change : goal.invariant-loop-change
-invariant-loop-change l = rewritten (drop l.change-index l.changes) l.core ≡ rewritten l.changes l.fn.core

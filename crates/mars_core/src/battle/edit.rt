@@ -1,0 +1,255 @@
+//! Changes of a battle by hand.
+ghost use Rattle.std.specs.Prelude.{◌≡◌, ◌<◌, ◌≤◌, length, IfOk, MatchOption, if◌then◌else◌};
+ghost use Rattle.mars_core.specs.State.{advanced as spec_advanced};
+ghost use Rattle.mars_core.specs.Queue.{addresses_of};
+ghost use Rattle.mars_core.specs.Validity.{IsValid};
+ghost use Rattle.mars_core.specs.Leads.{Leads};
+ghost use Rattle.mars_core.specs.Edit.{address_fault as spec_address_fault, cell_fault as spec_cell_fault, warrior_fault, process_fault, life_fault, room_fault, edit_fault as spec_edit_fault, edited, edit_record, IsProcess, CanSpawn};
+ghost use Rattle.mars_cell.specs.Cells.{FitsCore};
+
+use crate::battle::Battle;
+use crate::deaths::note_death;
+use crate::machine::clock::{Clock, advanced};
+use crate::queue::ProcessQueue;
+use crate::record::make::quiet_atom;
+use crate::record::{Atom, CellChange, Work};
+use arrayvec::ArrayVec;
+use mars_cell::Cell;
+use thiserror::Error;
+
+/// A change of a battle by hand. Its numbers are judged as they are given, however large.
+#[derive(Clone, Copy, Debug, PartialEq, Eq)]
+pub enum Edit {
+    /// Writes the cell at the address.
+    SetCell(u64, Cell),
+    /// Makes a process of a warrior, the front being place 0, stand at an address: warrior, place, address.
+    MoveProcess(u64, u64, u64),
+    /// Takes a process of a warrior out of its queue: warrior, place.
+    KillProcess(u64, u64),
+    /// Puts a further process at the end of a warrior's queue: warrior, address.
+    Spawn(u64, u64),
+}
+
+/// Why an edit is refused: the first that applies. It is displayed as its number and name.
+#[derive(Clone, Copy, Debug, PartialEq, Eq, Error)]
+pub enum EditFault {
+    /// The address isn't in the core.
+    #[error("1 Address")]
+    Address,
+    /// A number of the cell isn't an address in the core.
+    #[error("2 FieldOutside")]
+    FieldOutside,
+    /// There is no such warrior.
+    #[error("3 NoSuchWarrior")]
+    NoSuchWarrior,
+    /// The warrior has no such process.
+    #[error("4 NoSuchProcess")]
+    NoSuchProcess,
+    /// The warrior is dead.
+    #[error("5 WarriorDead")]
+    WarriorDead,
+    /// The warrior has as many processes as it may have.
+    #[error("6 QueueFull")]
+    QueueFull,
+}
+
+impl Battle {
+    /// The first reason for which an edit would be refused. It takes no memory and changes nothing.
+    #[tactic(auto, unfolding(crate::specs::Edit::edit_fault))]
+    pub fn edit_fault(&self, edit: Edit) -> Option<EditFault>
+        ensures value { result ≡ spec_edit_fault self.now edit }
+        ensures valid { IsValid self.now }
+    {
+        let core_size = self.params.core_size();
+        match edit {
+            Edit::SetCell(address, cell) => {
+                address_fault(core_size, address).or(cell_fault(core_size, cell))
+            }
+            Edit::MoveProcess(warrior, place, address) => address_fault(core_size, address)
+                .or(self.warrior_fault(warrior))
+                .or(self.process_fault(warrior, place)),
+            Edit::KillProcess(warrior, place) => self
+                .warrior_fault(warrior)
+                .or(self.process_fault(warrior, place)),
+            Edit::Spawn(warrior, address) => address_fault(core_size, address)
+                .or(self.warrior_fault(warrior))
+                .or(self.life_fault(warrior))
+                .or(self.room_fault(warrior)),
+        }
+    }
+
+    fn warrior_fault(&self, warrior: u64) -> Option<EditFault>
+        ensures { result ≡ warrior_fault self.now warrior }
+    {
+        if warrior < self.queues.len() as u64 {
+            None
+        } else {
+            Some(EditFault::NoSuchWarrior)
+        }
+    }
+
+    fn process_fault(&self, warrior: u64, place: u64) -> Option<EditFault>
+        ensures { result ≡ process_fault self.now warrior place }
+    {
+        if place < self.queue_len(warrior as usize) as u64 {
+            None
+        } else {
+            Some(EditFault::NoSuchProcess)
+        }
+    }
+
+    fn life_fault(&self, warrior: u64) -> Option<EditFault>
+        ensures { result ≡ life_fault self.now warrior }
+    {
+        if self.alive(warrior as usize) {
+            None
+        } else {
+            Some(EditFault::WarriorDead)
+        }
+    }
+
+    fn room_fault(&self, warrior: u64) -> Option<EditFault>
+        ensures { result ≡ room_fault self.now warrior }
+    {
+        if self.queue_len(warrior as usize) < self.params.processes() as usize {
+            None
+        } else {
+            Some(EditFault::QueueFull)
+        }
+    }
+
+    /// Changes the battle by hand, or answers the first fault and changes nothing. A battle that is over may be edited, too;
+    /// a dead warrior isn't revived. The record says what was done.
+    pub fn edit(&mut self, edit: Edit) -> Result<Atom, EditFault>
+        ensures answer { MatchOption (spec_edit_fault self.old edit) (result ≡ Ok (edit_record self.old edit)) (λ fault. result ≡ Err fault) }
+        ensures state { MatchOption (spec_edit_fault self.old edit) (self.new ≡ edited self.old edit) (λ _. self.new ≡ self.old) }
+        ensures leads { IfOk result (λ atom. Leads self.old atom self.new) }
+    {
+        if let Some(fault) = self.edit_fault(edit) {
+            return Err(fault);
+        }
+        Ok(self.make_edit(edit))
+    }
+
+    /// An edit that isn't refused.
+    fn make_edit(&mut self, edit: Edit) -> Atom
+        requires valid { IsValid self.old }
+        requires accepted { spec_edit_fault self.old edit ≡ None }
+        ensures state { self.new ≡ edited self.old edit }
+        ensures record { result ≡ edit_record self.old edit }
+    {
+        match edit {
+            Edit::SetCell(address, cell) => self.set_cell(address as u32, cell),
+            Edit::MoveProcess(warrior, place, address) => {
+                self.move_process(warrior as u32, place as u32, address as u32)
+            }
+            Edit::KillProcess(warrior, place) => self.kill_process(warrior as u32, place as u32),
+            Edit::Spawn(warrior, address) => self.spawn(warrior as u32, address as u32),
+        }
+    }
+
+    #[tactic(auto, unfolding(crate::specs::Edit::edited, crate::specs::Edit::edit_record))]
+    fn set_cell(&mut self, address: u32, cell: Cell) -> Atom
+        requires address { address < self.old.params.core_size }
+        requires cell { FitsCore self.old.params.core_size cell }
+        ensures state { self.new ≡ edited self.old (Edit.SetCell address cell) }
+        ensures record { result ≡ edit_record self.old (Edit.SetCell address cell) }
+    {
+        let before = self.core[address as usize];
+        self.core[address as usize] = cell;
+        let mut cells = ArrayVec::new();
+        cells.push(CellChange {
+            address,
+            before,
+            after: cell,
+        });
+        quiet_atom(Work::SetCell, cells, self.next)
+    }
+
+    #[tactic(auto, unfolding(crate::specs::Edit::edited, crate::specs::Edit::edit_record))]
+    fn move_process(&mut self, warrior: u32, place: u32, address: u32) -> Atom
+        requires process { IsProcess self.old warrior place }
+        requires address { address < self.old.params.core_size }
+        ensures state { self.new ≡ edited self.old (Edit.MoveProcess warrior place address) }
+        ensures record { result ≡ edit_record self.old (Edit.MoveProcess warrior place address) }
+    {
+        let queue = &mut self.queues[warrior as usize];
+        let from = queue.replace(place as usize, address);
+        let work = Work::MoveProcess(warrior, place, from, address);
+        quiet_atom(work, ArrayVec::new(), self.next)
+    }
+
+    #[tactic(auto, unfolding(crate::specs::Edit::edited, crate::specs::Edit::killed, crate::specs::Edit::edit_record))]
+    fn kill_process(&mut self, warrior: u32, place: u32) -> Atom
+        requires { IsProcess self.old warrior place }
+        ensures state { self.new ≡ edited self.old (Edit.KillProcess warrior place) }
+        ensures record { result ≡ edit_record self.old (Edit.KillProcess warrior place) }
+    {
+        let before = Clock {
+            next: self.next,
+            cycle: self.cycle,
+        };
+        let queue = &mut self.queues[warrior as usize];
+        let address = queue.remove(place as usize);
+        let died = queue.is_empty();
+        note_death(&mut self.deaths, died, warrior, self.turns);
+        let after = clock_after_kill(self.queues.as_slice(), before, died);
+        self.next = after.next;
+        self.cycle = after.cycle;
+        Atom {
+            work: Work::KillProcess(warrior, place, address),
+            cells: ArrayVec::new(),
+            queued: ArrayVec::new(),
+            next_before: before.next,
+            next_after: after.next,
+            cycle_added: after.cycle != before.cycle,
+            died,
+        }
+    }
+
+    #[tactic(auto, unfolding(crate::specs::Edit::edited, crate::specs::Edit::edit_record))]
+    fn spawn(&mut self, warrior: u32, address: u32) -> Atom
+        requires { CanSpawn self.old warrior address }
+        ensures state { self.new ≡ edited self.old (Edit.Spawn warrior address) }
+        ensures record { result ≡ edit_record self.old (Edit.Spawn warrior address) }
+    {
+        let queue = &mut self.queues[warrior as usize];
+        queue.push(address);
+        quiet_atom(Work::Spawn(warrior, address), ArrayVec::new(), self.next)
+    }
+}
+
+/// An address outside the core.
+fn address_fault(core_size: u32, address: u64) -> Option<EditFault>
+    ensures { result ≡ spec_address_fault core_size address }
+{
+    if address < u64::from(core_size) {
+        None
+    } else {
+        Some(EditFault::Address)
+    }
+}
+
+/// A cell with a number outside the core.
+fn cell_fault(core_size: u32, cell: Cell) -> Option<EditFault>
+    ensures { result ≡ spec_cell_fault core_size cell }
+{
+    if cell.a < core_size && cell.b < core_size {
+        None
+    } else {
+        Some(EditFault::FieldOutside)
+    }
+}
+
+/// The clock after a process was taken out of a queue: it advances where its warrior died.
+fn clock_after_kill(queues: &[ProcessQueue], clock: Clock, died: bool) -> Clock
+    requires few { length queues.now ≤ 16 }
+    requires cycle { clock.cycle ≤ 10000000 }
+    ensures { result ≡ (if died then spec_advanced (addresses_of queues.now) clock clock.next else clock) }
+{
+    if died {
+        advanced(queues, clock, clock.next as usize)
+    } else {
+        clock
+    }
+}

@@ -1,0 +1,118 @@
+//! Warriors in the core, and their first processes.
+ghost use Rattle.std.specs.Prelude.{◌≡◌, ◌+◌, ◌%◌, ◌≤◌, ◌∷◌, [], length, map, All, IfOk, true};
+ghost use Rattle.std.proofs.Common.{replicate};
+ghost use Rattle.mars_cell.specs.Cells.{empty_cell, FitsCore};
+ghost use Rattle.mars_core.specs.Validity.{IsCore};
+ghost use Rattle.mars_core.specs.Queue.{addresses_of, Queue};
+ghost use Rattle.mars_core.specs.Start.{fields_inside as spec_fields_inside, laid, all_laid, first_processes};
+
+use crate::queue::ProcessQueue;
+use mars_cell::{Cell, Params, Warrior};
+use std::alloc::{AllocError, Global};
+
+/// An empty core, with each warrior laid from its start on.
+pub fn lay_all(
+    alloc: Global,
+    params: &Params,
+    warriors: &[Warrior],
+    starts: &[u32],
+) -> Result<Vec<Cell>, AllocError>
+    requires starts { length starts.now ≡ length warriors.now }
+    requires inside { spec_fields_inside params.now.core_size warriors.now ≡ true }
+    ensures laid { IfOk result (λ core. core.items ≡ all_laid params.now.core_size warriors.now starts.now (replicate params.now.core_size empty_cell)) }
+    ensures core { IfOk result (λ core. IsCore params.now.core_size core.items) }
+{
+    let core_size = params.core_size();
+    let mut core = vec![in alloc; Cell::empty(); core_size as usize]?;
+    lay_each(core.as_mut_slice(), core_size, warriors, starts);
+    Ok(core)
+}
+
+/// Empties a core, and lays each warrior from its start on.
+pub fn lay_anew(core: &mut [Cell], params: &Params, warriors: &[Warrior], starts: &[u32])
+    requires core { length core.old ≡ params.now.core_size }
+    requires starts { length starts.now ≡ length warriors.now }
+    requires inside { spec_fields_inside params.now.core_size warriors.now ≡ true }
+    ensures laid { core.new ≡ all_laid params.now.core_size warriors.now starts.now (replicate params.now.core_size empty_cell) }
+    ensures core { IsCore params.now.core_size core.new }
+{
+    core.fill(Cell::empty());
+    lay_each(core, params.core_size(), warriors, starts);
+}
+
+/// Lays each warrior from its start on.
+#[tactic(auto, using(crate::proofs::StartState::inside_at))]
+fn lay_each(core: &mut [Cell], core_size: u32, warriors: &[Warrior], starts: &[u32])
+    requires core { IsCore core_size core.old }
+    requires positive { 1 ≤ core_size }
+    requires starts { length starts.now ≡ length warriors.now }
+    requires inside { spec_fields_inside core_size warriors.now ≡ true }
+    ensures laid { core.new ≡ all_laid core_size warriors.now starts.now core.old }
+    ensures core { IsCore core_size core.new }
+{
+    for i in 0..warriors.len() {
+        lay(core, core_size, starts[i], warriors[i].cells());
+    }
+}
+
+/// Lays cells from a start on.
+fn lay(core: &mut [Cell], core_size: u32, start: u32, cells: &[Cell])
+    requires core { IsCore core_size core.old }
+    requires positive { 1 ≤ core_size }
+    requires cells { All (FitsCore core_size) cells.now }
+    ensures laid { core.new ≡ laid core_size start cells.now core.old }
+    ensures core { IsCore core_size core.new }
+{
+    for (i, cell) in cells.iter().enumerate() {
+        let address = (start as usize + i) % core_size as usize;
+        core[address] = *cell;
+    }
+}
+
+/// The queues of the first processes.
+pub fn first_queues(
+    alloc: Global,
+    params: &Params,
+    warriors: &[Warrior],
+    starts: &[u32],
+) -> Result<Vec<ProcessQueue>, AllocError>
+    requires starts { length starts.now ≡ length warriors.now }
+    ensures addresses { IfOk result (λ queues. addresses_of queues.items ≡ map (λ address. address ∷ []) (first_processes params.now.core_size warriors.now starts.now)) }
+    ensures limits { IfOk result (λ queues. All (λ (q : Queue). q.limit ≡ params.now.processes) queues.items) }
+{
+    let mut queues = Vec::with_capacity(alloc, warriors.len())?;
+    for i in 0..warriors.len() {
+        let mut queue = ProcessQueue::with_limit(alloc, params.processes() as usize)?;
+        queue.push(first_process(params.core_size(), &warriors[i], starts[i]));
+        queues.push_reserved(queue);
+    }
+    Ok(queues)
+}
+
+/// Leaves in each queue the first process alone.
+pub fn refill_queues(
+    params: &Params,
+    queues: &mut [ProcessQueue],
+    warriors: &[Warrior],
+    starts: &[u32],
+)
+    requires starts { length starts.now ≡ length warriors.now }
+    requires queues { length queues.old ≡ length warriors.now }
+    requires limits { All (λ (q : Queue). q.limit ≡ params.now.processes) queues.old }
+    requires some { 1 ≤ params.now.processes }
+    ensures addresses { addresses_of queues.new ≡ map (λ address. address ∷ []) (first_processes params.now.core_size warriors.now starts.now) }
+    ensures limits { All (λ (q : Queue). q.limit ≡ params.now.processes) queues.new }
+{
+    for i in 0..warriors.len() {
+        let address = first_process(params.core_size(), &warriors[i], starts[i]);
+        queues[i].restart(address);
+    }
+}
+
+/// Where a warrior's first process stands.
+fn first_process(core_size: u32, warrior: &Warrior, start: u32) -> u32
+    requires { 1 ≤ core_size }
+    ensures { result ≡ (start + warrior.now.start) % core_size }
+{
+    ((u64::from(start) + u64::from(warrior.start())) % u64::from(core_size)) as u32
+}

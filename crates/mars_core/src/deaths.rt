@@ -1,0 +1,53 @@
+//! The deaths of warriors.
+ghost use Rattle.std.specs.Prelude.{◌≡◌, ◌+◌, ◌<◌, ◌≤◌, length, true, ◌++◌, ◌∷◌, [], if◌then◌else◌};
+ghost use Rattle.arrayvec.specs.ArrayVec.{array_vec_len};
+ghost use Rattle.mars_core.specs.Turn.{with_death};
+ghost use Rattle.mars_core.specs.Record.{without_last};
+
+use arrayvec::ArrayVec;
+
+/// The death of a warrior, and how many turns had been made: those after the turn that killed it, or those at an edit.
+#[derive(Clone, Copy, Debug, PartialEq, Eq, Default)]
+pub struct Death {
+    pub warrior: u32,
+    pub turns: u32,
+}
+
+/// Notes the death of a warrior that died.
+#[inline(always)]
+pub fn note_death(deaths: &mut ArrayVec<Death, 16>, died: bool, warrior: u32, turns: u32)
+    requires { died ≡ true → array_vec_len deaths.old < 16 }
+    ensures { deaths.new.items ≡ with_death died warrior turns deaths.old.items }
+{
+    if died {
+        add_death(deaths, Death { warrior, turns });
+    }
+}
+
+#[cold]
+#[inline(never)]
+pub fn add_death(deaths: &mut ArrayVec<Death, 16>, death: Death)
+    requires { array_vec_len deaths.old < 16 }
+    ensures { deaths.new.items ≡ deaths.old.items ++ death ∷ [] }
+{
+    deaths.push(death);
+}
+
+/// Takes back the death of a warrior that died.
+pub fn forget_death(deaths: &mut ArrayVec<Death, 16>, died: bool)
+    ensures { deaths.new.items ≡ (if died then without_last 1 deaths.old.items else deaths.old.items) }
+{
+    if died {
+        let _ = deaths.pop();
+    }
+}
+
+/// Copies of the deaths.
+pub fn copy_deaths(deaths: &[Death]) -> ArrayVec<Death, 16>
+    requires { length deaths.now ≤ 16 }
+    ensures { result.items ≡ deaths.now }
+{
+    let mut copies = ArrayVec::new();
+    let _ = copies.try_extend_from_slice(deaths);
+    copies
+}

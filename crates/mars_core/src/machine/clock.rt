@@ -1,0 +1,84 @@
+//! Whose turn it is, in which cycle, and when a battle is over.
+ghost use Rattle.std.specs.Prelude.{◌≡◌, ℕ, ◌+◌, ◌<◌, ◌≤◌, length, List, IfSome};
+ghost use Rattle.mars_core.specs.State.{live_from, survivors_of, ends, advanced as spec_advanced};
+ghost use Rattle.mars_core.specs.Queue.{addresses_of};
+
+use crate::queue::ProcessQueue;
+
+/// Whose turn it is, and in which cycle.
+#[derive(Clone, Copy, Debug, PartialEq, Eq)]
+pub struct Clock {
+    pub next: u32,
+    pub cycle: u32,
+}
+
+/// The clock after a turn: mostly the next warrior lives.
+#[inline(always)]
+#[tactic(auto, using(crate::proofs::Live::advanced_next, crate::proofs::Live::advanced_round))]
+pub fn clock_after_turn(queues: &[ProcessQueue], clock: Clock) -> Clock
+    requires few { length queues.now ≤ 16 }
+    requires next { clock.next < length queues.now }
+    requires cycle { clock.cycle ≤ 10000000 }
+    ensures { result ≡ spec_advanced (addresses_of queues.now) clock (clock.next + 1) }
+{
+    let next = clock.next as usize + 1;
+    if next < queues.len() {
+        if !queues[next].is_empty() {
+            return Clock {
+                next: next as u32,
+                cycle: clock.cycle,
+            };
+        }
+    } else if !queues[0].is_empty() {
+        return Clock {
+            next: 0,
+            cycle: clock.cycle + 1,
+        };
+    }
+    advanced(queues, clock, next)
+}
+
+/// The clock moved to the least live index from `from` on, else to the least one in the next cycle.
+#[tactic(auto, unfolding(crate::specs::State::advanced))]
+pub fn advanced(queues: &[ProcessQueue], clock: Clock, from: usize) -> Clock
+    requires few { length queues.now ≤ 16 }
+    requires cycle { clock.cycle ≤ 10000000 }
+    ensures { result ≡ spec_advanced (addresses_of queues.now) clock from }
+{
+    if let Some(next) = least_live(queues, from) {
+        return Clock {
+            next: next as u32,
+            cycle: clock.cycle,
+        };
+    }
+    match least_live(queues, 0) {
+        Some(next) => Clock {
+            next: next as u32,
+            cycle: clock.cycle + 1,
+        },
+        None => clock,
+    }
+}
+
+/// The least index from `from` on whose queue isn't empty.
+#[tactic(auto, using(crate::proofs::Live::queues_live_next, crate::proofs::Live::queues_live_here))]
+pub fn least_live(queues: &[ProcessQueue], from: usize) -> Option<usize>
+    ensures value { result ≡ live_from (addresses_of queues.now) from }
+    ensures bound { IfSome result (λ k. k < length queues.now) }
+{
+    for i in from..queues.len() {
+        if !queues[i].is_empty() {
+            return Some(i);
+        }
+    }
+    None
+}
+
+/// Whether a battle of so many warriors, of whom so many live, is over.
+#[inline(always)]
+#[tactic(auto, unfolding(crate::specs::State::ends))]
+pub fn is_over(cycles: u32, cycle: u32, warriors: usize, alive: usize) -> bool
+    ensures { (queues : List (List ℕ)) → length queues ≡ warriors → survivors_of queues ≡ alive → result ≡ ends cycles cycle queues }
+{
+    cycle == cycles || (warriors >= 2 && alive <= 1) || (warriors == 1 && alive == 0)
+}

@@ -1,0 +1,282 @@
+//! The queues of processes.
+ghost use Rattle.std.specs.Prelude.{◌≡◌, ℕ, ◌+◌, ◌-◌, ◌<◌, ◌≤◌, ◌∷◌, [], ◌++◌, length, drop, take, All, IfOk, slice_get, slice_set, slice_index, remove, insert, ◌==◌, nat_lt, if◌then◌else◌};
+ghost use Rattle.mars_core.specs.State.{is_empty as spec_is_empty};
+ghost use Rattle.mars_core.specs.Queue.{Queue as Contents};
+ghost use Rattle.mars_core.specs.Record.{without_last};
+
+use circular_buffer::HeapCircularBuffer;
+use std::alloc::{AllocError, Global};
+use std::marker::Model;
+use std::mem;
+
+/// The processes of a warrior, in the order of their turns. Room for all of them is reserved.
+#[derive(Debug, Drop)]
+pub struct ProcessQueue {
+    ring: HeapCircularBuffer<u32>,
+}
+
+impl Model for ProcessQueue {
+    ghost use Rattle.mars_core.specs.Queue.{Queue};
+
+    ghost Value = { Queue };
+
+    ghost view = { λ q. record { addresses = q.ring.items; limit = q.ring.capacity } };
+}
+
+impl ProcessQueue {
+    /// An empty queue with room for so many processes.
+    pub fn with_limit(alloc: Global, limit: usize) -> Result<ProcessQueue, AllocError>
+        ensures { IfOk result (λ q. q ≡ record { addresses = []; limit = limit }) }
+    {
+        Ok(ProcessQueue {
+            ring: HeapCircularBuffer::with_capacity(alloc, limit)?,
+        })
+    }
+
+    /// How many processes there are.
+    pub fn len(&self) -> usize
+        ensures value { result ≡ length self.now.addresses }
+        ensures bound { result ≤ self.now.limit }
+    {
+        let limit = self.ring.capacity();
+        let len = self.ring.len();
+        prove!(len <= limit);
+        len
+    }
+
+    /// Whether there is no process.
+    #[tactic(auto, using(crate::proofs::Live::length_is_empty))]
+    pub fn is_empty(&self) -> bool
+        ensures { result ≡ spec_is_empty self.now.addresses }
+    {
+        self.ring.is_empty()
+    }
+
+    /// The address at a place, the front being place 0.
+    pub fn get(&self, place: usize) -> Option<u32>
+        ensures { result ≡ slice_get self.now.addresses place }
+    {
+        self.ring.get(place).copied()
+    }
+
+    /// Takes the process at the front.
+    pub fn take_front(&mut self) -> u32
+        requires { 1 ≤ length self.old.addresses }
+        ensures front { self.old.addresses ≡ result ∷ self.new.addresses }
+        ensures limit { self.new.limit ≡ self.old.limit }
+    {
+        match self.ring.pop_front() {
+            Some(address) => address,
+            None => unreachable!(),
+        }
+    }
+
+    /// Puts a process at the end. There must be room.
+    pub fn push(&mut self, address: u32)
+        requires { length self.old.addresses < self.old.limit }
+        ensures { self.new ≡ record { addresses = self.old.addresses ++ address ∷ []; limit = self.old.limit } }
+    {
+        let _ = self.ring.try_push_back(address);
+    }
+
+    /// Puts a process at the end where there is room, and says whether there was.
+    #[inline(always)]
+    pub fn try_push(&mut self, address: u32) -> bool
+        ensures answer { result ≡ nat_lt (length self.old.addresses) self.old.limit }
+        ensures queue { self.new ≡ (if result then record { addresses = self.old.addresses ++ address ∷ []; limit = self.old.limit } else self.old) }
+    {
+        self.ring.try_push_back(address).is_ok()
+    }
+
+    /// Leaves one process alone.
+    pub fn restart(&mut self, address: u32)
+        requires { 1 ≤ self.old.limit }
+        ensures { self.new ≡ record { addresses = address ∷ []; limit = self.old.limit } }
+    {
+        self.ring.clear();
+        self.push(address);
+    }
+
+    /// Makes the process at a place stand at another address, and gives the one before.
+    pub fn replace(&mut self, place: usize, address: u32) -> u32
+        requires { place < length self.old.addresses }
+        ensures address { result ≡ slice_index self.old.addresses place }
+        ensures queue { self.new ≡ record { addresses = slice_set self.old.addresses place address; limit = self.old.limit } }
+    {
+        match self.ring.get_mut(place) {
+            Some(process) => mem::replace(process, address),
+            None => unreachable!(),
+        }
+    }
+
+    /// Takes the process at a place out, and gives the address that it stood at. Only where it stands neither at the front nor
+    /// at the end do the others go round.
+    pub fn remove(&mut self, place: usize) -> u32
+        requires { place < length self.old.addresses }
+        ensures address { result ≡ slice_index self.old.addresses place }
+        ensures queue { self.new ≡ record { addresses = remove self.old.addresses place; limit = self.old.limit } }
+    {
+        if place == 0 {
+            self.take_front()
+        } else if place == self.len() - 1 {
+            self.take_back()
+        } else {
+            self.take_between(place)
+        }
+    }
+
+    /// Takes the process at a place out, while the others go round once.
+    fn take_between(&mut self, place: usize) -> u32
+        requires { place < length self.old.addresses }
+        ensures address { result ≡ slice_index self.old.addresses place }
+        ensures queue { self.new ≡ record { addresses = remove self.old.addresses place; limit = self.old.limit } }
+    {
+        let after = self.len() - 1 - place;
+        self.rotate(place);
+        let address = self.take_front();
+        self.rotate(after);
+        address
+    }
+
+    /// Puts a process in at a place. There must be room. Only where the place is neither the front nor the end do the others go
+    /// round.
+    pub fn insert(&mut self, place: usize, address: u32)
+        requires place { place ≤ length self.old.addresses }
+        requires room { length self.old.addresses < self.old.limit }
+        ensures { self.new ≡ record { addresses = insert self.old.addresses place address; limit = self.old.limit } }
+    {
+        if place == 0 {
+            self.push_front(address);
+        } else if place == self.len() {
+            self.push(address);
+        } else {
+            self.put_between(place, address);
+        }
+    }
+
+    /// Puts a process in at a place, while the others go round once. There must be room.
+    fn put_between(&mut self, place: usize, address: u32)
+        requires place { place ≤ length self.old.addresses }
+        requires room { length self.old.addresses < self.old.limit }
+        ensures { self.new ≡ record { addresses = insert self.old.addresses place address; limit = self.old.limit } }
+    {
+        let after = self.len() - place;
+        self.rotate(place);
+        self.push(address);
+        self.rotate(after);
+    }
+
+    /// The first processes, so many of them, go round to the end, one at a time.
+    fn rotate(&mut self, count: usize)
+        requires count { count ≤ length self.old.addresses }
+        requires room { length self.old.addresses ≤ self.old.limit }
+        ensures { self.new ≡ record { addresses = drop count self.old.addresses ++ take count self.old.addresses; limit = self.old.limit } }
+    {
+        for moved in 0..count {
+            let address = self.take_front();
+            self.push(address);
+        }
+    }
+
+    /// Takes the process at the end.
+    fn take_back(&mut self) -> u32
+        requires { 1 ≤ length self.old.addresses }
+        ensures address { result ≡ slice_index self.old.addresses (length self.old.addresses - 1) }
+        ensures queue { self.new ≡ record { addresses = take (length self.old.addresses - 1) self.old.addresses; limit = self.old.limit } }
+    {
+        match self.ring.pop_back() {
+            Some(address) => address,
+            None => unreachable!(),
+        }
+    }
+
+    /// Puts a process at the front. There must be room.
+    fn push_front(&mut self, address: u32)
+        requires { length self.old.addresses < self.old.limit }
+        ensures { self.new ≡ record { addresses = address ∷ self.old.addresses; limit = self.old.limit } }
+    {
+        let _ = self.ring.try_push_front(address);
+    }
+
+    /// Takes the process at the end away, where there is one.
+    pub fn drop_back(&mut self)
+        ensures { self.new ≡ record { addresses = without_last 1 self.old.addresses; limit = self.old.limit } }
+    {
+        let _ = self.ring.pop_back();
+    }
+
+    /// Takes so many processes off the end, and puts one at the front. There must be room.
+    pub fn put_back(&mut self, queued: usize, address: u32)
+        requires queued { queued ≤ length self.old.addresses }
+        requires room { length self.old.addresses - queued < self.old.limit }
+        ensures { self.new ≡ record { addresses = address ∷ without_last queued self.old.addresses; limit = self.old.limit } }
+    {
+        let left = self.len() - queued;
+        self.ring.truncate_back(left);
+        self.push_front(address);
+    }
+
+    /// Takes the process at the front, and puts these at the end. There must be room.
+    pub fn take_round(&mut self, queued: &[u32])
+        requires alive { 1 ≤ length self.old.addresses }
+        requires room { length (drop 1 self.old.addresses) + length queued.now ≤ self.old.limit }
+        ensures { self.new ≡ record { addresses = drop 1 self.old.addresses ++ queued.now; limit = self.old.limit } }
+    {
+        let _ = self.take_front();
+        match queued {
+            [address] => self.push(*address),
+            [first, second] => {
+                self.push(*first);
+                self.push(*second);
+            }
+            _ => {
+                let _ = self.ring.fill_from_slice(queued);
+            }
+        }
+    }
+
+    /// The same queue once more, with room of its own.
+    pub fn copy(&self, alloc: Global) -> Result<ProcessQueue, AllocError>
+        ensures { IfOk result (λ queue. queue ≡ self.now) }
+    {
+        let mut queue = ProcessQueue::with_limit(alloc, self.ring.capacity())?;
+        self.copy_over(&mut queue);
+        Ok(queue)
+    }
+
+    /// Copies this queue over another one of the same limit, without memory.
+    pub fn copy_over(&self, target: &mut ProcessQueue)
+        requires { self.now.limit ≡ target.old.limit }
+        ensures { target.new ≡ self.now }
+    {
+        let len = self.ring.len();
+        let (front, back) = self.ring.as_slices();
+        prove!(front.len() + back.len() == len);
+        target.ring.clear();
+        target.ring.fill_from_slice(front);
+        target.ring.fill_from_slice(back);
+    }
+}
+
+/// Copies of the queues, each with room of its own.
+pub fn copy_queues(alloc: Global, queues: &[ProcessQueue]) -> Result<Vec<ProcessQueue>, AllocError>
+    ensures { IfOk result (λ copies. copies.items ≡ queues.now) }
+{
+    let mut copies = Vec::with_capacity(alloc, queues.len())?;
+    for queue in queues {
+        let copy = queue.copy(alloc)?;
+        copies.push_reserved(copy);
+    }
+    Ok(copies)
+}
+
+/// Copies each queue over the one at its place, without memory.
+pub fn copy_queues_over(queues: &[ProcessQueue], targets: &mut [ProcessQueue])
+    requires count { length queues.now ≡ length targets.old }
+    requires limits { (m : ℕ) × All (λ (q : Contents). q.limit ≡ m) queues.now × All (λ (q : Contents). q.limit ≡ m) targets.old }
+    ensures { targets.new ≡ queues.now }
+{
+    for i in 0..queues.len() {
+        queues[i].copy_over(&mut targets[i]);
+    }
+}

@@ -1,0 +1,99 @@
+//! What a turn or an edit did to a battle: enough to go back and forth over it.
+ghost use Rattle.std.specs.Prelude.{◌≡◌};
+ghost use Rattle.mars_core.specs.Record.{warrior_of as spec_warrior_of, turns_of as spec_turns_of, cycles_of as spec_cycles_of};
+
+pub mod make;
+pub mod redo;
+pub mod undo;
+
+use arrayvec::ArrayVec;
+use mars_cell::{Cell, Mode, Modifier, Op};
+
+/// One write of a cell: its address, and the whole cell before and after, also where they are equal.
+#[derive(Clone, Copy, Debug, PartialEq, Eq)]
+pub struct CellChange {
+    pub address: u32,
+    pub before: Cell,
+    pub after: Cell,
+}
+
+impl Default for CellChange {
+    /// Zeros throughout, so that a list of blanks is made and copied as whole words.
+    fn default() -> Self {
+        let blank = Cell {
+            op: Op::Dat,
+            modifier: Modifier::A,
+            a_mode: Mode::Immediate,
+            b_mode: Mode::Immediate,
+            a: 0,
+            b: 0,
+        };
+        CellChange {
+            address: 0,
+            before: blank,
+            after: blank,
+        }
+    }
+}
+
+/// What was done.
+#[derive(Clone, Copy, Debug, PartialEq, Eq)]
+pub enum Work {
+    /// A turn of a warrior, and the address that was taken from its queue.
+    Turn(u32, u32),
+    /// A cell was set; the one change of the record tells which.
+    SetCell,
+    /// A process of a warrior was moved: warrior, place, the address before, the address after.
+    MoveProcess(u32, u32, u32, u32),
+    /// A process of a warrior was taken out: warrior, place, address.
+    KillProcess(u32, u32, u32),
+    /// A warrior got a further process: warrior, address.
+    Spawn(u32, u32),
+}
+
+/// The record of one turn or edit: what was done, each write of a cell in the order of execution, the addresses that were
+/// really queued by a turn, whose turn it was before and is after, whether a cycle was completed, and whether the warrior
+/// died.
+#[derive(Debug, Drop)]
+pub struct Atom {
+    pub work: Work,
+    pub cells: ArrayVec<CellChange, 3>,
+    pub queued: ArrayVec<u32, 2>,
+    pub next_before: u32,
+    pub next_after: u32,
+    pub cycle_added: bool,
+    pub died: bool,
+}
+
+/// The warrior whose queue the work changes.
+pub fn warrior_of(work: Work) -> Option<u32>
+    ensures { result ≡ spec_warrior_of work }
+{
+    match work {
+        Work::SetCell => None,
+        Work::Turn(warrior, _)
+        | Work::MoveProcess(warrior, _, _, _)
+        | Work::KillProcess(warrior, _, _)
+        | Work::Spawn(warrior, _) => Some(warrior),
+    }
+}
+
+/// How many turns the work is.
+pub fn turns_of(work: Work) -> u32
+    ensures { result ≡ spec_turns_of work }
+{
+    match work {
+        Work::Turn(_, _) => 1,
+        Work::SetCell
+        | Work::MoveProcess(_, _, _, _)
+        | Work::KillProcess(_, _, _)
+        | Work::Spawn(_, _) => 0,
+    }
+}
+
+/// How many cycles were added.
+pub fn cycles_of(added: bool) -> u32
+    ensures { result ≡ spec_cycles_of added }
+{
+    if added { 1 } else { 0 }
+}
