@@ -1,0 +1,73 @@
+//! Calls that are refused memory. Each test holds whichever one of its requests is refused, since a second try has memory:
+//! scripts/refuse-memory refuses each in turn.
+use super::params;
+use crate::{Battle, BattleFault};
+use mars_cell::{Params, Warrior, read_cell};
+use std::alloc::Global;
+use std::test::Fail;
+
+/// Warriors of one cell each in a core of 8 cells.
+fn one_cells(alloc: Global, texts: &[&str]) -> Option<Vec<Warrior>> {
+    let mut warriors = Vec::new(alloc);
+    for text in texts {
+        let mut cells = Vec::new(alloc);
+        cells.push(read_cell(text.as_bytes(), 8)?).ok()?;
+        let warrior = Warrior::new(String::new(alloc), String::new(alloc), cells, 0).ok()?;
+        warriors.push(warrior).ok()?;
+    }
+    Some(warriors)
+}
+
+/// A battle of one that copies itself and one that stays.
+fn start(alloc: Global, params: &Params) -> Result<Battle, BattleFault> {
+    let texts: [&str; 2] = ["MOV.I $0, $1", "JMP.B $0, $0"];
+    match one_cells(alloc, &texts) {
+        Some(warriors) if warriors.len() == 2 => Battle::new(alloc, params, &warriors, &[0, 4]),
+        _ => Err(BattleFault::OutOfMemory),
+    }
+}
+
+/// The state of a battle that has gone on for three turns.
+fn end_of(battle: &mut Battle) -> (u32, u32, bool, bool) {
+    for _turn in 0..3 {
+        if battle.turn().is_err() {
+            break;
+        }
+    }
+    (
+        battle.turns(),
+        battle.cycle(),
+        battle.alive(0),
+        battle.alive(1),
+    )
+}
+
+#[test]
+fn a_battle_starts(rt: HostRuntime) -> Result<(), Fail> {
+    let params = params(8, 2, 8, 8)?;
+    let mut battle = match start(rt.alloc(), &params) {
+        Err(fault) => {
+            assert_eq!(rt; fault, BattleFault::OutOfMemory);
+            start(rt.alloc(), &params).ok().ok_or("battle")?
+        }
+        Ok(battle) => battle,
+    };
+    assert_eq!(rt; end_of(&mut battle), (3, 1, true, true));
+    Ok(())
+}
+
+#[test]
+fn a_battle_is_copied(rt: HostRuntime) -> Result<(), Fail> {
+    let params = params(8, 2, 8, 8)?;
+    let battle = match start(rt.alloc(), &params) {
+        Err(_) => start(rt.alloc(), &params).ok().ok_or("battle")?,
+        Ok(battle) => battle,
+    };
+    let mut copy = match battle.copy(rt.alloc()) {
+        Err(_) => battle.copy(rt.alloc())?,
+        Ok(copy) => copy,
+    };
+    assert_eq!(rt; (battle.turns(), battle.cycle()), (0, 0));
+    assert_eq!(rt; end_of(&mut copy), (3, 1, true, true));
+    Ok(())
+}
