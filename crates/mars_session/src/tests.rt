@@ -1,5 +1,6 @@
 //! The worked cases, over each kind of tape, each call by itself and as one list of calls.
 
+mod memory;
 mod poor_tape;
 
 use crate::{Call, DeltaTape, Refusal, Reply, Session, Standing, Tape, WholeTape};
