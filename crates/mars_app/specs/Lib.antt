@@ -1,4 +1,4 @@
--- What a reader of the contracts has to believe, in this order.
+-- What a reader of the contracts has to believe, in this order; Examples has worked examples of it.
 pub mod Words
 pub mod Requests
 pub mod Lines
@@ -11,4 +11,5 @@ pub mod Contests
 pub mod Debugging
 pub mod Runs
 pub mod Status
+pub mod Examples
 pub mod Code

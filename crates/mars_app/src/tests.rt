@@ -558,6 +558,32 @@ fn the_end_and_back_cut_off(rt: HostRuntime) -> Result<(), Fail> {
 }
 
 #[test]
+fn a_place_within_a_command_cut_off(rt: HostRuntime) -> Result<(), Fail> {
+    let input = b"run 4\ngoto 2\nundo\nredo\n";
+    let replies = [
+        "turn 4 cycle 4 next 0 alive 1 at 4/4\n",
+        "turn 2 cycle 2 next 0 alive 1 at 2/4\n",
+        "turn 0 cycle 0 next 0 alive 1 at 0/4\n",
+        "turn 4 cycle 4 next 0 alive 1 at 4/4\n",
+    ];
+    let alloc = rt.alloc();
+    answers_what_came(&rt, alloc, &[IMP], &[0], input, &replies)
+}
+
+#[test]
+fn a_killed_warrior_cut_off(rt: HostRuntime) -> Result<(), Fail> {
+    let input = b"step\nkill 1 0\nqueue 1\nspawn 1 4\n";
+    let replies = [
+        "turn 1 cycle 0 next 1 alive 3 at 1/1\n",
+        "turn 1 cycle 0 next 2 alive 2 at 2/2\n",
+        "queue 1:\n",
+        "refused 6 WarriorDead\n",
+    ];
+    let alloc = rt.alloc();
+    answers_what_came(&rt, alloc, &[STAY, STAY, STAY], &[0, 2, 4], input, &replies)
+}
+
+#[test]
 fn long_and_empty_lines_cut_off(rt: HostRuntime) -> Result<(), Fail> {
     let alloc = rt.alloc();
     let mut input = Vec::from_slice(alloc, b"undo\n")?;

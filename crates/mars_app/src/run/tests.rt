@@ -862,12 +862,14 @@ fn broken_streams(rt: HostRuntime) -> Result<(), Fail> {
 struct Full {
     bytes: Vec<u8>,
     room: usize,
+    /// Whether it takes no byte when it is full, in place of a fault.
+    idles: bool,
 }
 
 impl Write for Full {
     fn write(&mut self, buf: &[u8]) -> io::Result<usize> {
         let count = buf.len().min(self.room);
-        if count == 0 && !buf.is_empty() {
+        if count == 0 && !self.idles && !buf.is_empty() {
             return Err(io::Error::from(ErrorKind::TimedOut));
         }
         self.bytes.extend_from_slice(&buf[..count])?;
@@ -896,12 +898,20 @@ fn output_that_breaks_off(rt: HostRuntime) -> Result<(), Fail> {
         let whole = answer_over(alloc, &files, row, b"step\n")?;
         assert_eq!(rt; whole.status, 0);
         let words = words_of(alloc, row)?;
-        for room in [0, 1, 20, whole.output.len().saturating_sub(1)] {
+        let last = whole.output.len().saturating_sub(1);
+        for (room, idles) in [
+            (0, false),
+            (1, true),
+            (20, false),
+            (last, true),
+            (last, false),
+        ] {
             let mut input = b"step\n".as_slice();
             let mut faults = Vec::new(alloc);
             let mut output = Full {
                 bytes: Vec::new(alloc),
                 room,
+                idles,
             };
             let status = run(alloc, &words, &files, &mut input, &mut output, &mut faults);
             assert_eq!(rt; status, 1, "{row:?}");
@@ -915,6 +925,53 @@ fn output_that_breaks_off(rt: HostRuntime) -> Result<(), Fail> {
                 "{row:?}"
             );
         }
+    }
+    Ok(())
+}
+
+/// A reader that gives its bytes two at a time and then fails.
+#[derive(Drop)]
+struct CutOff<'a> {
+    rest: &'a [u8],
+}
+
+impl Read for CutOff<'_> {
+    fn read(&mut self, buf: &mut [u8]) -> io::Result<usize> {
+        if self.rest.is_empty() {
+            return Err(io::Error::from(ErrorKind::TimedOut));
+        }
+        let count = buf.len().min(self.rest.len()).min(2);
+        let (front, rest) = self.rest.split_at(count);
+        buf[..count].copy_from_slice(front);
+        self.rest = rest;
+        Ok(count)
+    }
+}
+
+#[test]
+fn input_that_breaks_off(rt: HostRuntime) -> Result<(), Fail> {
+    let alloc = rt.alloc();
+    let files = files(alloc)?;
+    let row = ["-e", "-s", "8", "-l", "1", "-d", "1", "imp.load"];
+    let words = words_of(alloc, &row)?;
+    let input = b"step\nundo\nstep";
+    for (end, _) in input.iter().enumerate() {
+        let (came, _) = input.split_at(end);
+        // the lines that came whole are answered
+        let whole = match came.iter().rposition(|byte| *byte == b'\n') {
+            Some(last) => &came[..last],
+            None => &came[..0],
+        };
+        let expected = answer_over(alloc, &files, &row, whole)?;
+        let (mut output, mut faults) = (Vec::new(alloc), Vec::new(alloc));
+        let mut reader = CutOff { rest: came };
+        let status = run(alloc, &words, &files, &mut reader, &mut output, &mut faults);
+        assert_eq!(rt; status, 1, "{end}");
+        assert!(rt;
+            faults.as_slice() == b"mars: cannot read the commands\n".as_slice(),
+            "{end}"
+        );
+        assert!(rt; output.as_slice() == expected.output.as_slice(), "{end}");
     }
     Ok(())
 }
