@@ -1,3 +1,4 @@
+pub mod Unread
 pub mod CallerLemmas
 pub mod ShapeSteps
 pub mod Trees

@@ -8,5 +8,6 @@ pub mod Expansion
 pub mod Programs
 pub mod Views
 pub mod Outcomes
+pub mod Laws
 pub mod Examples
 pub mod Code

@@ -48,6 +48,7 @@ mod characters;
 mod expansion;
 mod expression;
 mod fault;
+pub mod laws;
 mod lexer;
 mod limits;
 mod names;

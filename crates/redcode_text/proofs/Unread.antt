@@ -1,0 +1,107 @@
+-- What the text of a source means, apart from how it is read.
+use Rattle.std.proofs.Common.{◌≡◌, ◌∙◌, refl, ℕ, suc, zero, ◌+◌, List, [], ◌∷◌, ◌++◌, Bool, true, false, ◌||◌, Option, Some, Result, Ok, Err, IfOk, ap, sym, arith}
+use Rattle.std.specs.List.{list_any}
+use Rattle.redcode_text.specs.declared.token.Token.{Token}
+use Rattle.redcode_text.specs.declared.fault.TextFault.{TextFault}
+use Rattle.redcode_text.specs.declared.fault.TextProblem.{TextProblem}
+use Rattle.redcode_text.specs.Tokens.{◌>>=◌, ◌>>>◌, at_line}
+use Rattle.redcode_text.specs.Source.{Row, Items, Plain, Loop, begins_redcode, from_redcode, read_rows, tree_of_rows}
+use Rattle.redcode_text.specs.Equates.{equate_lines}
+use Rattle.redcode_text.specs.Lines.{Reading, Predefined, Parts, line_read, tokens_counted, parts_of, parts_read, operation_lines, ordinary_line, plain_line, each_line}
+use Rattle.redcode_text.specs.Lines as lines
+use Rattle.redcode_text.specs.Expansion.{Head, flat, head_line, rounds, in_round, unless_ended}
+
+-- ---- before the first `;redcode`
+
+any-behind-by : (b c d : Bool) → (d ≡ true → c ≡ true) → d ≡ true → (b || c) ≡ true
+any-behind-by true c d h e = refl
+any-behind-by false c d h e = h e
+
+any-behind : (before rows : List Row) → list_any begins_redcode rows ≡ true → list_any begins_redcode (before ++ rows) ≡ true
+any-behind [] rows e = e
+any-behind (row ∷ before) rows e = any-behind-by (begins_redcode row) (list_any begins_redcode (before ++ rows)) (list_any begins_redcode rows) (any-behind before rows) e
+
+from-behind-by : (b c : Bool) (found left right : List Row) → (b || c) ≡ false → (c ≡ false → left ≡ right) → (elim b [ true ↦ found | false ↦ left ]) ≡ right
+from-behind-by true c found left right none h = cc
+from-behind-by false c found left right none h = h none
+
+from-behind : (before rows : List Row) → list_any begins_redcode before ≡ false → from_redcode (before ++ rows) ≡ from_redcode rows
+from-behind [] rows none = refl
+from-behind (row ∷ before) rows none =
+    from-behind-by (begins_redcode row) (list_any begins_redcode before) (row ∷ (before ++ rows)) (from_redcode (before ++ rows)) (from_redcode rows) none (from-behind before rows)
+
+read-by : (b : Bool) (from all : List Row) → b ≡ true → (elim b [ true ↦ from | false ↦ all ]) ≡ from
+read-by true from all e = refl
+read-by false from all e = cc
+
+pub read-behind : (before rows : List Row) → list_any begins_redcode before ≡ false → list_any begins_redcode rows ≡ true → read_rows (before ++ rows) ≡ read_rows rows
+read-behind before rows none some =
+    read-by (list_any begins_redcode (before ++ rows)) (from_redcode (before ++ rows)) (before ++ rows) (any-behind before rows some)
+    ∙ from-behind before rows none
+    ∙ sym (read-by (list_any begins_redcode rows) (from_redcode rows) rows some)
+
+-- ---- behind the end
+
+ended-by : (ended : Bool) (read : Reading) (f g : Result Reading TextFault) → ended ≡ true
+    → ◌≡◌ {A = Result Reading TextFault} (elim ended [ true ↦ Ok read | false ↦ f ]) (elim ended [ true ↦ Ok read | false ↦ g ])
+ended-by true read f g e = refl
+ended-by false read f g e = cc
+
+behind-by : (number : ℕ) (r : Result Reading TextProblem) (f g : Reading → Result Reading TextFault) → IfOk r (λ (read : Reading). read.ended ≡ true)
+    → (at_line number r >>> λ a. unless_ended a f) ≡ (at_line number r >>> λ a. unless_ended a g)
+behind-by number (Ok read) f g e = ended-by read.ended read (f read) (g read) e
+behind-by number (Err problem) f g e = refl
+
+pub behind-end : (ps : Predefined) (row : Row) (rest other : Items) (st : Reading)
+    → IfOk (plain_line ps row st) (λ (read : Reading). read.ended ≡ true)
+    → flat ps (Plain row rest) st ≡ flat ps (Plain row other) st
+behind-end ps row rest other st e = behind-by row.number (plain_line ps row st) (flat ps rest) (flat ps other) e
+
+-- ---- in no round
+
+no-rounds-by : (counter : Option (List ℕ)) (count : ℕ) (f g : Reading → Result Reading TextFault) (st : Reading) → count ≡ 0
+    → rounds f counter 1 count st ≡ rounds g counter 1 count st
+no-rounds-by counter zero f g st e = refl
+no-rounds-by counter (suc n) f g st e = cc
+
+in-no-round-by : (number : ℕ) (r : Result Head TextProblem) (f g next : Reading → Result Reading TextFault) → IfOk r (λ (h : Head). h.count ≡ 0)
+    → (at_line number r >>> λ h. rounds f h.counter 1 h.count h.reading >>> λ a. unless_ended a next)
+    ≡ (at_line number r >>> λ h. rounds g h.counter 1 h.count h.reading >>> λ a. unless_ended a next)
+in-no-round-by number (Ok h) f g next e = ap (λ r. r >>> λ a. unless_ended a next) (no-rounds-by h.counter h.count f g h.reading e)
+in-no-round-by number (Err problem) f g next e = refl
+
+pub in-no-round : (ps : Predefined) (head rof : Row) (body other rest : Items) (st : Reading)
+    → IfOk (head_line ps head st) (λ (h : Head). h.count ≡ 0)
+    → flat ps (Loop head body rof rest) st ≡ flat ps (Loop head other rof rest) st
+in-no-round ps head rof body other rest st e = in-no-round-by head.number (head_line ps head st) (flat ps body) (flat ps other) _ e
+
+-- ---- written out
+
+module _ (body : Reading → Result Reading TextFault) (counter : Option (List ℕ)) where
+  -- what a round read, behind the loop's round
+  abbrev behind : Reading → Reading → Reading
+  behind st read = record read { loops = st.loops }
+
+  split-ended : (ended : Bool) (read : Reading) (left : Result Reading TextFault) (right : Result Reading TextFault) (next : Reading → Result Reading TextFault)
+      → read.ended ≡ ended → (ended ≡ false → left ≡ (right >>> λ a. unless_ended a next))
+      → ◌≡◌ {A = Result Reading TextFault} (elim ended [ true ↦ Ok read | false ↦ left ]) ((elim ended [ true ↦ Ok read | false ↦ right ]) >>> λ a. unless_ended a next)
+  split-ended true read left right next e h = rw e refl
+  split-ended false read left right next e h = h refl
+
+  split-round : (r : Result Reading TextFault) (st : Reading) (f g next : Reading → Result Reading TextFault)
+      → ((read : Reading) → read.ended ≡ false → f read ≡ (g read >>> λ a. unless_ended a next))
+      → (r >>> λ read. unless_ended (behind st read) f) ≡ (r >>> λ read. unless_ended (behind st read) g) >>> λ a. unless_ended a next
+  split-round (Ok read) st f g next h = split-ended read.ended (behind st read) (f (behind st read)) (g (behind st read)) next refl (h (behind st read))
+  split-round (Err fault) st f g next h = refl
+
+  pub rounds-split : (round n m : ℕ) (st : Reading) → st.ended ≡ false
+      → rounds body counter round (n + m) st ≡ (rounds body counter round n st >>> λ read. unless_ended read (rounds body counter (round + n) m))
+  rounds-split round zero m st e =
+      let none : 0 + m ≡ m = omega arith in
+      let here : round + 0 ≡ round = omega arith in
+      rw (none, here, e) refl
+  rounds-split round (suc n) m st e =
+      let one : suc n + m ≡ suc (n + m) = omega arith in
+      let on : round + suc n ≡ round + 1 + n = omega arith in
+      rw (one, on) (split-round (body (in_round counter round st)) st (rounds body counter (round + 1) (n + m)) (rounds body counter (round + 1) n) (rounds body counter (round + 1 + n) m)
+      (λ read going. rounds-split (round + 1) n m read going))

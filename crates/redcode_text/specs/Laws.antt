@@ -1,0 +1,41 @@
+-- What the text of a source means, apart from how it is read.
+use Rattle.std.specs.Prelude.{◌≡◌, ℕ, suc, ◌+◌, List, [], ◌∷◌, ◌++◌, false, true, Option, Some, Result, Ok, IfOk}
+use Rattle.std.specs.List.{list_any}
+use Rattle.redcode_text.specs.declared.token.Token.{Token}
+use Rattle.redcode_text.specs.declared.fault.TextFault.{TextFault}
+use Rattle.redcode_text.specs.Tokens.{◌>>=◌, ◌>>>◌}
+use Rattle.redcode_text.specs.Source.{Row, Items, Plain, Loop, begins_redcode, read_rows, tree_of_rows}
+use Rattle.redcode_text.specs.Equates.{equate_lines}
+use Rattle.redcode_text.specs.Lines.{Reading, Predefined, Parts, line_read, tokens_counted, parts_of, ordinary_line, plain_line}
+use Rattle.redcode_text.specs.Expansion.{Head, flat, head_line, rounds, unless_ended}
+
+-- lines before the first `;redcode` have no effect
+abbrev pub LinesBeforeRedcodeAreUnread : Type 0
+LinesBeforeRedcodeAreUnread = (before rows : List Row) → list_any begins_redcode before ≡ false → list_any begins_redcode rows ≡ true
+    → tree_of_rows (read_rows (before ++ rows)) ≡ tree_of_rows (read_rows rows)
+
+-- lines behind the one that ends the source have no effect
+abbrev pub LinesBehindEndAreUnread : Type 0
+LinesBehindEndAreUnread = (ps : Predefined) (row : Row) (rest other : Items) (st : Reading)
+    → IfOk (plain_line ps row st) (λ (read : Reading). read.ended ≡ true)
+    → flat ps (Plain row rest) st ≡ flat ps (Plain row other) st
+
+-- lines in a loop that goes round no time have no effect
+abbrev pub LinesInNoRoundAreUnread : Type 0
+LinesInNoRoundAreUnread = (ps : Predefined) (head rof : Row) (body other rest : Items) (st : Reading)
+    → IfOk (head_line ps head st) (λ (h : Head). h.count ≡ 0)
+    → flat ps (Loop head body rof rest) st ≡ flat ps (Loop head other rof rest) st
+
+-- a body written out n + m times is the same written out n times, and then, where the source hasn't ended, m times
+abbrev pub LoopsAreWrittenOut : Type 0
+LoopsAreWrittenOut = (body : Reading → Result Reading TextFault) (counter : Option (List ℕ)) (round n m : ℕ) (st : Reading)
+    → st.ended ≡ false
+    → rounds body counter round (n + m) st ≡ (rounds body counter round n st >>> λ read. unless_ended read (rounds body counter (round + n) m))
+
+-- A line whose operation is an EQU name of one line is read as the line with that text written in its place. It is
+-- counted as a line more, its tokens as well, and EQU names may nest one less in it.
+abbrev pub OperationsAreWrittenInPlace : Type 0
+OperationsAreWrittenInPlace = (ps : Predefined) (number depth n : ℕ) (text ts : List Token) (p : Parts) (st : Reading)
+    → parts_of ps st ts ≡ Ok p → p.operation ≡ Some n → equate_lines st.equates n ≡ Some (text ∷ [])
+    → let written = (p.label_tokens ++ text) ++ p.rest in
+    ordinary_line ps number (suc depth) ts st ≡ (line_read st >>= tokens_counted written >>= ordinary_line ps number depth written)
