@@ -11,7 +11,7 @@ use crate::record::{Atom, cycles_of, turns_of};
 
 impl Battle {
     /// Goes back over a turn or an edit, whose record leads here from some state: it leaves that state, and there is only
-    /// one. It takes no memory.
+    /// one. It can't fail, and takes no memory.
     pub fn revert(&mut self, atom: &Atom)
         requires { (before : State) × Leads before atom.now self.old }
         ensures { (before : State) → Leads before atom.now self.old → self.new ≡ before }
@@ -25,7 +25,7 @@ impl Battle {
     }
 
     /// Goes forth again over a turn or an edit, whose record leads from here to some state: it leaves that state, and there
-    /// is only one. It takes no memory.
+    /// is only one. It can't fail, and takes no memory.
     pub fn apply(&mut self, atom: &Atom)
         requires { (after : State) × Leads self.old atom.now after }
         ensures { (after : State) → Leads self.old atom.now after → self.new ≡ after }

@@ -15,7 +15,7 @@ use mars_cell::{Cell, Params, Warrior};
 use std::alloc::Global;
 use thiserror::Error;
 
-/// Why a battle can't start: the first that applies. It is displayed as its number and name.
+/// Why a battle can't start: the first that applies, in the order of their numbers. It is displayed as its number and name.
 #[derive(Clone, Copy, Debug, PartialEq, Eq, Error)]
 pub enum BattleFault {
     /// There is no warrior.
@@ -33,14 +33,14 @@ pub enum BattleFault {
     /// A number of a cell isn't an address in the core.
     #[error("5 FieldOutside")]
     FieldOutside,
-    /// A growth was refused.
+    /// Memory was refused.
     #[error("6 OutOfMemory")]
     OutOfMemory,
 }
 
 impl Battle {
-    /// A battle of warriors, each laid at its start, an address, and beginning with one process at its own start; or the
-    /// first fault, judged before memory is taken.
+    /// A battle of 1 to 16 warriors, each laid from its address in `starts` on, and beginning with one process at its own
+    /// start. It fails with the first fault; memory is asked for only where there is no other.
     #[tactic(auto, unfolding(crate::specs::Start::start_state))]
     pub fn new(
         alloc: Global,
@@ -73,8 +73,8 @@ impl Battle {
         })
     }
 
-    /// Lays as many warriors out anew, as a new battle of the same parameters would, or answers the first fault and changes
-    /// nothing. It takes no memory.
+    /// Lays as many warriors out anew, as a new battle of the same parameters would. It fails with the first fault, and then
+    /// changes nothing. It takes no memory.
     #[tactic(auto, unfolding(crate::specs::Start::start_state))]
     pub fn restart(&mut self, warriors: &[Warrior], starts: &[u32]) -> Result<(), BattleFault>
         requires starts { length starts.now ≡ length warriors.now }
