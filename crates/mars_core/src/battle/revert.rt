@@ -5,7 +5,7 @@ ghost use Rattle.mars_core.specs.Leads.{Leads};
 
 use crate::battle::Battle;
 use crate::deaths::forget_death;
-use crate::record::redo::{advance_queue, note_recorded_death, rewrite_cells};
+use crate::record::redo::{note_recorded_death, renew_queue, rewrite_cells};
 use crate::record::undo::{restore_cells, restore_queue};
 use crate::record::{Atom, cycles_of, turns_of};
 
@@ -31,7 +31,7 @@ impl Battle {
         ensures { (after : State) → Leads self.old atom.now after → self.new ≡ after }
     {
         rewrite_cells(&mut self.core, atom.cells.as_slice());
-        advance_queue(&mut self.queues, atom.work, atom.queued.as_slice());
+        renew_queue(&mut self.queues, atom.work, atom.queued.as_slice());
         self.turns += turns_of(atom.work);
         note_recorded_death(&mut self.deaths, atom.work, atom.died, self.turns);
         self.next = atom.next_after;
