@@ -4,7 +4,7 @@ ghost use Rattle.mars_core.specs.Start.{start_fault, start_state, is_inside as s
 ghost use Rattle.std.specs.List.{list_all};
 ghost use Rattle.mars_cell.specs.Parameters.{AreInRange};
 
-pub mod layout;
+mod layout;
 mod overlap;
 
 use crate::battle::Battle;
@@ -96,7 +96,7 @@ impl Battle {
 }
 
 /// The first reason not to start, which takes no memory to find.
-pub fn find_fault(params: &Params, warriors: &[Warrior], starts: &[u32]) -> Option<BattleFault>
+fn find_fault(params: &Params, warriors: &[Warrior], starts: &[u32]) -> Option<BattleFault>
     requires { length starts.now ≡ length warriors.now }
     ensures value { result ≡ start_fault params.now warriors.now starts.now }
     ensures in_range { AreInRange params.now }
@@ -128,7 +128,7 @@ fn starts_inside(core_size: u32, starts: &[u32]) -> bool
 }
 
 /// Whether the numbers of each cell of each warrior are addresses in the core.
-pub fn fields_inside(core_size: u32, warriors: &[Warrior]) -> bool
+fn fields_inside(core_size: u32, warriors: &[Warrior]) -> bool
     ensures { result ≡ spec_fields_inside core_size warriors.now }
 {
     for warrior in warriors {
