@@ -1,4 +1,5 @@
--- What a record makes of the state that it leads to, and of the state that it leads from.
+-- What a record makes of the state that it leads to, going back, and of the state that it leads from, going forth. By the laws these are
+-- the states that it leads from and to, so no contract of `revert` or `apply` rests on them.
 use Rattle.std.specs.Prelude.{ℕ, ◌+◌, ◌-◌, Bool, if◌then◌else◌, List, [], ◌∷◌, ◌++◌, length, take, drop, insert, remove, Option, None, Some, slice_set}
 use Rattle.mars_cell.specs.declared.instruction.Cell.{Cell}
 use Rattle.mars_core.specs.State.{State, queue_of}

@@ -1,4 +1,4 @@
--- How a battle starts.
+-- How a battle starts: warriors that are loaded into a core of DAT.F $0, $0 (sections 4 and 5 of the ICWS'94 draft), and why they may not be.
 use Rattle.std.specs.Prelude.{ℕ, zero, suc, ◌+◌, ◌%◌, Bool, true, false, ◌&&◌, ◌||◌, not, ◌==◌, nat_lt, if◌then◌else◌, List, [], ◌∷◌, ◌++◌, length, map, Option, None, Some, slice_set, replicate}
 use Rattle.std.specs.List.{list_all, list_any}
 use Rattle.mars_cell.specs.declared.instruction.Cell.{Cell}

@@ -6,14 +6,15 @@ ghost use Rattle.mars_core.specs.Record.{without_last};
 
 use arrayvec::ArrayVec;
 
-/// The death of a warrior, and how many turns had been made: those after the turn that killed it, or those at an edit.
+/// The death of a warrior, by its index, and how many turns had been made by all: with the turn that killed it, or at the
+/// edit that did.
 #[derive(Clone, Copy, Debug, PartialEq, Eq, Default)]
 pub struct Death {
     pub warrior: u32,
     pub turns: u32,
 }
 
-/// Notes the death of a warrior that died.
+/// Notes the death of a warrior, if it died.
 #[inline(always)]
 pub fn note_death(deaths: &mut ArrayVec<Death, 16>, died: bool, warrior: u32, turns: u32)
     requires { died ≡ true → array_vec_len deaths.old < 16 }
@@ -24,6 +25,7 @@ pub fn note_death(deaths: &mut ArrayVec<Death, 16>, died: bool, warrior: u32, tu
     }
 }
 
+/// Notes a death. It is cold, so that turns without one are laid out in a row.
 #[cold]
 #[inline(never)]
 pub fn add_death(deaths: &mut ArrayVec<Death, 16>, death: Death)
@@ -33,7 +35,7 @@ pub fn add_death(deaths: &mut ArrayVec<Death, 16>, death: Death)
     deaths.push(death);
 }
 
-/// Takes back the death of a warrior that died.
+/// Takes the last death back, if the warrior died.
 pub fn forget_death(deaths: &mut ArrayVec<Death, 16>, died: bool)
     ensures { deaths.new.items ≡ (if died then without_last 1 deaths.old.items else deaths.old.items) }
 {

@@ -24,7 +24,7 @@ impl Model for ProcessQueue {
 }
 
 impl ProcessQueue {
-    /// An empty queue with room for so many processes.
+    /// An empty queue with room for `limit` processes. It fails if memory is refused.
     pub fn with_limit(alloc: Global, limit: usize) -> Result<ProcessQueue, AllocError>
         ensures { IfOk result (λ q. q ≡ record { addresses = []; limit = limit }) }
     {
@@ -166,7 +166,7 @@ impl ProcessQueue {
         self.rotate(after);
     }
 
-    /// The first processes, so many of them, go round to the end, one at a time.
+    /// The first `count` processes go round to the end, one at a time.
     fn rotate(&mut self, count: usize)
         requires count { count ≤ length self.old.addresses }
         requires room { length self.old.addresses ≤ self.old.limit }
@@ -205,7 +205,7 @@ impl ProcessQueue {
         let _ = self.ring.pop_back();
     }
 
-    /// Takes so many processes off the end, and puts one at the front. There must be room.
+    /// Takes the last `queued` processes away, and puts one at the front. There must be room.
     pub fn put_back(&mut self, queued: usize, address: u32)
         requires queued { queued ≤ length self.old.addresses }
         requires room { length self.old.addresses - queued < self.old.limit }

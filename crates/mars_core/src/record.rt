@@ -36,7 +36,7 @@ impl Default for CellChange {
     }
 }
 
-/// What was done.
+/// What was done. Warriors are counted from 0, and so are places in a queue, the front being 0.
 #[derive(Clone, Copy, Debug, PartialEq, Eq)]
 pub enum Work {
     /// A turn of a warrior, and the address that was taken from its queue.
@@ -78,7 +78,7 @@ pub fn warrior_of(work: Work) -> Option<u32>
     }
 }
 
-/// How many turns the work is.
+/// How many turns were made: one, or none where it was an edit.
 pub fn turns_of(work: Work) -> u32
     ensures { result ≡ spec_turns_of work }
 {
@@ -91,7 +91,7 @@ pub fn turns_of(work: Work) -> u32
     }
 }
 
-/// How many cycles were added.
+/// How many cycles were completed.
 pub fn cycles_of(added: bool) -> u32
     ensures { result ≡ spec_cycles_of added }
 {

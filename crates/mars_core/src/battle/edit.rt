@@ -30,7 +30,7 @@ pub enum Edit {
     Spawn(u64, u64),
 }
 
-/// Why an edit is refused: the first that applies. It is displayed as its number and name.
+/// Why an edit is refused: the first that applies, in the order of their numbers. It is displayed as its number and name.
 #[derive(Clone, Copy, Debug, PartialEq, Eq, Error)]
 pub enum EditFault {
     /// The address isn't in the core.
@@ -48,13 +48,13 @@ pub enum EditFault {
     /// The warrior is dead.
     #[error("5 WarriorDead")]
     WarriorDead,
-    /// The warrior has as many processes as it may have.
+    /// The warrior has as many processes as `Params::processes` allows.
     #[error("6 QueueFull")]
     QueueFull,
 }
 
 impl Battle {
-    /// The first reason for which an edit would be refused. It takes no memory and changes nothing.
+    /// The first reason for which an edit would be refused, `None` if it would be made. It takes no memory and changes nothing.
     #[tactic(auto, unfolding(crate::specs::Edit::edit_fault))]
     pub fn edit_fault(&self, edit: Edit) -> Option<EditFault>
         ensures value { result ≡ spec_edit_fault self.now edit }
@@ -118,8 +118,8 @@ impl Battle {
         }
     }
 
-    /// Changes the battle by hand, or answers the first fault and changes nothing. A battle that is over may be edited, too;
-    /// a dead warrior isn't revived. The record says what was done.
+    /// Changes the battle by hand, and gives the record of that. It fails with the first fault, as `edit_fault` tells it, and
+    /// then changes nothing. A battle that is over may be edited, too; a dead warrior isn't revived. It takes no memory.
     pub fn edit(&mut self, edit: Edit) -> Result<Atom, EditFault>
         ensures answer { MatchOption (spec_edit_fault self.old edit) (result ≡ Ok (edit_record self.old edit)) (λ fault. result ≡ Err fault) }
         ensures state { MatchOption (spec_edit_fault self.old edit) (self.new ≡ edited self.old edit) (λ _. self.new ≡ self.old) }

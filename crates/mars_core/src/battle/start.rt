@@ -4,7 +4,7 @@ ghost use Rattle.mars_core.specs.Start.{start_fault, start_state, is_inside as s
 ghost use Rattle.std.specs.List.{list_all};
 ghost use Rattle.mars_cell.specs.Parameters.{AreInRange};
 
-pub mod layout;
+mod layout;
 mod overlap;
 
 use crate::battle::Battle;
@@ -15,7 +15,7 @@ use mars_cell::{Cell, Params, Warrior};
 use std::alloc::Global;
 use thiserror::Error;
 
-/// Why a battle can't start: the first that applies. It is displayed as its number and name.
+/// Why a battle can't start: the first that applies, in the order of their numbers. It is displayed as its number and name.
 #[derive(Clone, Copy, Debug, PartialEq, Eq, Error)]
 pub enum BattleFault {
     /// There is no warrior.
@@ -33,14 +33,14 @@ pub enum BattleFault {
     /// A number of a cell isn't an address in the core.
     #[error("5 FieldOutside")]
     FieldOutside,
-    /// A growth was refused.
+    /// Memory was refused.
     #[error("6 OutOfMemory")]
     OutOfMemory,
 }
 
 impl Battle {
-    /// A battle of warriors, each laid at its start, an address, and beginning with one process at its own start; or the
-    /// first fault, judged before memory is taken.
+    /// A battle of 1 to 16 warriors, each laid from its address in `starts` on, and beginning with one process at its own
+    /// start. It fails with the first fault; memory is asked for only where there is no other.
     #[tactic(auto, unfolding(crate::specs::Start::start_state))]
     pub fn new(
         alloc: Global,
@@ -73,8 +73,8 @@ impl Battle {
         })
     }
 
-    /// Lays as many warriors out anew, as a new battle of the same parameters would, or answers the first fault and changes
-    /// nothing. It takes no memory.
+    /// Lays as many warriors out anew, as a new battle of the same parameters would. It fails with the first fault, and then
+    /// changes nothing. It takes no memory.
     #[tactic(auto, unfolding(crate::specs::Start::start_state))]
     pub fn restart(&mut self, warriors: &[Warrior], starts: &[u32]) -> Result<(), BattleFault>
         requires starts { length starts.now ≡ length warriors.now }
@@ -96,7 +96,7 @@ impl Battle {
 }
 
 /// The first reason not to start, which takes no memory to find.
-pub fn find_fault(params: &Params, warriors: &[Warrior], starts: &[u32]) -> Option<BattleFault>
+fn find_fault(params: &Params, warriors: &[Warrior], starts: &[u32]) -> Option<BattleFault>
     requires { length starts.now ≡ length warriors.now }
     ensures value { result ≡ start_fault params.now warriors.now starts.now }
     ensures in_range { AreInRange params.now }
@@ -128,7 +128,7 @@ fn starts_inside(core_size: u32, starts: &[u32]) -> bool
 }
 
 /// Whether the numbers of each cell of each warrior are addresses in the core.
-pub fn fields_inside(core_size: u32, warriors: &[Warrior]) -> bool
+fn fields_inside(core_size: u32, warriors: &[Warrior]) -> bool
     ensures { result ≡ spec_fields_inside core_size warriors.now }
 {
     for warrior in warriors {

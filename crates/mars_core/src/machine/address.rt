@@ -25,7 +25,7 @@ pub fn remainder(core_size: u32, number: u32) -> u32
     }
 }
 
-/// The address so many cells after another one.
+/// The address `distance` cells after another one.
 #[inline(always)]
 #[tactic(auto, unfolding(crate::specs::Addresses::address_after))]
 pub fn address_after(core_size: u32, address: u32, distance: u32) -> u32

@@ -74,7 +74,7 @@ pub fn least_live(queues: &[ProcessQueue], from: usize) -> Option<usize>
     None
 }
 
-/// Whether a battle of so many warriors, of whom so many live, is over.
+/// Whether a battle is over, from the numbers of its warriors and of those that live.
 #[inline(always)]
 #[tactic(auto, unfolding(crate::specs::State::ends))]
 pub fn is_over(cycles: u32, cycle: u32, warriors: usize, alive: usize) -> bool

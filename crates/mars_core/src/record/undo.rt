@@ -23,7 +23,7 @@ pub fn restore_cells(core: &mut [Cell], changes: &[CellChange])
     }
 }
 
-/// Makes the queue that the work changed what it was before, where the work queued so many addresses.
+/// Makes the queue that the work changed what it was before, where the work queued `queued` addresses.
 pub fn restore_queue(queues: &mut [ProcessQueue], work: Work, queued: usize)
     requires { (limit : ℕ) × All (λ (q : Contents). q.limit ≡ limit) queues.old × HasQueue (spec_warrior_of work) (CanRestore limit work queued) (addresses_of queues.old) }
     ensures addresses { addresses_of queues.new ≡ with_queue (spec_warrior_of work) (queue_before work queued) (addresses_of queues.old) }
@@ -35,7 +35,7 @@ pub fn restore_queue(queues: &mut [ProcessQueue], work: Work, queued: usize)
     }
 }
 
-/// Makes the queue what it was before the work of its warrior, which queued so many addresses.
+/// Makes a queue what it was before the work of its warrior, which queued `queued` addresses.
 fn restore(queue: &mut ProcessQueue, work: Work, queued: usize)
     requires { CanRestore queue.old.limit work queued queue.old.addresses }
     ensures { queue.new ≡ record { addresses = queue_before work queued queue.old.addresses; limit = queue.old.limit } }

@@ -3,14 +3,14 @@ use Rattle.mars_core.specs.Record.{warrior_of as spec_warrior_of, queue_after_wo
 use Rattle.mars_core.specs.Queue.{Queue as Contents}
 use Rattle.mars_core.specs.Code.Records.{CanRequeue}
 use Rattle.mars_core.proofs.Requeued.{warrior_inside, queue_has, queue_changed, limit_at}
-use Rattle.mars_core.proofs.record.redo.advance_queue.Goals as goal
+use Rattle.mars_core.proofs.record.redo.renew_queue.Goals as goal
 
 pub bounds-queues-warrior : goal.bounds-queues-warrior
 bounds-queues-warrior c =
     warrior_inside c.args.queues.now (spec_warrior_of c.args.work) c.in-Some.warrior c.in-Some.ensures (CanRequeue c.requires.0 c.args.work (length c.args.queued.now)) c.requires.2
 
-pub advance-requires : goal.advance-requires
-advance-requires c =
+pub renew-requires : goal.renew-requires
+renew-requires c =
     let qs = c.args.queues.now in
     let w = c.in-Some.warrior in
     let d = c.index-queues-warrior.result in
@@ -23,5 +23,5 @@ returns-in-Some-clause-addresses c =
     let qs = c.args.queues.now in
     let w = c.in-Some.warrior in
     let inside = warrior_inside qs (spec_warrior_of c.args.work) w c.in-Some.ensures (CanRequeue c.requires.0 c.args.work (length c.args.queued.now)) c.requires.2 in
-    queue_changed qs (spec_warrior_of c.args.work) w c.in-Some.ensures (queue_after_work c.args.work c.args.queued.now) c.index-queues-warrior.result c.advance.new.queue inside
-    (ap (λ (q : Contents). q.addresses) c.advance.ensures)
+    queue_changed qs (spec_warrior_of c.args.work) w c.in-Some.ensures (queue_after_work c.args.work c.args.queued.now) c.index-queues-warrior.result c.renew.new.queue inside
+    (ap (λ (q : Contents). q.addresses) c.renew.ensures)

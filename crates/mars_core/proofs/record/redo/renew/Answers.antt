@@ -1,4 +1,4 @@
-use Rattle.mars_core.proofs.record.redo.advance.Goals as goal
+use Rattle.mars_core.proofs.record.redo.renew.Goals as goal
 
 pub take_round-requires-clause-alive : goal.take_round-requires-clause-alive
 take_round-requires-clause-alive c = (rw c.in-Turn.is at c.requires).0
