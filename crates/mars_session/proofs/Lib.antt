@@ -1,3 +1,4 @@
+pub mod Appending
 pub mod Arriving
 pub mod Between
 pub mod Copying

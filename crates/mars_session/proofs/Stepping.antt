@@ -9,7 +9,8 @@ use Rattle.mars_core.specs.Journal.{reverted, applied}
 use Rattle.mars_core.specs.declared.journal.Atom.{Atom}
 use Rattle.mars_core.proofs.CallerLemmas.{record_reverted, record_applied}
 use Rattle.mars_session.specs.History.{Place, History, position_of, following, last_of, places, marked, cut, append, back, forward, rewound}
-use Rattle.mars_session.specs.Journals.{no_entry, entry_at, mark_at, journal_before, journal_after, journal_history, LeadHere, LeadOn, IsJournal, LeadsFrom, LeadsAt}
+use Rattle.mars_session.specs.Code.Journals.{no_entry, entry_at, mark_at, journal_before, journal_after, journal_history, LeadHere, LeadOn, IsJournal}
+use Rattle.mars_session.specs.Tapes.{LeadsFrom, LeadsAt}
 use Rattle.mars_session.proofs.Places.{places_rewound}
 
 before_length : (first : Bool) (es : List (Atom × Bool)) (n : ℕ) (s : State) → length (journal_before first es n s) ≡ n

@@ -1,5 +1,7 @@
 //! The worked cases, over each kind of tape, each call by itself and as one list of calls.
 
+ghost use Rattle.std.specs.Prelude.{◌≡◌, false};
+
 mod poor_tape;
 
 use crate::{Call, DeltaTape, Refusal, Reply, Session, Standing, Tape, WholeTape};
@@ -278,12 +280,16 @@ fn steps_undone_and_redone(rt: HostRuntime) -> Result<(), Fail> {
 }
 
 /// The imp, over a tape that is refused memory after so many growths.
-fn poor_imp<T: Start>(alloc: Global, growths: u64) -> Result<Session<PoorTape<T>>, Fail> {
+fn poor_imp<T: Start>(alloc: Global, growths: u64) -> Result<Session<PoorTape<T>>, Fail>
+    requires { T.FORGETS ≡ false }
+{
     Ok(Session::new(PoorTape::new(imp_tape(alloc)?, growths), 2000))
 }
 
 /// A run that is refused for memory leaves cells and queues, and both steps are still there to be redone.
-fn check_refused_run<T: Start + Drop>(rt: &impl Abort, alloc: Global) -> Result<(), Fail> {
+fn check_refused_run<T: Start + Drop>(rt: &impl Abort, alloc: Global) -> Result<(), Fail>
+    requires { T.FORGETS ≡ false }
+{
     let steps = [
         (Call::Step, imp_at(1, 1, 1)),
         (Call::Step, imp_at(2, 2, 2)),
@@ -309,7 +315,9 @@ fn refused_run_is_no_run(rt: HostRuntime) -> Result<(), Fail> {
 }
 
 /// Once a run has made room for five places, every request for memory is refused, and three places that follow need none.
-fn check_covered_run<T: Start + Drop>(rt: &impl Abort, alloc: Global) -> Result<(), Fail> {
+fn check_covered_run<T: Start + Drop>(rt: &impl Abort, alloc: Global) -> Result<(), Fail>
+    requires { T.FORGETS ≡ false }
+{
     let calls = [
         (Call::Run(5), imp_at(5, 5, 5)),
         (Call::Goto(2), imp_at(2, 2, 5)),
@@ -702,6 +710,7 @@ fn texts_of_refusals(rt: HostRuntime) -> Result<(), Fail> {
         (Refusal::NotInHistory(0, 3), "12 NotInHistory 0 3"),
         (Refusal::JournalFull(2), "13 JournalFull 2"),
         (Refusal::OutOfMemory, "14 OutOfMemory"),
+        (Refusal::Forgotten, "15 Forgotten"),
     ];
     for (refusal, text) in texts {
         assert_eq!(rt; format!(in alloc; "{refusal}")?.as_str(), text);
