@@ -100,7 +100,7 @@ marked_other first es i zero x n = refl
 marked_other first es i (suc k) x n = ap (λ (y : Atom × Bool). y.1) (get_or-set_other es i k x no_entry (λ e. n (ap suc e)))
 
 -- a history by its parts
-history_is : (s : State) (before before' : List Place) (mark mark' : Bool) (after after' : List Place) → before ≡ before' → mark ≡ mark' → after ≡ after'
+pub history_is : (s : State) (before before' : List Place) (mark mark' : Bool) (after after' : List Place) → before ≡ before' → mark ≡ mark' → after ≡ after'
     → ◌≡◌ {A = History} (record { before = before; present = record { state = s; mark = mark }; after = after }) (record { before = before'; present = record { state = s; mark = mark' }; after = after' })
 history_is s before before' mark mark' after after' b m a = rw (b, m, a) refl
 
@@ -245,3 +245,18 @@ journal_leads first es at s i d l =
     let same : places h ≡ places (journal_history first es 0 all.start) = sym (places_rewound h.before h.present h.after) ∙ ap places all.same in
     let e : 0 + i ≡ i = omega arith in
     rw same (rw e at (leads_after es 0 (length es - 0) all.start first i (omega (arith, l)) all.journal.on))
+
+-- a list that loses its first
+pub dropped_before : (first : Bool) (e : Atom × Bool) (es : List (Atom × Bool)) (n : ℕ) (s : State) → journal_before e.1 es n s ≡ take n (journal_before first (e ∷ es) (suc n) s)
+dropped_before first e es zero s = refl
+dropped_before first e es (suc zero) s = refl
+dropped_before first e es (suc (suc n)) s =
+    ap (λ (ps : List Place). record { state = reverted (entry_at es (suc n)).0 s; mark = (entry_at es n).1 } ∷ ps) (dropped_before first e es (suc n) (reverted (entry_at es (suc n)).0 s))
+
+pub dropped_mark : (first : Bool) (e : Atom × Bool) (es : List (Atom × Bool)) (n : ℕ) → mark_at e.1 es n ≡ mark_at first (e ∷ es) (suc n)
+dropped_mark first e es zero = refl
+dropped_mark first e es (suc n) = refl
+
+pub dropped_here : (e : Atom × Bool) (es : List (Atom × Bool)) (n : ℕ) (s : State) → LeadHere (e ∷ es) (suc n) s → LeadHere es n s
+dropped_here e es zero s d = tt
+dropped_here e es (suc n) s d = (d.0, dropped_here e es n (reverted (entry_at es n).0 s) d.1)

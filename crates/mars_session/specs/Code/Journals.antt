@@ -67,3 +67,10 @@ pub record IsJournal (es : List (Atom × Bool)) (at : ℕ) (s : State) : Type 0 
   pub inside : at ≤ length es
   pub here : LeadHere es at s
   pub on : LeadOn es at (length es - at) s
+
+-- so it is where at most a number of records are kept
+pub record IsRing (es : List (Atom × Bool)) (most at : ℕ) (s : State) : Type 0 where
+  pub journal : IsJournal es at s
+  pub some : 1 ≤ most
+  pub few : most ≤ 1000000
+  pub within : length es ≤ most
