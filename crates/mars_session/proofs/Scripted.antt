@@ -14,7 +14,7 @@ use Rattle.mars_session.specs.History.{History, position_of, accepted, undo, red
 use Rattle.mars_session.specs.Commands.{States, step_states, run_states, until_bound, until_states, edit_states, cells_between, fill_states}
 use Rattle.mars_session.specs.Memory.{Memory, never, kept}
 use Rattle.mars_session.specs.Script.{Outcome, outcome, commanded, appended, moved, no_undo, no_room, replies_of, history_after, memory_after, first, rest}
-use Rattle.mars_session.specs.Laws.{times, is_command, accepted_count, RefusalsChangeNothing, GoesBackAndOn, CommandsAreUndone}
+use Rattle.mars_session.specs.Laws.{times, is_command, accepted_count, appended_by, RefusalsChangeNothing, GoesBackAndOn, CommandsAreUndone}
 use Rattle.mars_session.proofs.Undoing.{base, base_accepted, Accepted, accepted_call, stays_never, Undone, one_undone}
 
 -- a refusal leaves the history, and what is kept of it
@@ -51,7 +51,7 @@ abbrev Reached : ℕ → History → History → Type 0
 Reached count h end = ((count ≡ 0) × (end ≡ h)) ⊎ Undone count h end
 
 -- where none of the calls after an accepted command was accepted, the end is where that stands
-none_after : (n : ℕ) (h end : History) (s : State) (ss : List State) → n ≡ 0 → end ≡ accepted h s ss → Undone n (accepted h s ss) end
+pub none_after : (n : ℕ) (h end : History) (s : State) (ss : List State) → n ≡ 0 → end ≡ accepted h s ss → Undone n (accepted h s ss) end
 none_after n h end s ss z e =
     let here : Option History = Some (accepted h s ss) in
     let same : Some (base (accepted h s ss) []) ≡ here = ap (λ (k : History). Some k) (base_accepted h s ss) in
@@ -62,12 +62,12 @@ some_after n h end s ss (inl none) = one_undone n h end s ss (none_after n h end
 some_after n h end s ss (inr undone) = one_undone n h end s ss undone
 
 -- one call more, before the others
-one_reached : (r : Result Standing Refusal) (others : List (Result Standing Refusal)) (h k end : History) → (IsOk r → Accepted never h k) → (IsErr r → k ≡ h)
+one_reached : (n : ℕ) (r : Result Standing Refusal) (others : List (Result Standing Refusal)) (h k end : History) → (IsOk r → Accepted never n h k) → (IsErr r → k ≡ h)
     → Reached (accepted_count others) k end → Reached (accepted_count (r ∷ others)) h end
-one_reached (Ok standing) others h k end accepts keeps reached =
-    let one : Accepted never h k = accepts refl in
+one_reached n (Ok standing) others h k end accepts keeps reached =
+    let one : Accepted never n h k = accepts refl in
     inr (some_after (accepted_count others) h end one.first one.others (rw one.is at reached))
-one_reached (Err r) others h k end accepts keeps reached = rw (keeps refl) at reached
+one_reached n (Err r) others h k end accepts keeps reached = rw (keeps refl) at reached
 
 script_reached : (limit : ℕ) (calls : List Call) (poor : List Bool) (h : History) → IsTrue (list_all is_command calls)
     → Reached (accepted_count (replies_of never limit calls poor h)) h (history_after never limit calls poor h)
@@ -77,7 +77,7 @@ script_reached limit (call ∷ calls) poor h c =
     let one : Outcome = outcome never limit call (first poor) h in
     let others = replies_of never limit calls (rest poor) one.history in
     rw (stays_never limit call (first poor) h)
-    (one_reached one.reply others h one.history (history_after never limit calls (rest poor) one.history)
+    (one_reached (appended_by call h.present.state) one.reply others h one.history (history_after never limit calls (rest poor) one.history)
     (λ ok. accepted_call never limit call (first poor) h commands.0 ok) (λ err. (refusals_change_nothing never limit call (first poor) h err).0)
     (script_reached limit calls (rest poor) one.history commands.1))
 

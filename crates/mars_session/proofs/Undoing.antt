@@ -12,7 +12,7 @@ use Rattle.mars_session.specs.declared.calls.Refusal.TheVariants.{NothingToRedo,
 use Rattle.mars_session.specs.Commands.{States, step_states, run_states, until_bound, until_states, edit_states, cells_between, fill_states}
 use Rattle.mars_session.specs.Memory.{Memory, never, kept, noted}
 use Rattle.mars_session.specs.Script.{Outcome, outcome, commanded, appended, moved, no_undo, no_room, history_after, first, rest}
-use Rattle.mars_session.specs.Laws.{command_places, times, is_command, AllAccepted, UndosGiveBack, RedosGiveAgain, RedoAfterUndo}
+use Rattle.mars_session.specs.Laws.{command_places, times, is_command, count_of, appended_by, AllAccepted, UndosGiveBack, RedosGiveAgain, RedoAfterUndo}
 
 -- the present place is marked, and these places follow
 abbrev pub base : History → List Place → History
@@ -83,24 +83,25 @@ redo_undo_from (b ∷ before) p after h back u r =
 pub redo_undo : RedoAfterUndo
 redo_undo h back m u = redo_undo_from h.before h.present h.after h back u (rw m refl)
 
--- an accepted command reaches states
-pub record Accepted (m : Memory) (h new : History) : Type 0 where
+-- an accepted command reaches n states
+pub record Accepted (m : Memory) (n : ℕ) (h new : History) : Type 0 where
   pub first : State
   pub others : List State
+  pub count : n ≡ suc (length others)
   pub is : new ≡ kept m.most (accepted h first others)
 
-accepted_room : (m : Memory) (h : History) (states : States) (o : Option Refusal) → IsOk (appended m h states o).reply → Accepted m h (appended m h states o).history
+accepted_room : (m : Memory) (h : History) (states : States) (o : Option Refusal) → IsOk (appended m h states o).reply → Accepted m (suc (length states.1)) h (appended m h states o).history
 accepted_room m h states (Some r) ok = absurd (let e : false ≡ true = ok in cc)
-accepted_room m h states None ok = record { first = states.0; others = states.1; is = refl }
+accepted_room m h states None ok = record { first = states.0; others = states.1; count = refl; is = refl }
 
-accepted_command : (m : Memory) (limit bound : ℕ) (poor : Bool) (h : History) (x : Result States Refusal) → IsOk (commanded m limit bound poor h x).reply → Accepted m h (commanded m limit bound poor h x).history
+accepted_command : (m : Memory) (limit bound : ℕ) (poor : Bool) (h : History) (x : Result States Refusal) → IsOk (commanded m limit bound poor h x).reply → Accepted m (count_of x) h (commanded m limit bound poor h x).history
 accepted_command m limit bound poor h (Err r) ok = absurd (let e : false ≡ true = ok in cc)
 accepted_command m limit bound poor h (Ok states) ok = accepted_room m h states (no_room m limit bound poor h) ok
 
-accepted_edit : (m : Memory) (limit : ℕ) (poor : Bool) (h : History) (e : Edit) → IsOk (commanded m limit 1 poor h (edit_states e h.present.state)).reply → Accepted m h (commanded m limit 1 poor h (edit_states e h.present.state)).history
+accepted_edit : (m : Memory) (limit : ℕ) (poor : Bool) (h : History) (e : Edit) → IsOk (commanded m limit 1 poor h (edit_states e h.present.state)).reply → Accepted m (count_of (edit_states e h.present.state)) h (commanded m limit 1 poor h (edit_states e h.present.state)).history
 accepted_edit m limit poor h e ok = accepted_command m limit 1 poor h (edit_states e h.present.state) ok
 
-pub accepted_call : (m : Memory) (limit : ℕ) (call : Call) (poor : Bool) (h : History) → IsTrue (is_command call) → IsOk (outcome m limit call poor h).reply → Accepted m h (outcome m limit call poor h).history
+pub accepted_call : (m : Memory) (limit : ℕ) (call : Call) (poor : Bool) (h : History) → IsTrue (is_command call) → IsOk (outcome m limit call poor h).reply → Accepted m (appended_by call h.present.state) h (outcome m limit call poor h).history
 accepted_call m limit Undo poor h c ok = absurd (let e : false ≡ true = c in cc)
 accepted_call m limit Redo poor h c ok = absurd (let e : false ≡ true = c in cc)
 accepted_call m limit (Goto t) poor h c ok = absurd (let e : false ≡ true = c in cc)

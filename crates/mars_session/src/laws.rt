@@ -1,5 +1,5 @@
 //! Laws of the history, over the definitions alone.
-ghost use Rattle.mars_session.specs.Laws.{UndosGiveBack, RedosGiveAgain, RefusalsChangeNothing, CommandsAreUndone, RedoAfterUndo, MovesKeepPlaces, UndoFindsNearest, RedoFindsNearest, GotoFindsFirst, CommandsAppend, BeginningIsTape, CallsKeepTapes, CallsForgetTapes, ScriptsKeepTapes, GotoBetween, TurnsAndCyclesRise, UntilArrives, CallsKeepLimit, PlacesAreValid};
+ghost use Rattle.mars_session.specs.Laws.{UndosGiveBack, RedosGiveAgain, RefusalsChangeNothing, CommandsAreUndone, FewCommandsAreUndone, RedoAfterUndo, MovesKeepPlaces, UndoFindsNearest, RedoFindsNearest, GotoFindsFirst, CommandsAppend, BeginningIsTape, CallsKeepTapes, CallsForgetTapes, ScriptsKeepTapes, GotoBetween, TurnsAndCyclesRise, UntilArrives, CallsKeepLimit, PlacesAreValid};
 
 /// After accepted commands as many undos are accepted, and give back the state and the position.
 pub fn undos_give_back()
@@ -21,6 +21,12 @@ pub fn refusals_change_nothing()
 /// after the commands.
 pub fn commands_are_undone()
     ensures { CommandsAreUndone }
+{}
+
+/// Where k places are kept beside the last one, so it is of commands that append at most k places together; the position may
+/// be another one.
+pub fn few_commands_are_undone()
+    ensures { FewCommandsAreUndone }
 {}
 
 /// From a marked place, redo after an accepted undo gives back the history.
