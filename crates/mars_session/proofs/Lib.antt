@@ -14,3 +14,4 @@ pub mod Turns
 pub mod Undoing
 pub mod Valid
 pub mod Walking
+pub mod Wanting

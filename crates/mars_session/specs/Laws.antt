@@ -1,5 +1,5 @@
 -- Laws over the definitions alone: what undo and redo give back, and what holds along a tape.
-use Rattle.std.specs.Prelude.{All, ◌≡◌, ◌≤◌, ◌<◌, ◌+◌, ◌↔◌, ◌⊎◌, ◌==◌, ◌++◌, ℕ, zero, suc, Bool, true, false, List, [], ◌∷◌, length, take, replicate, Option, None, Some, Result, Ok, Err, is_ok, IsTrue, IsOk, IsErr, IsSome, IsSomeAnd, option_and_then, option_map}
+use Rattle.std.specs.Prelude.{All, ◌≡◌, ◌≢◌, ◌≤◌, ◌<◌, ◌+◌, ◌↔◌, ◌⊎◌, ◌==◌, ◌++◌, ℕ, zero, suc, Bool, true, false, List, [], ◌∷◌, length, take, replicate, Option, None, Some, Result, Ok, Err, is_ok, IsTrue, IsOk, IsErr, IsSome, IsSomeAnd, option_and_then, option_map}
 use Rattle.std.specs.List.{filter, list_all}
 use Rattle.mars_core.specs.State.{State}
 use Rattle.mars_core.specs.Validity.{IsValid}
@@ -8,6 +8,7 @@ use Rattle.mars_session.specs.declared.calls.Call.{Call}
 use Rattle.mars_session.specs.declared.calls.Call.TheVariants.{Step, Run, Until, SetCell, Fill, MoveProcess, Kill, Spawn, Undo, Redo, Goto}
 use Rattle.mars_session.specs.declared.calls.Standing.{Standing}
 use Rattle.mars_session.specs.declared.calls.Refusal.{Refusal}
+use Rattle.mars_session.specs.declared.calls.Refusal.TheVariants.{JournalFull, OutOfMemory}
 use Rattle.mars_session.specs.History.{Place, History, beginning, places, position_of, last_of, accepted, undo, redo, goto, first_turns, last_turns}
 use Rattle.mars_session.specs.Memory.{Memory, never}
 use Rattle.mars_session.specs.Commands.{States, step_states, run_states, in_cycle, until_states, edit_states, fill_states}
@@ -56,6 +57,12 @@ RedosGiveAgain = (limit : ℕ) (calls : List Call) (poor : List Bool) (h back : 
 abbrev pub RefusalsChangeNothing : Type 0
 RefusalsChangeNothing = (m : Memory) (limit : ℕ) (call : Call) (poor : Bool) (h : History) → IsErr (outcome m limit call poor h).reply
     → ((outcome m limit call poor h).history ≡ h) × ((outcome m limit call poor h).memory ≡ m)
+
+-- where places are forgotten, no call is refused for want of room or of memory
+abbrev pub NeverFull : Type 0
+NeverFull = (k : ℕ) (forgotten : Bool) (limit : ℕ) (call : Call) (poor : Bool) (h : History)
+    → let reply = (outcome (record { most = Some k; forgotten = forgotten }) limit call poor h).reply in
+    ((room : ℕ) → reply ≢ Err (JournalFull room)) × (reply ≢ Err OutOfMemory)
 
 -- how many of the calls were accepted
 abbrev pub accepted_count : List (Result Standing Refusal) → ℕ

@@ -1,5 +1,5 @@
 //! Laws of the history, over the definitions alone.
-ghost use Rattle.mars_session.specs.Laws.{UndosGiveBack, RedosGiveAgain, RefusalsChangeNothing, CommandsAreUndone, FewCommandsAreUndone, RedoAfterUndo, MovesKeepPlaces, UndoFindsNearest, RedoFindsNearest, GotoFindsFirst, CommandsAppend, BeginningIsTape, CallsKeepTapes, CallsForgetTapes, ScriptsKeepTapes, GotoBetween, TurnsAndCyclesRise, UntilArrives, CallsKeepLimit, PlacesAreValid};
+ghost use Rattle.mars_session.specs.Laws.{UndosGiveBack, RedosGiveAgain, RefusalsChangeNothing, NeverFull, CommandsAreUndone, FewCommandsAreUndone, RedoAfterUndo, MovesKeepPlaces, UndoFindsNearest, RedoFindsNearest, GotoFindsFirst, CommandsAppend, BeginningIsTape, CallsKeepTapes, CallsForgetTapes, ScriptsKeepTapes, GotoBetween, TurnsAndCyclesRise, UntilArrives, CallsKeepLimit, PlacesAreValid};
 
 /// After accepted commands as many undos are accepted, and give back the state and the position.
 pub fn undos_give_back()
@@ -14,6 +14,11 @@ pub fn redos_give_again()
 /// A refused call, want of memory included, changes nothing.
 pub fn refusals_change_nothing()
     ensures { RefusalsChangeNothing }
+{}
+
+/// Where places are forgotten, no call is refused for want of room or of memory.
+pub fn never_full()
+    ensures { NeverFull }
 {}
 
 /// After any commands, refused ones among them, as many calls of `Undo` as commands were accepted are all accepted, and give
