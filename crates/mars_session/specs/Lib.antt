@@ -4,5 +4,6 @@ pub mod Memory
 pub mod Commands
 pub mod Script
 pub mod Tapes
+pub mod Examples
 pub mod Laws
 pub mod Code
