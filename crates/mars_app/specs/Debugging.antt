@@ -1,5 +1,5 @@
 -- What the program debugs, and how that may end.
-use Rattle.std.specs.Prelude.{◌≡◌, ◌⊎◌, ℕ, List, length, Option, Result, Ok, Err}
+use Rattle.std.specs.Prelude.{◌≡◌, ◌⊎◌, ℕ, false, List, length, Option, Some, Result, Ok, Err}
 use Rattle.std.specs.Io.KnownBytes.{Keeps}
 use Rattle.mars_cell.specs.Parameters.{Parameters}
 use Rattle.mars_cell.specs.Warriors.{WarriorValue}
@@ -22,9 +22,9 @@ first_round o p warriors =
     placed_for p (length warriors) o.fixed o.seed >>= λ placed.
     unless (start_fault p warriors placed.0) (start_state p warriors placed.0)
 
--- a session at the start of a battle, with so many places of history after the first
+-- a session at the start of a battle, whose history keeps so many places beside the last one
 abbrev pub session_at : ℕ → State → SessionState
-session_at limit s = record { history = beginning s; limit = limit }
+session_at most s = record { history = beginning s; limit = most; memory = record { most = Some most; forgotten = false } }
 
 -- the debugger came to quit or to the end over a session that began here
 abbrev pub DebugsWell : SessionState → ℕ → Option (List ℕ) → Option (List ℕ) → Option (List ℕ) → Option (List ℕ) → Type 0

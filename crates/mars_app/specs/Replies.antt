@@ -2,7 +2,7 @@
 use Rattle.std.specs.Prelude.{ℕ, List, ◌++◌, Result, Ok, Err, codes, decimal}
 use Rattle.mars_session.specs.declared.calls.Standing.{Standing}
 use Rattle.mars_session.specs.declared.calls.Refusal.{Refusal}
-use Rattle.mars_session.specs.declared.calls.Refusal.TheVariants.{Count, Address, FieldOutside, NoSuchWarrior, NoSuchProcess, WarriorDead, QueueFull, Over, CyclePassed, NothingToUndo, NothingToRedo, NotInHistory, JournalFull, OutOfMemory}
+use Rattle.mars_session.specs.declared.calls.Refusal.TheVariants.{Count, Address, FieldOutside, NoSuchWarrior, NoSuchProcess, WarriorDead, QueueFull, Over, CyclePassed, NothingToUndo, NothingToRedo, NotInHistory, JournalFull, OutOfMemory, Forgotten}
 
 -- as `turn 1 cycle 0 next 1 alive 2 at 1/1`
 abbrev pub standing_text : Standing → List ℕ
@@ -26,6 +26,7 @@ refusal_text NothingToRedo = codes "refused 11 NothingToRedo\n"
 refusal_text (NotInHistory first last) = codes "refused 12 NotInHistory " ++ decimal first ++ codes " " ++ decimal last ++ codes "\n"
 refusal_text (JournalFull room) = codes "refused 13 JournalFull " ++ decimal room ++ codes "\n"
 refusal_text OutOfMemory = codes "refused 14 OutOfMemory\n"
+refusal_text Forgotten = codes "refused 15 Forgotten\n"
 
 -- the line for a call's reply
 abbrev pub reply_text : Result Standing Refusal → List ℕ

@@ -64,7 +64,7 @@ pub struct Options {
     pub load: bool,
     pub read_limit: Option<u32>,
     pub write_limit: Option<u32>,
-    /// The most places of the debugger's history after its first.
+    /// How many places the debugger's history keeps beside the last one.
     pub history: u32,
 }
 
@@ -279,7 +279,7 @@ fn limits<'a>(alloc: Global, command: Command<'a>) -> Result<Command<'a>, AllocE
             alloc,
             "history",
             1_000_000,
-            "Limit of the debugger's history, 1 to 1000000 [default: 200000]",
+            "Places that the debugger's history keeps, 1 to 1000000 [default: 200000]",
         )
         .long("history"))?
         .arg(

@@ -90,6 +90,7 @@ pub fn refusal_line(refusal: Refusal) -> Line
         }
         Refusal::JournalFull(room) => numbered("refused 13 JournalFull ", room, "\n"),
         Refusal::OutOfMemory => fixed("refused 14 OutOfMemory\n"),
+        Refusal::Forgotten => fixed("refused 15 Forgotten\n"),
     }
 }
 

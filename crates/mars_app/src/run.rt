@@ -10,7 +10,7 @@ ghost use Rattle.mars_match.specs.Rounds.{placed_for};
 ghost use Rattle.mars_app.specs.Contests.{BreaksOff, contest_size};
 ghost use Rattle.mars_app.specs.Debugging.{DebugsInPart, DebugsWell, StartsNothing, first_round, session_at};
 ghost use Rattle.mars_app.specs.Loading.{AllFit, FitsTwo};
-ghost use Rattle.mars_app.specs.Options.{parameters_of};
+ghost use Rattle.mars_app.specs.Options.{IsBetween, parameters_of};
 ghost use Rattle.mars_app.specs.Runs.{RunsWell};
 ghost use Rattle.mars_cell.specs.ParameterFaults.{checked_parameters};
 
@@ -23,7 +23,7 @@ use crate::options::{Options, WordsFault, read_options};
 use mars_cell::{ParamFault, Params, Warrior};
 use mars_core::Battle;
 use mars_match::{MatchFault, PlaceFault, place};
-use mars_session::{DeltaTape, Session};
+use mars_session::{RingTape, Session};
 use redcode_asm::{Formula, FormulaFault};
 use std::alloc::Global;
 use std::io::{Read, Write};
@@ -159,6 +159,7 @@ fn debug_round<R: Read, W: Write>(
     requires some { 1 ≤ length warriors.now }
     requires few { length warriors.now ≤ 16 }
     requires position { FitsTwo params.now (length warriors.now) options.now.fixed }
+    requires history { IsBetween 1 1000000 options.now.history }
     ensures ok { OnOk result ((s : State) × (first_round options.now params.now warriors.now ≡ Ok s)
         × DebugsWell (session_at options.now.history s) s.params.core_size (R.remaining input.old) (R.remaining input.new) (W.contents output.old) (W.contents output.new)) }
     ensures err { IfErr result (λ fault. StartsNothing fault (first_round options.now params.now warriors.now) (W.contents output.old) (W.contents output.new)
@@ -170,7 +171,7 @@ fn debug_round<R: Read, W: Write>(
         Err(fault) => return Err(match_fault(fault)),
     };
     match Battle::new(alloc, params, warriors, &starts) {
-        Ok(battle) => debug_battle(alloc, battle, u64::from(options.history), input, output),
+        Ok(battle) => debug_battle(alloc, battle, options.history, input, output),
         Err(fault) => Err(match_fault(MatchFault::Battle(fault))),
     }
 }
@@ -201,22 +202,23 @@ fn place_first(
     }
 }
 
-/// Debugs a battle by the lines of the input, with so many places of history after the first.
+/// Debugs a battle by the lines of the input, with a history that keeps so many places beside the last one.
 fn debug_battle<R: Read, W: Write>(
     alloc: Global,
     battle: Battle,
-    history: u64,
+    history: u32,
     input: &mut R,
     output: &mut W,
 ) -> Result<(), RunFault>
+    requires { IsBetween 1 1000000 history }
     ensures ok { OnOk result (DebugsWell (session_at history battle) battle.params.core_size (R.remaining input.old) (R.remaining input.new) (W.contents output.old) (W.contents output.new)) }
     ensures err { IfErr result (λ fault. ((fault ≡ RunFault.OutOfMemory) × Keeps (W.contents output.old) (W.contents output.new))
         ⊎ DebugsInPart fault (session_at history battle) battle.params.core_size (R.remaining input.old) (R.remaining input.new) (W.contents output.old) (W.contents output.new)) }
 {
-    let Ok(tape) = DeltaTape::new(alloc, battle) else {
+    let Ok(tape) = RingTape::new(alloc, battle, history as usize) else {
         return Err(RunFault::OutOfMemory);
     };
-    let mut session = Session::new(tape, history);
+    let mut session = Session::new(tape, u64::from(history));
     match debug(input, output, &mut session) {
         Ok(()) => Ok(()),
         Err(DebugFault::Read) => Err(RunFault::Commands),

@@ -4,7 +4,7 @@ ghost use Rattle.std.specs.Prelude.{Some, ◌<◌};
 use crate::debugger::{DebugFault, debug, debug_within};
 use mars_cell::{Params, read_load};
 use mars_core::Battle;
-use mars_session::{DeltaTape, Session, Tape, WholeTape};
+use mars_session::{DeltaTape, RingTape, Session, Tape, WholeTape};
 use std::alloc::Global;
 use std::io;
 use std::io::{ErrorKind, Read, Write};
@@ -90,7 +90,35 @@ impl Start for DeltaTape {
     }
 }
 
-/// A session over the battle of these load files in a core of 8 cells.
+/// It keeps 100 places beside the last one.
+impl Start for RingTape {
+    fn start(alloc: Global, battle: Battle) -> Result<Self, Fail> {
+        Ok(RingTape::new(alloc, battle, 100)?)
+    }
+}
+
+/// The battle of these load files in a core of 8 cells.
+fn battle_of(
+    rt: &impl Abort,
+    alloc: Global,
+    sources: &[&[u8]],
+    starts: &[u32],
+) -> Result<Battle, Fail> {
+    let params = Params::new(8, 8000, 80000, 8, 8, 1, 1)?;
+    let mut warriors = Vec::new(alloc);
+    for source in sources {
+        warriors.push(read_load(alloc, source, &params)?)?;
+    }
+    assert_eq!(rt; warriors.len(), starts.len());
+    Ok(Battle::new(alloc, &params, warriors.as_slice(), starts)?)
+}
+
+/// The battle of one imp.
+fn imp_battle(rt: &impl Abort, alloc: Global) -> Result<Battle, Fail> {
+    battle_of(rt, alloc, &[IMP], &[0])
+}
+
+/// A session over the battle of these load files.
 fn session_of<T: Start>(
     rt: &impl Abort,
     alloc: Global,
@@ -98,23 +126,35 @@ fn session_of<T: Start>(
     starts: &[u32],
     limit: u64,
 ) -> Result<Session<T>, Fail> {
-    let params = Params::new(8, 8000, 80000, 8, 8, 1, 1)?;
-    let mut warriors = Vec::new(alloc);
-    for source in sources {
-        warriors.push(read_load(alloc, source, &params)?)?;
-    }
-    assert_eq!(rt; warriors.len(), starts.len());
-    let battle = Battle::new(alloc, &params, warriors.as_slice(), starts)?;
+    let battle = battle_of(rt, alloc, sources, starts)?;
     Ok(Session::new(T::start(alloc, battle)?, limit))
 }
 
 /// The session that the program has, of one imp.
-fn imp_session(rt: &impl Abort, alloc: Global) -> Result<Session<DeltaTape>, Fail> {
+fn imp_session(rt: &impl Abort, alloc: Global) -> Result<Session<RingTape>, Fail> {
     session_of(rt, alloc, &[IMP], &[0], AMPLE)
 }
 
-/// The input of this session gives this text, in whatever pieces it is read and written, over either tape.
+/// The input of this session gives this text, in whatever pieces it is read and written, over each kind of tape. Where places
+/// are forgotten the limit doesn't matter.
 fn gives(
+    rt: &impl Abort,
+    alloc: Global,
+    sources: &[&[u8]],
+    starts: &[u32],
+    input: &[u8],
+    expected: &str,
+) -> Result<(), Fail> {
+    gives_within(rt, alloc, sources, starts, AMPLE, input, expected)?;
+    for size in [1usize, 2, 3, 256, 5000] {
+        let mut session: Session<RingTape> = session_of(rt, alloc, sources, starts, 0)?;
+        answers(rt, alloc, &mut session, size, input, expected)?;
+    }
+    Ok(())
+}
+
+/// So it is over each kind of tape that keeps all places, with a limit.
+fn gives_within(
     rt: &impl Abort,
     alloc: Global,
     sources: &[&[u8]],
@@ -158,7 +198,7 @@ fn answers<T: Tape>(
 
 /// The same with one imp.
 fn imp_gives(rt: &impl Abort, alloc: Global, input: &[u8], expected: &str) -> Result<(), Fail> {
-    gives(rt, alloc, &[IMP], &[0], AMPLE, input, expected)
+    gives(rt, alloc, &[IMP], &[0], input, expected)
 }
 
 #[test]
@@ -219,15 +259,7 @@ fn a_killed_warrior(rt: HostRuntime) -> Result<(), Fail> {
         queue 1:\n\
         refused 6 WarriorDead\n";
     let alloc = rt.alloc();
-    gives(
-        &rt,
-        alloc,
-        &[STAY, STAY, STAY],
-        &[0, 2, 4],
-        AMPLE,
-        input,
-        expected,
-    )
+    gives(&rt, alloc, &[STAY, STAY, STAY], &[0, 2, 4], input, expected)
 }
 
 #[test]
@@ -241,15 +273,7 @@ fn the_end_and_back(rt: HostRuntime) -> Result<(), Fail> {
         turn 2 cycle 1 next 0 alive 2 at 3/4\n\
         turn 3 cycle 1 next 1 alive 2 at 4/4\n";
     let alloc = rt.alloc();
-    gives(
-        &rt,
-        alloc,
-        &[STAY, STAY, STAY],
-        &[0, 2, 4],
-        AMPLE,
-        input,
-        expected,
-    )
+    gives(&rt, alloc, &[STAY, STAY, STAY], &[0, 2, 4], input, expected)
 }
 
 #[test]
@@ -260,7 +284,24 @@ fn a_history_that_is_full(rt: HostRuntime) -> Result<(), Fail> {
         refused 13 JournalFull 0\n\
         turn 0 cycle 0 next 0 alive 1 at 0/2\n";
     let alloc = rt.alloc();
-    gives(&rt, alloc, &[IMP], &[0], 2, input, expected)
+    gives_within(&rt, alloc, &[IMP], &[0], 2, input, expected)
+}
+
+/// Two places are kept beside the last one: the first that is left isn't marked.
+#[test]
+fn a_history_that_forgets(rt: HostRuntime) -> Result<(), Fail> {
+    let input = b"run 3\nundo\ngoto 0\ngoto 1\nstep\nundo\nundo\nredo\n";
+    let expected = "turn 3 cycle 3 next 0 alive 1 at 2/2\n\
+        refused 15 Forgotten\n\
+        refused 12 NotInHistory 1 3\n\
+        turn 1 cycle 1 next 0 alive 1 at 0/2\n\
+        turn 2 cycle 2 next 0 alive 1 at 1/1\n\
+        turn 1 cycle 1 next 0 alive 1 at 0/1\n\
+        refused 15 Forgotten\n\
+        turn 2 cycle 2 next 0 alive 1 at 1/1\n";
+    let alloc = rt.alloc();
+    let mut session = Session::new(RingTape::new(alloc, imp_battle(&rt, alloc)?, 2)?, 0);
+    answers(&rt, alloc, &mut session, 3, input, expected)
 }
 
 #[test]
@@ -316,7 +357,7 @@ fn a_lone_warrior_that_dies(rt: HostRuntime) -> Result<(), Fail> {
         battle over\n\
         turn 0 cycle 0 next 0 alive 1 at 0/1\n";
     let alloc = rt.alloc();
-    gives(&rt, alloc, &[DEAD], &[0], AMPLE, input, expected)
+    gives(&rt, alloc, &[DEAD], &[0], input, expected)
 }
 
 static LONG: [u8; 257] = [b'x'; 257];
@@ -363,15 +404,7 @@ fn a_warrior_named_with_zeros(rt: HostRuntime) -> Result<(), Fail> {
     let alloc = rt.alloc();
     let sources = [STAY, STAY, STAY, STAY, STAY, STAY, STAY, IMP];
     let starts = [0, 1, 2, 3, 4, 5, 6, 7];
-    gives(
-        &rt,
-        alloc,
-        &sources,
-        &starts,
-        AMPLE,
-        b"queue 007",
-        "queue 7: 7\n",
-    )
+    gives(&rt, alloc, &sources, &starts, b"queue 007", "queue 7: 7\n")
 }
 
 #[test]

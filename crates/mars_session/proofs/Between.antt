@@ -5,7 +5,7 @@ use Rattle.std.proofs.lemmas.Bool.{eqb-true, eqb-false}
 use Rattle.mars_core.specs.State.{State}
 use Rattle.mars_core.proofs.CallerLemmas.{turns-turn_of, turns-edited, cycle-turn_of, cycle-edited}
 use Rattle.mars_session.specs.History.{Place, History, places, rewound_from, rewound, first_at_turn_from, last_place}
-use Rattle.mars_session.specs.Tapes.{Follows, FollowsAll, AllFollow, IsTape}
+use Rattle.mars_session.specs.Tapes.{Follows, FollowsAll, AllFollow, Steps}
 use Rattle.mars_session.specs.Laws.{RisesFrom, RisesAlong, TurnsAndCyclesRise, GotoBetween}
 use Rattle.mars_session.proofs.Walking.{last_turns_rewound, rewound_first}
 use Rattle.mars_session.proofs.Places.{places_rewound}
@@ -72,7 +72,7 @@ goto_between h t tape =
       (λ between. met t r.before r.present r.after a between.0 (rw last between.1)),
     )
 
-rises_along : (number : State → ℕ) → ((s t : State) → Follows s t → (number s ≤ number t) × (number t ≤ number s + 1)) → (h : History) → IsTape h → RisesAlong number (places h)
+rises_along : (number : State → ℕ) → ((s t : State) → Follows s t → (number s ≤ number t) × (number t ≤ number s + 1)) → (h : History) → Steps h → RisesAlong number (places h)
 rises_along number one h t =
     let r : History = rewound h in
     let first : r.before ≡ [] = rewound_first h.before h.present h.after in

@@ -7,7 +7,7 @@ use Rattle.mars_core.specs.State.{State}
 use Rattle.mars_core.specs.Shape.{SameShape}
 use Rattle.mars_session.specs.declared.snapshots.Snapshot.{Snapshot}
 use Rattle.mars_session.specs.History.{position_of, following, marked, append, step_forward, forward}
-use Rattle.mars_session.specs.Whole.{place_of, nowhere, snapshot_at, before_of, after_of, whole_history, IsWhole, IsGrown}
+use Rattle.mars_session.specs.Code.Whole.{place_of, nowhere, snapshot_at, before_of, after_of, whole_history, IsWhole, IsGrown}
 
 before_length : (ks : List Snapshot) (n : ℕ) → length (before_of ks n) ≡ n
 before_length ks zero = refl

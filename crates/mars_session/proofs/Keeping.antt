@@ -1,5 +1,5 @@
 -- Every call keeps a tape.
-use Rattle.std.proofs.Common.{◌≡◌, ℕ, zero, suc, ◌+◌, ◌-◌, ◌≤◌, Bool, true, false, List, [], ◌∷◌, Option, None, Some, refl, ap, sym, ◌∙◌, arith, nat_eq, nat_lt, inl, inr, if◌then◌else◌}
+use Rattle.std.proofs.Common.{◌≡◌, ℕ, zero, suc, ◌+◌, ◌-◌, ◌≤◌, Bool, true, false, List, [], ◌∷◌, length, take, Option, None, Some, refl, ap, sym, ◌∙◌, arith, nat_eq, nat_lt, inl, inr, if◌then◌else◌}
 use Rattle.std.specs.Prelude.{Result, Ok, Err, nat_le, ◌||◌}
 use Rattle.std.proofs.lemmas.Bool.{or_parts}
 use Rattle.mars_cell.specs.declared.instruction.Cell.{Cell}
@@ -11,14 +11,19 @@ use Rattle.mars_core.specs.declared.battle.edit.Edit.TheVariants as edits
 use Rattle.mars_core.specs.declared.battle.edit.EditFault.{EditFault}
 use Rattle.mars_session.specs.declared.calls.Call.TheVariants.{Step, Run, Until, SetCell, Fill, MoveProcess, Kill, Spawn, Undo, Redo, Goto}
 use Rattle.mars_session.specs.declared.calls.Refusal.{Refusal}
-use Rattle.mars_session.specs.declared.calls.Refusal.TheVariants.{Count, Address, Over, CyclePassed, NothingToUndo, NothingToRedo, NotInHistory}
-use Rattle.mars_session.specs.History.{Place, History, append, append_all, cut, marked, accepted, marked_before, undo, marked_after, redo, rewound_from, rewound, first_at_turn_from, goto, first_turns, last_turns}
+use Rattle.mars_session.specs.declared.calls.Refusal.TheVariants.{Count, Address, Over, CyclePassed, NothingToRedo, NotInHistory}
+use Rattle.mars_session.specs.History.{Place, History, beginning, last_of, append, append_all, cut, marked, accepted, marked_before, undo, marked_after, redo, rewound_from, rewound, first_at_turn_from, goto, first_turns, last_turns}
 use Rattle.mars_session.specs.Commands.{command_limit, States, turns_until, stops_at, step_states, run_states, until_bound, until_states, unless_fault, edit_states, fills, cells_between, fill_states}
-use Rattle.mars_session.specs.Script.{moved, no_room, appended, commanded, outcome, first, rest}
-use Rattle.mars_session.specs.Tapes.{Follows, FollowsAll, IsTape}
-use Rattle.mars_session.specs.Laws.{BeginningIsTape, CallsKeepTapes, ScriptsKeepTapes}
+use Rattle.mars_session.specs.Memory.{Memory, never, kept}
+use Rattle.mars_session.specs.declared.calls.Call.{Call}
+use Rattle.mars_session.specs.Script.{moved, no_undo, no_room, appended, commanded, outcome, first, rest}
+use Rattle.mars_session.specs.Tapes.{Follows, FollowsAll, Steps, IsTape, IsTapeOf}
+use Rattle.mars_session.specs.Laws.{BeginningIsTape, CallsKeepTapes, CallsForgetTapes, ScriptsKeepTapes}
 use Rattle.mars_session.proofs.Turns.{fault_kept, fault_below}
-use Rattle.mars_session.proofs.Undoing.{after_append_all}
+use Rattle.mars_core.proofs.CallerLemmas.{turn_valid, edit_valid}
+use Rattle.mars_core.specs.Validity.{IsValid}
+use Rattle.mars_session.proofs.Undoing.{after_append_all, stays_never}
+use Rattle.mars_session.proofs.Valid.{follows_valid}
 
 -- each state follows the one before it
 abbrev Chain : State → List State → Type 0
@@ -132,13 +137,12 @@ begun_append_all h [] b c = b
 begun_append_all h (s ∷ ss) b c = begun_append_all (append h s) ss (begun_append h s b c.0) c.1
 
 tape_begun : (h : History) → IsTape h → Begun h
-tape_begun h t = record { before = t.before; first = ap (λ (p : Place). p.mark) (sym (first_rewound h.before h.present h.after)) ∙ t.first }
+tape_begun h t = record { before = t.steps.before; first = ap (λ (p : Place). p.mark) (sym (first_rewound h.before h.present h.after)) ∙ t.first }
 
 -- where nothing follows, and the present place is marked
 begun_tape : (h : History) → Begun h → h.after ≡ [] → h.present.mark ≡ true → IsTape h
 begun_tape h b none m = record {
-  before = b.before;
-  after = rw none tt;
+  steps = record { before = b.before; after = rw none tt };
   first = first_marked h.before h.present h.after b.first;
   last = rw none m;
 }
@@ -150,79 +154,140 @@ accepted_tape h s ss t f c =
     begun_tape (marked k) (begun_marked k (begun_append_all (append (cut (marked h)) s) ss (begun_append (cut (marked h)) s start f) c))
     (after_append_all (append (cut (marked h)) s) ss refl) refl
 
-appended_tape : (h : History) (states : States) (o : Option Refusal) → IsTape h → Reached h.present.state (Ok states) → IsTape (appended h states o).history
-appended_tape h states (Some r) t c = t
-appended_tape h states None t c = accepted_tape h states.0 states.1 t c.0 c.1
+-- the places up to the present one follow one another, once more are appended
+before_append_all : (h : History) (ss : List State) → FollowsAll h.before h.present.state → Chain h.present.state ss → FollowsAll (append_all h ss).before (append_all h ss).present.state
+before_append_all h [] b c = b
+before_append_all h (s ∷ ss) b c = before_append_all (append h s) ss (c.0, b) c.1
 
-commanded_tape : (limit bound : ℕ) (poor : Bool) (h : History) (x : Result States Refusal) → IsTape h → Reached h.present.state x → IsTape (commanded limit bound poor h x).history
-commanded_tape limit bound poor h (Err r) t c = t
-commanded_tape limit bound poor h (Ok states) t c = appended_tape h states (no_room limit bound poor h) t c
+valid_here : (before : List Place) (s : State) → FollowsAll before s → IsValid s
+valid_here [] s v = v
+valid_here (b ∷ before) s f = follows_valid turn_valid edit_valid b.state s f.0 (valid_here before b.state f.1)
 
--- what was found is a tape
-abbrev FoundTape : Option History → Type 0
-FoundTape None = Unit {0}
-FoundTape (Some to) = IsTape to
+-- so do those that are kept
+before_kept : (k : ℕ) (before : List Place) (s : State) → FollowsAll before s → FollowsAll (take k before) s
+before_kept zero before s f = valid_here before s f
+before_kept (suc k) [] s f = f
+before_kept (suc k) (b ∷ before) s f = (f.0, before_kept k before b.state f.1)
 
-found_if : (b : Bool) (x y : Option History) → FoundTape x → FoundTape y → FoundTape (if b then x else y)
-found_if true x y h k = h
-found_if false x y h k = k
+few_kept : (k : ℕ) (before : List Place) → length (take k before) ≤ k
+few_kept zero before = omega arith
+few_kept (suc k) [] = omega arith
+few_kept (suc k) (b ∷ before) = omega (arith, few_kept k before)
 
-one_back : (b : Place) (before : List Place) (p : Place) (after : List Place) → IsTape (record { before = b ∷ before; present = p; after = after }) → IsTape (record { before = before; present = b; after = p ∷ after })
-one_back b before p after t = record { before = t.before.1; after = (t.before.0, t.after); first = t.first; last = t.last }
+accepted_few : (k : ℕ) (h : History) (s : State) (ss : List State) → IsTapeOf k h → Follows h.present.state s → Chain s ss → IsTapeOf k (kept (Some k) (accepted h s ss))
+accepted_few k h s ss t f c =
+    let start : History = append (cut (marked h)) s in
+    let end : History = append_all start ss in
+    let none : end.after ≡ [] = after_append_all start ss refl in
+    record {
+      steps = record { before = before_kept k end.before end.present.state (before_append_all start ss (f, t.steps.before) c); after = rw none tt };
+      last = rw none refl;
+      within = rw none (omega (arith, few_kept k end.before));
+    }
 
-one_on : (before : List Place) (p a : Place) (after : List Place) → IsTape (record { before = before; present = p; after = a ∷ after }) → IsTape (record { before = p ∷ before; present = a; after = after })
-one_on before p a after t = record { before = (t.after.0, t.before); after = t.after.1; first = t.first; last = t.last }
+-- what accepted commands and moves keep
+record Keeps (m : Memory) (P : History → Type 0) : Type 0 where
+  accepts : (h : History) (s : State) (ss : List State) → P h → Follows h.present.state s → Chain s ss → P (kept m.most (accepted h s ss))
+  back : (b : Place) (before : List Place) (p : Place) (after : List Place) → P (record { before = b ∷ before; present = p; after = after }) → P (record { before = before; present = b; after = p ∷ after })
+  on : (before : List Place) (p a : Place) (after : List Place) → P (record { before = before; present = p; after = a ∷ after }) → P (record { before = p ∷ before; present = a; after = after })
 
-undo_tape : (before : List Place) (p : Place) (after : List Place) → IsTape (record { before = before; present = p; after = after }) → FoundTape (marked_before before p after)
-undo_tape [] p after t = tt
-undo_tape (b ∷ before) p after t =
-    found_if b.mark (Some (record { before = before; present = b; after = p ∷ after })) (marked_before before b (p ∷ after))
-    (one_back b before p after t) (undo_tape before b (p ∷ after) (one_back b before p after t))
+-- what was found has it
+abbrev Found : (History → Type 0) → Option History → Type 0
+Found P None = Unit {0}
+Found P (Some to) = P to
 
-redo_tape : (before : List Place) (p : Place) (after : List Place) → IsTape (record { before = before; present = p; after = after }) → FoundTape (marked_after before p after)
-redo_tape before p [] t = tt
-redo_tape before p (a ∷ after) t =
-    found_if a.mark (Some (record { before = p ∷ before; present = a; after = after })) (marked_after (p ∷ before) a after)
-    (one_on before p a after t) (redo_tape (p ∷ before) a after (one_on before p a after t))
+found_if : (P : History → Type 0) (b : Bool) (x y : Option History) → Found P x → Found P y → Found P (if b then x else y)
+found_if P true x y h k = h
+found_if P false x y h k = k
 
-rewound_tape : (before : List Place) (p : Place) (after : List Place) → IsTape (record { before = before; present = p; after = after }) → IsTape (rewound_from before p after)
-rewound_tape [] p after t = t
-rewound_tape (b ∷ before) p after t = rewound_tape before b (p ∷ after) (one_back b before p after t)
+module _ (m : Memory) (P : History → Type 0) (keeps : Keeps m P) where
+  appended_keeps : (h : History) (states : States) (o : Option Refusal) → P h → Reached h.present.state (Ok states) → P (appended m h states o).history
+  appended_keeps h states (Some r) t c = t
+  appended_keeps h states None t c = keeps.accepts h states.0 states.1 t c.0 c.1
 
-goto_tape : (turns : ℕ) (before : List Place) (p : Place) (after : List Place) → IsTape (record { before = before; present = p; after = after }) → FoundTape (first_at_turn_from turns before p after)
-goto_tape turns before p [] t = found_if (nat_eq p.state.turns turns) (Some (record { before = before; present = p; after = [] })) None t tt
-goto_tape turns before p (a ∷ after) t =
-    found_if (nat_eq p.state.turns turns) (Some (record { before = before; present = p; after = a ∷ after })) (first_at_turn_from turns (p ∷ before) a after)
-    t (goto_tape turns (p ∷ before) a after (one_on before p a after t))
+  commanded_keeps : (limit bound : ℕ) (poor : Bool) (h : History) (x : Result States Refusal) → P h → Reached h.present.state x → P (commanded m limit bound poor h x).history
+  commanded_keeps limit bound poor h (Err r) t c = t
+  commanded_keeps limit bound poor h (Ok states) t c = appended_keeps h states (no_room m limit bound poor h) t c
 
-moved_tape : (h : History) (r : Refusal) (o : Option History) → IsTape h → FoundTape o → IsTape (moved h r o).history
-moved_tape h r None t f = t
-moved_tape h r (Some to) t f = f
+  edit_keeps : (limit : ℕ) (poor : Bool) (h : History) (e : Edit) → P h → P (commanded m limit 1 poor h (edit_states e h.present.state)).history
+  edit_keeps limit poor h e t = commanded_keeps limit 1 poor h (edit_states e h.present.state) t (edit_reached e h.present.state)
+
+  undo_found : (before : List Place) (p : Place) (after : List Place) → P (record { before = before; present = p; after = after }) → Found P (marked_before before p after)
+  undo_found [] p after t = tt
+  undo_found (b ∷ before) p after t =
+      found_if P b.mark (Some (record { before = before; present = b; after = p ∷ after })) (marked_before before b (p ∷ after))
+      (keeps.back b before p after t) (undo_found before b (p ∷ after) (keeps.back b before p after t))
+
+  redo_found : (before : List Place) (p : Place) (after : List Place) → P (record { before = before; present = p; after = after }) → Found P (marked_after before p after)
+  redo_found before p [] t = tt
+  redo_found before p (a ∷ after) t =
+      found_if P a.mark (Some (record { before = p ∷ before; present = a; after = after })) (marked_after (p ∷ before) a after)
+      (keeps.on before p a after t) (redo_found (p ∷ before) a after (keeps.on before p a after t))
+
+  rewound_keeps : (before : List Place) (p : Place) (after : List Place) → P (record { before = before; present = p; after = after }) → P (rewound_from before p after)
+  rewound_keeps [] p after t = t
+  rewound_keeps (b ∷ before) p after t = rewound_keeps before b (p ∷ after) (keeps.back b before p after t)
+
+  goto_found : (turns : ℕ) (before : List Place) (p : Place) (after : List Place) → P (record { before = before; present = p; after = after }) → Found P (first_at_turn_from turns before p after)
+  goto_found turns before p [] t = found_if P (nat_eq p.state.turns turns) (Some (record { before = before; present = p; after = [] })) None t tt
+  goto_found turns before p (a ∷ after) t =
+      found_if P (nat_eq p.state.turns turns) (Some (record { before = before; present = p; after = a ∷ after })) (first_at_turn_from turns (p ∷ before) a after)
+      t (goto_found turns (p ∷ before) a after (keeps.on before p a after t))
+
+  moved_keeps : (h : History) (r : Refusal) (o : Option History) → P h → Found P o → P (moved m h r o).history
+  moved_keeps h r None t f = t
+  moved_keeps h r (Some to) t f = f
+
+  calls_keep : (limit : ℕ) (call : Call) (poor : Bool) (h : History) → P h → P (outcome m limit call poor h).history
+  calls_keep limit Step poor h t = commanded_keeps limit 1 poor h (step_states h.present.state) t (step_reached h.present.state)
+  calls_keep limit (Run n) poor h t = commanded_keeps limit n poor h (run_states n h.present.state) t (run_reached n h.present.state)
+  calls_keep limit (Until c) poor h t = commanded_keeps limit (until_bound c h.present.state) poor h (until_states c h.present.state) t (until_reached c h.present.state)
+  calls_keep limit (Fill from to cell) poor h t =
+      commanded_keeps limit (cells_between from to) poor h (fill_states from to cell h.present.state) t (fill_reached from to cell h.present.state)
+  calls_keep limit (SetCell address cell) poor h t = edit_keeps limit poor h (edits.SetCell address cell) t
+  calls_keep limit (MoveProcess w i address) poor h t = edit_keeps limit poor h (edits.MoveProcess w i address) t
+  calls_keep limit (Kill w i) poor h t = edit_keeps limit poor h (edits.KillProcess w i) t
+  calls_keep limit (Spawn w address) poor h t = edit_keeps limit poor h (edits.Spawn w address) t
+  calls_keep limit Undo poor h t = moved_keeps h (no_undo m) (undo h) t (undo_found h.before h.present h.after t)
+  calls_keep limit Redo poor h t = moved_keeps h NothingToRedo (redo h) t (redo_found h.before h.present h.after t)
+  calls_keep limit (Goto n) poor h t =
+      let r : History = rewound h in
+      moved_keeps h (NotInHistory (first_turns h) (last_turns h)) (goto n h) t
+      (goto_found n r.before r.present r.after (rewound_keeps h.before h.present h.after t))
+
+steps_back : (b : Place) (before : List Place) (p : Place) (after : List Place) → Steps (record { before = b ∷ before; present = p; after = after }) → Steps (record { before = before; present = b; after = p ∷ after })
+steps_back b before p after t = record { before = t.before.1; after = (t.before.0, t.after) }
+
+steps_on : (before : List Place) (p a : Place) (after : List Place) → Steps (record { before = before; present = p; after = a ∷ after }) → Steps (record { before = p ∷ before; present = a; after = after })
+steps_on before p a after t = record { before = (t.after.0, t.before); after = t.after.1 }
 
 pub beginning_is_tape : BeginningIsTape
-beginning_is_tape s v = record { before = v; after = tt; first = refl; last = refl }
+beginning_is_tape s v =
+    let steps : Steps (beginning s) = record { before = v; after = tt } in
+    (record { steps = steps; first = refl; last = refl }, λ k. record { steps = steps; last = refl; within = omega arith })
 
-edit_tape : (limit : ℕ) (poor : Bool) (h : History) (e : Edit) → IsTape h → IsTape (commanded limit 1 poor h (edit_states e h.present.state)).history
-edit_tape limit poor h e t = commanded_tape limit 1 poor h (edit_states e h.present.state) t (edit_reached e h.present.state)
+tapes_kept : Keeps never IsTape
+tapes_kept = record {
+  accepts = accepted_tape;
+  back = λ b before p after t. record { steps = steps_back b before p after t.steps; first = t.first; last = t.last };
+  on = λ before p a after t. record { steps = steps_on before p a after t.steps; first = t.first; last = t.last };
+}
+
+few_places : (k : ℕ) (forgotten : Bool) → Keeps (record { most = Some k; forgotten = forgotten }) (IsTapeOf k)
+few_places k forgotten = record {
+  accepts = λ h s ss t f c. accepted_few k h s ss t f c;
+  back = λ b before p after t. record { steps = steps_back b before p after t.steps; last = t.last; within = omega (arith, t.within) };
+  on = λ before p a after t. record { steps = steps_on before p a after t.steps; last = t.last; within = omega (arith, t.within) };
+}
 
 pub calls_keep_tapes : CallsKeepTapes
-calls_keep_tapes limit Step poor h t = commanded_tape limit 1 poor h (step_states h.present.state) t (step_reached h.present.state)
-calls_keep_tapes limit (Run n) poor h t = commanded_tape limit n poor h (run_states n h.present.state) t (run_reached n h.present.state)
-calls_keep_tapes limit (Until c) poor h t = commanded_tape limit (until_bound c h.present.state) poor h (until_states c h.present.state) t (until_reached c h.present.state)
-calls_keep_tapes limit (Fill from to cell) poor h t =
-    commanded_tape limit (cells_between from to) poor h (fill_states from to cell h.present.state) t (fill_reached from to cell h.present.state)
-calls_keep_tapes limit (SetCell address cell) poor h t = edit_tape limit poor h (edits.SetCell address cell) t
-calls_keep_tapes limit (MoveProcess w i address) poor h t = edit_tape limit poor h (edits.MoveProcess w i address) t
-calls_keep_tapes limit (Kill w i) poor h t = edit_tape limit poor h (edits.KillProcess w i) t
-calls_keep_tapes limit (Spawn w address) poor h t = edit_tape limit poor h (edits.Spawn w address) t
-calls_keep_tapes limit Undo poor h t = moved_tape h NothingToUndo (undo h) t (undo_tape h.before h.present h.after t)
-calls_keep_tapes limit Redo poor h t = moved_tape h NothingToRedo (redo h) t (redo_tape h.before h.present h.after t)
-calls_keep_tapes limit (Goto n) poor h t =
-    let r : History = rewound h in
-    moved_tape h (NotInHistory (first_turns h) (last_turns h)) (goto n h) t
-    (goto_tape n r.before r.present r.after (rewound_tape h.before h.present h.after t))
+calls_keep_tapes limit call poor h t = calls_keep never IsTape tapes_kept limit call poor h t
+
+pub calls_forget_tapes : CallsForgetTapes
+calls_forget_tapes k forgotten limit call poor h t = calls_keep (record { most = Some k; forgotten = forgotten }) (IsTapeOf k) (few_places k forgotten) limit call poor h t
 
 pub scripts_keep_tapes : ScriptsKeepTapes
 scripts_keep_tapes limit [] poor h t = t
 scripts_keep_tapes limit (call ∷ calls) poor h t =
-    scripts_keep_tapes limit calls (rest poor) (outcome limit call (first poor) h).history (calls_keep_tapes limit call (first poor) h t)
+    rw (stays_never limit call (first poor) h)
+    (scripts_keep_tapes limit calls (rest poor) (outcome never limit call (first poor) h).history (calls_keep_tapes limit call (first poor) h t))

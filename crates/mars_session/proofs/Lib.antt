@@ -1,6 +1,9 @@
+pub mod Appending
 pub mod Arriving
 pub mod Between
 pub mod Copying
+pub mod Few
+pub mod Forgetting
 pub mod Keeping
 pub mod Limits
 pub mod Places
@@ -11,3 +14,4 @@ pub mod Turns
 pub mod Undoing
 pub mod Valid
 pub mod Walking
+pub mod Wanting

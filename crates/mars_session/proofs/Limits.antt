@@ -16,6 +16,7 @@ use Rattle.mars_session.specs.declared.calls.Refusal.{Refusal}
 use Rattle.mars_session.specs.declared.calls.Refusal.TheVariants.{Count, Address, Over, CyclePassed, NothingToUndo, NothingToRedo, NotInHistory, JournalFull, OutOfMemory}
 use Rattle.mars_session.specs.History.{Place, History, position_of, last_of, following, append, cut, marked, accepted, undo, redo, rewound, goto, first_turns, last_turns}
 use Rattle.mars_session.specs.Commands.{command_limit, States, turns_until, stops_at, step_states, run_states, until_bound, until_states, unless_fault, edit_states, fills, cells_between, fill_states}
+use Rattle.mars_session.specs.Memory.{never}
 use Rattle.mars_session.specs.Script.{moved, no_room, appended, commanded}
 use Rattle.mars_session.specs.Tapes.{Follows, FollowsAll}
 use Rattle.mars_session.specs.Laws.{CallsKeepLimit}
@@ -96,24 +97,24 @@ no_fault : (b : Bool) (x : Refusal) (y : Option Refusal) → (if b then Some x e
 no_fault true x y e = absurd (cc)
 no_fault false x y e = refl
 
-appended_limit : (limit bound : ℕ) (poor : Bool) (h : History) (states : States) (o : Option Refusal) → no_room limit bound poor h ≡ o → suc (length states.1) ≤ bound → last_of h ≤ limit
-    → last_of (appended h states o).history ≤ limit
+appended_limit : (limit bound : ℕ) (poor : Bool) (h : History) (states : States) (o : Option Refusal) → no_room never limit bound poor h ≡ o → suc (length states.1) ≤ bound → last_of h ≤ limit
+    → last_of (appended never h states o).history ≤ limit
 appended_limit limit bound poor h states (Some r) e few l = l
 appended_limit limit bound poor h states None e few l =
     let fits : position_of h + bound ≤ limit =
     ltb-false limit (position_of h + bound) (no_fault (nat_lt limit (position_of h + bound)) (JournalFull (limit - position_of h)) (if poor && nat_lt (following h) bound then Some OutOfMemory else None) e) in
     omega (arith, fits, few, last_accepted h states.0 states.1)
 
-commanded_limit : (limit bound : ℕ) (poor : Bool) (h : History) (x : Result States Refusal) → Within bound x → last_of h ≤ limit → last_of (commanded limit bound poor h x).history ≤ limit
+commanded_limit : (limit bound : ℕ) (poor : Bool) (h : History) (x : Result States Refusal) → Within bound x → last_of h ≤ limit → last_of (commanded never limit bound poor h x).history ≤ limit
 commanded_limit limit bound poor h (Err r) few l = l
-commanded_limit limit bound poor h (Ok states) few l = appended_limit limit bound poor h states (no_room limit bound poor h) refl few l
+commanded_limit limit bound poor h (Ok states) few l = appended_limit limit bound poor h states (no_room never limit bound poor h) refl few l
 
-edit_limit : (limit : ℕ) (poor : Bool) (h : History) (e : Edit) → last_of h ≤ limit → last_of (commanded limit 1 poor h (edit_states e h.present.state)).history ≤ limit
+edit_limit : (limit : ℕ) (poor : Bool) (h : History) (e : Edit) → last_of h ≤ limit → last_of (commanded never limit 1 poor h (edit_states e h.present.state)).history ≤ limit
 edit_limit limit poor h e l =
     let s = h.present.state in
     commanded_limit limit 1 poor h (edit_states e s) (within_unless 1 (edit_fault s e) (edited s e, []) (omega arith)) l
 
-moved_limit : (limit : ℕ) (h : History) (r : Refusal) (o : Option History) → SameStart (rewound h) o → last_of h ≤ limit → last_of (moved h r o).history ≤ limit
+moved_limit : (limit : ℕ) (h : History) (r : Refusal) (o : Option History) → SameStart (rewound h) o → last_of h ≤ limit → last_of (moved never h r o).history ≤ limit
 moved_limit limit h r None same l = l
 moved_limit limit h r (Some to) same l = omega (arith, same_last to h same, l)
 
@@ -130,7 +131,7 @@ pub calls_keep_limit : CallsKeepLimit
 calls_keep_limit limit Step poor h t l = commanded_limit limit 1 poor h (step_states h.present.state) (step_within h.present.state) l
 calls_keep_limit limit (Run n) poor h t l = commanded_limit limit n poor h (run_states n h.present.state) (run_within n h.present.state) l
 calls_keep_limit limit (Until c) poor h t l =
-    commanded_limit limit (until_bound c h.present.state) poor h (until_states c h.present.state) (until_within c h.present.state (some_warrior h.before h.present.state t.before)) l
+    commanded_limit limit (until_bound c h.present.state) poor h (until_states c h.present.state) (until_within c h.present.state (some_warrior h.before h.present.state t.steps.before)) l
 calls_keep_limit limit (Fill from to cell) poor h t l =
     commanded_limit limit (cells_between from to) poor h (fill_states from to cell h.present.state) (fill_within from to cell h.present.state) l
 calls_keep_limit limit (SetCell address cell) poor h t l = edit_limit limit poor h (edits.SetCell address cell) l

@@ -12,42 +12,46 @@ use Rattle.mars_core.specs.declared.battle.edit.Edit.TheVariants as edits
 use Rattle.mars_core.specs.State.{State}
 use Rattle.mars_session.specs.History.{History, position_of, accepted, undo, redo, goto, first_turns, last_turns}
 use Rattle.mars_session.specs.Commands.{States, step_states, run_states, until_bound, until_states, edit_states, cells_between, fill_states}
-use Rattle.mars_session.specs.Script.{Outcome, outcome, commanded, appended, moved, no_room, replies_of, history_after, first, rest}
-use Rattle.mars_session.specs.Laws.{times, is_command, accepted_count, RefusalsChangeNothing, GoesBackAndOn, CommandsAreUndone}
-use Rattle.mars_session.proofs.Undoing.{base, base_accepted, Accepted, accepted_call, Undone, one_undone}
+use Rattle.mars_session.specs.Memory.{Memory, never, kept}
+use Rattle.mars_session.specs.Script.{Outcome, outcome, commanded, appended, moved, no_undo, no_room, replies_of, history_after, memory_after, first, rest}
+use Rattle.mars_session.specs.Laws.{times, is_command, accepted_count, appended_by, RefusalsChangeNothing, GoesBackAndOn, CommandsAreUndone}
+use Rattle.mars_session.proofs.Undoing.{base, base_accepted, Accepted, accepted_call, stays_never, Undone, one_undone}
 
--- a refusal leaves the history
-appended_kept : (h : History) (states : States) (o : Option Refusal) → IsErr (appended h states o).reply → (appended h states o).history ≡ h
-appended_kept h states (Some r) e = refl
-appended_kept h states None e = absurd (cc)
+-- a refusal leaves the history, and what is kept of it
+abbrev Stays : Memory → History → Outcome → Type 0
+Stays m h o = IsErr o.reply → (o.history ≡ h) × (o.memory ≡ m)
 
-commanded_kept : (limit bound : ℕ) (poor : Bool) (h : History) (x : Result States Refusal) → IsErr (commanded limit bound poor h x).reply → (commanded limit bound poor h x).history ≡ h
-commanded_kept limit bound poor h (Err r) e = refl
-commanded_kept limit bound poor h (Ok states) e = appended_kept h states (no_room limit bound poor h) e
+appended_stays : (m : Memory) (h : History) (states : States) (o : Option Refusal) → Stays m h (appended m h states o)
+appended_stays m h states (Some r) e = (refl, refl)
+appended_stays m h states None e = absurd (cc)
 
-moved_kept : (h : History) (r : Refusal) (x : Option History) → IsErr (moved h r x).reply → (moved h r x).history ≡ h
-moved_kept h r None e = refl
-moved_kept h r (Some to) e = absurd (cc)
+commanded_stays : (m : Memory) (limit bound : ℕ) (poor : Bool) (h : History) (x : Result States Refusal) → Stays m h (commanded m limit bound poor h x)
+commanded_stays m limit bound poor h (Err r) e = (refl, refl)
+commanded_stays m limit bound poor h (Ok states) e = appended_stays m h states (no_room m limit bound poor h) e
+
+moved_stays : (m : Memory) (h : History) (r : Refusal) (x : Option History) → Stays m h (moved m h r x)
+moved_stays m h r None e = (refl, refl)
+moved_stays m h r (Some to) e = absurd (cc)
 
 pub refusals_change_nothing : RefusalsChangeNothing
-refusals_change_nothing limit Step poor h e = commanded_kept limit 1 poor h (step_states h.present.state) e
-refusals_change_nothing limit (Run n) poor h e = commanded_kept limit n poor h (run_states n h.present.state) e
-refusals_change_nothing limit (Until c) poor h e = commanded_kept limit (until_bound c h.present.state) poor h (until_states c h.present.state) e
-refusals_change_nothing limit (Fill from to cell) poor h e = commanded_kept limit (cells_between from to) poor h (fill_states from to cell h.present.state) e
-refusals_change_nothing limit (SetCell address cell) poor h e = commanded_kept limit 1 poor h (edit_states (edits.SetCell address cell) h.present.state) e
-refusals_change_nothing limit (MoveProcess w i address) poor h e = commanded_kept limit 1 poor h (edit_states (edits.MoveProcess w i address) h.present.state) e
-refusals_change_nothing limit (Kill w i) poor h e = commanded_kept limit 1 poor h (edit_states (edits.KillProcess w i) h.present.state) e
-refusals_change_nothing limit (Spawn w address) poor h e = commanded_kept limit 1 poor h (edit_states (edits.Spawn w address) h.present.state) e
-refusals_change_nothing limit Undo poor h e = moved_kept h NothingToUndo (undo h) e
-refusals_change_nothing limit Redo poor h e = moved_kept h NothingToRedo (redo h) e
-refusals_change_nothing limit (Goto t) poor h e = moved_kept h (NotInHistory (first_turns h) (last_turns h)) (goto t h) e
+refusals_change_nothing m limit Step poor h e = commanded_stays m limit 1 poor h (step_states h.present.state) e
+refusals_change_nothing m limit (Run n) poor h e = commanded_stays m limit n poor h (run_states n h.present.state) e
+refusals_change_nothing m limit (Until c) poor h e = commanded_stays m limit (until_bound c h.present.state) poor h (until_states c h.present.state) e
+refusals_change_nothing m limit (Fill from to cell) poor h e = commanded_stays m limit (cells_between from to) poor h (fill_states from to cell h.present.state) e
+refusals_change_nothing m limit (SetCell address cell) poor h e = commanded_stays m limit 1 poor h (edit_states (edits.SetCell address cell) h.present.state) e
+refusals_change_nothing m limit (MoveProcess w i address) poor h e = commanded_stays m limit 1 poor h (edit_states (edits.MoveProcess w i address) h.present.state) e
+refusals_change_nothing m limit (Kill w i) poor h e = commanded_stays m limit 1 poor h (edit_states (edits.KillProcess w i) h.present.state) e
+refusals_change_nothing m limit (Spawn w address) poor h e = commanded_stays m limit 1 poor h (edit_states (edits.Spawn w address) h.present.state) e
+refusals_change_nothing m limit Undo poor h e = moved_stays m h (no_undo m) (undo h) e
+refusals_change_nothing m limit Redo poor h e = moved_stays m h NothingToRedo (redo h) e
+refusals_change_nothing m limit (Goto t) poor h e = moved_stays m h (NotInHistory (first_turns h) (last_turns h)) (goto t h) e
 
 -- none of the calls was accepted and the history is as before, or as many undos and redos lead back and on
 abbrev Reached : ℕ → History → History → Type 0
 Reached count h end = ((count ≡ 0) × (end ≡ h)) ⊎ Undone count h end
 
 -- where none of the calls after an accepted command was accepted, the end is where that stands
-none_after : (n : ℕ) (h end : History) (s : State) (ss : List State) → n ≡ 0 → end ≡ accepted h s ss → Undone n (accepted h s ss) end
+pub none_after : (n : ℕ) (h end : History) (s : State) (ss : List State) → n ≡ 0 → end ≡ accepted h s ss → Undone n (accepted h s ss) end
 none_after n h end s ss z e =
     let here : Option History = Some (accepted h s ss) in
     let same : Some (base (accepted h s ss) []) ≡ here = ap (λ (k : History). Some k) (base_accepted h s ss) in
@@ -58,56 +62,65 @@ some_after n h end s ss (inl none) = one_undone n h end s ss (none_after n h end
 some_after n h end s ss (inr undone) = one_undone n h end s ss undone
 
 -- one call more, before the others
-one_reached : (r : Result Standing Refusal) (others : List (Result Standing Refusal)) (h k end : History) → (IsOk r → Accepted h k) → (IsErr r → k ≡ h)
+one_reached : (n : ℕ) (r : Result Standing Refusal) (others : List (Result Standing Refusal)) (h k end : History) → (IsOk r → Accepted never n h k) → (IsErr r → k ≡ h)
     → Reached (accepted_count others) k end → Reached (accepted_count (r ∷ others)) h end
-one_reached (Ok standing) others h k end accepts keeps reached =
-    let one : Accepted h k = accepts refl in
+one_reached n (Ok standing) others h k end accepts keeps reached =
+    let one : Accepted never n h k = accepts refl in
     inr (some_after (accepted_count others) h end one.first one.others (rw one.is at reached))
-one_reached (Err r) others h k end accepts keeps reached = rw (keeps refl) at reached
+one_reached n (Err r) others h k end accepts keeps reached = rw (keeps refl) at reached
 
-script_reached : (limit : ℕ) (calls : List Call) (poor : List Bool) (h : History) → IsTrue (list_all is_command calls) → Reached (accepted_count (replies_of limit calls poor h)) h (history_after limit calls poor h)
+script_reached : (limit : ℕ) (calls : List Call) (poor : List Bool) (h : History) → IsTrue (list_all is_command calls)
+    → Reached (accepted_count (replies_of never limit calls poor h)) h (history_after never limit calls poor h)
 script_reached limit [] poor h c = inl (refl, refl)
 script_reached limit (call ∷ calls) poor h c =
     let commands = and_parts (is_command call) (list_all is_command calls) c in
-    let one : Outcome = outcome limit call (first poor) h in
-    one_reached one.reply (replies_of limit calls (rest poor) one.history) h one.history (history_after limit (call ∷ calls) poor h)
-    (λ ok. accepted_call limit call (first poor) h commands.0 ok) (λ err. refusals_change_nothing limit call (first poor) h err)
-    (script_reached limit calls (rest poor) one.history commands.1)
+    let one : Outcome = outcome never limit call (first poor) h in
+    let others = replies_of never limit calls (rest poor) one.history in
+    rw (stays_never limit call (first poor) h)
+    (one_reached (appended_by call h.present.state) one.reply others h one.history (history_after never limit calls (rest poor) one.history)
+    (λ ok. accepted_call never limit call (first poor) h commands.0 ok) (λ err. (refusals_change_nothing never limit call (first poor) h err).0)
+    (script_reached limit calls (rest poor) one.history commands.1))
 
 -- n calls of a move are accepted and lead to the end
-abbrev Leads : ℕ → ℕ → Call → List Bool → History → History → Type 0
-Leads limit n call poor h end =
-    IsTrue (list_all is_ok (replies_of limit (replicate n call) poor h)) × (history_after limit (replicate n call) poor h ≡ end)
+pub record Leads (m : Memory) (limit n : ℕ) (call : Call) (poor : List Bool) (h end : History) : Type 0 where
+  pub accepted : IsTrue (list_all is_ok (replies_of m limit (replicate n call) poor h))
+  pub memory : memory_after m limit (replicate n call) poor h ≡ m
+  pub history : history_after m limit (replicate n call) poor h ≡ end
 
-one_moved : (limit n : ℕ) (call : Call) (r : Refusal) (move : History → Option History) (poor : List Bool) (h end : History) (x : Option History)
-    → outcome limit call (first poor) h ≡ moved h r x → option_and_then (times n move) x ≡ Some end
-    → ((k : History) → times n move k ≡ Some end → Leads limit n call (rest poor) k end) → Leads limit (suc n) call poor h end
-one_moved limit n call r move poor h end None e t more = absurd (cc)
-one_moved limit n call r move poor h end (Some k) e t more =
+one_moved : (m : Memory) (limit n : ℕ) (call : Call) (r : Refusal) (move : History → Option History) (poor : List Bool) (h end : History) (x : Option History)
+    → outcome m limit call (first poor) h ≡ moved m h r x → option_and_then (times n move) x ≡ Some end
+    → ((k : History) → times n move k ≡ Some end → Leads m limit n call (rest poor) k end) → Leads m limit (suc n) call poor h end
+one_moved m limit n call r move poor h end None e t more = absurd (cc)
+one_moved m limit n call r move poor h end (Some k) e t more =
     let others = more k t in
-    let after : history_after limit (replicate n call) (rest poor) (outcome limit call (first poor) h).history ≡ end = rw e others.1 in
-    (rw e others.0, after)
+    let one : Outcome = outcome m limit call (first poor) h in
+    let memory : memory_after one.memory limit (replicate n call) (rest poor) one.history ≡ m = rw e others.memory in
+    let history : history_after one.memory limit (replicate n call) (rest poor) one.history ≡ end = rw e others.history in
+    record { accepted = rw e others.accepted; memory = memory; history = history }
 
-all_moved : (limit n : ℕ) (call : Call) (r : Refusal) (move : History → Option History) (poor : List Bool) (h end : History)
-    → ((b : Bool) (k : History) → outcome limit call b k ≡ moved k r (move k)) → times n move h ≡ Some end → Leads limit n call poor h end
-all_moved limit zero call r move poor h end is t = (refl, cc)
-all_moved limit (suc n) call r move poor h end is t =
-    one_moved limit n call r move poor h end (move h) (is (first poor) h) t (λ k u. all_moved limit n call r move (rest poor) k end is u)
+pub all_moved : (m : Memory) (limit n : ℕ) (call : Call) (r : Refusal) (move : History → Option History) (poor : List Bool) (h end : History)
+    → ((b : Bool) (k : History) → outcome m limit call b k ≡ moved m k r (move k)) → times n move h ≡ Some end → Leads m limit n call poor h end
+all_moved m limit zero call r move poor h end is t = record { accepted = refl; memory = refl; history = cc }
+all_moved m limit (suc n) call r move poor h end is t =
+    one_moved m limit n call r move poor h end (move h) (is (first poor) h) t (λ k u. all_moved m limit n call r move (rest poor) k end is u)
 
-back_and_on : (limit n : ℕ) (up rp : List Bool) (h end : History) → Reached n h end → GoesBackAndOn limit n up rp h (history_after limit (replicate n Undo) up end) end
+back_and_on : (limit n : ℕ) (up rp : List Bool) (h end : History) → Reached n h end
+    → let back = history_after never limit (replicate n Undo) up end in GoesBackAndOn never limit n up rp h back end × (position_of back ≡ position_of h)
 back_and_on limit n up rp h end (inl none) =
-    rw (none.0, none.1) (record { undone = refl; state = refl; position = refl; redone = refl; same = refl })
+    rw (none.0, none.1) (record { undone = refl; memory = refl; state = refl; redone = refl; same = refl }, refl)
 back_and_on limit n up rp h end (inr u) =
-    let undos = all_moved limit n Undo NothingToUndo undo up end (base h u.follow) (λ b k. refl) u.back in
-    let redos = all_moved limit n Redo NothingToRedo redo rp (base h u.follow) end (λ b k. refl) u.again in
-    record {
-      undone = undos.0;
-      state = ap (λ (k : History). k.present.state) undos.1;
-      position = ap position_of undos.1;
-      redone = rw undos.1 redos.0;
-      same = rw undos.1 redos.1;
-    }
+    let undos = all_moved never limit n Undo NothingToUndo undo up end (base h u.follow) (λ b k. refl) u.back in
+    let redos = all_moved never limit n Redo NothingToRedo redo rp (base h u.follow) end (λ b k. refl) u.again in (
+      record {
+        undone = undos.accepted;
+        memory = undos.memory;
+        state = ap (λ (k : History). k.present.state) undos.history;
+        redone = rw undos.history redos.accepted;
+        same = rw undos.history redos.history;
+      },
+      ap position_of undos.history,
+    )
 
 pub commands_are_undone : CommandsAreUndone
 commands_are_undone limit calls poor up rp h c =
-    back_and_on limit (accepted_count (replies_of limit calls poor h)) up rp h (history_after limit calls poor h) (script_reached limit calls poor h c)
+    back_and_on limit (accepted_count (replies_of never limit calls poor h)) up rp h (history_after never limit calls poor h) (script_reached limit calls poor h c)

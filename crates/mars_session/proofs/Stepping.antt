@@ -9,7 +9,8 @@ use Rattle.mars_core.specs.Record.{reverted, applied}
 use Rattle.mars_core.specs.declared.record.Atom.{Atom}
 use Rattle.mars_core.proofs.CallerLemmas.{record_reverted, record_applied}
 use Rattle.mars_session.specs.History.{Place, History, position_of, following, last_of, places, marked, cut, append, back, forward, rewound}
-use Rattle.mars_session.specs.Journals.{no_entry, entry_at, mark_at, journal_before, journal_after, journal_history, LeadHere, LeadOn, IsJournal, LeadsFrom, LeadsAt}
+use Rattle.mars_session.specs.Code.Journals.{no_entry, entry_at, mark_at, journal_before, journal_after, journal_history, LeadHere, LeadOn, IsJournal}
+use Rattle.mars_session.specs.Tapes.{LeadsFrom, LeadsAt}
 use Rattle.mars_session.proofs.Places.{places_rewound}
 
 before_length : (first : Bool) (es : List (Atom × Bool)) (n : ℕ) (s : State) → length (journal_before first es n s) ≡ n
@@ -99,7 +100,7 @@ marked_other first es i zero x n = refl
 marked_other first es i (suc k) x n = ap (λ (y : Atom × Bool). y.1) (get_or-set_other es i k x no_entry (λ e. n (ap suc e)))
 
 -- a history by its parts
-history_is : (s : State) (before before' : List Place) (mark mark' : Bool) (after after' : List Place) → before ≡ before' → mark ≡ mark' → after ≡ after'
+pub history_is : (s : State) (before before' : List Place) (mark mark' : Bool) (after after' : List Place) → before ≡ before' → mark ≡ mark' → after ≡ after'
     → ◌≡◌ {A = History} (record { before = before; present = record { state = s; mark = mark }; after = after }) (record { before = before'; present = record { state = s; mark = mark' }; after = after' })
 history_is s before before' mark mark' after after' b m a = rw (b, m, a) refl
 
@@ -244,3 +245,18 @@ journal_leads first es at s i d l =
     let same : places h ≡ places (journal_history first es 0 all.start) = sym (places_rewound h.before h.present h.after) ∙ ap places all.same in
     let e : 0 + i ≡ i = omega arith in
     rw same (rw e at (leads_after es 0 (length es - 0) all.start first i (omega (arith, l)) all.journal.on))
+
+-- a list that loses its first
+pub dropped_before : (first : Bool) (e : Atom × Bool) (es : List (Atom × Bool)) (n : ℕ) (s : State) → journal_before e.1 es n s ≡ take n (journal_before first (e ∷ es) (suc n) s)
+dropped_before first e es zero s = refl
+dropped_before first e es (suc zero) s = refl
+dropped_before first e es (suc (suc n)) s =
+    ap (λ (ps : List Place). record { state = reverted (entry_at es (suc n)).0 s; mark = (entry_at es n).1 } ∷ ps) (dropped_before first e es (suc n) (reverted (entry_at es (suc n)).0 s))
+
+pub dropped_mark : (first : Bool) (e : Atom × Bool) (es : List (Atom × Bool)) (n : ℕ) → mark_at e.1 es n ≡ mark_at first (e ∷ es) (suc n)
+dropped_mark first e es zero = refl
+dropped_mark first e es (suc n) = refl
+
+pub dropped_here : (e : Atom × Bool) (es : List (Atom × Bool)) (n : ℕ) (s : State) → LeadHere (e ∷ es) (suc n) s → LeadHere es n s
+dropped_here e es zero s d = tt
+dropped_here e es (suc n) s d = (d.0, dropped_here e es n (reverted (entry_at es n).0 s) d.1)

@@ -12,8 +12,11 @@ use Rattle.mars_core.specs.declared.battle.edit.EditFault.{EditFault}
 use Rattle.mars_core.specs.declared.battle.edit.EditFault.TheVariants as faults
 use Rattle.mars_core.specs.State.{State}
 use Rattle.mars_core.specs.Turn.{turn_of}
-use Rattle.mars_session.specs.Commands.{turns_until, fills}
-use Rattle.mars_session.specs.History.{History, append, append_all}
+use Rattle.std.specs.Prelude.{Result, Ok}
+use Rattle.std.proofs.lemmas.Bool.{le-ltb}
+use Rattle.mars_session.specs.Commands.{command_limit, turns_until, fills, cells_between, fill_states}
+use Rattle.mars_session.specs.History.{History, append, append_all, marked, cut, accepted}
+use Rattle.mars_session.specs.Code.Appending.{Kept, go_on, go_on_all}
 
 -- a turn is made where one is left and the state is not done
 pub turns_until_more : (done : State → Bool) (n : ℕ) (s : State) → 0 < n → done s ≡ false → turns_until done n s ≡ turn_of s ∷ turns_until done (n - 1) (turn_of s)
@@ -30,11 +33,11 @@ pub turns_until_done : (done : State → Bool) (n : ℕ) (s : State) → done s 
 turns_until_done done zero s h = refl
 turns_until_done done (suc n) s h = rw h refl
 
--- the places that the turns from h lead to, one turn later
-pub one_turned : (done : State → Bool) (n : ℕ) (h new end : History) → 0 < n → done h.present.state ≡ false
-    → append_all h (turns_until done n h.present.state) ≡ end → new ≡ append h (turn_of h.present.state)
-    → append_all new (turns_until done (n - 1) new.present.state) ≡ end
-one_turned done n h new end left runs so_far is = rw is (rw (turns_until_more done n h.present.state left runs) at so_far)
+-- the places that the turns from a tape lead to, one turn later
+pub one_turned : (done : State → Bool) (n : ℕ) (t new end : Kept) → 0 < n → done t.history.present.state ≡ false
+    → go_on_all t (turns_until done n t.history.present.state) ≡ end → new ≡ go_on t (turn_of t.history.present.state)
+    → go_on_all new (turns_until done (n - 1) new.history.present.state) ≡ end
+one_turned done n t new end left runs so_far is = rw is (rw (turns_until_more done n t.history.present.state left runs) at so_far)
 
 -- one cell more
 pub fills_more : (n address : ℕ) (cell : Cell) (s : State) → 0 < n
@@ -42,13 +45,13 @@ pub fills_more : (n address : ℕ) (cell : Cell) (s : State) → 0 < n
 fills_more zero address cell s h = absurd (omega arith)
 fills_more (suc n) address cell s h = rw sub-one refl
 
--- the places that the cells from h lead to, one cell later
-pub one_filled : (to address : ℕ) (cell : Cell) (h new end : History) → address < to
-    → append_all h (fills (to - address) (address + 1) cell h.present.state) ≡ end → new ≡ append h (edited h.present.state (edits.SetCell (address + 1) cell))
-    → append_all new (fills (to - (address + 1)) (address + 1 + 1) cell new.present.state) ≡ end
-one_filled to address cell h new end left so_far is =
+-- the places that the cells from a tape lead to, one cell later
+pub one_filled : (to address : ℕ) (cell : Cell) (t new end : Kept) → address < to
+    → go_on_all t (fills (to - address) (address + 1) cell t.history.present.state) ≡ end → new ≡ go_on t (edited t.history.present.state (edits.SetCell (address + 1) cell))
+    → go_on_all new (fills (to - (address + 1)) (address + 1 + 1) cell new.history.present.state) ≡ end
+one_filled to address cell t new end left so_far is =
     let less : (to - address) - 1 ≡ to - (address + 1) = omega arith in
-    rw is (rw (fills_more (to - address) (address + 1) cell h.present.state (omega arith), less) at so_far)
+    rw is (rw (fills_more (to - address) (address + 1) cell t.history.present.state (omega arith), less) at so_far)
 
 -- whether a cell can be set doesn't change by setting others
 pub fault_kept : (s : State) (e : Edit) (address : ℕ) (cell : Cell) → edit_fault (edited s e) (edits.SetCell address cell) ≡ edit_fault s (edits.SetCell address cell)
@@ -64,3 +67,11 @@ inside-below a b size fits l h = grind (common_steps, arith)
 pub fault_below : (s : State) (a b : ℕ) (cell : Cell) → a ≤ b → edit_fault s (edits.SetCell b cell) ≡ None → edit_fault s (edits.SetCell a cell) ≡ None
 unfolding edit_fault
 fault_below s a b cell l h = inside-below a b s.params.core_size (cell_fault s.params.core_size cell) l h
+
+-- the cells from one address to another, where they can be set
+pub filled : (from to : ℕ) (cell : Cell) (s : State) → from ≤ to → to - from < command_limit → edit_fault s (edits.SetCell to cell) ≡ None
+    → let one = edited s (edits.SetCell from cell) in fill_states from to cell s ≡ Ok (one, fills (to - from) (from + 1) cell one)
+filled from to cell s l few none =
+    let some : nat_lt command_limit (cells_between from to) ≡ false = le-ltb command_limit (cells_between from to) (omega (arith, l, few)) in
+    let up : nat_lt to from ≡ false = le-ltb to from l in
+    rw (some, up, none) refl

@@ -12,7 +12,7 @@ use Rattle.mars_session.proofs.Walking.{rewound_first}
 use Rattle.mars_session.proofs.Places.{places_rewound}
 use Rattle.mars_session.proofs.Between.{AllFollow-rewound}
 
-follows_valid : TurnsStayValid → EditsStayValid → (s t : State) → Follows s t → IsValid s → IsValid t
+pub follows_valid : TurnsStayValid → EditsStayValid → (s t : State) → Follows s t → IsValid s → IsValid t
 follows_valid turns edits s t (inl h) v = rw h.1 (turns s v h.0)
 follows_valid turns edits s t (inr h) v = rw h.2 (edits s h.0 v h.1)
 

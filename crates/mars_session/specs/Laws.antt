@@ -1,16 +1,19 @@
 -- Laws over the definitions alone: what undo and redo give back, and what holds along a tape.
-use Rattle.std.specs.Prelude.{All, ◌≡◌, ◌≤◌, ◌<◌, ◌+◌, ◌↔◌, ◌⊎◌, ◌==◌, ◌++◌, ℕ, zero, suc, Bool, true, false, List, [], ◌∷◌, length, take, replicate, Option, None, Some, Result, Ok, is_ok, IsTrue, IsOk, IsErr, IsSome, IsSomeAnd, option_and_then, option_map}
+use Rattle.std.specs.Prelude.{All, ◌≡◌, ◌≢◌, ◌≤◌, ◌<◌, ◌+◌, ◌↔◌, ◌⊎◌, ◌==◌, ◌++◌, ℕ, zero, suc, Bool, true, false, List, [], ◌∷◌, length, take, replicate, Option, None, Some, Result, Ok, Err, is_ok, IsTrue, IsOk, IsErr, IsSome, IsSomeAnd, option_and_then, option_map}
 use Rattle.std.specs.List.{filter, list_all}
 use Rattle.mars_core.specs.State.{State}
 use Rattle.mars_core.specs.Validity.{IsValid}
+use Rattle.mars_core.specs.declared.battle.edit.Edit.TheVariants as edits
 use Rattle.mars_session.specs.declared.calls.Call.{Call}
 use Rattle.mars_session.specs.declared.calls.Call.TheVariants.{Step, Run, Until, SetCell, Fill, MoveProcess, Kill, Spawn, Undo, Redo, Goto}
 use Rattle.mars_session.specs.declared.calls.Standing.{Standing}
 use Rattle.mars_session.specs.declared.calls.Refusal.{Refusal}
+use Rattle.mars_session.specs.declared.calls.Refusal.TheVariants.{JournalFull, OutOfMemory}
 use Rattle.mars_session.specs.History.{Place, History, beginning, places, position_of, last_of, accepted, undo, redo, goto, first_turns, last_turns}
-use Rattle.mars_session.specs.Commands.{States, in_cycle, until_states}
-use Rattle.mars_session.specs.Tapes.{IsTape}
-use Rattle.mars_session.specs.Script.{outcome, replies_of, history_after, first, rest}
+use Rattle.mars_session.specs.Memory.{Memory, never}
+use Rattle.mars_session.specs.Commands.{States, step_states, run_states, in_cycle, until_states, edit_states, fill_states}
+use Rattle.mars_session.specs.Tapes.{Steps, IsTape, IsTapeOf}
+use Rattle.mars_session.specs.Script.{outcome, replies_of, history_after, memory_after, first, rest}
 
 -- a move so many times, where each time it is accepted
 abbrev pub times : ℕ → (History → Option History) → History → Option History
@@ -35,68 +38,117 @@ is_command (Goto t) = false
 abbrev pub AllAccepted : ℕ → List Call → List Bool → History → Type 0
 AllAccepted limit [] poor h = Unit {0}
 AllAccepted limit (call ∷ calls) poor h =
-    IsTrue (is_command call) × IsOk (outcome limit call (first poor) h).reply
-    × AllAccepted limit calls (rest poor) (outcome limit call (first poor) h).history
+    IsTrue (is_command call) × IsOk (outcome never limit call (first poor) h).reply
+    × AllAccepted limit calls (rest poor) (outcome never limit call (first poor) h).history
 
 -- as many undos as there were accepted commands are accepted, and give back the state and the position
 abbrev pub UndosGiveBack : Type 0
 UndosGiveBack = (limit : ℕ) (calls : List Call) (poor : List Bool) (h : History) → AllAccepted limit calls poor h
-    → IsSomeAnd (times (length calls) undo (history_after limit calls poor h))
+    → IsSomeAnd (times (length calls) undo (history_after never limit calls poor h))
     (λ back. (back.present.state ≡ h.present.state) × (position_of back ≡ position_of h))
 
 -- as many redos after them are accepted, and give the very history from after the commands
 abbrev pub RedosGiveAgain : Type 0
 RedosGiveAgain = (limit : ℕ) (calls : List Call) (poor : List Bool) (h back : History) → AllAccepted limit calls poor h
-    → times (length calls) undo (history_after limit calls poor h) ≡ Some back
-    → times (length calls) redo back ≡ Some (history_after limit calls poor h)
+    → times (length calls) undo (history_after never limit calls poor h) ≡ Some back
+    → times (length calls) redo back ≡ Some (history_after never limit calls poor h)
 
 -- a refused call, want of memory included, changes nothing
 abbrev pub RefusalsChangeNothing : Type 0
-RefusalsChangeNothing = (limit : ℕ) (call : Call) (poor : Bool) (h : History) → IsErr (outcome limit call poor h).reply → (outcome limit call poor h).history ≡ h
+RefusalsChangeNothing = (m : Memory) (limit : ℕ) (call : Call) (poor : Bool) (h : History) → IsErr (outcome m limit call poor h).reply
+    → ((outcome m limit call poor h).history ≡ h) × ((outcome m limit call poor h).memory ≡ m)
+
+-- where places are forgotten, no call is refused for want of room or of memory
+abbrev pub NeverFull : Type 0
+NeverFull = (k : ℕ) (forgotten : Bool) (limit : ℕ) (call : Call) (poor : Bool) (h : History)
+    → let reply = (outcome (record { most = Some k; forgotten = forgotten }) limit call poor h).reply in
+    ((room : ℕ) → reply ≢ Err (JournalFull room)) × (reply ≢ Err OutOfMemory)
 
 -- how many of the calls were accepted
 abbrev pub accepted_count : List (Result Standing Refusal) → ℕ
 accepted_count replies = length (filter is_ok replies)
 
--- so many calls of Undo, made at end, are all accepted, and lead back to the state and the position of h; as many calls of Redo are then all accepted, and lead to the very end
-pub record GoesBackAndOn (limit count : ℕ) (undo_poor redo_poor : List Bool) (h back end : History) : Type 0 where
-  pub undone : IsTrue (list_all is_ok (replies_of limit (replicate count Undo) undo_poor end))
+-- so many calls of Undo, made at end, are all accepted, and lead back to the state of h; as many calls of Redo are then all accepted, and lead to the very end
+pub record GoesBackAndOn (m : Memory) (limit count : ℕ) (undo_poor redo_poor : List Bool) (h back end : History) : Type 0 where
+  pub undone : IsTrue (list_all is_ok (replies_of m limit (replicate count Undo) undo_poor end))
+  pub memory : memory_after m limit (replicate count Undo) undo_poor end ≡ m
   pub state : back.present.state ≡ h.present.state
-  pub position : position_of back ≡ position_of h
-  pub redone : IsTrue (list_all is_ok (replies_of limit (replicate count Redo) redo_poor back))
-  pub same : history_after limit (replicate count Redo) redo_poor back ≡ end
+  pub redone : IsTrue (list_all is_ok (replies_of m limit (replicate count Redo) redo_poor back))
+  pub same : history_after m limit (replicate count Redo) redo_poor back ≡ end
 
--- after any list of commands, refused ones among them, it is so with as many calls as commands were accepted
+-- after any list of commands, refused ones among them, it is so with as many calls as commands were accepted, and the position comes back too
 abbrev pub CommandsAreUndone : Type 0
 CommandsAreUndone = (limit : ℕ) (calls : List Call) (poor undo_poor redo_poor : List Bool) (h : History) → IsTrue (list_all is_command calls)
-    → let count = accepted_count (replies_of limit calls poor h) in
-    let end = history_after limit calls poor h in
-    let back = history_after limit (replicate count Undo) undo_poor end in
-    GoesBackAndOn limit count undo_poor redo_poor h back end
+    → let count = accepted_count (replies_of never limit calls poor h) in
+    let end = history_after never limit calls poor h in
+    let back = history_after never limit (replicate count Undo) undo_poor end in
+    GoesBackAndOn never limit count undo_poor redo_poor h back end × (position_of back ≡ position_of h)
+
+-- how many states a command reaches
+abbrev pub count_of : Result States Refusal → ℕ
+count_of (Err r) = 0
+count_of (Ok states) = suc (length states.1)
+
+-- how many places a call appends, where there is room
+abbrev pub appended_by : Call → State → ℕ
+appended_by Step s = count_of (step_states s)
+appended_by (Run n) s = count_of (run_states n s)
+appended_by (Until c) s = count_of (until_states c s)
+appended_by (SetCell address cell) s = count_of (edit_states (edits.SetCell address cell) s)
+appended_by (Fill from to cell) s = count_of (fill_states from to cell s)
+appended_by (MoveProcess w i address) s = count_of (edit_states (edits.MoveProcess w i address) s)
+appended_by (Kill w i) s = count_of (edit_states (edits.KillProcess w i) s)
+appended_by (Spawn w address) s = count_of (edit_states (edits.Spawn w address) s)
+appended_by Undo s = 0
+appended_by Redo s = 0
+appended_by (Goto t) s = 0
+
+-- how many places calls append together
+abbrev pub appended_together : Memory → ℕ → List Call → List Bool → History → ℕ
+appended_together m limit [] poor h = 0
+appended_together m limit (call ∷ calls) poor h =
+    let one = outcome m limit call (first poor) h in
+    appended_by call h.present.state + appended_together one.memory limit calls (rest poor) one.history
+
+-- where k places are kept, it is so for commands that append at most k places together; the position may be another one
+abbrev pub FewCommandsAreUndone : Type 0
+FewCommandsAreUndone = (k : ℕ) (forgotten : Bool) (limit : ℕ) (calls : List Call) (poor undo_poor redo_poor : List Bool) (h : History) → IsTrue (list_all is_command calls)
+    → let m : Memory = record { most = Some k; forgotten = forgotten } in
+    appended_together m limit calls poor h ≤ k
+    → let count = accepted_count (replies_of m limit calls poor h) in
+    let end = history_after m limit calls poor h in
+    let after = memory_after m limit calls poor h in
+    let back = history_after after limit (replicate count Undo) undo_poor end in
+    GoesBackAndOn after limit count undo_poor redo_poor h back end
 
 -- from a marked place, redo after an accepted undo gives back the history
 abbrev pub RedoAfterUndo : Type 0
 RedoAfterUndo = (h back : History) → h.present.mark ≡ true → undo h ≡ Some back → redo back ≡ Some h
 
--- a battle's first place makes a tape
+-- a battle's first place makes a tape, however few are kept
 abbrev pub BeginningIsTape : Type 0
-BeginningIsTape = (s : State) → IsValid s → IsTape (beginning s)
+BeginningIsTape = (s : State) → IsValid s → IsTape (beginning s) × ((k : ℕ) → IsTapeOf k (beginning s))
 
 -- every call, accepted or refused, keeps a tape
 abbrev pub CallsKeepTapes : Type 0
-CallsKeepTapes = (limit : ℕ) (call : Call) (poor : Bool) (h : History) → IsTape h → IsTape (outcome limit call poor h).history
+CallsKeepTapes = (limit : ℕ) (call : Call) (poor : Bool) (h : History) → IsTape h → IsTape (outcome never limit call poor h).history
 
 -- so does every list of calls
 abbrev pub ScriptsKeepTapes : Type 0
-ScriptsKeepTapes = (limit : ℕ) (calls : List Call) (poor : List Bool) (h : History) → IsTape h → IsTape (history_after limit calls poor h)
+ScriptsKeepTapes = (limit : ℕ) (calls : List Call) (poor : List Bool) (h : History) → IsTape h → IsTape (history_after never limit calls poor h)
 
 -- every call keeps a tape within the limit
 abbrev pub CallsKeepLimit : Type 0
-CallsKeepLimit = (limit : ℕ) (call : Call) (poor : Bool) (h : History) → IsTape h → last_of h ≤ limit → last_of (outcome limit call poor h).history ≤ limit
+CallsKeepLimit = (limit : ℕ) (call : Call) (poor : Bool) (h : History) → IsTape h → last_of h ≤ limit → last_of (outcome never limit call poor h).history ≤ limit
+
+-- where k places are kept, every call keeps such a tape
+abbrev pub CallsForgetTapes : Type 0
+CallsForgetTapes = (k : ℕ) (forgotten : Bool) (limit : ℕ) (call : Call) (poor : Bool) (h : History)
+    → IsTapeOf k h → IsTapeOf k (outcome (record { most = Some k; forgotten = forgotten }) limit call poor h).history
 
 -- each place of a tape is valid
 abbrev pub PlacesAreValid : Type 0
-PlacesAreValid = (h : History) → IsTape h → All (λ (p : Place). IsValid p.state) (places h)
+PlacesAreValid = (h : History) → Steps h → All (λ (p : Place). IsValid p.state) (places h)
 
 -- a number never falls from a state along the places, and rises by at most one a place
 abbrev pub RisesFrom : (State → ℕ) → State → List Place → Type 0
@@ -109,11 +161,11 @@ RisesAlong number (p ∷ ps) = RisesFrom number p.state ps
 
 -- turns and cycles never fall along a tape, and rise by at most one a place
 abbrev pub TurnsAndCyclesRise : Type 0
-TurnsAndCyclesRise = (h : History) → IsTape h → RisesAlong (λ (s : State). s.turns) (places h) × RisesAlong (λ (s : State). s.cycle) (places h)
+TurnsAndCyclesRise = (h : History) → Steps h → RisesAlong (λ (s : State). s.turns) (places h) × RisesAlong (λ (s : State). s.cycle) (places h)
 
 -- a tape has a place after so many turns just where they lie between those of its first and its last place
 abbrev pub GotoBetween : Type 0
-GotoBetween = (h : History) (t : ℕ) → IsTape h → IsSome (goto t h) ↔ ((first_turns h ≤ t) × (t ≤ last_turns h))
+GotoBetween = (h : History) (t : ℕ) → Steps h → IsSome (goto t h) ↔ ((first_turns h ≤ t) × (t ≤ last_turns h))
 
 -- whether there is a place of this number, and it passes the test
 abbrev pub passes_at : (Place → Bool) → List Place → ℕ → Bool

@@ -1,7 +1,9 @@
-pub mod Commands
+-- What a reader of the contracts has to believe, in this order; Laws follow from it, and Examples has worked examples of it.
 pub mod History
-pub mod Journals
-pub mod Laws
+pub mod Memory
+pub mod Commands
 pub mod Script
 pub mod Tapes
-pub mod Whole
+pub mod Examples
+pub mod Laws
+pub mod Code

@@ -1,23 +1,26 @@
 -- What calls make of a history, and the replies to them.
-use Rattle.std.specs.Prelude.{◌≡◌, ℕ, Bool, true, false, ◌+◌, ◌-◌, ◌&&◌, nat_lt, List, [], ◌∷◌, map, Option, Some, None, Result, Ok, Err, if◌then◌else◌}
+use Rattle.std.specs.Prelude.{◌≡◌, ℕ, Bool, true, false, ◌+◌, ◌-◌, ◌&&◌, nat_lt, List, [], ◌∷◌, map, Option, Some, None, is_some, Result, Ok, Err, if◌then◌else◌}
 use Rattle.mars_core.specs.State.{survivors_of}
 use Rattle.mars_core.specs.declared.battle.edit.Edit.TheVariants as edits
 use Rattle.mars_session.specs.declared.calls.Call.{Call}
 use Rattle.mars_session.specs.declared.calls.Call.TheVariants.{Step, Run, Until, SetCell, Fill, MoveProcess, Kill, Spawn, Undo, Redo, Goto}
 use Rattle.mars_session.specs.declared.calls.Standing.{Standing}
 use Rattle.mars_session.specs.declared.calls.Refusal.{Refusal}
-use Rattle.mars_session.specs.declared.calls.Refusal.TheVariants.{Count, Address, FieldOutside, NoSuchWarrior, NoSuchProcess, WarriorDead, QueueFull, Over, CyclePassed, NothingToUndo, NothingToRedo, NotInHistory, JournalFull, OutOfMemory}
+use Rattle.mars_session.specs.declared.calls.Refusal.TheVariants.{Count, Address, FieldOutside, NoSuchWarrior, NoSuchProcess, WarriorDead, QueueFull, Over, CyclePassed, NothingToUndo, NothingToRedo, NotInHistory, JournalFull, OutOfMemory, Forgotten}
 use Rattle.mars_session.specs.History.{History, position_of, last_of, following, accepted, undo, redo, goto, first_turns, last_turns}
+use Rattle.mars_session.specs.Memory.{Memory, kept, noted}
 use Rattle.mars_session.specs.Commands.{States, step_states, run_states, until_bound, until_states, edit_states, cells_between, fill_states}
 
--- a session: its history, and the most places after the first one
+-- a session: its history, the most places after the first one where none is forgotten, and what it keeps
 pub record SessionState : Type 0 where
   pub history : History
   pub limit : ℕ
+  pub memory : Memory
 
--- the history after a call, and the reply
+-- the history after a call, what is kept of it, and the reply
 pub record Outcome : Type 0 where
   pub history : History
+  pub memory : Memory
   pub reply : Result Standing Refusal
 
 -- where a history stands
@@ -32,48 +35,58 @@ standing_of h = record {
 }
 
 -- a refusal leaves the history
-abbrev pub refused : History → Refusal → Outcome
-refused h r = record { history = h; reply = Err r }
+abbrev pub refused : Memory → History → Refusal → Outcome
+refused m h r = record { history = h; memory = m; reply = Err r }
 
--- an accepted call tells where the history stands then
-abbrev pub done : History → Outcome
-done h = record { history = h; reply = Ok (standing_of h) }
+-- an accepted move tells where the history stands then
+abbrev pub done : Memory → History → Outcome
+done m h = record { history = h; memory = m; reply = Ok (standing_of h) }
+
+-- an accepted command too, once the oldest places that are too many are forgotten
+abbrev pub remembered : Memory → History → Outcome
+remembered m h = done (noted m h) (kept m.most h)
 
 -- a move leads to a place, or is refused
-abbrev pub moved : History → Refusal → Option History → Outcome
-moved h r None = refused h r
-moved h r (Some to) = done to
+abbrev pub moved : Memory → History → Refusal → Option History → Outcome
+moved m h r None = refused m h r
+moved m h r (Some to) = done m to
 
--- why there is no room for so many places; want of memory is answered only where more are wanted than follow
-abbrev pub no_room : ℕ → ℕ → Bool → History → Option Refusal
-no_room limit bound poor h =
-    if nat_lt limit (position_of h + bound) then Some (JournalFull (limit - position_of h))
+-- why there is no marked place before
+abbrev pub no_undo : Memory → Refusal
+no_undo m = if m.forgotten then Forgotten else NothingToUndo
+
+-- why there is no room for so many places; want of memory is answered only where more are wanted than follow. There is
+-- always room where places are forgotten
+abbrev pub no_room : Memory → ℕ → ℕ → Bool → History → Option Refusal
+no_room m limit bound poor h =
+    if is_some m.most then None
+    else if nat_lt limit (position_of h + bound) then Some (JournalFull (limit - position_of h))
     else if poor && nat_lt (following h) bound then Some OutOfMemory
     else None
 
 -- a command that has room, or has none
-abbrev pub appended : History → States → Option Refusal → Outcome
-appended h states (Some r) = refused h r
-appended h states None = done (accepted h states.0 states.1)
+abbrev pub appended : Memory → History → States → Option Refusal → Outcome
+appended m h states (Some r) = refused m h r
+appended m h states None = remembered m (accepted h states.0 states.1)
 
 -- a command that is refused, or reaches states, at most as many as the bound
-abbrev pub commanded : ℕ → ℕ → Bool → History → Result States Refusal → Outcome
-commanded limit bound poor h (Err r) = refused h r
-commanded limit bound poor h (Ok states) = appended h states (no_room limit bound poor h)
+abbrev pub commanded : Memory → ℕ → ℕ → Bool → History → Result States Refusal → Outcome
+commanded m limit bound poor h (Err r) = refused m h r
+commanded m limit bound poor h (Ok states) = appended m h states (no_room m limit bound poor h)
 
 -- one call; poor says whether memory was wanting
-abbrev pub outcome : ℕ → Call → Bool → History → Outcome
-outcome limit Step poor h = commanded limit 1 poor h (step_states h.present.state)
-outcome limit (Run n) poor h = commanded limit n poor h (run_states n h.present.state)
-outcome limit (Until c) poor h = commanded limit (until_bound c h.present.state) poor h (until_states c h.present.state)
-outcome limit (SetCell address cell) poor h = commanded limit 1 poor h (edit_states (edits.SetCell address cell) h.present.state)
-outcome limit (Fill from to cell) poor h = commanded limit (cells_between from to) poor h (fill_states from to cell h.present.state)
-outcome limit (MoveProcess w i address) poor h = commanded limit 1 poor h (edit_states (edits.MoveProcess w i address) h.present.state)
-outcome limit (Kill w i) poor h = commanded limit 1 poor h (edit_states (edits.KillProcess w i) h.present.state)
-outcome limit (Spawn w address) poor h = commanded limit 1 poor h (edit_states (edits.Spawn w address) h.present.state)
-outcome limit Undo poor h = moved h NothingToUndo (undo h)
-outcome limit Redo poor h = moved h NothingToRedo (redo h)
-outcome limit (Goto t) poor h = moved h (NotInHistory (first_turns h) (last_turns h)) (goto t h)
+abbrev pub outcome : Memory → ℕ → Call → Bool → History → Outcome
+outcome m limit Step poor h = commanded m limit 1 poor h (step_states h.present.state)
+outcome m limit (Run n) poor h = commanded m limit n poor h (run_states n h.present.state)
+outcome m limit (Until c) poor h = commanded m limit (until_bound c h.present.state) poor h (until_states c h.present.state)
+outcome m limit (SetCell address cell) poor h = commanded m limit 1 poor h (edit_states (edits.SetCell address cell) h.present.state)
+outcome m limit (Fill from to cell) poor h = commanded m limit (cells_between from to) poor h (fill_states from to cell h.present.state)
+outcome m limit (MoveProcess w i address) poor h = commanded m limit 1 poor h (edit_states (edits.MoveProcess w i address) h.present.state)
+outcome m limit (Kill w i) poor h = commanded m limit 1 poor h (edit_states (edits.KillProcess w i) h.present.state)
+outcome m limit (Spawn w address) poor h = commanded m limit 1 poor h (edit_states (edits.Spawn w address) h.present.state)
+outcome m limit Undo poor h = moved m h (no_undo m) (undo h)
+outcome m limit Redo poor h = moved m h NothingToRedo (redo h)
+outcome m limit (Goto t) poor h = moved m h (NotInHistory (first_turns h) (last_turns h)) (goto t h)
 
 -- want of memory
 abbrev pub is_memory : Refusal → Bool
@@ -91,15 +104,16 @@ is_memory NothingToRedo = false
 is_memory (NotInHistory first last) = false
 is_memory (JournalFull room) = false
 is_memory OutOfMemory = true
+is_memory Forgotten = false
 
 -- a reply says that memory was wanting
 abbrev pub is_poor : Result Standing Refusal → Bool
 is_poor (Ok standing) = false
 is_poor (Err r) = is_memory r
 
--- the reply to a call, and the history that it leaves, are those of the definition
-abbrev pub IsAnswer : ℕ → Call → History → Result Standing Refusal → History → Type 0
-IsAnswer limit call old reply new = outcome limit call (is_poor reply) old ≡ record { history = new; reply = reply }
+-- the reply to a call, the history that it leaves, and what is kept of it, are those of the definition
+abbrev pub IsAnswer : Memory → ℕ → Call → History → Result Standing Refusal → History → Memory → Type 0
+IsAnswer m limit call old reply new after = outcome m limit call (is_poor reply) old ≡ record { history = new; memory = after; reply = reply }
 
 -- the first of a list of truth values, false where there is none, and the rest
 abbrev pub first : List Bool → Bool
@@ -111,22 +125,33 @@ rest [] = []
 rest (b ∷ bs) = bs
 
 -- the replies to calls, one after another; poor says at which of them memory was wanting
-abbrev pub replies_of : ℕ → List Call → List Bool → History → List (Result Standing Refusal)
-replies_of limit [] poor h = []
-replies_of limit (call ∷ calls) poor h =
-    (outcome limit call (first poor) h).reply ∷ replies_of limit calls (rest poor) (outcome limit call (first poor) h).history
+abbrev pub replies_of : Memory → ℕ → List Call → List Bool → History → List (Result Standing Refusal)
+replies_of m limit [] poor h = []
+replies_of m limit (call ∷ calls) poor h =
+    let one = outcome m limit call (first poor) h in one.reply ∷ replies_of one.memory limit calls (rest poor) one.history
 
 -- the history after them
-abbrev pub history_after : ℕ → List Call → List Bool → History → History
-history_after limit [] poor h = h
-history_after limit (call ∷ calls) poor h =
-    history_after limit calls (rest poor) (outcome limit call (first poor) h).history
+abbrev pub history_after : Memory → ℕ → List Call → List Bool → History → History
+history_after m limit [] poor h = h
+history_after m limit (call ∷ calls) poor h =
+    let one = outcome m limit call (first poor) h in history_after one.memory limit calls (rest poor) one.history
 
--- the replies to calls and the history that they leave are those of the definition, where memory was wanting at just those calls whose reply says so
-abbrev pub IsScript : ℕ → List Call → History → List (Result Standing Refusal) → History → Type 0
-IsScript limit calls old replies new =
-    (replies_of limit calls (map is_poor replies) old ≡ replies) × (history_after limit calls (map is_poor replies) old ≡ new)
+-- what is kept after them
+abbrev pub memory_after : Memory → ℕ → List Call → List Bool → History → Memory
+memory_after m limit [] poor h = m
+memory_after m limit (call ∷ calls) poor h =
+    let one = outcome m limit call (first poor) h in memory_after one.memory limit calls (rest poor) one.history
+
+-- the replies to calls, and what they leave, are those of the definition, where memory was wanting at just those calls whose reply says so
+pub record IsScript (m : Memory) (limit : ℕ) (calls : List Call) (old : History) (replies : List (Result Standing Refusal)) (new : History) (after : Memory) : Type 0 where
+  pub replies_are : replies_of m limit calls (map is_poor replies) old ≡ replies
+  pub history_is : history_after m limit calls (map is_poor replies) old ≡ new
+  pub memory_is : memory_after m limit calls (map is_poor replies) old ≡ after
 
 -- a call of a session
 abbrev pub Answers : SessionState → Call → Result Standing Refusal → SessionState → Type 0
-Answers old call reply new = IsAnswer old.limit call old.history reply new.history × (new.limit ≡ old.limit)
+Answers old call reply new = IsAnswer old.memory old.limit call old.history reply new.history new.memory × (new.limit ≡ old.limit)
+
+-- calls of a session, one after another
+abbrev pub ScriptAnswers : SessionState → List Call → List (Result Standing Refusal) → SessionState → Type 0
+ScriptAnswers old calls replies new = IsScript old.memory old.limit calls old.history replies new.history new.memory × (new.limit ≡ old.limit)

@@ -77,7 +77,7 @@ pub enum Refusal {
     /// The cycle has begun already: this is the present one.
     #[error("9 CyclePassed {0}")]
     CyclePassed(u64),
-    /// No marked place lies before.
+    /// No marked place lies before, and none was ever forgotten.
     #[error("10 NothingToUndo")]
     NothingToUndo,
     /// No marked place lies after.
@@ -92,6 +92,9 @@ pub enum Refusal {
     /// Memory for the command's places was refused.
     #[error("14 OutOfMemory")]
     OutOfMemory,
+    /// No marked place lies before, since the oldest ones were forgotten.
+    #[error("15 Forgotten")]
+    Forgotten,
 }
 
 /// The answer to a call.

@@ -5,6 +5,8 @@ ghost use Rattle.mars_session.specs.Commands.{command_limit, turns_until, stops_
 ghost use Rattle.mars_core.specs.State.{is_over_of};
 ghost use Rattle.mars_core.specs.Turn.{turn_of};
 ghost use Rattle.mars_core.specs.Edit.{edit_fault};
+ghost use Rattle.mars_session.specs.Memory.{Memory, kept};
+ghost use Rattle.mars_session.specs.Code.Appending.{go_on_all};
 ghost use Rattle.mars_session.specs.Script.{standing_of, no_room, is_memory, is_poor, commanded, IsAnswer};
 
 use crate::calls::{Call, Refusal, Standing};
@@ -34,16 +36,19 @@ pub fn standing<T: Tape>(tape: &T) -> Standing
 /// where the room is below the bound.
 fn prepare<T: Tape>(tape: &mut T, limit: u64, bound: u64) -> Result<(), Refusal>
     requires { 1 ≤ bound }
-    ensures room { OnOk result (no_room limit bound false (T.history tape.old) ≡ None) }
-    ensures refused { IfErr result (λ r. no_room limit bound (is_memory r) (T.history tape.old) ≡ Some r) }
+    ensures room { OnOk result (no_room (T.memory tape.old) limit bound false (T.history tape.old) ≡ None) }
+    ensures refused { IfErr result (λ r. no_room (T.memory tape.old) limit bound (is_memory r) (T.history tape.old) ≡ Some r) }
     ensures memory { result ≡ Err Refusal.OutOfMemory → T.room tape.old < bound }
     ensures ok { OnOk result (T.history tape.new ≡ cut (marked (T.history tape.old))) }
     ensures reserved { OnOk result (bound ≤ T.room tape.new) }
+    ensures kept { T.memory tape.new ≡ T.memory tape.old }
     ensures err { OnErr result (T.history tape.new ≡ T.history tape.old) }
 {
-    let left = limit.saturating_sub(tape.position());
-    if bound > left {
-        return Err(Refusal::JournalFull(left));
+    if !T::FORGETS {
+        let left = limit.saturating_sub(tape.position());
+        if bound > left {
+            return Err(Refusal::JournalFull(left));
+        }
     }
     match tape.reserve(bound) {
         Ok(()) => {
@@ -69,7 +74,7 @@ fn stops(battle: &Battle, cycle: Option<u64>) -> bool
 fn turn_until<T: Tape>(tape: &mut T, n: u64, cycle: Option<u64>)
     requires last { (T.history tape.old).after ≡ [] }
     requires room { n ≤ T.room tape.old }
-    ensures { T.history tape.new ≡ append_all (T.history tape.old) (turns_until (stops_at cycle) n (T.history tape.old).present.state) }
+    ensures { record { history = T.history tape.new; memory = T.memory tape.new } ≡ go_on_all (record { history = T.history tape.old; memory = T.memory tape.old }) (turns_until (stops_at cycle) n (T.history tape.old).present.state) }
 {
     let mut left = n;
     while left > 0 && !stops(tape.now(), cycle) {
@@ -87,7 +92,7 @@ fn make_turns<T: Tape>(
 ) -> Result<Standing, Refusal>
     requires some { 1 ≤ count }
     requires runs { is_over_of (T.history tape.old).present.state ≡ false }
-    ensures answer { let next = turn_of (T.history tape.old).present.state in commanded limit count (is_poor result) (T.history tape.old) (Ok (next, turns_until (stops_at cycle) (count - 1) next)) ≡ record { history = T.history tape.new; reply = result } }
+    ensures answer { let next = turn_of (T.history tape.old).present.state in commanded (T.memory tape.old) limit count (is_poor result) (T.history tape.old) (Ok (next, turns_until (stops_at cycle) (count - 1) next)) ≡ record { history = T.history tape.new; memory = T.memory tape.new; reply = result } }
     ensures memory { result ≡ Err Refusal.OutOfMemory → T.room tape.old < count }
 {
     prepare(tape, limit, count)?;
@@ -99,7 +104,7 @@ fn make_turns<T: Tape>(
 
 /// One turn.
 pub fn step<T: Tape>(tape: &mut T, limit: u64) -> Result<Standing, Refusal>
-    ensures answer { IsAnswer limit Call.Step (T.history tape.old) result (T.history tape.new) }
+    ensures answer { IsAnswer (T.memory tape.old) limit Call.Step (T.history tape.old) result (T.history tape.new) (T.memory tape.new) }
     ensures memory { result ≡ Err Refusal.OutOfMemory → T.room tape.old < 1 }
 {
     if tape.now().is_over() {
@@ -110,7 +115,7 @@ pub fn step<T: Tape>(tape: &mut T, limit: u64) -> Result<Standing, Refusal>
 
 /// So many turns, or as many as there are.
 pub fn run<T: Tape>(tape: &mut T, limit: u64, n: u64) -> Result<Standing, Refusal>
-    ensures answer { IsAnswer limit (Call.Run n) (T.history tape.old) result (T.history tape.new) }
+    ensures answer { IsAnswer (T.memory tape.old) limit (Call.Run n) (T.history tape.old) result (T.history tape.new) (T.memory tape.new) }
     ensures memory { result ≡ Err Refusal.OutOfMemory → T.room tape.old < n }
 {
     if n == 0 || n > COMMAND_LIMIT {
@@ -131,7 +136,7 @@ fn few_turns(cycles: u64, warriors: u64) -> Option<u64>
 
 /// Turns up to a cycle, or as many as there are.
 pub fn until<T: Tape>(tape: &mut T, limit: u64, cycle: u64) -> Result<Standing, Refusal>
-    ensures answer { IsAnswer limit (Call.Until cycle) (T.history tape.old) result (T.history tape.new) }
+    ensures answer { IsAnswer (T.memory tape.old) limit (Call.Until cycle) (T.history tape.old) result (T.history tape.new) (T.memory tape.new) }
     ensures memory { result ≡ Err Refusal.OutOfMemory → T.room tape.old < until_bound cycle (T.history tape.old).present.state }
 {
     let now = tape.now();
@@ -164,7 +169,7 @@ fn refusal(fault: EditFault) -> Refusal
 
 /// One edit.
 pub fn edit<T: Tape>(tape: &mut T, limit: u64, edit: Edit) -> Result<Standing, Refusal>
-    ensures answer { commanded limit 1 (is_poor result) (T.history tape.old) (edit_states edit (T.history tape.old).present.state) ≡ record { history = T.history tape.new; reply = result } }
+    ensures answer { commanded (T.memory tape.old) limit 1 (is_poor result) (T.history tape.old) (edit_states edit (T.history tape.old).present.state) ≡ record { history = T.history tape.new; memory = T.memory tape.new; reply = result } }
     ensures memory { result ≡ Err Refusal.OutOfMemory → T.room tape.old < 1 }
 {
     if let Some(fault) = tape.now().edit_fault(edit) {
@@ -182,7 +187,7 @@ fn fill_cells<T: Tape>(tape: &mut T, first: u64, last: u64, cell: Cell)
     requires last { (T.history tape.old).after ≡ [] }
     requires room { last - first ≤ T.room tape.old }
     requires accepted { edit_fault (T.history tape.old).present.state (Edit.SetCell last cell) ≡ None }
-    ensures { T.history tape.new ≡ append_all (T.history tape.old) (fills (last - first) (first + 1) cell (T.history tape.old).present.state) }
+    ensures { record { history = T.history tape.new; memory = T.memory tape.new } ≡ go_on_all (record { history = T.history tape.old; memory = T.memory tape.old }) (fills (last - first) (first + 1) cell (T.history tape.old).present.state) }
 {
     let mut address = first;
     while address < last {
@@ -200,7 +205,7 @@ pub fn fill<T: Tape>(
     to: u64,
     cell: Cell,
 ) -> Result<Standing, Refusal>
-    ensures answer { IsAnswer limit (Call.Fill from to cell) (T.history tape.old) result (T.history tape.new) }
+    ensures answer { IsAnswer (T.memory tape.old) limit (Call.Fill from to cell) (T.history tape.old) result (T.history tape.new) (T.memory tape.new) }
     ensures memory { result ≡ Err Refusal.OutOfMemory → T.room tape.old < cells_between from to }
 {
     if from <= to && to - from >= COMMAND_LIMIT {

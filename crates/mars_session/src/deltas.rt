@@ -1,10 +1,12 @@
 //! A tape of one battle and records.
+ghost use Rattle.std.proofs.Common.{refl, rules};
 ghost use Rattle.std.specs.Prelude.{◌≡◌, ℕ, ◌+◌, ◌-◌, ◌<◌, ◌≤◌, [], None, false, true, OnOk, IsOk, MatchOption, MatchResult, length, vec_len, vec_capacity};
 ghost use Rattle.mars_core.specs.State.{is_over_of};
 ghost use Rattle.mars_core.specs.Turn.{turn_of};
 ghost use Rattle.mars_core.specs.Edit.{edit_fault, edited};
 ghost use Rattle.mars_session.specs.History.{beginning, places, position_of, last_of, following, marked, cut, append, back, forward};
-ghost use Rattle.mars_session.specs.Journals.{LeadsAt};
+ghost use Rattle.mars_session.specs.Memory.{Memory, never, kept, noted};
+ghost use Rattle.mars_session.specs.Tapes.{LeadsAt};
 
 use crate::tapes::Tape;
 use mars_core::{Atom, Battle, Edit};
@@ -23,7 +25,7 @@ pub struct DeltaTape {
 impl Model for DeltaTape {
     ghost use Rattle.std.specs.Prelude.{◌-◌, true, vec_capacity};
     ghost use Rattle.mars_session.specs.Tapes.{Taped};
-    ghost use Rattle.mars_session.specs.Journals.{IsJournal, journal_history};
+    ghost use Rattle.mars_session.specs.Code.Journals.{IsJournal, journal_history};
 
     ghost Value = { Taped };
 
@@ -56,9 +58,19 @@ impl DeltaTape {
 }
 
 impl Tape for DeltaTape {
+    const FORGETS: bool = false;
+
+    ghost FORGETS = { false };
+
     ghost history = { λ t. t.history };
 
     ghost room = { λ t. t.room };
+
+    ghost memory = { λ t. never };
+
+    ghost forgets = { λ t. refl };
+
+    ghost takes_all = { λ t e. Prim.search rules };
 
     fn now(&self) -> &Battle {
         &self.battle
@@ -77,6 +89,10 @@ impl Tape for DeltaTape {
             return true;
         }
         self.entries[self.at - 1].1
+    }
+
+    fn forgotten(&self) -> bool {
+        false
     }
 
     fn set_mark(&mut self) {

@@ -1,5 +1,5 @@
 //! Laws of the history, over the definitions alone.
-ghost use Rattle.mars_session.specs.Laws.{UndosGiveBack, RedosGiveAgain, RefusalsChangeNothing, CommandsAreUndone, RedoAfterUndo, MovesKeepPlaces, UndoFindsNearest, RedoFindsNearest, GotoFindsFirst, CommandsAppend, BeginningIsTape, CallsKeepTapes, ScriptsKeepTapes, GotoBetween, TurnsAndCyclesRise, UntilArrives, CallsKeepLimit, PlacesAreValid};
+ghost use Rattle.mars_session.specs.Laws.{UndosGiveBack, RedosGiveAgain, RefusalsChangeNothing, NeverFull, CommandsAreUndone, FewCommandsAreUndone, RedoAfterUndo, MovesKeepPlaces, UndoFindsNearest, RedoFindsNearest, GotoFindsFirst, CommandsAppend, BeginningIsTape, CallsKeepTapes, CallsForgetTapes, ScriptsKeepTapes, GotoBetween, TurnsAndCyclesRise, UntilArrives, CallsKeepLimit, PlacesAreValid};
 
 /// After accepted commands as many undos are accepted, and give back the state and the position.
 pub fn undos_give_back()
@@ -16,11 +16,22 @@ pub fn refusals_change_nothing()
     ensures { RefusalsChangeNothing }
 {}
 
+/// Where places are forgotten, no call is refused for want of room or of memory.
+pub fn never_full()
+    ensures { NeverFull }
+{}
+
 /// After any commands, refused ones among them, as many calls of `Undo` as commands were accepted are all accepted, and give
 /// back the state and the position; as many calls of `Redo` after them are all accepted, and give the very history from
 /// after the commands.
 pub fn commands_are_undone()
     ensures { CommandsAreUndone }
+{}
+
+/// Where k places are kept beside the last one, so it is of commands that append at most k places together; the position may
+/// be another one.
+pub fn few_commands_are_undone()
+    ensures { FewCommandsAreUndone }
 {}
 
 /// From a marked place, redo after an accepted undo gives back the history.
@@ -53,7 +64,7 @@ pub fn commands_append()
     ensures { CommandsAppend }
 {}
 
-/// A valid battle alone makes a tape: one place, which is marked.
+/// A valid battle alone makes a tape, however few places are kept: one place, which is marked.
 pub fn beginning_is_tape()
     ensures { BeginningIsTape }
 {}
@@ -66,6 +77,12 @@ pub fn calls_keep_tapes()
 /// So does every list of calls.
 pub fn scripts_keep_tapes()
     ensures { ScriptsKeepTapes }
+{}
+
+/// Where k places are kept beside the last one, every call keeps a tape of at most so many: each place is a turn or an edit
+/// of the one before, and the last is marked.
+pub fn calls_forget_tapes()
+    ensures { CallsForgetTapes }
 {}
 
 /// Turns and cycles never fall along a tape, and rise by at most one a place.

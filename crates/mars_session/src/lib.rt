@@ -19,6 +19,8 @@ mod commands;
 mod deltas;
 pub mod laws;
 mod moves;
+mod records;
+mod rings;
 mod sessions;
 mod snapshots;
 mod tapes;
@@ -26,6 +28,7 @@ mod whole;
 
 pub use calls::{Call, Refusal, Reply, Standing};
 pub use deltas::DeltaTape;
+pub use rings::RingTape;
 pub use sessions::Session;
 pub use tapes::Tape;
 pub use whole::WholeTape;

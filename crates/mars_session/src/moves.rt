@@ -1,7 +1,7 @@
 //! The moves to places that are in the history, over any tape.
 ghost use Rattle.std.specs.Prelude.{◌≡◌, ℕ, ◌≤◌};
 ghost use Rattle.mars_session.specs.History.{position_of, last_of, rewound, undo, redo, goto, first_turns, last_turns};
-ghost use Rattle.mars_session.specs.Script.{moved};
+ghost use Rattle.mars_session.specs.Script.{moved, no_undo};
 
 use crate::calls::{Refusal, Standing};
 use crate::commands::standing;
@@ -12,6 +12,7 @@ fn go_back<T: Tape>(tape: &mut T, position: u64)
     requires { position ≤ position_of (T.history tape.old) }
     ensures places { rewound (T.history tape.new) ≡ rewound (T.history tape.old) }
     ensures position { position_of (T.history tape.new) ≡ position }
+    ensures memory { T.memory tape.new ≡ T.memory tape.old }
 {
     'back: while tape.position() > position {
         tape.back();
@@ -24,15 +25,27 @@ fn go_on<T: Tape>(tape: &mut T, position: u64)
     requires inside { position ≤ last_of (T.history tape.old) }
     ensures places { rewound (T.history tape.new) ≡ rewound (T.history tape.old) }
     ensures position { position_of (T.history tape.new) ≡ position }
+    ensures memory { T.memory tape.new ≡ T.memory tape.old }
 {
     'on: while tape.position() < position {
         tape.forward();
     }
 }
 
+/// Why there is no marked place before.
+fn no_marked_place<T: Tape>(tape: &T) -> Refusal
+    ensures { result ≡ no_undo (T.memory tape.now) }
+{
+    if tape.forgotten() {
+        Refusal::Forgotten
+    } else {
+        Refusal::NothingToUndo
+    }
+}
+
 /// To the nearest marked place before.
 pub fn undo<T: Tape>(tape: &mut T) -> Result<Standing, Refusal>
-    ensures { moved (T.history tape.old) Refusal.NothingToUndo (undo (T.history tape.old)) ≡ record { history = T.history tape.new; reply = result } }
+    ensures { moved (T.memory tape.old) (T.history tape.old) (no_undo (T.memory tape.old)) (undo (T.history tape.old)) ≡ record { history = T.history tape.new; memory = T.memory tape.new; reply = result } }
 {
     let start = tape.position();
     'back: while tape.position() > 0 {
@@ -42,12 +55,12 @@ pub fn undo<T: Tape>(tape: &mut T) -> Result<Standing, Refusal>
         }
     }
     go_on(tape, start);
-    Err(Refusal::NothingToUndo)
+    Err(no_marked_place(tape))
 }
 
 /// To the nearest marked place after.
 pub fn redo<T: Tape>(tape: &mut T) -> Result<Standing, Refusal>
-    ensures { moved (T.history tape.old) Refusal.NothingToRedo (redo (T.history tape.old)) ≡ record { history = T.history tape.new; reply = result } }
+    ensures { moved (T.memory tape.old) (T.history tape.old) Refusal.NothingToRedo (redo (T.history tape.old)) ≡ record { history = T.history tape.new; memory = T.memory tape.new; reply = result } }
 {
     let start = tape.position();
     'on: while tape.position() < tape.len() - 1 {
@@ -69,7 +82,7 @@ fn turns_now<T: Tape>(tape: &T) -> u64
 
 /// To the first place after so many turns.
 pub fn goto<T: Tape>(tape: &mut T, turns: u64) -> Result<Standing, Refusal>
-    ensures { moved (T.history tape.old) (Refusal.NotInHistory (first_turns (T.history tape.old)) (last_turns (T.history tape.old))) (goto turns (T.history tape.old)) ≡ record { history = T.history tape.new; reply = result } }
+    ensures { moved (T.memory tape.old) (T.history tape.old) (Refusal.NotInHistory (first_turns (T.history tape.old)) (last_turns (T.history tape.old))) (goto turns (T.history tape.old)) ≡ record { history = T.history tape.new; memory = T.memory tape.new; reply = result } }
 {
     let start = tape.position();
     go_back(tape, 0);

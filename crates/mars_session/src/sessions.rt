@@ -2,7 +2,7 @@
 ghost use Rattle.std.specs.Prelude.{◌≡◌, ◌++◌, ◌+◌, ◌≤◌, List, OnOk, OnErr, IsOk, Result, length, vec_len, vec_capacity};
 ghost use Rattle.mars_session.specs.declared.calls.Standing.{Standing};
 ghost use Rattle.mars_session.specs.declared.calls.Refusal.{Refusal};
-ghost use Rattle.mars_session.specs.Script.{SessionState, standing_of, IsScript, Answers};
+ghost use Rattle.mars_session.specs.Script.{SessionState, standing_of, ScriptAnswers, Answers};
 
 use crate::calls::{Call, Refusal, Reply, Standing};
 use crate::tapes::Tape;
@@ -27,13 +27,13 @@ impl<T: Tape> Model for Session<T> {
 
     ghost Value = { SessionState };
 
-    ghost view = { λ s. record { history = T.history s.tape; limit = s.limit } };
+    ghost view = { λ s. record { history = T.history s.tape; limit = s.limit; memory = T.memory s.tape } };
 }
 
 impl<T: Tape> Session<T> {
     /// A session over a tape, with the most places that may stand after the first one.
     pub fn new(tape: T, limit: u64) -> Self
-        ensures { result ≡ record { history = T.history tape; limit = limit } }
+        ensures { result ≡ record { history = T.history tape; limit = limit; memory = T.memory tape } }
     {
         Session { tape, limit }
     }
@@ -169,8 +169,7 @@ impl<T: Tape> Session<T> {
     /// Makes each call in order and appends its reply. Room for all replies is made first, and it fails only where that is
     /// wanting and refused; nothing is done then.
     pub fn apply_all(&mut self, calls: &[Call], out: &mut Vec<Reply>) -> Result<(), AllocError>
-        ensures ok { OnOk result ((replies : List (Result Standing Refusal)) × (out.new.items ≡ out.old.items ++ replies) × IsScript self.old.limit calls.now self.old.history replies self.new.history) }
-        ensures limit { self.new.limit ≡ self.old.limit }
+        ensures ok { OnOk result ((replies : List (Result Standing Refusal)) × (out.new.items ≡ out.old.items ++ replies) × ScriptAnswers self.old calls.now replies self.new) }
         ensures enough { vec_len out.old + length calls.now ≤ vec_capacity out.old → IsOk result }
         ensures err { OnErr result ((self.new ≡ self.old) × (out.new.items ≡ out.old.items)) }
     {

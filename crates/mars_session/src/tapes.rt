@@ -1,20 +1,30 @@
 //! What a session asks of whatever keeps its history.
-ghost use Rattle.std.specs.Prelude.{◌≡◌, ℕ, ◌+◌, ◌≤◌, [], None, false, OnOk, OnErr, IsOk};
+ghost use Rattle.std.specs.Prelude.{◌≡◌, ℕ, ◌+◌, ◌^◌, ◌≤◌, Bool, [], None, is_some, true, false, OnOk, OnErr, IsOk};
 ghost use Rattle.mars_core.specs.State.{is_over_of};
 ghost use Rattle.mars_core.specs.Turn.{turn_of};
 ghost use Rattle.mars_core.specs.Edit.{edit_fault, edited};
 ghost use Rattle.mars_session.specs.History.{History, position_of, last_of, following, marked, cut, append, back, forward};
+ghost use Rattle.mars_session.specs.Memory.{Memory, kept, noted};
 
 use mars_core::{Battle, Edit};
 use std::alloc::AllocError;
 
-/// A tape of the places that a battle has been at, one of them the present one. Each place may be marked.
+/// A tape of the places that a battle has been at, one of them the present one. Each place may be marked. A tape that
+/// forgets keeps the last places alone, and takes any number more without memory.
 pub trait Tape {
+    /// Whether the oldest places may be forgotten.
+    const FORGETS: bool;
+
+    ghost FORGETS: { Bool };
+
     /// The places, and which of them is the present one.
     ghost history: { Self → History };
 
     /// How many places may be appended once what follows is dropped.
     ghost room: { Self → ℕ };
+
+    /// How many places are kept, and whether one was ever forgotten.
+    ghost memory: { Self → Memory };
 
     /// The battle of the present place.
     fn now(&self) -> &Battle
@@ -33,14 +43,20 @@ pub trait Tape {
     fn is_marked(&self) -> bool
         ensures { result ≡ (history self.now).present.mark };
 
+    /// Whether a place was ever forgotten.
+    fn forgotten(&self) -> bool
+        ensures { result ≡ (memory self.now).forgotten };
+
     /// Marks the present place.
     fn set_mark(&mut self)
+        ensures memory { memory self.new ≡ memory self.old }
         ensures places { history self.new ≡ marked (history self.old) }
         ensures room { room self.old ≤ room self.new };
 
     /// Makes room for so many places after the present one. It fails only where there is less room, and memory for the
     /// rest is refused; the room then stays as it is.
     fn reserve(&mut self, n: u64) -> Result<(), AllocError>
+        ensures memory { memory self.new ≡ memory self.old }
         ensures places { history self.new ≡ history self.old }
         ensures ok { OnOk result (n ≤ room self.new) }
         ensures enough { n ≤ room self.old → IsOk result }
@@ -48,30 +64,41 @@ pub trait Tape {
 
     /// Drops the places after the present one.
     fn cut(&mut self)
+        ensures memory { memory self.new ≡ memory self.old }
         ensures places { history self.new ≡ cut (history self.old) }
         ensures room { room self.old ≤ room self.new };
 
-    /// Appends the present place's turn, and goes there.
+    /// Appends the present place's turn, and goes there. The first place may be forgotten.
     fn turn(&mut self)
         requires last { (history self.old).after ≡ [] }
         requires room { 1 ≤ room self.old }
         requires runs { is_over_of (history self.old).present.state ≡ false }
-        ensures places { history self.new ≡ append (history self.old) (turn_of (history self.old).present.state) }
+        ensures places { history self.new ≡ kept (memory self.old).most (append (history self.old) (turn_of (history self.old).present.state)) }
+        ensures memory { memory self.new ≡ noted (memory self.old) (append (history self.old) (turn_of (history self.old).present.state)) }
         ensures room { room self.old ≤ room self.new + 1 };
 
-    /// Appends what an edit makes of the present place, and goes there.
+    /// Appends what an edit makes of the present place, and goes there. The first place may be forgotten.
     fn edit(&mut self, edit: Edit)
         requires last { (history self.old).after ≡ [] }
         requires room { 1 ≤ room self.old }
         requires accepted { edit_fault (history self.old).present.state edit ≡ None }
-        ensures places { history self.new ≡ append (history self.old) (edited (history self.old).present.state edit) }
+        ensures places { history self.new ≡ kept (memory self.old).most (append (history self.old) (edited (history self.old).present.state edit)) }
+        ensures memory { memory self.new ≡ noted (memory self.old) (append (history self.old) (edited (history self.old).present.state edit)) }
         ensures room { room self.old ≤ room self.new + 1 };
 
     /// Goes one place back, where there is one.
     fn back(&mut self)
-        ensures { history self.new ≡ back (history self.old) };
+        ensures places { history self.new ≡ back (history self.old) }
+        ensures memory { memory self.new ≡ memory self.old };
 
     /// Goes one place on, where there is one.
     fn forward(&mut self)
-        ensures { history self.new ≡ forward (history self.old) };
+        ensures places { history self.new ≡ forward (history self.old) }
+        ensures memory { memory self.new ≡ memory self.old };
+
+    // just a tape that forgets keeps so many places alone
+    ghost forgets: { (t : Self) → FORGETS ≡ is_some (memory t).most };
+
+    // it has room for any number of places
+    ghost takes_all: { (t : Self) → FORGETS ≡ true → 2 ^ 64 ≤ room t };
 }

@@ -1,9 +1,11 @@
 //! The worked cases, over each kind of tape, each call by itself and as one list of calls.
 
+ghost use Rattle.std.specs.Prelude.{◌≡◌, ◌≤◌, false};
+
 mod memory;
 mod poor_tape;
 
-use crate::{Call, DeltaTape, Refusal, Reply, Session, Standing, Tape, WholeTape};
+use crate::{Call, DeltaTape, Refusal, Reply, RingTape, Session, Standing, Tape, WholeTape};
 use mars_cell::{Cell, Mode, Modifier, Op, Params, Warrior};
 use mars_core::{Battle, Edit, Work};
 use poor_tape::PoorTape;
@@ -58,12 +60,20 @@ impl Start for DeltaTape {
     }
 }
 
-fn tape_of<T: Start>(
+/// It keeps 100 places beside the last one.
+impl Start for RingTape {
+    fn start(alloc: Global, battle: Battle) -> Result<Self, Fail> {
+        let tape = RingTape::new(alloc, battle, 100).ok().ok_or("tape")?;
+        Ok(tape)
+    }
+}
+
+fn battle_of(
     alloc: Global,
     processes: u32,
     warriors: &[Warrior],
     starts: &[u32],
-) -> Result<T, Fail> {
+) -> Result<Battle, Fail> {
     let params = Params::new(8, processes, 80000, 8, 8, 2, 2)
         .ok()
         .ok_or("parameters")?;
@@ -73,7 +83,7 @@ fn tape_of<T: Start>(
     let battle = Battle::new(alloc, &params, warriors, starts)
         .ok()
         .ok_or("battle")?;
-    T::start(alloc, battle)
+    Ok(battle)
 }
 
 fn one_cell(alloc: Global, cell: Cell) -> Result<Warrior, Fail> {
@@ -81,16 +91,24 @@ fn one_cell(alloc: Global, cell: Cell) -> Result<Warrior, Fail> {
 }
 
 /// A warrior of these cells, alone.
-fn lone_tape<T: Start>(alloc: Global, processes: u32, cells: &[Cell]) -> Result<T, Fail> {
+fn lone_battle(alloc: Global, processes: u32, cells: &[Cell]) -> Result<Battle, Fail> {
     let warriors = vec![in alloc; warrior_of(alloc, cells)?]?;
-    tape_of(alloc, processes, &warriors, &[0])
+    battle_of(alloc, processes, &warriors, &[0])
 }
 
-fn imp_tape<T: Start>(alloc: Global) -> Result<T, Fail> {
-    lone_tape(alloc, 8, &[direct(Op::Mov, Modifier::I, 0, 1)])
+fn lone_tape<T: Start>(alloc: Global, processes: u32, cells: &[Cell]) -> Result<T, Fail> {
+    T::start(alloc, lone_battle(alloc, processes, cells)?)
 }
 
 /// One warrior that copies itself to the next cell, over and over.
+fn imp_battle(alloc: Global) -> Result<Battle, Fail> {
+    lone_battle(alloc, 8, &[direct(Op::Mov, Modifier::I, 0, 1)])
+}
+
+fn imp_tape<T: Start>(alloc: Global) -> Result<T, Fail> {
+    T::start(alloc, imp_battle(alloc)?)
+}
+
 fn imp<T: Start>(alloc: Global, limit: u64) -> Result<Session<T>, Fail> {
     Ok(Session::new(imp_tape(alloc)?, limit))
 }
@@ -101,7 +119,8 @@ fn stayers<T: Start>(alloc: Global, processes: u32, starts: &[u32]) -> Result<Se
     for _start in starts {
         warriors.push(one_cell(alloc, direct(Op::Jmp, Modifier::B, 0, 0))?)?;
     }
-    Ok(Session::new(tape_of(alloc, processes, &warriors, starts)?, 100))
+    let battle = battle_of(alloc, processes, &warriors, starts)?;
+    Ok(Session::new(T::start(alloc, battle)?, 100))
 }
 
 fn at(turns: u64, cycle: u64, next: u64, alive: u64, position: u64, last: u64) -> Reply {
@@ -161,8 +180,8 @@ fn gives<T: Tape + Drop>(
     check_list(rt, alloc, &mut all, calls)
 }
 
-/// The calls give these replies to the imp, over each kind of tape.
-fn imp_gives(
+/// The calls give these replies to the imp, over each kind of tape that keeps all places.
+fn limited_imp_gives(
     rt: &impl Abort,
     alloc: Global,
     limit: u64,
@@ -170,6 +189,12 @@ fn imp_gives(
 ) -> Result<(), Fail> {
     gives::<WholeTape>(rt, alloc, imp(alloc, limit)?, imp(alloc, limit)?, calls)?;
     gives::<DeltaTape>(rt, alloc, imp(alloc, limit)?, imp(alloc, limit)?, calls)
+}
+
+/// The calls give these replies to the imp, over each kind of tape; where places are forgotten the limit doesn't matter.
+fn imp_gives(rt: &impl Abort, alloc: Global, calls: &[(Call, Reply)]) -> Result<(), Fail> {
+    limited_imp_gives(rt, alloc, 100, calls)?;
+    gives::<RingTape>(rt, alloc, imp(alloc, 0)?, imp(alloc, 0)?, calls)
 }
 
 /// The calls give these replies to three warriors that stand where they are, over each kind of tape.
@@ -183,6 +208,13 @@ fn stayers_give(rt: &impl Abort, alloc: Global, calls: &[(Call, Reply)]) -> Resu
         calls,
     )?;
     gives::<DeltaTape>(
+        rt,
+        alloc,
+        stayers(alloc, 8, &starts)?,
+        stayers(alloc, 8, &starts)?,
+        calls,
+    )?;
+    gives::<RingTape>(
         rt,
         alloc,
         stayers(alloc, 8, &starts)?,
@@ -226,7 +258,7 @@ fn edit_in_the_middle_of_a_run(rt: HostRuntime) -> Result<(), Fail> {
         (Call::Undo, imp_at(2, 2, 3)),
         (Call::Redo, imp_at(2, 3, 3)),
     ];
-    imp_gives(&rt, alloc, 100, &calls)
+    imp_gives(&rt, alloc, &calls)
 }
 
 fn check_undone_edit<T: Start + Drop>(rt: &impl Abort, alloc: Global) -> Result<(), Fail> {
@@ -247,7 +279,8 @@ fn check_undone_edit<T: Start + Drop>(rt: &impl Abort, alloc: Global) -> Result<
 fn cell_of_an_undone_edit(rt: HostRuntime) -> Result<(), Fail> {
     let alloc = rt.alloc();
     check_undone_edit::<WholeTape>(&rt, alloc)?;
-    check_undone_edit::<DeltaTape>(&rt, alloc)
+    check_undone_edit::<DeltaTape>(&rt, alloc)?;
+    check_undone_edit::<RingTape>(&rt, alloc)
 }
 
 #[test]
@@ -259,7 +292,7 @@ fn undo_from_the_middle_of_a_run(rt: HostRuntime) -> Result<(), Fail> {
         (Call::Undo, imp_at(0, 0, 4)),
         (Call::Redo, imp_at(4, 4, 4)),
     ];
-    imp_gives(&rt, alloc, 100, &calls)
+    imp_gives(&rt, alloc, &calls)
 }
 
 #[test]
@@ -275,16 +308,20 @@ fn steps_undone_and_redone(rt: HostRuntime) -> Result<(), Fail> {
         (Call::Redo, imp_at(2, 2, 2)),
         (Call::Redo, Err(Refusal::NothingToRedo)),
     ];
-    imp_gives(&rt, alloc, 100, &calls)
+    imp_gives(&rt, alloc, &calls)
 }
 
 /// The imp, over a tape that is refused memory after so many growths.
-fn poor_imp<T: Start>(alloc: Global, growths: u64) -> Result<Session<PoorTape<T>>, Fail> {
+fn poor_imp<T: Start>(alloc: Global, growths: u64) -> Result<Session<PoorTape<T>>, Fail>
+    requires { T.FORGETS ≡ false }
+{
     Ok(Session::new(PoorTape::new(imp_tape(alloc)?, growths), 2000))
 }
 
 /// A run that is refused for memory leaves cells and queues, and both steps are still there to be redone.
-fn check_refused_run<T: Start + Drop>(rt: &impl Abort, alloc: Global) -> Result<(), Fail> {
+fn check_refused_run<T: Start + Drop>(rt: &impl Abort, alloc: Global) -> Result<(), Fail>
+    requires { T.FORGETS ≡ false }
+{
     let steps = [
         (Call::Step, imp_at(1, 1, 1)),
         (Call::Step, imp_at(2, 2, 2)),
@@ -310,7 +347,9 @@ fn refused_run_is_no_run(rt: HostRuntime) -> Result<(), Fail> {
 }
 
 /// Once a run has made room for five places, every request for memory is refused, and three places that follow need none.
-fn check_covered_run<T: Start + Drop>(rt: &impl Abort, alloc: Global) -> Result<(), Fail> {
+fn check_covered_run<T: Start + Drop>(rt: &impl Abort, alloc: Global) -> Result<(), Fail>
+    requires { T.FORGETS ≡ false }
+{
     let calls = [
         (Call::Run(5), imp_at(5, 5, 5)),
         (Call::Goto(2), imp_at(2, 2, 5)),
@@ -393,7 +432,7 @@ fn history_of_two_places(rt: HostRuntime) -> Result<(), Fail> {
         (Call::Step, Err(Refusal::JournalFull(0))),
         (Call::Undo, imp_at(0, 0, 2)),
     ];
-    imp_gives(&rt, alloc, 2, &calls)
+    limited_imp_gives(&rt, alloc, 2, &calls)
 }
 
 #[test]
@@ -406,7 +445,7 @@ fn refused_turns_and_moves(rt: HostRuntime) -> Result<(), Fail> {
         (Call::Run(0), Err(Refusal::Count)),
         (Call::Redo, Err(Refusal::NothingToRedo)),
     ];
-    imp_gives(&rt, alloc, 100, &calls)
+    imp_gives(&rt, alloc, &calls)
 }
 
 #[test]
@@ -419,7 +458,7 @@ fn goto_finds_the_first_of_equal_turns(rt: HostRuntime) -> Result<(), Fail> {
         (Call::Goto(0), imp_at(0, 0, 3)),
         (Call::Redo, imp_at(0, 3, 3)),
     ];
-    imp_gives(&rt, alloc, 100, &calls)
+    imp_gives(&rt, alloc, &calls)
 }
 
 #[test]
@@ -439,7 +478,7 @@ fn numbers_past_every_limit(rt: HostRuntime) -> Result<(), Fail> {
         (Call::Kill(0, 4_294_967_296), Err(Refusal::NoSuchProcess)),
         (Call::MoveProcess(0, 1, 5), Err(Refusal::NoSuchProcess)),
     ];
-    imp_gives(&rt, alloc, 100, &calls)
+    imp_gives(&rt, alloc, &calls)
 }
 
 /// Of the calls, the one that is accepted alone changes a cell.
@@ -463,7 +502,8 @@ fn check_one_edit<T: Start + Drop>(rt: &impl Abort, alloc: Global) -> Result<(),
 fn cells_among_refusals(rt: HostRuntime) -> Result<(), Fail> {
     let alloc = rt.alloc();
     check_one_edit::<WholeTape>(&rt, alloc)?;
-    check_one_edit::<DeltaTape>(&rt, alloc)
+    check_one_edit::<DeltaTape>(&rt, alloc)?;
+    check_one_edit::<RingTape>(&rt, alloc)
 }
 
 /// The queue of a warrior that stands where it is, after each edit, a turn and each undo.
@@ -494,7 +534,8 @@ fn check_edited_queue<T: Start + Drop>(rt: &impl Abort, alloc: Global) -> Result
 fn queue_after_edits(rt: HostRuntime) -> Result<(), Fail> {
     let alloc = rt.alloc();
     check_edited_queue::<WholeTape>(&rt, alloc)?;
-    check_edited_queue::<DeltaTape>(&rt, alloc)
+    check_edited_queue::<DeltaTape>(&rt, alloc)?;
+    check_edited_queue::<RingTape>(&rt, alloc)
 }
 
 /// A warrior whose queue is full, in a core of jumps to the next cell, after so many turns.
@@ -557,7 +598,8 @@ fn check_kills<T: Start + Drop>(rt: &impl Abort, alloc: Global) -> Result<(), Fa
 fn each_killed_process_comes_back(rt: HostRuntime) -> Result<(), Fail> {
     let alloc = rt.alloc();
     check_kills::<WholeTape>(&rt, alloc)?;
-    check_kills::<DeltaTape>(&rt, alloc)
+    check_kills::<DeltaTape>(&rt, alloc)?;
+    check_kills::<RingTape>(&rt, alloc)
 }
 
 /// One turn of a lone warrior leads from these cells to those; undo and redo lead back and on.
@@ -598,6 +640,7 @@ fn check_two_changes(
 ) -> Result<(), Fail> {
     check_turn::<WholeTape>(rt, alloc, before, after)?;
     check_turn::<DeltaTape>(rt, alloc, before, after)?;
+    check_turn::<RingTape>(rt, alloc, before, after)?;
     let tape = one_turn(alloc, 8, before)?;
     assert_eq!(rt; tape.atom(0).ok_or("a record")?.cells.len(), 2);
     Ok(())
@@ -653,6 +696,7 @@ fn split_of_a_full_queue(rt: HostRuntime) -> Result<(), Fail> {
     let alloc = rt.alloc();
     check_split::<WholeTape>(&rt, alloc)?;
     check_split::<DeltaTape>(&rt, alloc)?;
+    check_split::<RingTape>(&rt, alloc)?;
     let split = direct(Op::Spl, Modifier::B, 0, 0);
     let tape = one_turn(alloc, 1, &[split])?;
     let record = tape.atom(0).ok_or("a record")?;
@@ -684,6 +728,105 @@ fn records_between_places(rt: HostRuntime) -> Result<(), Fail> {
     Ok(())
 }
 
+/// The imp, over a tape that keeps so many places beside the last one.
+fn forgetful_imp(alloc: Global, most: usize) -> Result<Session<RingTape>, Fail>
+    requires some { 1 ≤ most }
+    requires few { most ≤ 1000000 }
+{
+    let battle = imp_battle(alloc)?;
+    let tape = RingTape::new(alloc, battle, most).ok().ok_or("tape")?;
+    Ok(Session::new(tape, 0))
+}
+
+/// The calls give these replies to the imp where two places are kept beside the last one.
+fn two_kept_give(rt: &impl Abort, alloc: Global, calls: &[(Call, Reply)]) -> Result<(), Fail> {
+    gives(
+        rt,
+        alloc,
+        forgetful_imp(alloc, 2)?,
+        forgetful_imp(alloc, 2)?,
+        calls,
+    )
+}
+
+#[test]
+fn nothing_is_forgotten_of_two_places(rt: HostRuntime) -> Result<(), Fail> {
+    let alloc = rt.alloc();
+    let calls = [
+        (Call::Step, imp_at(1, 1, 1)),
+        (Call::Undo, imp_at(0, 0, 1)),
+        (Call::Run(2), imp_at(2, 2, 2)),
+        (Call::Undo, imp_at(0, 0, 2)),
+        (Call::Undo, Err(Refusal::NothingToUndo)),
+    ];
+    two_kept_give(&rt, alloc, &calls)
+}
+
+/// The first place that is left isn't marked, so undo doesn't stop there.
+#[test]
+fn run_of_more_places_than_are_kept(rt: HostRuntime) -> Result<(), Fail> {
+    let alloc = rt.alloc();
+    let calls = [
+        (Call::Run(3), imp_at(3, 2, 2)),
+        (Call::Undo, Err(Refusal::Forgotten)),
+        (Call::Goto(0), Err(Refusal::NotInHistory(1, 3))),
+        (Call::Goto(1), imp_at(1, 0, 2)),
+        (Call::Step, imp_at(2, 1, 1)),
+        (Call::Undo, imp_at(1, 0, 1)),
+        (Call::Undo, Err(Refusal::Forgotten)),
+        (Call::Redo, imp_at(2, 1, 1)),
+    ];
+    two_kept_give(&rt, alloc, &calls)
+}
+
+#[test]
+fn oldest_places_are_forgotten(rt: HostRuntime) -> Result<(), Fail> {
+    let alloc = rt.alloc();
+    let calls = [
+        (Call::Run(3), imp_at(3, 2, 2)),
+        (Call::Run(2), imp_at(5, 2, 2)),
+        (Call::Step, imp_at(6, 2, 2)),
+        (Call::Undo, imp_at(5, 1, 2)),
+        (Call::Undo, Err(Refusal::Forgotten)),
+    ];
+    two_kept_give(&rt, alloc, &calls)
+}
+
+/// A mark stays with its place, also where that becomes the first.
+#[test]
+fn first_place_keeps_its_mark(rt: HostRuntime) -> Result<(), Fail> {
+    let alloc = rt.alloc();
+    let calls = [
+        (Call::Step, imp_at(1, 1, 1)),
+        (Call::Run(2), imp_at(3, 2, 2)),
+        (Call::Undo, imp_at(1, 0, 2)),
+        (Call::Undo, Err(Refusal::Forgotten)),
+        (Call::Redo, imp_at(3, 2, 2)),
+        (Call::Redo, Err(Refusal::NothingToRedo)),
+        (Call::Run(1_000), imp_at(1_003, 2, 2)),
+        (Call::Fill(2, 4, idle()), imp_at(1_003, 2, 2)),
+        (Call::Goto(1_003), imp_at(1_003, 0, 2)),
+        (Call::Undo, Err(Refusal::Forgotten)),
+    ];
+    two_kept_give(&rt, alloc, &calls)
+}
+
+/// Cells and queues that were forgotten don't come back; those that are kept do.
+#[test]
+fn kept_places_come_back(rt: HostRuntime) -> Result<(), Fail> {
+    let alloc = rt.alloc();
+    let mut session = forgetful_imp(alloc, 1)?;
+    assert_eq!(&rt; session.set_cell(6, idle()), imp_at(0, 1, 1));
+    assert_eq!(&rt; session.set_cell(7, idle()), imp_at(0, 1, 1));
+    assert_eq!(&rt; session.undo(), imp_at(0, 0, 1));
+    assert_eq!(&rt; session.battle().cell(6), Some(idle()));
+    assert_eq!(&rt; session.battle().cell(7), Some(blank()));
+    assert_eq!(&rt; session.undo(), Err(Refusal::Forgotten));
+    assert_eq!(&rt; session.redo(), imp_at(0, 1, 1));
+    assert_eq!(&rt; session.battle().cell(7), Some(idle()));
+    Ok(())
+}
+
 /// A refusal is displayed as its number, its name and its values.
 #[test]
 fn texts_of_refusals(rt: HostRuntime) -> Result<(), Fail> {
@@ -703,6 +846,7 @@ fn texts_of_refusals(rt: HostRuntime) -> Result<(), Fail> {
         (Refusal::NotInHistory(0, 3), "12 NotInHistory 0 3"),
         (Refusal::JournalFull(2), "13 JournalFull 2"),
         (Refusal::OutOfMemory, "14 OutOfMemory"),
+        (Refusal::Forgotten, "15 Forgotten"),
     ];
     for (refusal, text) in texts {
         assert_eq!(rt; format!(in alloc; "{refusal}")?.as_str(), text);

@@ -1,11 +1,13 @@
 //! A tape of whole copies.
+ghost use Rattle.std.proofs.Common.{refl, rules};
 ghost use Rattle.std.specs.Prelude.{◌≡◌, ℕ, ◌+◌, ◌-◌, ◌<◌, ◌≤◌, [], None, false, true, OnOk, OnErr, IsOk, MatchResult, length, slice_set, vec_len, vec_capacity};
 ghost use Rattle.mars_core.specs.State.{is_over_of};
 ghost use Rattle.mars_core.specs.Turn.{turn_of};
 ghost use Rattle.mars_core.specs.Edit.{edit_fault, edited};
 ghost use Rattle.mars_core.specs.Shape.{SameShape};
 ghost use Rattle.mars_session.specs.History.{History, beginning, marked, cut, append, back, forward};
-ghost use Rattle.mars_session.specs.Whole.{snapshot_at, whole_history, IsGrown};
+ghost use Rattle.mars_session.specs.Memory.{Memory, never, kept, noted};
+ghost use Rattle.mars_session.specs.Code.Whole.{snapshot_at, whole_history, IsGrown};
 
 use crate::snapshots::Snapshot;
 use crate::tapes::Tape;
@@ -25,7 +27,7 @@ pub struct WholeTape {
 impl Model for WholeTape {
     ghost use Rattle.std.specs.Prelude.{◌+◌, ◌-◌, length};
     ghost use Rattle.mars_session.specs.Tapes.{Taped};
-    ghost use Rattle.mars_session.specs.Whole.{IsWhole, whole_history};
+    ghost use Rattle.mars_session.specs.Code.Whole.{IsWhole, whole_history};
 
     ghost Value = { Taped };
 
@@ -131,9 +133,19 @@ impl WholeTape {
 }
 
 impl Tape for WholeTape {
+    const FORGETS: bool = false;
+
+    ghost FORGETS = { false };
+
     ghost history = { λ t. t.history };
 
     ghost room = { λ t. t.room };
+
+    ghost memory = { λ t. never };
+
+    ghost forgets = { λ t. refl };
+
+    ghost takes_all = { λ t e. Prim.search rules };
 
     fn now(&self) -> &Battle {
         &self.copies[self.at].battle
@@ -149,6 +161,10 @@ impl Tape for WholeTape {
 
     fn is_marked(&self) -> bool {
         self.copies[self.at].mark
+    }
+
+    fn forgotten(&self) -> bool {
+        false
     }
 
     fn set_mark(&mut self) {

@@ -215,8 +215,16 @@ turn 1 cycle 1 next 0 alive 1 at 3/3
 4000 NOP.F $1, $1
 ";
     check_output(&rt, rt.alloc(), &words, input, output)?;
-    let full = b"refused 13 JournalFull 200000\n";
-    check_output(&rt, rt.alloc(), &words, b"run 200001\n", full)
+    // So many places are kept, and no more.
+    let words = ["-e", "-c", "300000", "imp.load"];
+    let kept = b"turn 200000 cycle 200000 next 0 alive 1 at 200000/200000
+turn 0 cycle 0 next 0 alive 1 at 0/200000
+";
+    check_output(&rt, rt.alloc(), &words, b"run 200000\nundo\n", kept)?;
+    let forgotten = b"turn 200001 cycle 200001 next 0 alive 1 at 200000/200000
+refused 15 Forgotten
+";
+    check_output(&rt, rt.alloc(), &words, b"run 200001\nundo\n", forgotten)
 }
 
 #[test]
@@ -285,20 +293,6 @@ fn least_and_greatest_numbers(rt: HostRuntime) -> Result<(), Fail> {
     ];
     let dead = b"turn 1 cycle 0 next 0 alive 0 at 1/1\n";
     check_output(&rt, rt.alloc(), &history, b"run 1000000\n", dead)?;
-    let shorter = [
-        "-e",
-        "--history",
-        "999999",
-        "-s",
-        "8",
-        "-l",
-        "1",
-        "-d",
-        "1",
-        "dead.load",
-    ];
-    let full = b"refused 13 JournalFull 999999\n";
-    check_output(&rt, rt.alloc(), &shorter, b"run 1000000\n", full)?;
     for position in ["100", "7900"] {
         let words = ["-b", "-c", "1", "-F", position, "imp.load", "stay.load"];
         assert_eq!(rt; answer(rt.alloc(), &words, b"")?.status, 0);
@@ -529,16 +523,18 @@ fn a_history_of_two_places(rt: HostRuntime) -> Result<(), Fail> {
         "1",
         "imp.load",
     ];
-    let replies = b"refused 13 JournalFull 2
-turn 2 cycle 2 next 0 alive 1 at 2/2
-refused 13 JournalFull 0
-turn 0 cycle 0 next 0 alive 1 at 0/2
+    let replies = b"turn 3 cycle 3 next 0 alive 1 at 2/2
+turn 5 cycle 5 next 0 alive 1 at 2/2
+turn 6 cycle 6 next 0 alive 1 at 2/2
+turn 5 cycle 5 next 0 alive 1 at 1/2
+refused 15 Forgotten
+refused 12 NotInHistory 4 6
 ";
     check_output(
         &rt,
         rt.alloc(),
         &words,
-        b"run 3\nrun 2\nstep\nundo\n",
+        b"run 3\nrun 2\nstep\nundo\nundo\ngoto 0\n",
         replies,
     )
 }
@@ -750,7 +746,7 @@ Options:
       --read-limit <N>   How far is read, 1 to the core size [default: core size]
       --write-limit <N>  How far is written, 1 to the core size [default: core size]
       --seed <N>         Seed of the positions, 1 to 2147483646 [default: 1]
-      --history <N>      Limit of the debugger's history, 1 to 1000000 [default: 200000]
+      --history <N>      Places that the debugger's history keeps, 1 to 1000000 [default: 200000]
       --score <FORMULA>  What a survivor gets, W being the warriors and S the survivors [default: (W*W-1)/S]
   -e                     Debugs the battle of the first round by the commands of standard input
   -b                     No listing of the warriors

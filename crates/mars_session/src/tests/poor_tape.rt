@@ -1,16 +1,18 @@
 //! A tape that is refused memory after so many growths.
-ghost use Rattle.std.specs.Prelude.{◌≡◌, ◌+◌, ◌≤◌, [], None, false, OnOk, IsOk};
+ghost use Rattle.std.proofs.Common.{refl, rules};
+ghost use Rattle.std.specs.Prelude.{◌≡◌, ◌+◌, ◌≤◌, [], None, is_some, false, OnOk, IsOk};
 ghost use Rattle.mars_core.specs.State.{is_over_of};
 ghost use Rattle.mars_core.specs.Turn.{turn_of};
 ghost use Rattle.mars_core.specs.Edit.{edit_fault, edited};
 ghost use Rattle.mars_session.specs.History.{following, position_of, last_of, marked, cut, append, back, forward};
+ghost use Rattle.mars_session.specs.Memory.{Memory, never, kept, noted};
 
 use crate::Tape;
 use mars_core::{Battle, Edit};
 use std::alloc::{AllocError, Global};
 use std::marker::Model;
 
-/// A tape, to which `room` places may still be appended, and which may grow so many times.
+/// A tape that forgets nothing, to which `room` places may still be appended, and which may grow so many times.
 #[derive(Drop)]
 pub struct PoorTape<T: Tape> {
     tape: T,
@@ -19,7 +21,7 @@ pub struct PoorTape<T: Tape> {
 }
 
 impl<T: Tape> Model for PoorTape<T> {
-    ghost use Rattle.std.specs.Prelude.{◌≤◌};
+    ghost use Rattle.std.specs.Prelude.{◌≡◌, ◌≤◌, false};
     ghost use Rattle.mars_session.specs.History.{following};
     ghost use Rattle.mars_session.specs.Tapes.{Taped};
 
@@ -27,7 +29,7 @@ impl<T: Tape> Model for PoorTape<T> {
 
     ghost view = { λ t. record { history = T.history t.tape; room = t.room } };
 
-    ghost invariant = { λ t. (following (T.history t.tape) ≤ t.room) × (t.room ≤ T.room t.tape) };
+    ghost invariant = { λ t. (following (T.history t.tape) ≤ t.room) × (t.room ≤ T.room t.tape) × (T.FORGETS ≡ false) };
 }
 
 /// How many places follow the present one.
@@ -41,6 +43,7 @@ fn places_after<T: Tape>(tape: &T) -> u64
 impl<T: Tape> PoorTape<T> {
     /// The tape, with room for what follows alone, and so many growths to come.
     pub fn new(tape: T, growths: u64) -> PoorTape<T>
+        requires { T.FORGETS ≡ false }
         ensures { result.history ≡ T.history tape }
     {
         let room = places_after(&tape);
@@ -53,9 +56,19 @@ impl<T: Tape> PoorTape<T> {
 }
 
 impl<T: Tape> Tape for PoorTape<T> {
+    const FORGETS: bool = false;
+
+    ghost FORGETS = { false };
+
     ghost history = { λ t. t.history };
 
     ghost room = { λ t. t.room };
+
+    ghost memory = { λ t. never };
+
+    ghost forgets = { λ t. refl };
+
+    ghost takes_all = { λ t e. Prim.search rules };
 
     fn now(&self) -> &Battle {
         self.tape.now()
@@ -71,6 +84,10 @@ impl<T: Tape> Tape for PoorTape<T> {
 
     fn is_marked(&self) -> bool {
         self.tape.is_marked()
+    }
+
+    fn forgotten(&self) -> bool {
+        false
     }
 
     fn set_mark(&mut self) {

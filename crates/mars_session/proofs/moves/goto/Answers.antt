@@ -11,6 +11,7 @@ on-init g c =
     let first = at_first (history c.go_back.new.tape) (history c.args.tape.now) c.go_back.ensures.places c.go_back.ensures.position in
     record {
       places = c.go_back.ensures.places;
+      memory = c.go_back.ensures.memory;
       sought = rw first refl;
       last = rw first (last_turns_rewound (history c.args.tape.now));
     }
@@ -18,7 +19,7 @@ on-init g c =
 pub returns-then-last-turns : goal.returns-then-last-turns
 returns-then-last-turns g c =
     let here = turned_here c.args.turns (g.T.Tape.history c.on.tape) (cc) in
-    rw (sym c.on.invariant.sought, here, c.standing.ensures) refl
+    rw (sym c.on.invariant.sought, here, c.standing.ensures, c.on.invariant.memory) refl
 
 pub go_back-requires-2 : goal.go_back-requires-2
 go_back-requires-2 g c =
@@ -47,4 +48,5 @@ returns g c =
     let first_is : c.turns_now-first.result ≡ first_turns (history c.args.tape.now) = cc in
     let last_is : c.turns_now-last.result ≡ last_turns (history c.args.tape.now) = reached ∙ sym (last_here (history c.on.tape) at_end) ∙ c.on.invariant.last in
     let same = same_place (history c.go_back-2.new.tape) (history c.args.tape.now) (c.go_back-2.ensures.places ∙ c.on.invariant.places) (c.go_back-2.ensures.position ∙ c.position-start.ensures.value) in
-    rw (sym c.on.invariant.sought, none, same, first_is, last_is) refl
+    let kept : g.T.Tape.memory c.go_back-2.new.tape ≡ g.T.Tape.memory c.args.tape.now = c.go_back-2.ensures.memory ∙ c.on.invariant.memory in
+    rw (sym c.on.invariant.sought, none, same, first_is, last_is, kept) refl

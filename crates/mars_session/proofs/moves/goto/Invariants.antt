@@ -6,6 +6,7 @@ use Rattle.mars_session.proofs.moves.goto.Given as goal
 abbrev pub invariant-on : goal.invariant-on
 invariant-on g l = record {
   places : rewound (g.T.Tape.history l.tape) ≡ rewound (g.T.Tape.history l.fn.tape);
+  memory : g.T.Tape.memory l.tape ≡ g.T.Tape.memory l.fn.tape;
   sought : first_at_turn l.turns (g.T.Tape.history l.tape) ≡ goto l.turns (g.T.Tape.history l.fn.tape);
   last : last_turns (g.T.Tape.history l.tape) ≡ last_turns (g.T.Tape.history l.fn.tape);
 }

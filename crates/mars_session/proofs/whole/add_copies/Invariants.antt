@@ -1,5 +1,5 @@
 use Rattle.std.proofs.Common.{◌-◌, ◌+◌, vec_len}
-use Rattle.mars_session.specs.Whole.{IsGrown}
+use Rattle.mars_session.specs.Code.Whole.{IsGrown}
 use Rattle.mars_session.proofs.whole.add_copies.Given as goal
 
 abbrev pub invariant-copies : goal.invariant-copies

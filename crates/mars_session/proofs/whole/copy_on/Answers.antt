@@ -1,6 +1,6 @@
 use Rattle.std.proofs.Common.{◌≡◌, ◌+◌, ◌<◌, length, false, List, set, ◌∙◌, ap, sym, arith}
 use Rattle.mars_session.specs.declared.snapshots.Snapshot.{Snapshot}
-use Rattle.mars_session.specs.Whole.{snapshot_at}
+use Rattle.mars_session.specs.Code.Whole.{snapshot_at}
 use Rattle.mars_session.proofs.Copying.{next_written, read_of_front}
 use Rattle.mars_session.proofs.whole.copy_on.Goals as goal
 

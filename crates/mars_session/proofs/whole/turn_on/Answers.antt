@@ -1,7 +1,7 @@
 use Rattle.std.proofs.Common.{List, length, ap, arith}
 use Rattle.mars_core.specs.Turn.{turn_of}
 use Rattle.mars_session.specs.declared.snapshots.Snapshot.{Snapshot}
-use Rattle.mars_session.specs.Whole.{snapshot_at}
+use Rattle.mars_session.specs.Code.Whole.{snapshot_at}
 use Rattle.mars_session.proofs.Copying.{changed_on}
 use Rattle.mars_session.proofs.whole.turn_on.Goals as goal
 

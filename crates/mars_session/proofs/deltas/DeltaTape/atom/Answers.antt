@@ -2,7 +2,7 @@ use Rattle.std.proofs.Common.{◌<◌, ap, sym, length, arith, true}
 use Rattle.std.proofs.lemmas.Bool.{ltb-true}
 use Rattle.mars_session.specs.Tapes.{Taped}
 use Rattle.mars_session.specs.History.{last_of, places}
-use Rattle.mars_session.specs.Journals.{LeadsAt}
+use Rattle.mars_session.specs.Tapes.{LeadsAt}
 use Rattle.mars_session.proofs.Stepping.{journal_last, journal_leads, read_entry}
 use Rattle.mars_session.proofs.deltas.DeltaTape.atom.Goals as goal
 

@@ -1,6 +1,6 @@
 use Rattle.std.proofs.Common.{◌<◌, ◌-◌, ◌∙◌, ap, length, arith, true}
 use Rattle.mars_core.specs.Record.{reverted}
-use Rattle.mars_session.specs.Journals.{entry_at}
+use Rattle.mars_session.specs.Code.Journals.{entry_at}
 use Rattle.mars_session.specs.Tapes.{Taped}
 use Rattle.mars_session.specs.History.{back}
 use Rattle.mars_session.proofs.Stepping.{journal_back, back_kept, leads_here, gone_back, read_entry}
@@ -21,8 +21,8 @@ invariant_of-self c =
     let is = gone_back s.entries.items s.at s.battle c.revert.new.self c.index.result.now.0 c.if-self-gt0.true c.self.invariant.here read c.revert.ensures in
     rw is (back_kept s.entries.items s.at s.battle c.if-self-gt0.true c.self.invariant)
 
-pub returns-then-self-gt0 : goal.returns-then-self-gt0
-returns-then-self-gt0 c =
+pub returns-then-self-gt0-clause-places : goal.returns-then-self-gt0-clause-places
+returns-then-self-gt0-clause-places c =
     let s = c.self.inside in
     let inside : s.at - 1 < length s.entries.items = omega (arith, c.self.invariant.inside, c.if-self-gt0.true) in
     let read = read_entry s.entries.items (s.at - 1) c.index.result.now inside c.index.ensures in

@@ -4,7 +4,7 @@ use Rattle.mars_core.specs.Edit.{edit_fault, edited}
 use Rattle.mars_core.specs.Leads.{Leads}
 use Rattle.mars_session.specs.History.{append, following}
 use Rattle.mars_session.specs.Tapes.{Taped}
-use Rattle.mars_session.specs.Journals.{journal_history}
+use Rattle.mars_session.specs.Code.Journals.{journal_history}
 use Rattle.mars_session.proofs.Stepping.{journal_append, append_kept, journal_following}
 use Rattle.mars_session.proofs.deltas.DeltaTapeTape.edit.Goals as goal
 

@@ -1,6 +1,6 @@
 use Rattle.std.proofs.Common.{◌<◌, ◌∙◌, ap, length, arith, true}
 use Rattle.mars_core.specs.Record.{applied}
-use Rattle.mars_session.specs.Journals.{entry_at}
+use Rattle.mars_session.specs.Code.Journals.{entry_at}
 use Rattle.mars_session.specs.Tapes.{Taped}
 use Rattle.mars_session.specs.History.{forward}
 use Rattle.mars_session.proofs.Stepping.{journal_forward, forward_kept, leads_on, gone_on, read_entry}
@@ -21,8 +21,8 @@ invariant_of-self c =
     let is = gone_on s.entries.items s.at s.battle c.apply.new.self c.index.result.now.0 inside c.self.invariant.on read c.apply.ensures in
     rw is (forward_kept s.entries.items s.at s.battle inside c.self.invariant)
 
-pub returns-then-self-len : goal.returns-then-self-len
-returns-then-self-len c =
+pub returns-then-self-len-clause-places : goal.returns-then-self-len-clause-places
+returns-then-self-len-clause-places c =
     let s = c.self.inside in
     let inside : s.at < length s.entries.items = omega (arith, c.if-self-len.true, c.len.ensures, s.entries.ok.0) in
     let read = read_entry s.entries.items s.at c.index.result.now inside c.index.ensures in

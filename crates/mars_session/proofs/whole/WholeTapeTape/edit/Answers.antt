@@ -3,7 +3,7 @@ use Rattle.mars_core.specs.Edit.{edited}
 use Rattle.mars_session.specs.History.{append}
 use Rattle.mars_core.proofs.CallerLemmas.{shape-edited}
 use Rattle.mars_session.specs.Tapes.{Taped}
-use Rattle.mars_session.specs.Whole.{snapshot_at}
+use Rattle.mars_session.specs.Code.Whole.{snapshot_at}
 use Rattle.mars_session.proofs.Copying.{whole_append, whole_more}
 use Rattle.mars_session.proofs.whole.WholeTapeTape.edit.Goals as goal
 

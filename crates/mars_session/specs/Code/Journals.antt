@@ -68,13 +68,9 @@ pub record IsJournal (es : List (Atom × Bool)) (at : ℕ) (s : State) : Type 0 
   pub here : LeadHere es at s
   pub on : LeadOn es at (length es - at) s
 
--- the record leads from the i-th place, where p is place 0 and the others follow, to the one after it
-abbrev pub LeadsFrom : Place → List Place → ℕ → Atom → Type 0
-LeadsFrom p [] i atom = ⊥
-LeadsFrom p (q ∷ ps) zero atom = Leads p.state atom q.state
-LeadsFrom p (q ∷ ps) (suc i) atom = LeadsFrom q ps i atom
-
--- the record leads from place i of a list to place i + 1
-abbrev pub LeadsAt : List Place → ℕ → Atom → Type 0
-LeadsAt [] i atom = ⊥
-LeadsAt (p ∷ ps) i atom = LeadsFrom p ps i atom
+-- so it is where at most a number of records are kept
+pub record IsRing (es : List (Atom × Bool)) (most at : ℕ) (s : State) : Type 0 where
+  pub journal : IsJournal es at s
+  pub some : 1 ≤ most
+  pub few : most ≤ 1000000
+  pub within : length es ≤ most

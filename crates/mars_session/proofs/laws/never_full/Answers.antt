@@ -1,0 +1,5 @@
+use Rattle.mars_session.proofs.Wanting.{never_full}
+use Rattle.mars_session.proofs.laws.never_full.Goals as goal
+
+pub returns : goal.returns
+returns c = never_full

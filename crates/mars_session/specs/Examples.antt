@@ -1,0 +1,31 @@
+-- Worked examples, as theorems: the check computes what the definitions give. Here are the words that they are told in.
+pub mod Histories
+pub mod Forgetting
+use Rattle.std.specs.Prelude.{◌≡◌, ℕ, false, List, [], ◌∷◌, Some, Result, Ok}
+use Rattle.mars_cell.specs.declared.instruction.Op.TheVariants.{Mov}
+use Rattle.mars_cell.specs.declared.instruction.Modifier.TheVariants.{I}
+use Rattle.mars_cell.specs.declared.instruction.Mode.TheVariants.{Direct}
+use Rattle.mars_core.specs.Examples.{cell_of, of_eight, eight, lone}
+use Rattle.mars_core.specs.State.{State}
+use Rattle.mars_session.specs.declared.calls.Call.{Call}
+use Rattle.mars_session.specs.declared.calls.Standing.{Standing}
+use Rattle.mars_session.specs.declared.calls.Refusal.{Refusal}
+use Rattle.mars_session.specs.History.{beginning}
+use Rattle.mars_session.specs.Memory.{Memory, never}
+use Rattle.mars_session.specs.Script.{replies_of}
+
+-- a lone warrior that copies its cell to the next one, over and over
+abbrev pub imp : State
+imp = lone of_eight (eight (cell_of Mov I Direct 0 Direct 1 ∷ [])) (0 ∷ [])
+
+-- so many turns of it were made, and it stands at a place of the history, whose last place has this number
+abbrev pub stands : ℕ → ℕ → ℕ → Result Standing Refusal
+stands turns position last = Ok (record { turns = turns; cycle = turns; next = 0; alive = 1; position = position; last = last })
+
+-- the replies to its calls where all places are kept, at most so many after the first
+abbrev pub IsToldWithin : ℕ → List Call → List (Result Standing Refusal) → Type 0
+IsToldWithin limit calls replies = replies_of never limit calls [] (beginning imp) ≡ replies
+
+-- the replies to its calls where so many places are kept beside the last one
+abbrev pub IsToldKeeping : ℕ → List Call → List (Result Standing Refusal) → Type 0
+IsToldKeeping k calls replies = replies_of (record { most = Some k; forgotten = false }) 0 calls [] (beginning imp) ≡ replies

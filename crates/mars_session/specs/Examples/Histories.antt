@@ -1,0 +1,36 @@
+-- Calls where all places are kept.
+use Rattle.std.specs.Prelude.{◌≡◌, ℕ, List, [], ◌∷◌, Err, refl}
+use Rattle.mars_core.specs.Examples.{the_machine}
+use Rattle.mars_session.specs.declared.calls.Call.TheVariants.{Step, Run, Until, Kill, Undo, Redo, Goto}
+use Rattle.mars_session.specs.declared.calls.Refusal.TheVariants.{Count, NoSuchProcess, CyclePassed, NothingToUndo, NothingToRedo, NotInHistory, JournalFull}
+use Rattle.mars_session.specs.Examples.{stands, IsToldWithin}
+
+pub steps_are_undone_and_redone : IsToldWithin 100
+    (Step ∷ Step ∷ Undo ∷ Undo ∷ Undo ∷ Redo ∷ Redo ∷ Redo ∷ [])
+    (stands 1 1 1 ∷ stands 2 2 2 ∷ stands 1 1 2 ∷ stands 0 0 2 ∷ Err NothingToUndo ∷ stands 1 1 2 ∷ stands 2 2 2 ∷ Err NothingToRedo ∷ [])
+unfolding the_machine
+steps_are_undone_and_redone = refl
+
+pub undo_from_the_middle_of_a_run : IsToldWithin 100
+    (Run 4 ∷ Goto 2 ∷ Undo ∷ Redo ∷ Goto 9 ∷ [])
+    (stands 4 4 4 ∷ stands 2 2 4 ∷ stands 0 0 4 ∷ stands 4 4 4 ∷ Err (NotInHistory 0 4) ∷ [])
+unfolding the_machine
+undo_from_the_middle_of_a_run = refl
+
+pub a_command_drops_what_follows : IsToldWithin 100
+    (Run 4 ∷ Goto 2 ∷ Step ∷ Undo ∷ Redo ∷ [])
+    (stands 4 4 4 ∷ stands 2 2 4 ∷ stands 3 3 3 ∷ stands 2 2 3 ∷ stands 3 3 3 ∷ [])
+unfolding the_machine
+a_command_drops_what_follows = refl
+
+pub a_history_of_two_places : IsToldWithin 2
+    (Run 3 ∷ Run 2 ∷ Step ∷ Undo ∷ [])
+    (Err (JournalFull 2) ∷ stands 2 2 2 ∷ Err (JournalFull 0) ∷ stands 0 0 2 ∷ [])
+unfolding the_machine
+a_history_of_two_places = refl
+
+pub refused_calls : IsToldWithin 100
+    (Until 3 ∷ Until 3 ∷ Run 0 ∷ Kill 0 1 ∷ [])
+    (stands 3 3 3 ∷ Err (CyclePassed 3) ∷ Err Count ∷ Err NoSuchProcess ∷ [])
+unfolding the_machine
+refused_calls = refl

@@ -1,0 +1,112 @@
+//! The records between the places of a tape that forgets.
+ghost use Rattle.std.specs.Prelude.{◌≡◌, ◌+◌, ◌-◌, ◌<◌, ◌≤◌, ◌||◌, ◌++◌, [], ◌∷◌, IfOk, length, take, slice_set, nat_lt, true, false, if◌then◌else◌};
+ghost use Rattle.circular_buffer.specs.Buffer.{buffer, keep_last};
+ghost use Rattle.mars_session.specs.Code.Journals.{entry_at, mark_at};
+
+use circular_buffer::HeapCircularBuffer;
+use mars_core::Atom;
+use std::alloc::{AllocError, Global};
+
+/// The records between at most so many places and one more, each with the mark of the place that it leads to. Room for all of
+/// them is reserved.
+#[derive(Drop)]
+pub struct Records {
+    /// The records, the oldest first.
+    pub ring: HeapCircularBuffer<(Atom, bool)>,
+    /// The present place's number.
+    pub at: usize,
+    /// Whether the first place is marked.
+    pub first_mark: bool,
+    /// Whether a place was ever forgotten.
+    pub forgotten: bool,
+}
+
+impl Records {
+    /// No record, and room for so many, after a first place that is marked.
+    pub fn with_room(alloc: Global, most: usize) -> Result<Records, AllocError>
+        ensures { IfOk result (λ r. r ≡ record { ring = buffer [] most; at = 0; first_mark = true; forgotten = false }) }
+    {
+        Ok(Records {
+            ring: HeapCircularBuffer::with_capacity(alloc, most)?,
+            at: 0,
+            first_mark: true,
+            forgotten: false,
+        })
+    }
+
+    /// Whether the present place is marked.
+    pub fn is_marked(&self) -> bool
+        requires { self.now.at ≤ length self.now.ring.items }
+        ensures { result ≡ mark_at self.now.first_mark self.now.ring.items self.now.at }
+    {
+        if self.at == 0 {
+            return self.first_mark;
+        }
+        match self.ring.get(self.at - 1) {
+            Some(entry) => entry.1,
+            None => unreachable!(),
+        }
+    }
+
+    /// Marks the present place.
+    pub fn set_mark(&mut self)
+        requires { self.old.at ≤ length self.old.ring.items }
+        ensures at { self.new.at ≡ self.old.at }
+        ensures forgotten { self.new.forgotten ≡ self.old.forgotten }
+        ensures first_mark { self.new.first_mark ≡ (if nat_lt 0 self.old.at then self.old.first_mark else true) }
+        ensures ring { self.new.ring ≡ (if nat_lt 0 self.old.at then buffer (slice_set self.old.ring.items (self.old.at - 1) ((entry_at self.old.ring.items (self.old.at - 1)).0, true)) self.old.ring.capacity else self.old.ring) }
+    {
+        if self.at == 0 {
+            self.first_mark = true;
+            return;
+        }
+        match self.ring.get_mut(self.at - 1) {
+            Some(entry) => entry.1 = true,
+            None => unreachable!(),
+        }
+    }
+
+    /// The record that leads to the present place.
+    pub fn last(&self) -> &Atom
+        requires before { 0 < self.now.at }
+        requires inside { self.now.at ≤ length self.now.ring.items }
+        ensures { result.now ≡ (entry_at self.now.ring.items (self.now.at - 1)).0 }
+    {
+        match self.ring.get(self.at - 1) {
+            Some(entry) => &entry.0,
+            None => unreachable!(),
+        }
+    }
+
+    /// The record that leads on from the present place.
+    pub fn next(&self) -> &Atom
+        requires { self.now.at < length self.now.ring.items }
+        ensures { result.now ≡ (entry_at self.now.ring.items self.now.at).0 }
+    {
+        match self.ring.get(self.at) {
+            Some(entry) => &entry.0,
+            None => unreachable!(),
+        }
+    }
+
+    /// Appends a record to the last place, which leads to the present one from then on. Where there is no room for it, the
+    /// first place is forgotten.
+    pub fn push(&mut self, atom: Atom)
+        requires last { self.old.at ≡ length self.old.ring.items }
+        requires some { 1 ≤ self.old.ring.capacity }
+        requires few { self.old.ring.capacity ≤ 1000000 }
+        requires within { length self.old.ring.items ≤ self.old.ring.capacity }
+        ensures ring { self.new.ring ≡ buffer (keep_last self.old.ring.capacity (self.old.ring.items ++ (atom, false) ∷ [])) self.old.ring.capacity }
+        ensures at { self.new.at ≡ (if nat_lt self.old.at self.old.ring.capacity then self.old.at + 1 else self.old.at) }
+        ensures first_mark { self.new.first_mark ≡ (if nat_lt self.old.at self.old.ring.capacity then self.old.first_mark else (entry_at self.old.ring.items 0).1) }
+        ensures forgotten { self.new.forgotten ≡ (self.old.forgotten || nat_lt self.old.ring.capacity (self.old.at + 1)) }
+    {
+        match self.ring.push_back((atom, false)) {
+            None => self.at += 1,
+            Some(oldest) => {
+                self.first_mark = oldest.1;
+                self.forgotten = true;
+            }
+        }
+    }
+}

@@ -1,0 +1,124 @@
+//! A tape that forgets.
+ghost use Rattle.std.proofs.Common.{refl, rules};
+ghost use Rattle.std.specs.Prelude.{◌≡◌, ℕ, ◌+◌, ◌-◌, ◌<◌, ◌≤◌, ◌^◌, [], None, Some, false, true, OnOk, OnErr, IsOk, MatchResult, length};
+ghost use Rattle.mars_core.specs.State.{is_over_of};
+ghost use Rattle.mars_core.specs.Turn.{turn_of};
+ghost use Rattle.mars_core.specs.Edit.{edit_fault, edited};
+ghost use Rattle.mars_session.specs.History.{beginning, position_of, last_of, following, marked, cut, append, back, forward};
+ghost use Rattle.mars_session.specs.Memory.{Memory, kept, noted};
+
+use crate::records::Records;
+use crate::tapes::Tape;
+use mars_core::{Battle, Edit};
+use std::alloc::{AllocError, Global};
+use std::marker::Model;
+
+/// A tape that keeps the battle of the present place, and the records between the last places, as many as it was made for.
+/// All its memory is taken when it is made.
+#[derive(Drop)]
+pub struct RingTape {
+    battle: Battle,
+    records: Records,
+}
+
+impl Model for RingTape {
+    ghost use Rattle.mars_session.specs.Tapes.{Ringed};
+    ghost use Rattle.mars_session.specs.Code.Journals.{journal_history, IsRing};
+
+    ghost Value = { Ringed };
+
+    ghost view = { λ t. record { history = journal_history t.records.first_mark t.records.ring.items t.records.at t.battle; most = t.records.ring.capacity; forgotten = t.records.forgotten } };
+
+    ghost invariant = { λ t. IsRing t.records.ring.items t.records.ring.capacity t.records.at t.battle };
+}
+
+impl RingTape {
+    /// A tape at the one, marked place of a battle, that keeps so many places beside the last one, 1 to 1,000,000. Where memory
+    /// is refused, the battle comes back.
+    pub fn new(alloc: Global, battle: Battle, most: usize) -> Result<Self, Battle>
+        requires some { 1 ≤ most }
+        requires few { most ≤ 1000000 }
+        ensures { MatchResult result (λ t. t ≡ record { history = beginning battle; most = most; forgotten = false }) (λ b. b ≡ battle) }
+    {
+        match Records::with_room(alloc, most) {
+            Ok(records) => Ok(RingTape { battle, records }),
+            Err(_) => Err(battle),
+        }
+    }
+}
+
+impl Tape for RingTape {
+    const FORGETS: bool = true;
+
+    ghost FORGETS = { true };
+
+    ghost history = { λ t. t.history };
+
+    ghost room = { λ t. 2 ^ 64 };
+
+    ghost memory = { λ t. record { most = Some t.most; forgotten = t.forgotten } };
+
+    ghost forgets = { λ t. refl };
+
+    ghost takes_all = { λ t e. Prim.search rules };
+
+    fn now(&self) -> &Battle {
+        &self.battle
+    }
+
+    fn position(&self) -> u64 {
+        self.records.at as u64
+    }
+
+    fn len(&self) -> u64 {
+        self.records.ring.len() as u64 + 1
+    }
+
+    fn is_marked(&self) -> bool {
+        self.records.is_marked()
+    }
+
+    fn forgotten(&self) -> bool {
+        self.records.forgotten
+    }
+
+    fn set_mark(&mut self) {
+        self.records.set_mark();
+    }
+
+    fn reserve(&mut self, n: u64) -> Result<(), AllocError> {
+        Ok(())
+    }
+
+    fn cut(&mut self) {
+        self.records.ring.truncate_back(self.records.at);
+    }
+
+    fn turn(&mut self) {
+        let Ok(atom) = self.battle.turn() else {
+            unreachable!()
+        };
+        self.records.push(atom);
+    }
+
+    fn edit(&mut self, edit: Edit) {
+        let Ok(atom) = self.battle.edit(edit) else {
+            unreachable!()
+        };
+        self.records.push(atom);
+    }
+
+    fn back(&mut self) {
+        if self.records.at > 0 {
+            self.battle.revert(self.records.last());
+            self.records.at -= 1;
+        }
+    }
+
+    fn forward(&mut self) {
+        if self.records.at < self.records.ring.len() {
+            self.battle.apply(self.records.next());
+            self.records.at += 1;
+        }
+    }
+}
