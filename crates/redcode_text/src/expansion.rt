@@ -45,7 +45,7 @@ fn read_source(alloc: Global, bytes: &[u8], names: &Names) -> Result<Reading, Te
     let Ok(rows) = rows_of(alloc, bytes) else {
         return Err(TextProblem::OutOfMemory.at_line(0));
     };
-    let Ok(mut reading) = Reading::new(alloc) else {
+    let Ok(mut reading) = Reading::new(alloc, bytes) else {
         return Err(TextProblem::OutOfMemory.at_line(0));
     };
     read_all(alloc, names, read_rows(&rows), &mut reading)?;

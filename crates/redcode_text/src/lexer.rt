@@ -160,7 +160,7 @@ pub fn scan(alloc: Global, text: &[u8]) -> Result<LineTokens, TextFault>
     ensures { Answers (λ s. scan_of s.tokens s.names) result (scanned text.now) }
 {
     let mut tokens = Vec::new(alloc);
-    let mut names = NameTable::new(alloc);
+    let mut names = NameTable::new(alloc, text);
     let line = Text {
         number: 1,
         at: 0,

@@ -70,7 +70,7 @@ impl Reading {
     ghost use Rattle.redcode_text.specs.Code.Rows.{row_of};
 
     /// Nothing, before a source is read.
-    pub fn new(alloc: Global) -> Result<Reading, AllocError>
+    pub fn new(alloc: Global, source: &[u8]) -> Result<Reading, AllocError>
         ensures value { IfOk result (λ reading. reading_of reading ≡ nothing_read) }
         ensures loops { IfOk result (λ reading. reading.loops ≡ []) }
         ensures going { IfOk result (λ reading. reading.ended ≡ false) }
@@ -79,7 +79,7 @@ impl Reading {
         let author = String::from_str(alloc, "Anonymous")?;
         Ok(Reading {
             loops: OpenLoops::new(alloc),
-            names: NameTable::new(alloc),
+            names: NameTable::new(alloc, source),
             equates: Equates::new(alloc),
             equate_grows: false,
             lines: Vec::new(alloc),
