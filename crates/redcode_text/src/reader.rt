@@ -1,6 +1,5 @@
 //! All that has been read of a source, and what a line adds to it.
-ghost use Rattle.std.specs.Prelude.{◌≡◌, ◌≤◌, ◌<◌, ◌+◌, ◌^◌, ◌==◌, not, length, string_bytes, vec_len, [], false, IfOk, OnOk};
-ghost use Rattle.std.specs.List.{prefix_len};
+ghost use Rattle.std.specs.Prelude.{◌≡◌, ◌≤◌, ◌<◌, ◌+◌, ◌^◌, length, string_bytes, vec_len, [], false, IfOk, OnOk};
 ghost use Rattle.redcode_text.specs.Code.Labels.{AreLabels};
 ghost use Rattle.redcode_text.specs.Programs.{IsPrinted};
 ghost use Rattle.redcode_text.specs.declared.limits.TheConstants.{MAX_LINES, MAX_TOKENS};
@@ -52,14 +51,6 @@ pub struct Reading {
     ghost known_labels: { AreLabels (λ l. l.labels.items) labels lines.items },
     ghost printed_name: { IsPrinted (string_bytes name) },
     ghost printed_author: { IsPrinted (string_bytes author) },
-}
-
-/// How many bytes stand before a comment.
-fn comment_at(bytes: &[u8]) -> usize
-    ensures value { result ≡ prefix_len (λ b. not (b == 59)) bytes.now }
-    ensures within { result ≤ length bytes.now }
-{
-    bytes.iter().take_while(|byte| **byte != b';').count()
 }
 
 impl Reading {
@@ -132,11 +123,11 @@ impl Reading {
         ensures lines { vec_len self.new.lines ≡ vec_len self.old.lines }
         ensures lines_read { self.new.lines_read ≡ self.old.lines_read }
     {
-        let text = &row.bytes[at..];
         let code = Text {
             number: row.number,
             at: row.at + at,
-            bytes: &text[..comment_at(text)],
+            bytes: &row.bytes[at..at + row.code_len(at)],
+            blanks: row.blanks,
         };
         let mut tokens = Vec::new(alloc);
         let room = MAX_TOKENS - self.tokens_read;
