@@ -34,3 +34,4 @@ pub mod LoneSteps
 pub mod SourceRows
 pub mod Printing
 pub mod NameSets
+pub mod CallerLemmas
