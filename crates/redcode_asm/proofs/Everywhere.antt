@@ -1,6 +1,6 @@
 -- What is the same wherever a line stands.
 use Rattle.std.specs.Bool.{⊤}
-use Rattle.std.proofs.Common.{◌≡◌, ◌∙◌, ◌+◌, append_assoc, cond, drop, filter, map, ℕ, ℤ, pos, ◌-ℤ◌, ◌<◌, ◌≤◌, ◌⊎◌, inl, inr, arith, length, length-append, get_or, Bool, true, false, List, [], ◌∷◌, ◌++◌, Option, Some, None, option_map, Result, Ok, Err, codes, refl, ap, sym, subst}
+use Rattle.std.proofs.Common.{◌≡◌, ◌∙◌, Bor, ◌+◌, append_assoc, cond, drop, filter, map, ℕ, ℤ, pos, ◌-ℤ◌, ◌<◌, ◌≤◌, ◌⊎◌, inl, inr, arith, length, length-append, get_or, Bool, true, false, List, [], ◌∷◌, ◌++◌, Option, Some, None, option_map, Result, Ok, Err, codes, refl, ap, sym, subst}
 use Rattle.std.specs.Str.{bytes_eq}
 use Rattle.mars_cell.specs.declared.instruction.Cell.{Cell}
 use Rattle.mars_cell.specs.declared.instruction.Modifier.{Modifier}
@@ -9,10 +9,10 @@ use Rattle.redcode_text.specs.declared.fault.ExprFault.{ExprFault}
 use Rattle.redcode_text.specs.declared.token.Token.{Token}
 use Rattle.redcode_text.specs.Expansion.{ProgramValue}
 use Rattle.redcode_text.specs.Expression.{kinds, value_of}
-use Rattle.redcode_text.specs.Lines.{Line, is_instruction, Predefined, name_at, predefined_value}
+use Rattle.redcode_text.specs.Lines.{Assert, Line, is_instruction, Predefined, name_at, predefined_value}
 use Rattle.redcode_text.proofs.CallerLemmas.{Extends, Follows, follows-itself, value-follows}
-use Rattle.redcode_asm.specs.Assembly.{◌>>=◌, Placed, at_line, placed_from, cells_of, cell_from, cell_of, cell_with, expressed, given_operands, known_value, label_among, name_value, opcode_of, operand_value, placed, reduced, replaced, split_mode, split_modifier, value_in, value_or}
-use Rattle.redcode_asm.specs.Code.Fixed.{AreFixed, IsFixed, fixed_value, unless_label}
+use Rattle.redcode_asm.specs.Assembly.{◌>>=◌, Placed, assert_holds, holds, at_line, placed_from, cells_of, cell_from, cell_of, cell_with, expressed, given_operands, known_value, label_among, name_value, opcode_of, operand_value, placed, reduced, replaced, split_mode, split_modifier, value_in, value_or}
+use Rattle.redcode_asm.specs.Code.Fixed.{AreFixed, AreHeld, IsFixed, IsHeld, fixed_value, unless_label}
 use Rattle.redcode_asm.specs.Code.Problems.{Gives}
 use Rattle.redcode_asm.specs.declared.fixed.FixedCell.{FixedCell}
 use Rattle.redcode_asm.proofs.Failing.{fails-same}
@@ -21,12 +21,14 @@ use Rattle.std.proofs.lemmas.Bool.{cases_lt}
 use Rattle.std.proofs.Math.ListN.{get_or-append}
 use Rattle.std.proofs.Math.Seq.{get_or-append_seam}
 use Rattle.redcode_asm.specs.declared.fault.AsmProblem.{AsmProblem}
+use Rattle.redcode_asm.specs.declared.fault.AsmProblem.TheVariants.{Expression}
 use Rattle.redcode_asm.proofs.Makes.{cell-made}
 use Rattle.redcode_asm.proofs.Past.{lines-from}
 use Rattle.std.specs.List.{All}
 use Rattle.std.proofs.lemmas.List.Elements.{All-append, All-cons, All-nil}
 use Rattle.mars_cell.specs.Cells.{FitsCore}
 use Rattle.redcode_text.specs.declared.program.Line as code
+use Rattle.redcode_text.specs.declared.program.Assert as held
 use Rattle.redcode_text.specs.Views.{line_of}
 use Rattle.redcode_asm.specs.declared.fault.AsmFault.{AsmFault}
 use Rattle.redcode_asm.specs.Code.Sources.{behind_cells, cells_among}
@@ -137,3 +139,45 @@ cell-other ps m source index cells lines i line inside at is =
 
 pub fit-more : (m : ℕ) (cells : List Cell) (cell : Cell) → All (FitsCore m) cells → FitsCore m cell → All (FitsCore m) (cells ++ cell ∷ [])
 fit-more m cells cell all fits = All-append (FitsCore m) cells (cell ∷ []) all (All-cons (FitsCore m) cell [] fits (All-nil (FitsCore m)))
+
+-- ---- asserts
+
+everywhere-known : (k v : ℤ) (b : Bool) (o : Option ℕ) (w : Option ℤ)
+    → elim b as (λ _. Option ℤ) [ true ↦ None | false ↦ unless_label o w ] ≡ Some v → elim b as (λ _. Option ℤ) [ true ↦ Some k | false ↦ w ] ≡ Some v
+everywhere-known k v true o w h = cc
+everywhere-known k v false (Some i) w h = cc
+everywhere-known k v false None w h = h
+
+pub extends-assert : (ps : Predefined) (source : ProgramValue) (index : ℕ) → Extends (fixed_value ps source) (known_value ps source index)
+extends-assert ps source index n v h =
+    everywhere-known (pos index) v (bytes_eq (codes "CURLINE") (name_at source.names n)) (label_among (placed source) n) (predefined_value ps (name_at source.names n)) h
+
+-- the steps of an assert
+pub assert-made : (ps : Predefined) (source : ProgramValue) (a : Assert) (ts : List Token) (v : ℤ) → replaced source a.tokens ≡ Ok ts
+    → value_of (known_value ps source a.current_line) (kinds ts) ≡ Ok v → assert_holds ps source a ≡ holds v
+assert-made ps source a ts v first second =
+    ap (λ r. r >>= λ ts. value_in (known_value ps source a.current_line) ts >>= holds) first
+    ∙ ap (λ r. expressed r >>= holds) second
+
+pub assert-failed : (ps : Predefined) (source : ProgramValue) (a : Assert) (ts : List Token) (fault : ExprFault) → replaced source a.tokens ≡ Ok ts
+    → value_of (known_value ps source a.current_line) (kinds ts) ≡ Err fault → assert_holds ps source a ≡ Err (Expression fault)
+assert-failed ps source a ts fault first second =
+    ap (λ r. r >>= λ ts. value_in (known_value ps source a.current_line) ts >>= holds) first
+    ∙ ap (λ r. expressed r >>= holds) second
+
+pub held-made : (ps : Predefined) (source : ProgramValue) (tokens ts : List Token) (v : ℤ) → replaced source tokens ≡ Ok ts → value_of (fixed_value ps source) (kinds ts) ≡ Ok v → holds v ≡ Ok tt
+    → (a : Assert) → a.tokens ≡ tokens → assert_holds ps source a ≡ Ok tt
+held-made ps source tokens ts v first second third a e =
+    assert-made ps source a ts v (ap (replaced source) e ∙ first)
+    (subst (λ r. Follows r (value_of (known_value ps source a.current_line) (kinds ts))) second (value-follows (fixed_value ps source) (known_value ps source a.current_line) (extends-assert ps source a.current_line) (kinds ts)))
+    ∙ third
+
+pub held-push : (ps : Predefined) (source : ProgramValue) (asserts : List (Bor held.Assert)) (assert : Bor held.Assert) → AreHeld ps source asserts → IsHeld ps source assert.now.tokens.items
+    → AreHeld ps source (asserts ++ assert ∷ [])
+held-push ps source asserts assert are is = record { each = λ k d inside. go k d inside (cases_lt k (length asserts)) }
+  where
+    go : (k : ℕ) (d : Bor held.Assert) → k < length (asserts ++ assert ∷ []) → (k < length asserts) ⊎ (length asserts ≤ k) → IsHeld ps source (get_or (asserts ++ assert ∷ []) k d).now.tokens.items
+    go k d inside (inl less) = subst (λ (a : Bor held.Assert). IsHeld ps source a.now.tokens.items) (sym (get_or-append asserts (assert ∷ []) d k less)) (are.each k d less)
+    go k d inside (inr last) =
+        let e : length asserts ≡ k = omega (arith, inside, last, length-append asserts (assert ∷ [])) in
+        subst (λ (a : Bor held.Assert). IsHeld ps source a.now.tokens.items) (sym (get_or-append_seam asserts assert [] d) ∙ ap (λ n. get_or (asserts ++ assert ∷ []) n d) e) is
