@@ -5,3 +5,4 @@ pub mod Makes
 pub mod Past
 pub mod Counts
 pub mod Scores
+pub mod Everywhere

@@ -23,7 +23,7 @@ by-line names dropped index l ls b e = ap (λ b. at_line_by b names dropped inde
 one-less : (names : List (List ℕ)) (longest index : ℕ) (l : Line) (ls : List Line) → index < longest → at_line_by true names (longest - index) index l ls ≡ left_among names (longest - (index + 1)) (index + 1) ls
 one-less names longest index l ls inside = let e : longest - index ≡ suc (longest - (index + 1)) = omega arith in rw e refl
 
-lines-from : (xs : List code.Line) (i : ℕ) (x : code.Line) → i < length xs → x ≡ get_or xs i x → map line_of (drop i xs) ≡ line_of x ∷ map line_of (drop (i + 1) xs)
+pub lines-from : (xs : List code.Line) (i : ℕ) (x : code.Line) → i < length xs → x ≡ get_or xs i x → map line_of (drop i xs) ≡ line_of x ∷ map line_of (drop (i + 1) xs)
 lines-from xs i x inside at = rw (drop-cons xs i x inside, add-one i) (ap (λ y. line_of y ∷ map line_of (drop (suc i) xs)) (sym at))
 
 -- past an instruction

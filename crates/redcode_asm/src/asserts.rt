@@ -1,13 +1,16 @@
 //! The asserts of a source.
-ghost use Rattle.std.specs.Prelude.{◌≡◌, map};
+ghost use Rattle.std.specs.Prelude.{◌≡◌, map, true, Ok, Err, IfOk, MatchResult};
+ghost use Rattle.redcode_text.specs.Expression.{kinds, value_of};
+ghost use Rattle.redcode_asm.specs.Code.Fixed.{AreHeld, IsHeld, fixed_value};
 ghost use Rattle.redcode_text.specs.Views.{assert_of, predefined_of};
-ghost use Rattle.redcode_asm.specs.Assembly.{assert_holds, asserts_hold, at_line, holds};
+ghost use Rattle.redcode_asm.specs.Assembly.{assert_holds, known_value, asserts_hold, at_line, holds};
 ghost use Rattle.redcode_asm.specs.Outcomes.{Answers};
 ghost use Rattle.redcode_asm.specs.Code.Problems.{Gives};
 
 use crate::fault::{AsmFault, AsmProblem};
+use crate::held::HeldAsserts;
 use crate::sources::{AssertNames, Source};
-use redcode_text::{Assert, eval};
+use redcode_text::{Assert, ExprFault, Token, eval};
 use std::alloc::Global;
 
 /// An assert holds where its value isn't 0.
@@ -22,26 +25,74 @@ fn holds(value: i64) -> Result<(), AsmProblem>
 }
 
 impl<'a> Source<'a> {
-    /// Whether an assert holds.
-    fn check_assert(&self, alloc: Global, assert: &Assert) -> Result<(), AsmProblem>
-        ensures { Gives (λ done. done) result (assert_holds (predefined_of self.now.predefined.now) self.now.program.now (assert_of assert.now)) }
+    /// The value of the expression of an assert behind so many instructions, and whether it is the same behind any others.
+    fn assert_value(&self, index: u32, tokens: &[Token]) -> Result<(i64, bool), ExprFault>
+        ensures value { let defined = value_of (known_value (predefined_of self.now.predefined.now) self.now.program.now index) (kinds tokens.now) in
+            MatchResult result (λ found. defined ≡ Ok found.0) (λ fault. defined ≡ Err fault) }
+        ensures fixed { IfOk result (λ found. found.1 ≡ true → value_of (fixed_value (predefined_of self.now.predefined.now) self.now.program.now) (kinds tokens.now) ≡ Ok found.0) }
     {
-        let tokens = self.replace(alloc, &assert.tokens)?;
+        if let Ok(value) = eval(tokens, &self.fixed_names()) {
+            return Ok((value, true));
+        }
         let names = AssertNames {
             source: *self,
-            index: assert.current_line,
+            index,
         };
-        match eval(&tokens, &names) {
-            Ok(value) => holds(value),
+        match eval(tokens, &names) {
+            Ok(value) => Ok((value, false)),
+            Err(fault) => Err(fault),
+        }
+    }
+
+    /// Judges an assert, and tells whether it holds wherever it stands.
+    fn check_assert(&self, alloc: Global, assert: &Assert) -> Result<bool, AsmProblem>
+        ensures value { Gives (λ _. tt) result (assert_holds (predefined_of self.now.predefined.now) self.now.program.now (assert_of assert.now)) }
+        ensures held { IfOk result (λ held. held ≡ true → IsHeld (predefined_of self.now.predefined.now) self.now.program.now assert.now.tokens.items) }
+    {
+        let tokens = self.replace(alloc, &assert.tokens)?;
+        match self.assert_value(assert.current_line, &tokens) {
+            Ok((value, is_fixed)) => match holds(value) {
+                Ok(()) => Ok(is_fixed),
+                Err(problem) => Err(problem),
+            },
             Err(fault) => Err(AsmProblem::Expression(fault)),
         }
     }
 
-    /// The same, with the line of a fault.
-    fn check_assert_at(&self, alloc: Global, assert: &Assert) -> Result<(), AsmFault>
-        ensures { let a = assert_of assert.now in Answers (λ done. done) result (at_line a.number (assert_holds (predefined_of self.now.predefined.now) self.now.program.now a)) }
+    /// Whether an assert holds, which is looked for among those that are known to hold first.
+    fn check_among<'l>(
+        &self,
+        alloc: Global,
+        assert: &'l Assert,
+        held: &mut HeldAsserts<'l>,
+    ) -> Result<(), AsmProblem>
+        requires { AreHeld (predefined_of self.now.predefined.now) self.now.program.now held.old.asserts.items }
+        ensures value { Gives (λ done. done) result (assert_holds (predefined_of self.now.predefined.now) self.now.program.now (assert_of assert.entry.now)) }
+        ensures held { AreHeld (predefined_of self.now.predefined.now) self.now.program.now held.new.asserts.items }
     {
-        match self.check_assert(alloc, assert) {
+        if self.is_held(held, assert) {
+            return Ok(());
+        }
+        if self.check_assert(alloc, assert)? {
+            let Ok(()) = held.add(assert) else {
+                return Err(AsmProblem::OutOfMemory);
+            };
+        }
+        Ok(())
+    }
+
+    /// The same, with the line of a fault.
+    fn check_assert_at<'l>(
+        &self,
+        alloc: Global,
+        assert: &'l Assert,
+        held: &mut HeldAsserts<'l>,
+    ) -> Result<(), AsmFault>
+        requires { AreHeld (predefined_of self.now.predefined.now) self.now.program.now held.old.asserts.items }
+        ensures held { AreHeld (predefined_of self.now.predefined.now) self.now.program.now held.new.asserts.items }
+        ensures value { let a = assert_of assert.entry.now in Answers (λ done. done) result (at_line a.number (assert_holds (predefined_of self.now.predefined.now) self.now.program.now a)) }
+    {
+        match self.check_among(alloc, assert, held) {
             Ok(()) => Ok(()),
             Err(problem) => Err(problem.at_line(assert.number)),
         }
@@ -51,8 +102,9 @@ impl<'a> Source<'a> {
     fn check_each(&self, alloc: Global, asserts: &[Assert]) -> Result<(), AsmFault>
         ensures { Answers (λ done. done) result (asserts_hold (predefined_of self.now.predefined.now) self.now.program.now (map assert_of asserts.now)) }
     {
+        let mut held = HeldAsserts::new(alloc);
         for assert in asserts {
-            self.check_assert_at(alloc, assert)?;
+            self.check_assert_at(alloc, assert, &mut held)?;
         }
         Ok(())
     }

@@ -1,21 +1,26 @@
 //! The cells of a source.
-ghost use Rattle.std.specs.Prelude.{◌≡◌, ◌<◌, ◌≤◌, All, IfOk, length, map, vec_len};
+ghost use Rattle.std.specs.Prelude.{◌≡◌, true, Ok, Err, MatchResult, ◌<◌, ◌≤◌, All, IfOk, length, map, vec_len};
 ghost use Rattle.mars_cell.specs.Cells.{FitsCore};
 ghost use Rattle.redcode_text.specs.Equates.{limit};
 ghost use Rattle.redcode_text.specs.Views.{line_of, predefined_of};
 ghost use Rattle.redcode_text.specs.Lines.{is_instruction};
-ghost use Rattle.redcode_asm.specs.Assembly.{at_line, cell_of, cells_of, instructions};
+ghost use Rattle.redcode_asm.specs.Assembly.{at_line, cell_from, name_value, cell_of, cells_of, instructions};
 ghost use Rattle.redcode_asm.specs.Outcomes.{Answers};
+ghost use Rattle.redcode_asm.specs.Code.Fixed.{AreFixed, IsFixed, fixed_value};
 ghost use Rattle.redcode_asm.specs.Code.Problems.{Gives};
 ghost use Rattle.redcode_asm.specs.Code.Sources.{cells_among, placed_of};
 
 use crate::fault::{AsmFault, AsmProblem};
+use crate::fixed::FixedCells;
 use crate::instruction::{make_cell, read_opcode, take_modifier};
 use crate::places::Place;
 use crate::sources::Source;
-use mars_cell::Cell;
-use redcode_text::{Line, is_instruction};
+use mars_cell::{Cell, Modifier, Op};
+use redcode_text::{Line, Token, is_instruction};
 use std::alloc::Global;
+
+/// How many tokens of operands are many.
+const MANY: usize = 32;
 
 impl<'a> Source<'a> {
     /// Whether a line is an instruction.
@@ -25,27 +30,98 @@ impl<'a> Source<'a> {
         is_instruction(self.program.names(), line.operation, &line.rest)
     }
 
-    /// The cell of an instruction.
-    fn cell_of(&self, alloc: Global, core_size: u32, place: Place<'_>) -> Result<Cell, AsmProblem>
+    /// The cell of an opcode and its operands, behind so many instructions, and whether it is the same behind any others: that is
+    /// found out only where there are many tokens.
+    fn cell_with(
+        &self,
+        core_size: u32,
+        index: u32,
+        op: Op,
+        modifier: Option<Modifier>,
+        operands: &[Token],
+    ) -> Result<(Cell, bool), AsmProblem>
         requires { 0 < core_size }
-        ensures value { Gives (λ cell. cell) result (cell_of (predefined_of self.now.predefined.now) core_size self.now.program.now (placed_of place.entry)) }
-        ensures fits { IfOk result (FitsCore core_size) }
+        ensures value { let defined = cell_from core_size (name_value (predefined_of self.now.predefined.now) self.now.program.now index index) op modifier operands.now in
+            MatchResult result (λ made. defined ≡ Ok made.0) (λ problem. defined ≡ Err problem) }
+        ensures fixed { IfOk result (λ made. made.1 ≡ true → cell_from core_size (fixed_value (predefined_of self.now.predefined.now) self.now.program.now) op modifier operands.now ≡ Ok made.0) }
+        ensures fits { IfOk result (λ made. FitsCore core_size made.0) }
+    {
+        if operands.len() >= MANY {
+            let fixed_names = self.fixed_names();
+            if let Ok(cell) = make_cell(op, modifier, operands, &fixed_names, core_size) {
+                return Ok((cell, true));
+            }
+        }
+        let line_names = self.instruction_names(index);
+        match make_cell(op, modifier, operands, &line_names, core_size) {
+            Ok(cell) => Ok((cell, false)),
+            Err(problem) => Err(problem),
+        }
+    }
+
+    /// The cell of an instruction, and whether it is the same wherever the instruction stands.
+    fn cell_of(
+        &self,
+        alloc: Global,
+        core_size: u32,
+        place: Place<'_>,
+    ) -> Result<(Cell, bool), AsmProblem>
+        requires { 0 < core_size }
+        ensures value { Gives (λ made. made.0) result (cell_of (predefined_of self.now.predefined.now) core_size self.now.program.now (placed_of place.entry)) }
+        ensures fixed { IfOk result (λ made. made.1 ≡ true → IsFixed (predefined_of self.now.predefined.now) core_size self.now.program.now place.entry.line.now.operation place.entry.line.now.rest.items made.0) }
+        ensures fits { IfOk result (λ made. FitsCore core_size made.0) }
     {
         let names = self.program.names();
         let op = read_opcode(names, place.line.operation)?;
         let (modifier, rest) = take_modifier(names, &place.line.rest)?;
         let operands = self.replace(alloc, rest)?;
-        let line_names = self.instruction_names(place.index);
-        make_cell(op, modifier, &operands, &line_names, core_size)
+        match self.cell_with(core_size, place.index, op, modifier, &operands) {
+            Ok(made) => Ok(made),
+            Err(problem) => Err(problem),
+        }
+    }
+
+    /// The cell of an instruction, which is looked for among those that are known first.
+    fn cell_among<'l>(
+        &self,
+        alloc: Global,
+        core_size: u32,
+        place: Place<'l>,
+        known: &mut FixedCells<'l>,
+    ) -> Result<Cell, AsmProblem>
+        requires core { 0 < core_size }
+        requires known { AreFixed (predefined_of self.now.predefined.now) core_size self.now.program.now known.old.cells.items }
+        ensures value { Gives (λ cell. cell) result (cell_of (predefined_of self.now.predefined.now) core_size self.now.program.now (placed_of place.entry)) }
+        ensures known { AreFixed (predefined_of self.now.predefined.now) core_size self.now.program.now known.new.cells.items }
+        ensures fits { IfOk result (FitsCore core_size) }
+    {
+        if let Some(cell) = self.known_cell(core_size, known, place.line) {
+            return Ok(cell);
+        }
+        let (cell, is_fixed) = self.cell_of(alloc, core_size, place)?;
+        if is_fixed {
+            let Ok(()) = known.add(place.line, cell) else {
+                return Err(AsmProblem::OutOfMemory);
+            };
+        }
+        Ok(cell)
     }
 
     /// The same, with the line of a fault.
-    fn cell_at(&self, alloc: Global, core_size: u32, place: Place<'_>) -> Result<Cell, AsmFault>
-        requires { 0 < core_size }
+    fn cell_at<'l>(
+        &self,
+        alloc: Global,
+        core_size: u32,
+        place: Place<'l>,
+        known: &mut FixedCells<'l>,
+    ) -> Result<Cell, AsmFault>
+        requires core { 0 < core_size }
+        requires known { AreFixed (predefined_of self.now.predefined.now) core_size self.now.program.now known.old.cells.items }
+        ensures known { AreFixed (predefined_of self.now.predefined.now) core_size self.now.program.now known.new.cells.items }
         ensures value { let placed = placed_of place.entry in Answers (λ cell. cell) result (at_line placed.line.number (cell_of (predefined_of self.now.predefined.now) core_size self.now.program.now placed)) }
         ensures fits { IfOk result (FitsCore core_size) }
     {
-        match self.cell_of(alloc, core_size, place) {
+        match self.cell_among(alloc, core_size, place, known) {
             Ok(cell) => Ok(cell),
             Err(problem) => Err(problem.at_line(place.line.number)),
         }
@@ -60,10 +136,11 @@ impl<'a> Source<'a> {
         ensures few { IfOk result (λ cells. vec_len cells ≤ limit) }
     {
         let mut cells = Vec::new(alloc);
+        let mut known = FixedCells::new(alloc);
         let mut index = 0;
         for line in lines {
             if self.is_instruction(line) {
-                let cell = self.cell_at(alloc, core_size, Place { index, line })?;
+                let cell = self.cell_at(alloc, core_size, Place { index, line }, &mut known)?;
                 let Ok(()) = cells.push(cell) else {
                     return Err(AsmFault::out_of_memory());
                 };

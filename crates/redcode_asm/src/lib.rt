@@ -10,6 +10,8 @@ mod assembler;
 mod asserts;
 mod cells;
 mod fault;
+mod fixed;
+mod held;
 mod formula;
 mod instruction;
 mod labels;

@@ -24,11 +24,10 @@ comment-first (b ∷ bs) = go (b == 59) (comment-first bs)
     go false h = let e : 1 + prefix_len no_comment bs ≡ suc (prefix_len no_comment bs) = omega arith in rw e (ap (λ l. b ∷ l) h)
 
 -- what is read, from a place on up to a comment
-pub code-is : (bs : List ℕ) (at k : ℕ) → k ≡ prefix_len no_comment (take (length bs - at) (drop at bs)) → take k (take (length bs - at) (drop at bs)) ≡ before_comment (drop at bs)
+pub code-is : (bs : List ℕ) (at k : ℕ) → k ≡ prefix_len no_comment (drop at bs) → take (at + k - at) (drop at bs) ≡ before_comment (drop at bs)
 code-is bs at k e =
-    ap (λ n. take n (take (length bs - at) (drop at bs))) e
-    ∙ ap (λ l. take (prefix_len no_comment l) l) (take_rest bs at)
-    ∙ comment-first (drop at bs)
+    let n : at + k - at ≡ k = omega arith in
+    ap (λ n. take n (drop at bs)) (n ∙ e) ∙ comment-first (drop at bs)
 
 module _ (st : Reading) (row : Row) (at : ℕ) (code : List ℕ) (before : List Token) (is : code ≡ before_comment (drop at row.bytes)) (none : before ≡ []) where
   abbrev read : Result Scanned TextProblem

@@ -11,6 +11,7 @@ use crate::names::predefined::Names;
 use crate::program::Program;
 use crate::reader::Reading;
 use crate::reader::repeat::read_all;
+use crate::source::blanks::long_blanks;
 use crate::source::{read_rows, rows_of};
 use std::alloc::Global;
 
@@ -42,10 +43,13 @@ fn program_of(reading: Reading) -> Program
 fn read_source(alloc: Global, bytes: &[u8], names: &Names) -> Result<Reading, TextFault>
     ensures { Answers (λ reading. reading_of reading) result (flat (predefined_of names.now) (tree_of bytes.now) nothing_read) }
 {
-    let Ok(rows) = rows_of(alloc, bytes) else {
+    let Ok(blanks) = long_blanks(alloc, bytes) else {
         return Err(TextProblem::OutOfMemory.at_line(0));
     };
-    let Ok(mut reading) = Reading::new(alloc) else {
+    let Ok(rows) = rows_of(alloc, bytes, &blanks) else {
+        return Err(TextProblem::OutOfMemory.at_line(0));
+    };
+    let Ok(mut reading) = Reading::new(alloc, bytes) else {
         return Err(TextProblem::OutOfMemory.at_line(0));
     };
     read_all(alloc, names, read_rows(&rows), &mut reading)?;

@@ -1,11 +1,12 @@
 //! The tokens of a line.
-ghost use Rattle.std.specs.Prelude.{◌≡◌, ◌≤◌, ◌<◌, ◌+◌, ◌^◌, [], drop, length, vec_len, IfOk};
+ghost use Rattle.std.specs.Prelude.{◌≡◌, ◌≤◌, ◌<◌, ◌+◌, ◌^◌, ℕ, [], drop, length, slice_index, true, vec_len, IfOk};
+ghost use Rattle.redcode_text.specs.Code.Blanks.{AreBlank};
 ghost use Rattle.redcode_text.specs.Outcomes.{Answers};
 ghost use Rattle.redcode_text.specs.Views.{scan_of};
 ghost use Rattle.redcode_text.specs.Code.Problems.{Gives};
 ghost use Rattle.redcode_text.specs.Code.Scanning.{found_alone, with_names};
 ghost use Rattle.redcode_text.specs.Code.Scanning.{one_token};
-ghost use Rattle.redcode_text.specs.Tokens.{scan_from, scanned, sign_token, token_at};
+ghost use Rattle.redcode_text.specs.Tokens.{is_blank, scan_from, scanned, sign_token, token_at};
 
 pub mod open_loops;
 mod signs;
@@ -17,6 +18,7 @@ use crate::lexer::open_loops::OpenLoops;
 use crate::lexer::signs::{one_byte_sign, two_byte_sign};
 use crate::lexer::words::{Spelled, read_word};
 use crate::names::NameTable;
+use crate::source::blanks::BlankRun;
 use crate::token::{Token, TokenKind};
 use std::alloc::Global;
 
@@ -28,6 +30,9 @@ pub struct Text<'a> {
     /// The index of its first byte in the source.
     pub at: usize,
     pub bytes: &'a [u8],
+    /// Long runs of blanks, by their places in the source, in order.
+    pub blanks: &'a [BlankRun],
+    ghost are_blank: { AreBlank at blanks.now bytes.now },
 }
 
 /// The sign at the front of some bytes: one of two bytes goes before one of one byte.
@@ -114,6 +119,34 @@ fn add_token(
     }
 }
 
+/// Whether the run of blanks of this index ends before a place of a text.
+fn is_passed(text: Text<'_>, next: usize, at: usize) -> bool
+    requires { text.at + at < 2 ^ 64 }
+    ensures { result ≡ true → next < length text.entry.blanks.now }
+{
+    match text.blanks.get(next) {
+        Some(run) => run.to <= text.at + at,
+        None => false,
+    }
+}
+
+/// A place behind the blank at a place of a text: where that is in the run of this index, the end of the run.
+fn past_blank(text: Text<'_>, next: usize, at: usize) -> usize
+    requires within { at < length text.bytes.now }
+    requires fits { text.at + length text.bytes.now < 2 ^ 64 }
+    requires blank { is_blank (slice_index text.bytes.now at) ≡ true }
+    ensures on { at < result }
+    ensures within { result ≤ length text.entry.bytes.now }
+    ensures blank { (i : ℕ) → at ≤ i → i < result → is_blank (slice_index text.entry.bytes.now i) ≡ true }
+{
+    match text.blanks.get(next) {
+        Some(run) if run.from <= text.at + at && text.at + at < run.to => {
+            (run.to - text.at).min(text.bytes.len())
+        }
+        _ => at + 1,
+    }
+}
+
 /// Reads the tokens of a text behind those that are there, up to so many in all.
 pub fn read_tokens(
     alloc: Global,
@@ -130,9 +163,12 @@ pub fn read_tokens(
     ensures room { vec_len tokens.new ≤ room }
 {
     let mut at = 0;
+    let mut next = 0;
     while at < text.bytes.len() {
-        if is_blank(text.bytes[at]) {
-            at += 1;
+        if is_passed(text, next, at) {
+            next += 1;
+        } else if is_blank(text.bytes[at]) {
+            at = past_blank(text, next, at);
         } else {
             match add_token(alloc, loops, text, at, room, names, tokens) {
                 Ok(len) => at += len,
@@ -160,11 +196,12 @@ pub fn scan(alloc: Global, text: &[u8]) -> Result<LineTokens, TextFault>
     ensures { Answers (λ s. scan_of s.tokens s.names) result (scanned text.now) }
 {
     let mut tokens = Vec::new(alloc);
-    let mut names = NameTable::new(alloc);
+    let mut names = NameTable::new(alloc, text);
     let line = Text {
         number: 1,
         at: 0,
         bytes: text,
+        blanks: &[],
     };
     let loops = OpenLoops::new(alloc);
     match read_tokens(alloc, &loops, line, text.len(), &mut names, &mut tokens) {

@@ -5,8 +5,10 @@ ghost use Rattle.redcode_text.specs.Tokens.{name_index, with_name};
 
 pub mod equates;
 pub mod predefined;
+mod seed;
 pub mod set;
 
+use crate::names::seed::Seed;
 use indexmap::IndexSet;
 use std::alloc::{AllocError, Global};
 use std::marker::Model;
@@ -14,7 +16,7 @@ use std::marker::Model;
 /// Names, in the order of their first use.
 #[derive(Drop)]
 pub struct NameTable {
-    names: IndexSet<String>,
+    names: IndexSet<String, Seed>,
 }
 
 impl Model for NameTable {
@@ -26,12 +28,12 @@ impl Model for NameTable {
 }
 
 impl NameTable {
-    /// No name.
-    pub(crate) fn new(alloc: Global) -> Self
+    /// No name, before a text is read.
+    pub(crate) fn new(alloc: Global, text: &[u8]) -> Self
         ensures { result ≡ [] }
     {
         NameTable {
-            names: IndexSet::new(alloc),
+            names: IndexSet::with_hasher(alloc, Seed::new(text)),
         }
     }
 

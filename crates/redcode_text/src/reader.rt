@@ -1,6 +1,5 @@
 //! All that has been read of a source, and what a line adds to it.
-ghost use Rattle.std.specs.Prelude.{◌≡◌, ◌≤◌, ◌<◌, ◌+◌, ◌^◌, ◌==◌, not, length, string_bytes, vec_len, [], false, IfOk, OnOk};
-ghost use Rattle.std.specs.List.{prefix_len};
+ghost use Rattle.std.specs.Prelude.{◌≡◌, ◌≤◌, ◌<◌, ◌+◌, ◌^◌, length, string_bytes, vec_len, [], false, IfOk, OnOk};
 ghost use Rattle.redcode_text.specs.Code.Labels.{AreLabels};
 ghost use Rattle.redcode_text.specs.Programs.{IsPrinted};
 ghost use Rattle.redcode_text.specs.declared.limits.TheConstants.{MAX_LINES, MAX_TOKENS};
@@ -54,14 +53,6 @@ pub struct Reading {
     ghost printed_author: { IsPrinted (string_bytes author) },
 }
 
-/// How many bytes stand before a comment.
-fn comment_at(bytes: &[u8]) -> usize
-    ensures value { result ≡ prefix_len (λ b. not (b == 59)) bytes.now }
-    ensures within { result ≤ length bytes.now }
-{
-    bytes.iter().take_while(|byte| **byte != b';').count()
-}
-
 impl Reading {
     ghost use Rattle.redcode_text.specs.Code.Readings.{reading_of};
     ghost use Rattle.redcode_text.specs.Expansion.{nothing_read};
@@ -70,7 +61,7 @@ impl Reading {
     ghost use Rattle.redcode_text.specs.Code.Rows.{row_of};
 
     /// Nothing, before a source is read.
-    pub fn new(alloc: Global) -> Result<Reading, AllocError>
+    pub fn new(alloc: Global, source: &[u8]) -> Result<Reading, AllocError>
         ensures value { IfOk result (λ reading. reading_of reading ≡ nothing_read) }
         ensures loops { IfOk result (λ reading. reading.loops ≡ []) }
         ensures going { IfOk result (λ reading. reading.ended ≡ false) }
@@ -79,7 +70,7 @@ impl Reading {
         let author = String::from_str(alloc, "Anonymous")?;
         Ok(Reading {
             loops: OpenLoops::new(alloc),
-            names: NameTable::new(alloc),
+            names: NameTable::new(alloc, source),
             equates: Equates::new(alloc),
             equate_grows: false,
             lines: Vec::new(alloc),
@@ -132,11 +123,11 @@ impl Reading {
         ensures lines { vec_len self.new.lines ≡ vec_len self.old.lines }
         ensures lines_read { self.new.lines_read ≡ self.old.lines_read }
     {
-        let text = &row.bytes[at..];
         let code = Text {
             number: row.number,
             at: row.at + at,
-            bytes: &text[..comment_at(text)],
+            bytes: &row.bytes[at..at + row.code_len(at)],
+            blanks: row.blanks,
         };
         let mut tokens = Vec::new(alloc);
         let room = MAX_TOKENS - self.tokens_read;

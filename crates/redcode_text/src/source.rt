@@ -1,13 +1,16 @@
 //! The lines of a source.
 ghost use Rattle.std.specs.Prelude.{◌≡◌, ◌≤◌, ◌==◌, length, map, not, IfOk};
 ghost use Rattle.std.specs.List.{prefix_len};
+ghost use Rattle.redcode_text.specs.Code.Blanks.{AreBlank};
 ghost use Rattle.redcode_text.specs.Code.Rows.{row_of};
 ghost use Rattle.redcode_text.specs.Source.{read_rows, rows_of};
 
+pub mod blanks;
 pub mod blocks;
 pub mod directives;
 pub mod row;
 
+use crate::source::blanks::{BlankRun, runs_before};
 use crate::source::directives::has_directive;
 use crate::source::row::Row;
 use std::alloc::{AllocError, Global};
@@ -20,21 +23,29 @@ fn line_len(bytes: &[u8]) -> usize
     bytes.iter().take_while(|byte| **byte != b'\n').count()
 }
 
-/// The lines of a source.
-pub fn rows_of<'a>(alloc: Global, source: &'a [u8]) -> Result<Vec<Row<'a>>, AllocError>
+/// The lines of a source, whose long runs of blanks these are.
+pub fn rows_of<'a>(
+    alloc: Global,
+    source: &'a [u8],
+    blanks: &'a [BlankRun],
+) -> Result<Vec<Row<'a>>, AllocError>
+    requires { AreBlank 0 blanks.now source.now }
     ensures { IfOk result (λ rows. map row_of rows.items ≡ rows_of source.now) }
 {
     let mut rows = Vec::new(alloc);
     let mut number = 1;
     let mut at = 0;
+    let mut first = 0;
     while at < source.len() {
         let end = at + line_len(&source[at..]);
-        let row = Row::new(number, at, &source[at..end]);
+        let count = runs_before(&blanks[first..], end);
+        let row = Row::new(number, at, &source[at..end], &blanks[first..first + count]);
         let Ok(()) = rows.push(row) else {
             return Err(AllocError);
         };
         number += 1;
         at = end + 1;
+        first += count;
     }
     Ok(rows)
 }
@@ -44,7 +55,7 @@ pub fn read_rows<'r, 'a>(rows: &'r [Row<'a>]) -> &'r [Row<'a>]
     ensures { map row_of result.now ≡ read_rows (map row_of rows.now) }
 {
     for at in 0..rows.len() {
-        if has_directive(b";redcode", rows[at].bytes) {
+        if has_directive(b";redcode", rows[at].bytes, rows[at].indent()) {
             return &rows[at..];
         }
     }

@@ -26,12 +26,13 @@ fn read_inside(rt: HostRuntime, text: &[u8]) -> Result<(Option<TokenKind>, Strin
     loops.push(OpenLoop::new(Some(String::from_str(alloc, "j")?), 12))?;
     loops.push(OpenLoop::new(None, 3))?;
     loops.push(OpenLoop::new(Some(String::from_str(alloc, "i")?), 1))?;
-    let mut names = NameTable::new(alloc);
+    let mut names = NameTable::new(alloc, text);
     let mut tokens = Vec::new(alloc);
     let row = Text {
         number: 1,
         at: 0,
         bytes: text,
+        blanks: &[],
     };
     let read = read_tokens(alloc, &loops, row, 100, &mut names, &mut tokens);
     let name = String::from_str(alloc, names.name(0).unwrap_or(""))?;

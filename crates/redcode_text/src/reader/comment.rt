@@ -19,7 +19,7 @@ impl Reading {
         requires { row.at + length row.bytes.now < 2 ^ 64 }
         ensures { Gives (λ _. reading_of self.new) result (comment_line (row_of row.entry) (reading_of self.old)) }
     {
-        if let Some(at) = directive_text_at(b";name", row.bytes) {
+        if let Some(at) = directive_text_at(b";name", row.bytes, row.indent()) {
             let name = directive_value(alloc, &row.bytes[at..])?;
             if !name.is_empty() {
                 self.name = name;
@@ -34,7 +34,7 @@ impl Reading {
         requires { row.at + length row.bytes.now < 2 ^ 64 }
         ensures { Gives (λ _. reading_of self.new) result (no_name (row_of row.entry) (reading_of self.old)) }
     {
-        if let Some(at) = directive_text_at(b";author", row.bytes) {
+        if let Some(at) = directive_text_at(b";author", row.bytes, row.indent()) {
             let author = directive_value(alloc, &row.bytes[at..])?;
             if !author.is_empty() {
                 self.author = author;
@@ -49,7 +49,7 @@ impl Reading {
         requires { row.at + length row.bytes.now < 2 ^ 64 }
         ensures { Gives (λ _. reading_of self.new) result (no_author (row_of row.entry) (reading_of self.old)) }
     {
-        match directive_text_at(b";assert", row.bytes) {
+        match directive_text_at(b";assert", row.bytes, row.indent()) {
             Some(at) => self.read_assert(alloc, row, at),
             None => Ok(()),
         }

@@ -6,9 +6,7 @@ ghost use Rattle.redcode_text.specs.Lines.{plain_line, tokens_line};
 ghost use Rattle.redcode_text.specs.Code.Problems.{Gives};
 ghost use Rattle.redcode_text.specs.Code.Kinds.{kind_of, word_place};
 ghost use Rattle.redcode_text.specs.Code.Rows.{row_of};
-ghost use Rattle.redcode_text.specs.Source.{is_comment};
 
-use crate::characters::blank_len;
 use crate::fault::TextProblem;
 use crate::limits::MAX_NESTING;
 use crate::names::predefined::Names;
@@ -16,16 +14,6 @@ use crate::reader::Reading;
 use crate::source::row::{LineKind, Row};
 use crate::token::Token;
 use std::alloc::Global;
-
-/// Whether a line is a comment alone.
-fn is_comment(bytes: &[u8]) -> bool
-    ensures { result ≡ is_comment bytes.now }
-{
-    match &bytes[blank_len(bytes)..] {
-        [b';', ..] => true,
-        _ => false,
-    }
-}
 
 impl Reading {
     /// Reads the tokens of a line of this kind, which isn't FOR or ROF.
@@ -63,7 +51,7 @@ impl Reading {
         ensures { Gives (λ _. reading_of self.new) result (plain_line (predefined_of names.now) (row_of row.entry) (reading_of self.old)) }
     {
         self.count_line()?;
-        if is_comment(row.bytes) {
+        if row.is_comment() {
             return self.read_comment(alloc, row);
         }
         let tokens = self.row_tokens(alloc, row, 0)?;

@@ -13,29 +13,34 @@ use crate::fault::TextProblem;
 use crate::limits::MAX_NAME;
 use std::alloc::Global;
 
-/// Whether a line begins, behind blanks, with these bytes in either case.
-pub fn has_directive(directive: &[u8], bytes: &[u8]) -> bool
-    requires { str_to_ascii_lowercase directive.now ≡ directive.now }
+/// Whether a line begins, behind so many blanks, with these bytes in either case.
+pub fn has_directive(directive: &[u8], bytes: &[u8], indent: usize) -> bool
+    requires indent { indent ≡ blank_len bytes.now }
+    requires inside { indent ≤ length bytes.now }
+    requires low { str_to_ascii_lowercase directive.now ≡ directive.now }
     ensures value { result ≡ starts_with nat_eq (str_to_ascii_lowercase (without_blanks bytes.now)) directive.now }
     ensures within { result ≡ true → blank_len bytes.now + length directive.now ≤ length bytes.now }
 {
-    let text = &bytes[blank_len(bytes)..];
+    let text = &bytes[indent..];
     if text.len() < directive.len() {
         return false;
     }
     is_word(directive, &text[..directive.len()])
 }
 
-/// Where the text of a directive begins, where a line is that directive: a blank or nothing stands behind its word.
-pub fn directive_text_at(directive: &[u8], bytes: &[u8]) -> Option<usize>
-    requires { str_to_ascii_lowercase directive.now ≡ directive.now }
+/// Where the text of a directive begins, where a line, which so many blanks begin, is that directive: a blank or nothing stands
+/// behind its word.
+pub fn directive_text_at(directive: &[u8], bytes: &[u8], indent: usize) -> Option<usize>
+    requires indent { indent ≡ blank_len bytes.now }
+    requires inside { indent ≤ length bytes.now }
+    requires low { str_to_ascii_lowercase directive.now ≡ directive.now }
     ensures value { result ≡ text_found directive.now bytes.now }
     ensures within { IfSome result (λ at. at ≤ length bytes.now) }
 {
-    if !has_directive(directive, bytes) {
+    if !has_directive(directive, bytes, indent) {
         return None;
     }
-    let at = blank_len(bytes) + directive.len();
+    let at = indent + directive.len();
     match &bytes[at..] {
         [first, ..] if !is_blank(*first) => None,
         _ => Some(at),

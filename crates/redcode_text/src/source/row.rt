@@ -1,9 +1,12 @@
 //! A line of a source, and what kind it is of.
-ghost use Rattle.std.specs.Prelude.{◌≡◌, ◌≤◌, length, IfSome};
+ghost use Rattle.std.specs.Prelude.{◌≡◌, ◌≤◌, ◌+◌, ◌==◌, not, drop, length, IfSome};
+ghost use Rattle.std.specs.List.{prefix_len};
+ghost use Rattle.redcode_text.specs.Code.Blanks.{AreBlank};
 ghost use Rattle.redcode_text.specs.Code.Kinds.{IsKind, kind_of, word_place};
-ghost use Rattle.redcode_text.specs.Source.{first_word_at, has_word, leading_word_at, line_kind, past_blanks, past_colon, past_word, second_word_at};
+ghost use Rattle.redcode_text.specs.Source.{blank_len, is_comment, first_word_at, has_word, leading_word_at, line_kind, past_blanks, past_colon, past_word, second_word_at};
 
 use crate::characters::{blank_len, is_word, word_len};
+use crate::source::blanks::BlankRun;
 
 /// What a line is, with the place of its word FOR or EQU.
 #[derive(Clone, Copy, PartialEq, Eq, Debug)]
@@ -99,7 +102,16 @@ fn line_kind(bytes: &[u8]) -> LineKind
     }
 }
 
-/// A line of a source, without its LF.
+/// How many bytes stand before a comment.
+fn comment_at(bytes: &[u8]) -> usize
+    ensures value { result ≡ prefix_len (λ b. not (b == 59)) bytes.now }
+    ensures within { result ≤ length bytes.now }
+{
+    bytes.iter().take_while(|byte| **byte != b';').count()
+}
+
+/// A line of a source, without its LF. What is found out by going over its bytes is kept, since a line of a loop is read again
+/// in each round.
 #[derive(Clone, Copy)]
 pub struct Row<'a> {
     /// The number of the line, from 1.
@@ -107,24 +119,68 @@ pub struct Row<'a> {
     /// The index of its first byte in the source.
     pub at: usize,
     pub bytes: &'a [u8],
-    /// Kept, since a row of a loop is read again in each round.
+    /// The long runs of blanks in it, by their places in the source.
+    pub blanks: &'a [BlankRun],
     kind: LineKind,
+    /// How many blanks stand in front.
+    indent: usize,
+    /// How many bytes stand before a comment.
+    code_len: usize,
+    ghost are_blank: { AreBlank at blanks.now bytes.now },
     ghost kind_is: { IsKind kind bytes.now },
+    ghost indent_is: { indent ≡ blank_len bytes.now },
+    ghost indented: { indent ≤ length bytes.now },
+    ghost code_len_is: { code_len ≡ prefix_len (λ b. not (b == 59)) bytes.now },
+    ghost code_inside: { code_len ≤ length bytes.now },
 }
 
 impl<'a> Row<'a> {
     ghost use Rattle.redcode_text.specs.Code.Rows.{row_of};
 
-    /// The line of this number, whose first byte has this index in the source.
-    pub fn new(number: usize, at: usize, bytes: &'a [u8]) -> Self
+    /// The line of this number, whose first byte has this index in the source, with its long runs of blanks.
+    pub fn new(number: usize, at: usize, bytes: &'a [u8], blanks: &'a [BlankRun]) -> Self
+        requires { AreBlank at blanks.now bytes.now }
         ensures { row_of result ≡ record { number = number; at = at; bytes = bytes.now } }
     {
         Row {
             number,
             at,
             bytes,
+            blanks,
             kind: line_kind(bytes),
+            indent: blank_len(bytes),
+            code_len: comment_at(bytes),
         }
+    }
+
+    /// How many blanks stand in front.
+    pub fn indent(&self) -> usize
+        ensures value { result ≡ blank_len self.now.bytes.now }
+        ensures within { result ≤ length self.now.bytes.now }
+    {
+        self.indent
+    }
+
+    /// Whether the line is a comment alone.
+    pub fn is_comment(&self) -> bool
+        ensures { result ≡ is_comment self.now.bytes.now }
+    {
+        match &self.bytes[self.indent..] {
+            [b';', ..] => true,
+            _ => false,
+        }
+    }
+
+    /// How many bytes from a place on stand before a comment.
+    pub fn code_len(&self, at: usize) -> usize
+        requires { at ≤ length self.now.bytes.now }
+        ensures value { result ≡ prefix_len (λ b. not (b == 59)) (drop at self.now.bytes.now) }
+        ensures within { at + result ≤ length self.now.bytes.now }
+    {
+        if at == 0 {
+            return self.code_len;
+        }
+        comment_at(&self.bytes[at..])
     }
 
     /// What kind the line is of.

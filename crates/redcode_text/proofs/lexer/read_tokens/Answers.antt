@@ -1,6 +1,8 @@
-use Rattle.std.proofs.Common.{◌∙◌, sym, subst}
+use Rattle.std.proofs.Common.{◌≡◌, ◌+◌, ◌-◌, ◌∙◌, arith, drop, sym, subst}
 use Rattle.redcode_text.specs.Views.{scan_of}
 use Rattle.redcode_text.specs.Code.Problems.{Fails}
+use Rattle.redcode_text.specs.Tokens.{scan_from}
+use Rattle.redcode_text.proofs.BlankRuns.{scan-blanks}
 use Rattle.redcode_text.proofs.Scans.{scan-token, scan-fails}
 use Rattle.redcode_text.proofs.lexer.read_tokens.Goals as goal
 
@@ -9,6 +11,7 @@ loop-at-preserved c =
     let text = c.args.text in let at = c.loop-at.at in
     record {
       within = c.in-Ok.ensures.len.1;
+      passed = c.loop-at.invariant.passed;
       same =
           sym (scan-token c.args.loops.now text.number c.args.room text.at at text.bytes.now (scan_of c.loop-at.tokens c.loop-at.names) (scan_of c.add_token.new.tokens c.add_token.new.names) c.in-Ok.len c.loop-at-test.true (sym c.is_blank.ensures ∙ c.if-is_blank.false) c.in-Ok.ensures.len.0 c.in-Ok.ensures.value)
           ∙ c.loop-at.invariant.same;
@@ -19,3 +22,17 @@ pub returns-in-Err-clause-value : goal.returns-in-Err-clause-value
 returns-in-Err-clause-value c =
     let text = c.args.text in let at = c.loop-at.at in
     subst (Fails c.in-Err.problem) c.loop-at.invariant.same (scan-fails c.args.loops.now text.number c.args.room text.at at text.bytes.now (scan_of c.loop-at.tokens c.loop-at.names) c.in-Err.problem c.loop-at-test.true (sym c.is_blank.ensures ∙ c.if-is_blank.false) c.in-Err.ensures.value)
+
+pub loop-at-preserved-then-is_blank : goal.loop-at-preserved-then-is_blank
+loop-at-preserved-then-is_blank c =
+    let text = c.args.text in let at = c.loop-at.at in let end = c.past_blank-at.result in let read = scan_of c.loop-at.tokens c.loop-at.names in
+    let there : at + (end - at) ≡ end = omega (arith, c.past_blank-at.ensures.on) in
+    record {
+      within = c.past_blank-at.ensures.within;
+      passed = c.loop-at.invariant.passed;
+      same =
+          (λ i. scan_from c.args.loops.now text.number c.args.room (text.at + sym there i) 0 (drop (sym there i) text.bytes.now) read)
+          ∙ sym (scan-blanks c.args.loops.now text.number c.args.room text.at at (end - at) text.bytes.now read (omega (arith, there, c.past_blank-at.ensures.within)) (λ k low high. c.past_blank-at.ensures.blank k low (omega (arith, there, high))))
+          ∙ c.loop-at.invariant.same;
+      room = c.loop-at.invariant.room;
+    }

@@ -9,10 +9,10 @@ pub returns-in-Ok-clause-value : goal.returns-in-Ok-clause-value
 returns-in-Ok-clause-value c =
     let read = c.read_tokens.new.tokens in
     let count : c.len.result ≡ length read.items = omega (arith, c.len.ensures, read.ok.0) in
-    row-ok (reading_of c.args.self.now) (row_of c.args.row) c.args.at _ c.new-tokens.result.items (code-is c.args.row.bytes.now c.args.at c.comment_at.result c.comment_at.ensures.value) c.new-tokens.ensures.items
+    row-ok (reading_of c.args.self.now) (row_of c.args.row) c.args.at _ c.new-tokens.result.items (code-is c.args.row.bytes.now c.args.at c.code_len.result c.code_len.ensures.value) c.new-tokens.ensures.items
     (scan_of read c.read_tokens.new.names) c.len.result count c.in-Ok.ensures.value
 
 pub returns-in-Err-clause-value : goal.returns-in-Err-clause-value
 returns-in-Err-clause-value c =
-    row-fails (reading_of c.args.self.now) (row_of c.args.row) c.args.at _ c.new-tokens.result.items (code-is c.args.row.bytes.now c.args.at c.comment_at.result c.comment_at.ensures.value) c.new-tokens.ensures.items
+    row-fails (reading_of c.args.self.now) (row_of c.args.row) c.args.at _ c.new-tokens.result.items (code-is c.args.row.bytes.now c.args.at c.code_len.result c.code_len.ensures.value) c.new-tokens.ensures.items
     c.in-Err.problem c.in-Err.ensures.value

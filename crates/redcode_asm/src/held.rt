@@ -1,0 +1,68 @@
+//! Asserts that hold wherever they stand, so that those of a loop are evaluated once.
+ghost use Rattle.std.specs.Prelude.{◌≡◌, [], ◌∷◌, ◌++◌, OnOk, OnErr, true};
+ghost use Rattle.redcode_text.specs.Views.{predefined_of};
+ghost use Rattle.redcode_asm.specs.Code.Fixed.{AreHeld, IsHeld};
+
+use crate::fixed::are_same;
+use crate::sources::Source;
+use indexmap::IndexMap;
+use redcode_text::Assert;
+use std::alloc::{AllocError, Global};
+
+/// Asserts that hold wherever they stand.
+#[derive(Drop)]
+pub struct HeldAsserts<'a> {
+    pub asserts: Vec<&'a Assert>,
+    /// Which of them is the one whose expression begins at this byte of the source: a guess, which is tested.
+    places: IndexMap<usize, usize>,
+}
+
+impl<'a> HeldAsserts<'a> {
+    /// No assert.
+    pub fn new(alloc: Global) -> Self
+        ensures { result.asserts.items ≡ [] }
+    {
+        HeldAsserts {
+            asserts: Vec::new(alloc),
+            places: IndexMap::new(alloc),
+        }
+    }
+
+    /// One assert more.
+    pub fn add(&mut self, assert: &'a Assert) -> Result<(), AllocError>
+        ensures ok { OnOk result (self.new.asserts.items ≡ self.old.asserts.items ++ assert.entry ∷ []) }
+        ensures err { OnErr result (self.new.asserts.items ≡ self.old.asserts.items) }
+    {
+        self.asserts.reserve(1)?;
+        if let Some(first) = assert.tokens.first() {
+            let Ok(_) = self.places.insert(first.from, self.asserts.len()) else {
+                return Err(AllocError);
+            };
+        }
+        self.asserts.push_reserved(assert);
+        Ok(())
+    }
+
+    /// Which of the asserts this one may be.
+    fn guess(&self, assert: &Assert) -> Option<usize> {
+        let first = assert.tokens.first()?;
+        let place = self.places.get(&first.from)?;
+        Some(*place)
+    }
+}
+
+impl<'a> Source<'a> {
+    /// Whether an assert was met before.
+    pub fn is_held(&self, held: &HeldAsserts<'_>, assert: &Assert) -> bool
+        requires { AreHeld (predefined_of self.now.predefined.now) self.now.program.now held.now.asserts.items }
+        ensures { result ≡ true → IsHeld (predefined_of self.now.predefined.now) self.now.program.now assert.now.tokens.items }
+    {
+        let Some(place) = held.guess(assert) else {
+            return false;
+        };
+        if place >= held.asserts.len() {
+            return false;
+        }
+        are_same(&held.asserts[place].tokens, &assert.tokens)
+    }
+}
