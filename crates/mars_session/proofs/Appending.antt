@@ -1,11 +1,11 @@
 -- One place after another, and each time the oldest forgotten: all are appended, and then those that are too many forgotten.
-use Rattle.std.proofs.Common.{◌≡◌, ℕ, zero, suc, ◌+◌, ◌<◌, ◌≤◌, Bool, true, false, List, [], ◌∷◌, length, take, Option, None, Some, Result, Ok, refl, ap, ◌∙◌, arith, nat_lt}
+use Rattle.std.proofs.Common.{◌≡◌, ℕ, zero, suc, ◌<◌, ◌≤◌, Bool, true, false, List, [], ◌∷◌, length, take, Option, None, Some, Ok, refl, ap, ◌∙◌, arith, nat_lt}
 use Rattle.std.specs.Prelude.{◌||◌}
 use Rattle.std.proofs.lemmas.Bool.{ltb-true, ltb-false, lt-ltb}
 use Rattle.mars_core.specs.State.{State}
 use Rattle.mars_session.specs.declared.calls.Standing.{Standing}
 use Rattle.mars_session.specs.declared.calls.Refusal.{Refusal}
-use Rattle.mars_session.specs.History.{Place, History, position_of, cut, marked, append, append_all, accepted}
+use Rattle.mars_session.specs.History.{Place, History, cut, marked, append, append_all}
 use Rattle.mars_session.specs.Memory.{Memory, left, kept, too_many, noted}
 use Rattle.mars_session.specs.Script.{standing_of, appended}
 use Rattle.mars_session.specs.Code.Appending.{Kept, go_on, go_on_all}

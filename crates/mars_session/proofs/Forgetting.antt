@@ -1,16 +1,16 @@
 -- One battle and the records between the last places, as a history.
-use Rattle.std.proofs.Common.{◌≡◌, ℕ, zero, suc, ◌+◌, ◌-◌, ◌<◌, ◌≤◌, Bool, true, false, List, [], ◌∷◌, ◌++◌, length, set, take, Some, refl, ap, sym, ◌∙◌, arith, add-one, nat_lt, if◌then◌else◌}
+use Rattle.std.proofs.Common.{◌≡◌, ℕ, ◌+◌, ◌-◌, ◌<◌, ◌≤◌, Bool, true, false, List, [], ◌∷◌, ◌++◌, length, set, take, Some, refl, ap, sym, ◌∙◌, arith, add-one, nat_lt, if◌then◌else◌}
 use Rattle.std.specs.Prelude.{◌||◌}
-use Rattle.std.proofs.lemmas.List.{length_push, length-take-le, length-take}
-use Rattle.std.proofs.lemmas.Bool.{ltb-true, ltb-false, lt-ltb}
+use Rattle.std.proofs.lemmas.List.{length_push, length-take-le}
+use Rattle.std.proofs.lemmas.Bool.{ltb-true, ltb-false}
 use Rattle.std.proofs.Math.ListN.{length-set}
 use Rattle.circular_buffer.specs.Buffer.{Buffer, buffer, keep_last}
 use Rattle.mars_core.specs.State.{State}
 use Rattle.mars_core.specs.Leads.{Leads}
 use Rattle.mars_core.specs.declared.record.Atom.{Atom}
-use Rattle.mars_session.specs.History.{Place, History, position_of, marked, cut, append}
+use Rattle.mars_session.specs.History.{Place, History, position_of, marked, append}
 use Rattle.mars_session.specs.Memory.{Memory, kept, noted}
-use Rattle.mars_session.specs.Code.Journals.{entry_at, mark_at, journal_before, journal_after, journal_history, IsJournal, IsRing}
+use Rattle.mars_session.specs.Code.Journals.{entry_at, journal_history, IsJournal, IsRing}
 use Rattle.mars_session.proofs.Appending.{take_all}
 use Rattle.mars_session.proofs.Stepping.{journal_position, journal_marked, marked_kept, journal_append, append_kept, cut_kept, history_is, dropped_before, dropped_mark, dropped_here}
 

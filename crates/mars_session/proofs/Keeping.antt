@@ -12,7 +12,7 @@ use Rattle.mars_core.specs.declared.battle.edit.EditFault.{EditFault}
 use Rattle.mars_session.specs.declared.calls.Call.TheVariants.{Step, Run, Until, SetCell, Fill, MoveProcess, Kill, Spawn, Undo, Redo, Goto}
 use Rattle.mars_session.specs.declared.calls.Refusal.{Refusal}
 use Rattle.mars_session.specs.declared.calls.Refusal.TheVariants.{Count, Address, Over, CyclePassed, NothingToRedo, NotInHistory}
-use Rattle.mars_session.specs.History.{Place, History, beginning, last_of, append, append_all, cut, marked, accepted, marked_before, undo, marked_after, redo, rewound_from, rewound, first_at_turn_from, goto, first_turns, last_turns}
+use Rattle.mars_session.specs.History.{Place, History, beginning, append, append_all, cut, marked, accepted, marked_before, undo, marked_after, redo, rewound_from, rewound, first_at_turn_from, goto, first_turns, last_turns}
 use Rattle.mars_session.specs.Commands.{command_limit, States, turns_until, stops_at, step_states, run_states, until_bound, until_states, unless_fault, edit_states, fills, cells_between, fill_states}
 use Rattle.mars_session.specs.Memory.{Memory, never, kept}
 use Rattle.mars_session.specs.declared.calls.Call.{Call}

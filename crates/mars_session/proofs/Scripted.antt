@@ -12,7 +12,7 @@ use Rattle.mars_core.specs.declared.battle.edit.Edit.TheVariants as edits
 use Rattle.mars_core.specs.State.{State}
 use Rattle.mars_session.specs.History.{History, position_of, accepted, undo, redo, goto, first_turns, last_turns}
 use Rattle.mars_session.specs.Commands.{States, step_states, run_states, until_bound, until_states, edit_states, cells_between, fill_states}
-use Rattle.mars_session.specs.Memory.{Memory, never, kept}
+use Rattle.mars_session.specs.Memory.{Memory, never}
 use Rattle.mars_session.specs.Script.{Outcome, outcome, commanded, appended, moved, no_undo, no_room, replies_of, history_after, memory_after, first, rest}
 use Rattle.mars_session.specs.Laws.{times, is_command, accepted_count, appended_by, RefusalsChangeNothing, GoesBackAndOn, CommandsAreUndone}
 use Rattle.mars_session.proofs.Undoing.{base, base_accepted, Accepted, accepted_call, stays_never, Undone, one_undone}

@@ -12,10 +12,9 @@ use Rattle.mars_core.specs.declared.battle.edit.EditFault.{EditFault}
 use Rattle.mars_core.specs.declared.battle.edit.EditFault.TheVariants as faults
 use Rattle.mars_core.specs.State.{State}
 use Rattle.mars_core.specs.Turn.{turn_of}
-use Rattle.std.specs.Prelude.{Result, Ok}
+use Rattle.std.specs.Prelude.{Ok}
 use Rattle.std.proofs.lemmas.Bool.{le-ltb}
 use Rattle.mars_session.specs.Commands.{command_limit, turns_until, fills, cells_between, fill_states}
-use Rattle.mars_session.specs.History.{History, append, append_all, marked, cut, accepted}
 use Rattle.mars_session.specs.Code.Appending.{Kept, go_on, go_on_all}
 
 -- a turn is made where one is left and the state is not done

@@ -11,7 +11,7 @@ use Rattle.mars_session.specs.declared.calls.Refusal.{Refusal}
 use Rattle.mars_session.specs.declared.calls.Refusal.TheVariants.{NothingToRedo, NotInHistory}
 use Rattle.mars_session.specs.Commands.{States, step_states, run_states, until_bound, until_states, edit_states, cells_between, fill_states}
 use Rattle.mars_session.specs.Memory.{Memory, never, kept, noted}
-use Rattle.mars_session.specs.Script.{Outcome, outcome, commanded, appended, moved, no_undo, no_room, history_after, first, rest}
+use Rattle.mars_session.specs.Script.{outcome, commanded, appended, moved, no_undo, no_room, history_after, first, rest}
 use Rattle.mars_session.specs.Laws.{command_places, times, is_command, count_of, appended_by, AllAccepted, UndosGiveBack, RedosGiveAgain, RedoAfterUndo}
 
 -- the present place is marked, and these places follow

@@ -9,9 +9,10 @@
 //! (`specs/Script.antt`) over a history of whole states, whatever the tape; `apply_all` is a
 //! list of such steps; the laws of [`laws`] on that definition; and each tape keeps a history
 //! as [`Tape`] says. [`WholeTape`] keeps a battle for each place, [`DeltaTape`] one battle and
-//! the records between places, each of which leads from its place to the next. Want of memory
-//! is answered by commands alone, before any change, and only where more places are wanted than
-//! the tape has room for, which is never less than follow the present one.
+//! the records between places, each of which leads from its place to the next. [`RingTape`]
+//! keeps the last records alone, and forgets the places before them. Want of memory is answered
+//! by commands alone, before any change, and only where more places are wanted than the tape
+//! has room for, which is never less than follow the present one; never where it forgets.
 #![tactic(auto)]
 
 mod calls;

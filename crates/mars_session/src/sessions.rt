@@ -14,8 +14,8 @@ use std::marker::Model;
 
 /// A session: a tape, and the most places after its first. Each call answers where the session stands then, or the first of
 /// its refusals that applies; a refused call changes nothing. Commands are refused last by `JournalFull`, where their places
-/// would pass the limit, and by `OutOfMemory`, where the tape has less room than they may need and is refused memory. Moves
-/// take no memory. Numbers may be any of 64 bits.
+/// would pass the limit, and by `OutOfMemory`, where the tape has less room than they may need and is refused memory; over a
+/// tape that forgets by neither, and the limit isn't looked at. Moves take no memory. Numbers may be any of 64 bits.
 #[derive(Drop)]
 pub struct Session<T: Tape> {
     tape: T,
@@ -31,7 +31,7 @@ impl<T: Tape> Model for Session<T> {
 }
 
 impl<T: Tape> Session<T> {
-    /// A session over a tape, with the most places that may stand after the first one.
+    /// A session over a tape, with the most places that may stand after the first one, where the tape keeps all of them.
     pub fn new(tape: T, limit: u64) -> Self
         ensures { result ≡ record { history = T.history tape; limit = limit; memory = T.memory tape } }
     {
@@ -124,7 +124,8 @@ impl<T: Tape> Session<T> {
         commands::edit(&mut self.tape, self.limit, Edit::Spawn(warrior, address))
     }
 
-    /// Goes to the nearest marked place before, or answers `NothingToUndo`.
+    /// Goes to the nearest marked place before. Where there is none, it answers `Forgotten` if a place was ever forgotten, else
+    /// `NothingToUndo`.
     pub fn undo(&mut self) -> Result<Standing, Refusal>
         ensures { Answers self.old Call.Undo result self.new }
     {

@@ -1,5 +1,5 @@
 -- Calls where two places are kept beside the last one.
-use Rattle.std.specs.Prelude.{◌≡◌, ℕ, List, [], ◌∷◌, Err, refl}
+use Rattle.std.specs.Prelude.{[], ◌∷◌, Err, refl}
 use Rattle.mars_core.specs.Examples.{the_machine}
 use Rattle.mars_session.specs.declared.calls.Call.TheVariants.{Step, Run, Undo, Redo, Goto}
 use Rattle.mars_session.specs.declared.calls.Refusal.TheVariants.{NothingToUndo, NothingToRedo, NotInHistory, Forgotten}

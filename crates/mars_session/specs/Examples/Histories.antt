@@ -1,5 +1,5 @@
 -- Calls where all places are kept.
-use Rattle.std.specs.Prelude.{◌≡◌, ℕ, List, [], ◌∷◌, Err, refl}
+use Rattle.std.specs.Prelude.{[], ◌∷◌, Err, refl}
 use Rattle.mars_core.specs.Examples.{the_machine}
 use Rattle.mars_session.specs.declared.calls.Call.TheVariants.{Step, Run, Until, Kill, Undo, Redo, Goto}
 use Rattle.mars_session.specs.declared.calls.Refusal.TheVariants.{Count, NoSuchProcess, CyclePassed, NothingToUndo, NothingToRedo, NotInHistory, JournalFull}

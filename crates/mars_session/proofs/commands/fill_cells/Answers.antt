@@ -1,8 +1,7 @@
 -- Each edit of the loop is the first of those that are left.
-use Rattle.std.proofs.Common.{◌≡◌, ◌+◌, ◌-◌, ◌∙◌, refl, arith}
+use Rattle.std.proofs.Common.{◌≡◌, ◌+◌, ◌∙◌, refl, arith}
 use Rattle.mars_core.specs.Edit.{edited}
 use Rattle.mars_core.specs.declared.battle.edit.Edit.TheVariants as edits
-use Rattle.mars_session.specs.Commands.{fills}
 use Rattle.mars_session.specs.Code.Appending.{Kept, go_on}
 use Rattle.mars_session.proofs.Turns.{one_filled, fault_kept}
 use Rattle.mars_session.proofs.commands.fill_cells.Goals as goal

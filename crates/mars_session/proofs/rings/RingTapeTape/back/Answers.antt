@@ -1,4 +1,4 @@
-use Rattle.std.proofs.Common.{◌-◌, ◌∙◌, ap, arith}
+use Rattle.std.proofs.Common.{◌-◌, ◌∙◌, ap}
 use Rattle.mars_core.specs.Record.{reverted}
 use Rattle.mars_session.specs.Code.Journals.{entry_at}
 use Rattle.mars_session.specs.Tapes.{Ringed}

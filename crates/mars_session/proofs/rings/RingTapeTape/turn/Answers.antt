@@ -1,9 +1,9 @@
-use Rattle.std.proofs.Common.{◌≡◌, ◌∙◌, None, Some, false, ap, length, arith}
+use Rattle.std.proofs.Common.{◌≡◌, ◌∙◌, Some, false, ap, length, arith}
 use Rattle.mars_core.specs.State.{State, is_over_of}
 use Rattle.mars_core.specs.Turn.{turn_of}
 use Rattle.mars_core.specs.Leads.{Leads}
-use Rattle.mars_session.specs.History.{History, append, following}
-use Rattle.mars_session.specs.Memory.{Memory, kept, noted}
+use Rattle.mars_session.specs.History.{append, following}
+use Rattle.mars_session.specs.Memory.{kept, noted}
 use Rattle.mars_session.specs.Tapes.{Ringed}
 use Rattle.mars_session.specs.Code.Journals.{journal_history}
 use Rattle.mars_session.proofs.Stepping.{journal_following}
