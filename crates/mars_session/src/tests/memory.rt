@@ -1,7 +1,7 @@
 //! Calls that are refused memory, over each kind of tape. Each test holds whichever one of its requests is refused, since a
 //! second try has memory: scripts/refuse-memory refuses each in turn.
 use super::{blank, direct, idle, imp_at};
-use crate::{Call, DeltaTape, Refusal, Reply, Session, Tape, WholeTape};
+use crate::{Call, DeltaTape, Refusal, Reply, RingTape, Session, Tape, WholeTape};
 use mars_cell::{Modifier, Op, Params, Warrior};
 use mars_core::Battle;
 use std::alloc::Global;
@@ -22,6 +22,12 @@ impl Begin for WholeTape {
 impl Begin for DeltaTape {
     fn begin(alloc: Global, battle: Battle) -> Result<Self, Battle> {
         DeltaTape::new(alloc, battle)
+    }
+}
+
+impl Begin for RingTape {
+    fn begin(alloc: Global, battle: Battle) -> Result<Self, Battle> {
+        RingTape::new(alloc, battle, 100)
     }
 }
 
@@ -92,6 +98,11 @@ fn commands_over_records(rt: HostRuntime) -> Result<(), Fail> {
     check_commands::<DeltaTape>(&rt, rt.alloc())
 }
 
+#[test]
+fn commands_over_a_ring(rt: HostRuntime) -> Result<(), Fail> {
+    check_commands::<RingTape>(&rt, rt.alloc())
+}
+
 /// As many turns as follow take no memory, so no request is refused.
 fn check_known_places<T: Begin>(rt: &impl Abort, alloc: Global) -> Result<(), Fail> {
     let mut session: Session<T> = with_future(rt, alloc).ok_or("session")?;
@@ -104,7 +115,8 @@ fn check_known_places<T: Begin>(rt: &impl Abort, alloc: Global) -> Result<(), Fa
 #[test]
 fn places_that_are_there(rt: HostRuntime) -> Result<(), Fail> {
     check_known_places::<WholeTape>(&rt, rt.alloc())?;
-    check_known_places::<DeltaTape>(&rt, rt.alloc())
+    check_known_places::<DeltaTape>(&rt, rt.alloc())?;
+    check_known_places::<RingTape>(&rt, rt.alloc())
 }
 
 /// A list of calls: no memory for the replies leaves all as it was, and a call without memory is as if it weren't there.
@@ -137,5 +149,6 @@ fn check_list<T: Begin>(rt: &impl Abort, alloc: Global) -> Result<(), Fail> {
 #[test]
 fn lists_of_calls(rt: HostRuntime) -> Result<(), Fail> {
     check_list::<WholeTape>(&rt, rt.alloc())?;
-    check_list::<DeltaTape>(&rt, rt.alloc())
+    check_list::<DeltaTape>(&rt, rt.alloc())?;
+    check_list::<RingTape>(&rt, rt.alloc())
 }
