@@ -1,3 +1,4 @@
+pub mod FullCores
 pub mod Ascending
 pub mod Draws
 pub mod Spacing

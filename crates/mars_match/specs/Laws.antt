@@ -1,9 +1,10 @@
 -- Laws of the definitions.
-use Rattle.std.specs.Prelude.{◌≡◌, ℕ, ℤ, List, false, AllPairs}
+use Rattle.std.specs.Prelude.{◌≡◌, ℕ, zero, suc, ◌+◌, ◌*◌, ◌≤◌, ℤ, List, [], ◌∷◌, false, AllPairs}
 use Rattle.std.specs.Int.Signed.{lt_z}
 use Rattle.std.specs.List.{filter}
 use Rattle.std.specs.List.Sorted.{IsPermutation, IsNonDecreasing}
-use Rattle.mars_match.specs.Placement.{ascending}
+use Rattle.mars_cell.specs.Parameters.{Parameters}
+use Rattle.mars_match.specs.Placement.{ascending, starts_in_order}
 use Rattle.mars_match.specs.Results.{ranked, has_points}
 use Rattle.mars_match.specs.Tables.{RowValue}
 
@@ -25,3 +26,12 @@ pub record IsRanking (rows ranking : List RowValue) : Type 0 where
 
 abbrev pub RanksByPoints : Type 0
 RanksByPoints = (rows : List RowValue) → IsRanking rows (ranked rows)
+
+-- so many multiples of a distance, from i times the distance on
+abbrev pub multiples : ℕ → ℕ → ℕ → List ℕ
+multiples distance i zero = []
+multiples distance i (suc n) = (i * distance) ∷ multiples distance (i + 1) n
+
+-- where the warriors' distances together are the whole core, the starts in order are the multiples of the distance, whatever the seed
+abbrev pub FullCoresLeaveNoChoice : Type 0
+FullCoresLeaveNoChoice = (p : Parameters) (w seed : ℕ) → 1 ≤ w → w * p.distance ≡ p.core_size → starts_in_order p w seed ≡ multiples p.distance 0 w

@@ -1,5 +1,5 @@
 //! Laws of the definitions: they make no calls.
-ghost use Rattle.mars_match.specs.Laws.{EachHasOneOrder, RanksByPoints};
+ghost use Rattle.mars_match.specs.Laws.{EachHasOneOrder, FullCoresLeaveNoChoice, RanksByPoints};
 
 /// Each list of values has one ascending order: the same values, none of them less than one before it.
 pub fn each_has_one_order()
@@ -9,4 +9,10 @@ pub fn each_has_one_order()
 /// Ranked rows are the same rows, none has more points than one before it, and those of equal points keep their order.
 pub fn ranks_by_points()
     ensures { RanksByPoints }
+{}
+
+/// Where the warriors' least distances together are the whole core, the starts in order are the multiples of the distance,
+/// whatever the seed.
+pub fn full_cores_leave_no_choice()
+    ensures { FullCoresLeaveNoChoice }
 {}
