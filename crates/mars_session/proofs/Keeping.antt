@@ -16,13 +16,13 @@ use Rattle.mars_session.specs.History.{Place, History, beginning, append, append
 use Rattle.mars_session.specs.Commands.{command_limit, States, turns_until, stops_at, step_states, run_states, until_bound, until_states, unless_fault, edit_states, fills, cells_between, fill_states}
 use Rattle.mars_session.specs.Memory.{Memory, never, kept}
 use Rattle.mars_session.specs.declared.calls.Call.{Call}
-use Rattle.mars_session.specs.Script.{moved, no_undo, no_room, appended, commanded, outcome, first, rest}
+use Rattle.mars_session.specs.Script.{moved, no_undo, no_room, appended, commanded, outcome, first, rest, Outcome, history_after}
 use Rattle.mars_session.specs.Tapes.{Follows, FollowsAll, Steps, IsTape, IsTapeOf}
-use Rattle.mars_session.specs.Laws.{BeginningIsTape, CallsKeepTapes, CallsForgetTapes, ScriptsKeepTapes}
+use Rattle.mars_session.specs.Laws.{BeginningIsTape, CallsKeepTapes, ScriptsKeepTapes, ScriptsForgetTapes}
 use Rattle.mars_session.proofs.Turns.{fault_kept, fault_below}
 use Rattle.mars_core.proofs.CallerLemmas.{turn_valid, edit_valid}
 use Rattle.mars_core.specs.Validity.{IsValid}
-use Rattle.mars_session.proofs.Undoing.{after_append_all, stays_never}
+use Rattle.mars_session.proofs.Undoing.{after_append_all, same_most, stays_never}
 use Rattle.mars_session.proofs.Valid.{follows_valid}
 
 -- each state follows the one before it
@@ -273,9 +273,9 @@ tapes_kept = record {
   on = λ before p a after t. record { steps = steps_on before p a after t.steps; first = t.first; last = t.last };
 }
 
-few_places : (k : ℕ) (forgotten : Bool) → Keeps (record { most = Some k; forgotten = forgotten }) (IsTapeOf k)
-few_places k forgotten = record {
-  accepts = λ h s ss t f c. accepted_few k h s ss t f c;
+few_places : (k : ℕ) (m : Memory) → m.most ≡ Some k → Keeps m (IsTapeOf k)
+few_places k m e = record {
+  accepts = λ h s ss t f c. rw e (accepted_few k h s ss t f c);
   back = λ b before p after t. record { steps = steps_back b before p after t.steps; last = t.last; within = omega (arith, t.within) };
   on = λ before p a after t. record { steps = steps_on before p a after t.steps; last = t.last; within = omega (arith, t.within) };
 }
@@ -283,8 +283,15 @@ few_places k forgotten = record {
 pub calls_keep_tapes : CallsKeepTapes
 calls_keep_tapes limit call poor h t = calls_keep never IsTape tapes_kept limit call poor h t
 
-pub calls_forget_tapes : CallsForgetTapes
-calls_forget_tapes k forgotten limit call poor h t = calls_keep (record { most = Some k; forgotten = forgotten }) (IsTapeOf k) (few_places k forgotten) limit call poor h t
+scripts_forget : (k limit : ℕ) (m : Memory) (calls : List Call) (poor : List Bool) (h : History) → m.most ≡ Some k → IsTapeOf k h → IsTapeOf k (history_after m limit calls poor h)
+scripts_forget k limit m [] poor h e t = t
+scripts_forget k limit m (call ∷ calls) poor h e t =
+    let one : Outcome = outcome m limit call (first poor) h in
+    scripts_forget k limit one.memory calls (rest poor) one.history (same_most m limit call (first poor) h ∙ e)
+    (calls_keep m (IsTapeOf k) (few_places k m e) limit call (first poor) h t)
+
+pub scripts_forget_tapes : ScriptsForgetTapes
+scripts_forget_tapes k forgotten limit calls poor h t = scripts_forget k limit (record { most = Some k; forgotten = forgotten }) calls poor h refl t
 
 pub scripts_keep_tapes : ScriptsKeepTapes
 scripts_keep_tapes limit [] poor h t = t

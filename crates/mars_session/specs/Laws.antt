@@ -141,10 +141,10 @@ ScriptsKeepTapes = (limit : ℕ) (calls : List Call) (poor : List Bool) (h : His
 abbrev pub CallsKeepLimit : Type 0
 CallsKeepLimit = (limit : ℕ) (call : Call) (poor : Bool) (h : History) → IsTape h → last_of h ≤ limit → last_of (outcome never limit call poor h).history ≤ limit
 
--- where k places are kept, every call keeps such a tape
-abbrev pub CallsForgetTapes : Type 0
-CallsForgetTapes = (k : ℕ) (forgotten : Bool) (limit : ℕ) (call : Call) (poor : Bool) (h : History)
-    → IsTapeOf k h → IsTapeOf k (outcome (record { most = Some k; forgotten = forgotten }) limit call poor h).history
+-- where k places are kept, every list of calls keeps such a tape
+abbrev pub ScriptsForgetTapes : Type 0
+ScriptsForgetTapes = (k : ℕ) (forgotten : Bool) (limit : ℕ) (calls : List Call) (poor : List Bool) (h : History)
+    → IsTapeOf k h → IsTapeOf k (history_after (record { most = Some k; forgotten = forgotten }) limit calls poor h)
 
 -- each place of a tape is valid
 abbrev pub PlacesAreValid : Type 0

@@ -1,5 +1,5 @@
 //! Laws of the history, over the definitions alone.
-ghost use Rattle.mars_session.specs.Laws.{UndosGiveBack, RedosGiveAgain, RefusalsChangeNothing, NeverFull, CommandsAreUndone, FewCommandsAreUndone, RedoAfterUndo, MovesKeepPlaces, UndoFindsNearest, RedoFindsNearest, GotoFindsFirst, CommandsAppend, BeginningIsTape, CallsKeepTapes, CallsForgetTapes, ScriptsKeepTapes, GotoBetween, TurnsAndCyclesRise, UntilArrives, CallsKeepLimit, PlacesAreValid};
+ghost use Rattle.mars_session.specs.Laws.{UndosGiveBack, RedosGiveAgain, RefusalsChangeNothing, NeverFull, CommandsAreUndone, FewCommandsAreUndone, RedoAfterUndo, MovesKeepPlaces, UndoFindsNearest, RedoFindsNearest, GotoFindsFirst, CommandsAppend, BeginningIsTape, CallsKeepTapes, ScriptsKeepTapes, ScriptsForgetTapes, GotoBetween, TurnsAndCyclesRise, UntilArrives, CallsKeepLimit, PlacesAreValid};
 
 /// After accepted commands as many undos are accepted, and give back the state and the position.
 pub fn undos_give_back()
@@ -79,10 +79,10 @@ pub fn scripts_keep_tapes()
     ensures { ScriptsKeepTapes }
 {}
 
-/// Where k places are kept beside the last one, every call keeps a tape of at most so many: each place is a turn or an edit
-/// of the one before, and the last is marked.
-pub fn calls_forget_tapes()
-    ensures { CallsForgetTapes }
+/// Where k places are kept beside the last one, every list of calls keeps a tape of at most so many: each place is a turn or
+/// an edit of the one before, and the last is marked.
+pub fn scripts_forget_tapes()
+    ensures { ScriptsForgetTapes }
 {}
 
 /// Turns and cycles never fall along a tape, and rise by at most one a place.
