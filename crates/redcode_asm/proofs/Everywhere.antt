@@ -22,6 +22,7 @@ use Rattle.std.proofs.Math.ListN.{get_or-append}
 use Rattle.std.proofs.Math.Seq.{get_or-append_seam}
 use Rattle.redcode_asm.specs.declared.fault.AsmProblem.{AsmProblem}
 use Rattle.redcode_asm.specs.declared.fault.AsmProblem.TheVariants.{Expression}
+use Rattle.redcode_asm.proofs.Alike.{cell-like, modifier-like, replaced-alike}
 use Rattle.redcode_asm.proofs.Makes.{cell-made}
 use Rattle.redcode_asm.proofs.Past.{lines-from}
 use Rattle.std.specs.List.{All}
@@ -71,11 +72,13 @@ module _ (names more : ℕ → Option ℤ) (extends : Extends names more) where
 pub fixed-made : (ps : Predefined) (m : ℕ) (source : ProgramValue) (operation : Option ℕ) (line : List Token) (o : Op) (rest : Option Modifier × List Token) (ts : List Token) (cell : Cell)
     → opcode_of source.names operation ≡ Ok o → split_modifier source.names line ≡ Ok rest → replaced source rest.1 ≡ Ok ts
     → cell_from m (fixed_value ps source) o rest.0 ts ≡ Ok cell
-    → (p : Placed) → p.line.operation ≡ operation → p.line.rest ≡ line → cell_of ps m source p ≡ Ok cell
+    → (p : Placed) → p.line.operation ≡ operation → kinds p.line.rest ≡ kinds line → cell_of ps m source p ≡ Ok cell
 fixed-made ps m source operation line o rest ts cell first second third made p e f =
-    cell-made ps m source p o rest ts (Ok cell) (ap (opcode_of source.names) e ∙ first) (ap (split_modifier source.names) f ∙ second) third
-    (sym (subst (λ r. Follows r (cell_from m (name_value ps source p.index p.index) o rest.0 ts)) made
-    (cell-follows (fixed_value ps source) (name_value ps source p.index p.index) (extends-line ps source p.index p.index) m o rest.0 ts)))
+    let split = modifier-like source.names line p.line.rest rest (sym f) second in
+    let other = replaced-alike source rest.1 split.rest ts split.like third in
+    cell-made ps m source p o (rest.0, split.rest) other.made (Ok cell) (ap (opcode_of source.names) e ∙ first) split.is other.is
+    (sym (subst (λ r. Follows r (cell_from m (name_value ps source p.index p.index) o rest.0 other.made)) (cell-like m (fixed_value ps source) o rest.0 other.made ts (sym other.like) ∙ made)
+    (cell-follows (fixed_value ps source) (name_value ps source p.index p.index) (extends-line ps source p.index p.index) m o rest.0 other.made)))
 
 -- ---- what a name stands for wherever it stands
 
@@ -166,10 +169,12 @@ assert-failed ps source a ts fault first second =
     ∙ ap (λ r. expressed r >>= holds) second
 
 pub held-made : (ps : Predefined) (source : ProgramValue) (tokens ts : List Token) (v : ℤ) → replaced source tokens ≡ Ok ts → value_of (fixed_value ps source) (kinds ts) ≡ Ok v → holds v ≡ Ok tt
-    → (a : Assert) → a.tokens ≡ tokens → assert_holds ps source a ≡ Ok tt
+    → (a : Assert) → kinds a.tokens ≡ kinds tokens → assert_holds ps source a ≡ Ok tt
 held-made ps source tokens ts v first second third a e =
-    assert-made ps source a ts v (ap (replaced source) e ∙ first)
-    (subst (λ r. Follows r (value_of (known_value ps source a.current_line) (kinds ts))) second (value-follows (fixed_value ps source) (known_value ps source a.current_line) (extends-assert ps source a.current_line) (kinds ts)))
+    let other = replaced-alike source tokens a.tokens ts (sym e) first in
+    assert-made ps source a other.made v other.is
+    (subst (λ r. Follows r (value_of (known_value ps source a.current_line) (kinds other.made))) (ap (value_of (fixed_value ps source)) (sym other.like) ∙ second)
+    (value-follows (fixed_value ps source) (known_value ps source a.current_line) (extends-assert ps source a.current_line) (kinds other.made)))
     ∙ third
 
 pub held-push : (ps : Predefined) (source : ProgramValue) (asserts : List (Bor held.Assert)) (assert : Bor held.Assert) → AreHeld ps source asserts → IsHeld ps source assert.now.tokens.items

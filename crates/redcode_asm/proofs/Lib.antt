@@ -6,3 +6,4 @@ pub mod Past
 pub mod Counts
 pub mod Scores
 pub mod Everywhere
+pub mod Alike

@@ -1,5 +1,6 @@
-//! Instructions whose cell is the same wherever they stand, so that those of a loop are evaluated once.
+//! Instructions whose cell is the same wherever they stand, so that those of the same tokens are evaluated once.
 ghost use Rattle.std.specs.Prelude.{◌≡◌, [], ◌∷◌, ◌++◌, IfSome, OnOk, OnErr, true};
+ghost use Rattle.redcode_text.specs.Expression.{kinds};
 ghost use Rattle.redcode_text.specs.Views.{predefined_of};
 ghost use Rattle.redcode_asm.specs.Code.Fixed.{AreFixed, IsFixed};
 
@@ -8,6 +9,7 @@ use indexmap::IndexMap;
 use mars_cell::Cell;
 use redcode_text::{Line, Token, TokenKind};
 use std::alloc::{AllocError, Global};
+use std::hash::{DefaultHasher, Hasher};
 
 /// An instruction, and its cell.
 #[derive(Clone, Copy)]
@@ -20,8 +22,8 @@ pub struct FixedCell<'a> {
 #[derive(Drop)]
 pub struct FixedCells<'a> {
     pub cells: Vec<FixedCell<'a>>,
-    /// Which of them is the one whose operands begin at this byte of the source: a guess, which is tested.
-    places: IndexMap<usize, usize>,
+    /// Which of them has operands of this key: a guess, which is tested.
+    places: IndexMap<u64, usize>,
 }
 
 fn is_same_kind(kind: TokenKind, other: TokenKind) -> bool
@@ -35,29 +37,32 @@ fn is_same_kind(kind: TokenKind, other: TokenKind) -> bool
     }
 }
 
-/// Whether a token is another, at the same place.
-fn is_same(token: Token, other: Token) -> bool
-    ensures { result ≡ true → token ≡ other }
-{
-    token.line == other.line
-        && token.from == other.from
-        && token.to == other.to
-        && is_same_kind(token.kind, other.kind)
-}
-
-/// Whether tokens are the same, at the same places.
-pub fn are_same(tokens: &[Token], others: &[Token]) -> bool
-    ensures { result ≡ true → tokens.now ≡ others.now }
+/// Whether tokens are of the same kinds, wherever they stand.
+pub fn are_alike(tokens: &[Token], others: &[Token]) -> bool
+    ensures { result ≡ true → kinds tokens.now ≡ kinds others.now }
 {
     if tokens.len() != others.len() {
         return false;
     }
     for at in 0..tokens.len() {
-        if !is_same(tokens[at], others[at]) {
+        if !is_same_kind(tokens[at].kind, others[at].kind) {
             return false;
         }
     }
     true
+}
+
+/// A number for tokens, by which those of the same kinds are found again.
+pub fn key_of(tokens: &[Token]) -> u64 {
+    let mut hasher = DefaultHasher::new();
+    for token in tokens {
+        match token.kind {
+            TokenKind::Number(value) => hasher.write_i64(value),
+            TokenKind::Name(name) => hasher.write_usize(name),
+            TokenKind::Sign(sign) => hasher.write_u8(sign as u8),
+        }
+    }
+    hasher.finish()
 }
 
 impl<'a> FixedCells<'a> {
@@ -77,19 +82,19 @@ impl<'a> FixedCells<'a> {
         ensures err { OnErr result (self.new.cells.items ≡ self.old.cells.items) }
     {
         self.cells.reserve(1)?;
-        if let Some(first) = line.rest.first() {
-            let Ok(_) = self.places.insert(first.from, self.cells.len()) else {
-                return Err(AllocError);
-            };
-        }
+        let Ok(_) = self.places.insert(key_of(&line.rest), self.cells.len()) else {
+            return Err(AllocError);
+        };
         self.cells.push_reserved(FixedCell { line, cell });
         Ok(())
     }
 
     /// Which of the instructions this one may be.
     fn guess(&self, line: &Line) -> Option<usize> {
-        let first = line.rest.first()?;
-        let place = self.places.get(&first.from)?;
+        if self.cells.is_empty() {
+            return None;
+        }
+        let place = self.places.get(&key_of(&line.rest))?;
         Some(*place)
     }
 }
@@ -105,7 +110,7 @@ impl<'a> Source<'a> {
             return None;
         }
         let fixed = &known.cells[place];
-        if fixed.line.operation != line.operation || !are_same(&fixed.line.rest, &line.rest) {
+        if fixed.line.operation != line.operation || !are_alike(&fixed.line.rest, &line.rest) {
             return None;
         }
         Some(fixed.cell)

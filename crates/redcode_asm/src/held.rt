@@ -1,9 +1,9 @@
-//! Asserts that hold wherever they stand, so that those of a loop are evaluated once.
+//! Asserts that hold wherever they stand, so that those of the same tokens are evaluated once.
 ghost use Rattle.std.specs.Prelude.{◌≡◌, [], ◌∷◌, ◌++◌, OnOk, OnErr, true};
 ghost use Rattle.redcode_text.specs.Views.{predefined_of};
 ghost use Rattle.redcode_asm.specs.Code.Fixed.{AreHeld, IsHeld};
 
-use crate::fixed::are_same;
+use crate::fixed::{are_alike, key_of};
 use crate::sources::Source;
 use indexmap::IndexMap;
 use redcode_text::Assert;
@@ -13,8 +13,8 @@ use std::alloc::{AllocError, Global};
 #[derive(Drop)]
 pub struct HeldAsserts<'a> {
     pub asserts: Vec<&'a Assert>,
-    /// Which of them is the one whose expression begins at this byte of the source: a guess, which is tested.
-    places: IndexMap<usize, usize>,
+    /// Which of them has an expression of this key: a guess, which is tested.
+    places: IndexMap<u64, usize>,
 }
 
 impl<'a> HeldAsserts<'a> {
@@ -34,19 +34,16 @@ impl<'a> HeldAsserts<'a> {
         ensures err { OnErr result (self.new.asserts.items ≡ self.old.asserts.items) }
     {
         self.asserts.reserve(1)?;
-        if let Some(first) = assert.tokens.first() {
-            let Ok(_) = self.places.insert(first.from, self.asserts.len()) else {
-                return Err(AllocError);
-            };
-        }
+        let Ok(_) = self.places.insert(key_of(&assert.tokens), self.asserts.len()) else {
+            return Err(AllocError);
+        };
         self.asserts.push_reserved(assert);
         Ok(())
     }
 
     /// Which of the asserts this one may be.
     fn guess(&self, assert: &Assert) -> Option<usize> {
-        let first = assert.tokens.first()?;
-        let place = self.places.get(&first.from)?;
+        let place = self.places.get(&key_of(&assert.tokens))?;
         Some(*place)
     }
 }
@@ -63,6 +60,6 @@ impl<'a> Source<'a> {
         if place >= held.asserts.len() {
             return false;
         }
-        are_same(&held.asserts[place].tokens, &assert.tokens)
+        are_alike(&held.asserts[place].tokens, &assert.tokens)
     }
 }

@@ -5,7 +5,8 @@
 //! operation or an operand means is not asked here. The way of a source, with the file of each step:
 //!
 //! ```text
-//! source             bytes -> rows from the first `;redcode` on, each with its kind; the ROF of each FOR (blocks)
+//! source             bytes -> rows from the first `;redcode` on, each with its kind and its long runs of blanks (blanks);
+//!                    the ROF of each FOR (blocks)
 //! reader/repeat      rows one after another, those of a loop once for each round; its head (repeat/head)
 //!   reader/line        a row that is neither FOR nor ROF
 //!     reader/comment     `;name`, `;author`, `;assert`
@@ -32,8 +33,8 @@
 //!
 //! - `expand` gives the program of a source, or its first fault with its line, exactly as `specs/Expansion` defines it.
 //! - The readers of a `Program` give its parts. It has at most 65,536 lines; its name and its author can be printed.
-//! - `Program::substitute` gives tokens with each EQU name replaced, or the first fault, exactly as `specs/Equates`
-//!   defines it.
+//! - `Program::substitute` gives tokens with each EQU name replaced, at most 65,536, or the first fault, exactly as
+//!   `specs/Equates` defines it.
 //! - `Names` has the values of the predefined names, `Names::value_at` one of them, `NameTable` the names of a text.
 //! - `is_instruction` tells which lines are instructions, and `is_spelled` whether an operation is a word.
 //! - `scan` gives the tokens and the names of a text of one line, or its first fault, exactly as `specs/Tokens` defines

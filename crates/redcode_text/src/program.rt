@@ -75,8 +75,8 @@ impl Model for Program {
 }
 
 impl Program {
-    ghost use Rattle.std.specs.Prelude.{◌≡◌, ◌≤◌, length, map};
-    ghost use Rattle.redcode_text.specs.Equates.{limit, substitution};
+    ghost use Rattle.std.specs.Prelude.{◌≡◌, ◌≤◌, IfOk, length, map, option_map, vec_len};
+    ghost use Rattle.redcode_text.specs.Equates.{equate_lines, limit, substitution};
     ghost use Rattle.redcode_text.specs.Views.{assert_of, line_of};
     ghost use Rattle.redcode_text.specs.Outcomes.{Answers};
     ghost use Rattle.redcode_text.specs.Programs.{IsPrinted};
@@ -120,13 +120,21 @@ impl Program {
         &self.asserts
     }
 
+    /// The lines that an EQU name stands for, by its index among the names; none where it is no EQU name.
+    pub fn equate_lines(&self, name: usize) -> Option<&[Vec<Token>]>
+        ensures { option_map (λ lines. map (λ line. line.items) lines.now) result ≡ equate_lines self.now.equates name }
+    {
+        self.equates.lines_of(name)
+    }
+
     /// Tokens with each EQU name replaced by its line, and the names in it in turn.
     ///
     /// The answer has at most 65,536 tokens. The first fault from the left is EquDepth where replacements nest more
     /// than 32 deep, BadToken for a name of several lines, or TooLong for more than 65,536 tokens or replacements. It
     /// has the line of its token among `tokens`; want of memory has line 0.
     pub fn substitute(&self, alloc: Global, tokens: &[Token]) -> Result<Vec<Token>, TextFault>
-        ensures { Answers (λ made. made.items) result (substitution self.now.equates tokens.now) }
+        ensures value { Answers (λ made. made.items) result (substitution self.now.equates tokens.now) }
+        ensures few { IfOk result (λ made. vec_len made ≤ limit) }
     {
         self.equates.substitute(alloc, tokens)
     }

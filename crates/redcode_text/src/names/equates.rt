@@ -1,5 +1,6 @@
 //! EQU names, and tokens with EQU names replaced.
-ghost use Rattle.std.specs.Prelude.{◌≡◌, [], ◌∷◌, ◌++◌, map, Some, None, Ok, Err, MatchResult, option_map};
+ghost use Rattle.std.specs.Prelude.{◌≡◌, [], ◌∷◌, ◌++◌, map, Some, None, Ok, Err, MatchResult, option_map, ◌≤◌, vec_len, IfOk};
+ghost use Rattle.redcode_text.specs.declared.limits.TheConstants.{MAX_REPLACED};
 ghost use Rattle.redcode_text.specs.Equates.{Replaced, equate_lines, token_lines, one_line, one_more, kept, replaced_name, replaced_token, each_replaced, replacing, depth_limit, each_replaced_at_line, substitution};
 ghost use Rattle.redcode_text.specs.Lines.{with_line};
 ghost use Rattle.redcode_text.specs.Outcomes.{Answers};
@@ -52,6 +53,7 @@ impl Equates {
 struct Replaced {
     tokens: Vec<Token>,
     count: usize,
+    ghost few: { vec_len tokens ≤ MAX_REPLACED },
 }
 
 impl Model for Replaced {
@@ -172,7 +174,8 @@ impl Equates {
 
     /// Tokens with each EQU name replaced by its line, and the names in it in turn, at most 32 deep.
     pub fn substitute(&self, alloc: Global, tokens: &[Token]) -> Result<Vec<Token>, TextFault>
-        ensures { Answers (λ made. made.items) result (substitution self.now tokens.now) }
+        ensures value { Answers (λ made. made.items) result (substitution self.now tokens.now) }
+        ensures few { IfOk result (λ made. vec_len made ≤ MAX_REPLACED) }
     {
         let mut replaced = Replaced {
             tokens: Vec::new(alloc),

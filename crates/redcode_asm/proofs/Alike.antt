@@ -1,0 +1,211 @@
+-- Instructions and asserts of the same kinds of tokens.
+use Rattle.std.specs.Bool.{⊤}
+use Rattle.std.proofs.Common.{◌≡◌, ◌∙◌, ℕ, ℤ, ◌==◌, ◌||◌, Bool, true, false, List, [], ◌∷◌, length, map, if◌then◌else◌, Option, Some, None, Result, Ok, Err, refl, ap, sym, subst, arith}
+use Rattle.std.proofs.lemmas.List.{length-map}
+use Rattle.std.specs.List.{list_any, onto_first}
+use Rattle.mars_cell.specs.declared.instruction.Cell.{Cell}
+use Rattle.mars_cell.specs.declared.instruction.Mode.{Mode}
+use Rattle.mars_cell.specs.declared.instruction.Mode.TheVariants as mode
+use Rattle.mars_cell.specs.declared.instruction.Modifier.{Modifier}
+use Rattle.mars_cell.specs.declared.instruction.Op.{Op}
+use Rattle.mars_cell.specs.declared.instruction.Op.TheVariants as op
+use Rattle.redcode_text.specs.declared.fault.TextProblem.{TextProblem}
+use Rattle.redcode_text.specs.declared.token.Token.{Token}
+use Rattle.redcode_text.specs.declared.token.TokenKind.{TokenKind}
+use Rattle.redcode_text.specs.Expansion.{ProgramValue}
+use Rattle.redcode_text.specs.Expression.{kinds, value_of}
+use Rattle.redcode_text.specs.Equates.{substitution}
+use Rattle.redcode_text.specs.Tokens.{without_line}
+use Rattle.redcode_text.proofs.CallerLemmas.{LikeTokens, replaced-like}
+use Rattle.redcode_asm.specs.Assembly.{◌>>=◌, Operands, cell_from, cell_with, expressed, full_operands, given_operands, is_comma, is_dot, mode_of, modifier_first, modifier_in, no_operand, one_operand, operand_value, operands_of, parts_at_commas, reduced, replaced, split_mode, split_modifier, texted, value_in}
+use Rattle.redcode_asm.specs.declared.fault.AsmProblem.{AsmProblem}
+use Rattle.redcode_asm.specs.declared.fault.AsmProblem.TheVariants.{Operand}
+
+length-kinds : (ts us : List Token) → kinds ts ≡ kinds us → length ts ≡ length us
+length-kinds ts us e = sym (length-map ts (λ t. t.kind)) ∙ ap length e ∙ length-map us (λ t. t.kind)
+
+-- ---- operands
+
+abbrev kind_parts : List TokenKind → List (List TokenKind)
+kind_parts [] = [] ∷ []
+kind_parts (k ∷ ks) = elim (is_comma k) [ true ↦ [] ∷ kind_parts ks | false ↦ onto_first k (kind_parts ks) ]
+
+onto-kinds : (t : Token) (ps : List (List Token)) → map kinds (onto_first t ps) ≡ onto_first t.kind (map kinds ps)
+onto-kinds t [] = refl
+onto-kinds t (p ∷ ps) = refl
+
+parts-kinds : (ts : List Token) → map kinds (parts_at_commas ts) ≡ kind_parts (kinds ts)
+parts-kinds [] = refl
+parts-kinds (t ∷ ts) = go (is_comma t.kind) (parts-kinds ts)
+  where
+    go : (b : Bool) → map kinds (parts_at_commas ts) ≡ kind_parts (kinds ts)
+        → map kinds (elim b as (λ _. List (List Token)) [ true ↦ [] ∷ parts_at_commas ts | false ↦ onto_first t (parts_at_commas ts) ])
+        ≡ elim b as (λ _. List (List TokenKind)) [ true ↦ [] ∷ kind_parts (kinds ts) | false ↦ onto_first t.kind (kind_parts (kinds ts)) ]
+    go true h = ap (λ l. [] ∷ l) h
+    go false h = onto-kinds t (parts_at_commas ts) ∙ ap (onto_first t.kind) h
+
+abbrev LikeOption : Option (List Token) → Option (List Token) → Type 0
+LikeOption (Some ts) (Some us) = kinds ts ≡ kinds us
+LikeOption (Some ts) None = ⊥
+LikeOption None (Some us) = ⊥
+LikeOption None None = ⊤
+
+abbrev LikeOperands : Result Operands AsmProblem → Result Operands AsmProblem → Type 0
+LikeOperands (Ok a) (Ok b) = LikeOption a.a b.a × LikeOption a.b b.b
+LikeOperands (Ok a) (Err e) = ⊥
+LikeOperands (Err e) (Ok b) = ⊥
+LikeOperands (Err e) (Err f) = e ≡ f
+
+option-itself : (o : Option (List Token)) → LikeOption o o
+option-itself (Some ts) = refl
+option-itself None = tt
+
+operands-itself : (r : Result Operands AsmProblem) → LikeOperands r r
+operands-itself (Ok a) = (option-itself a.a, option-itself a.b)
+operands-itself (Err e) = refl
+
+one-like : (o : Op) (x y : List Token) → kinds x ≡ kinds y → LikeOperands (Ok (one_operand o x)) (Ok (one_operand o y))
+one-like op.Dat x y e = (tt, e)
+one-like op.Mov x y e = (e, tt)
+one-like op.Add x y e = (e, tt)
+one-like op.Sub x y e = (e, tt)
+one-like op.Mul x y e = (e, tt)
+one-like op.Div x y e = (e, tt)
+one-like op.Mod x y e = (e, tt)
+one-like op.Jmp x y e = (e, tt)
+one-like op.Jmz x y e = (e, tt)
+one-like op.Jmn x y e = (e, tt)
+one-like op.Djn x y e = (e, tt)
+one-like op.Seq x y e = (e, tt)
+one-like op.Sne x y e = (e, tt)
+one-like op.Slt x y e = (e, tt)
+one-like op.Spl x y e = (e, tt)
+one-like op.Nop x y e = (e, tt)
+
+any-like : (ps qs : List (List Token)) → map kinds ps ≡ map kinds qs → list_any (λ p. length p == 0) ps ≡ list_any (λ p. length p == 0) qs
+any-like [] [] e = refl
+any-like [] (q ∷ qs) e = absurd (omega (arith, ap length e))
+any-like (p ∷ ps) [] e = absurd (omega (arith, ap length e))
+any-like (p ∷ ps) (q ∷ qs) e =
+    let first : kinds p ≡ kinds q = cc in
+    let rest : map kinds ps ≡ map kinds qs = cc in
+    let n = length-kinds p q first in
+    let r = any-like ps qs rest in
+    λ i. (n i == 0) || r i
+
+parts-like : (o : Op) (ps qs : List (List Token)) → map kinds ps ≡ map kinds qs → LikeOperands (operands_of o ps) (operands_of o qs)
+parts-like o [] [] e = operands-itself (no_operand o)
+parts-like o [] (q ∷ qs) e = absurd (omega (arith, ap length e))
+parts-like o (p ∷ ps) [] e = absurd (omega (arith, ap length e))
+parts-like o (p ∷ []) (q ∷ []) e = one-like o p q cc
+parts-like o (p ∷ []) (q ∷ r ∷ qs) e = absurd (omega (arith, ap length e))
+parts-like o (p ∷ r ∷ ps) (q ∷ []) e = absurd (omega (arith, ap length e))
+parts-like o (p ∷ r ∷ []) (q ∷ s ∷ []) e = (cc, cc)
+parts-like o (p ∷ r ∷ []) (q ∷ s ∷ t ∷ qs) e = absurd (omega (arith, ap length e))
+parts-like o (p ∷ r ∷ t ∷ ps) (q ∷ s ∷ []) e = absurd (omega (arith, ap length e))
+parts-like o (p ∷ r ∷ t ∷ ps) (q ∷ s ∷ u ∷ qs) e = refl
+
+full-like : (o : Op) (ps qs : List (List Token)) → map kinds ps ≡ map kinds qs → LikeOperands (full_operands o ps) (full_operands o qs)
+full-like o ps qs e =
+    subst (λ b. LikeOperands (full_operands o ps) (if b then Err Operand else operands_of o qs)) (any-like ps qs e) (go (list_any (λ p. length p == 0) ps))
+  where
+    go : (b : Bool) → LikeOperands (if b then Err Operand else operands_of o ps) (if b then Err Operand else operands_of o qs)
+    go true = refl
+    go false = parts-like o ps qs e
+
+given-like : (o : Op) (ts us : List Token) → kinds ts ≡ kinds us → LikeOperands (given_operands o ts) (given_operands o us)
+given-like o [] [] e = operands-itself (no_operand o)
+given-like o [] (u ∷ us) e = absurd (omega (arith, length-kinds [] (u ∷ us) e))
+given-like o (t ∷ ts) [] e = absurd (omega (arith, length-kinds (t ∷ ts) [] e))
+given-like o (t ∷ ts) (u ∷ us) e = full-like o (parts_at_commas (t ∷ ts)) (parts_at_commas (u ∷ us)) (parts-kinds (t ∷ ts) ∙ ap kind_parts e ∙ sym (parts-kinds (u ∷ us)))
+
+abbrev LikeMode : Mode × List Token → Mode × List Token → Type 0
+LikeMode x y = (x.0 ≡ y.0) × (kinds x.1 ≡ kinds y.1)
+
+mode-like : (ts us : List Token) → kinds ts ≡ kinds us → LikeMode (split_mode ts) (split_mode us)
+mode-like [] [] e = (refl, refl)
+mode-like [] (u ∷ us) e = absurd (omega (arith, length-kinds [] (u ∷ us) e))
+mode-like (t ∷ ts) [] e = absurd (omega (arith, length-kinds (t ∷ ts) [] e))
+mode-like (t ∷ ts) (u ∷ us) e =
+    let first : t.kind ≡ u.kind = cc in
+    let rest : kinds ts ≡ kinds us = cc in
+    subst (λ k. LikeMode (split_mode (t ∷ ts)) (elim (mode_of k) as (λ _. Mode × List Token) [ Some m ↦ (m, us) | None ↦ (mode.Direct, u ∷ us) ])) first (go (mode_of t.kind) rest)
+  where
+    go : (o : Option Mode) → kinds ts ≡ kinds us
+        → LikeMode (elim o as (λ _. Mode × List Token) [ Some m ↦ (m, ts) | None ↦ (mode.Direct, t ∷ ts) ]) (elim o as (λ _. Mode × List Token) [ Some m ↦ (m, us) | None ↦ (mode.Direct, u ∷ us) ])
+    go (Some m) h = (refl, h)
+    go None h = (refl, e)
+
+operand-like : (m : ℕ) (names : ℕ → Option ℤ) (a b : Option (List Token)) → LikeOption a b → operand_value m names a ≡ operand_value m names b
+operand-like m names (Some ts) (Some us) h = let l = mode-like ts us h in λ i. expressed (value_of names (l.1 i)) >>= λ v. Ok (l.0 i, reduced m v)
+operand-like m names (Some ts) None h = absurd h
+operand-like m names None (Some us) h = absurd h
+operand-like m names None None h = refl
+
+abbrev made_of : ℕ → (ℕ → Option ℤ) → Op → Option Modifier → Result Operands AsmProblem → Result Cell AsmProblem
+made_of m names o given r = r >>= λ operands. operand_value m names operands.a >>= λ a. operand_value m names operands.b >>= λ b. Ok (cell_with o given a b)
+
+operands-like : (m : ℕ) (names : ℕ → Option ℤ) (o : Op) (given : Option Modifier) (r s : Result Operands AsmProblem) → LikeOperands r s → made_of m names o given r ≡ made_of m names o given s
+operands-like m names o given (Ok a) (Ok b) h =
+    let x = operand-like m names a.a b.a h.0 in
+    let y = operand-like m names a.b b.b h.1 in
+    λ i. x i >>= λ a. y i >>= λ b. Ok (cell_with o given a b)
+operands-like m names o given (Ok a) (Err e) h = absurd h
+operands-like m names o given (Err e) (Ok b) h = absurd h
+operands-like m names o given (Err e) (Err f) h = ap Err h
+
+-- operands of the same kinds of tokens make the same cell
+pub cell-like : (m : ℕ) (names : ℕ → Option ℤ) (o : Op) (given : Option Modifier) (ts us : List Token) → kinds ts ≡ kinds us → cell_from m names o given ts ≡ cell_from m names o given us
+cell-like m names o given ts us e = operands-like m names o given (given_operands o ts) (given_operands o us) (given-like o ts us e)
+
+-- ---- a modifier, and replaced names
+
+-- a result is like this one, which is a value
+pub record IsLike {A : Type 0} (first : A) (tokens : List Token) (result : Result (A × List Token) AsmProblem) : Type 0 where
+  pub rest : List Token
+  pub is : result ≡ Ok (first, rest)
+  pub like : kinds tokens ≡ kinds rest
+
+pub record IsReplaced (tokens : List Token) (result : Result (List Token) AsmProblem) : Type 0 where
+  pub made : List Token
+  pub is : result ≡ Ok made
+  pub like : kinds tokens ≡ kinds made
+
+pub replaced-alike : (source : ProgramValue) (ts us made : List Token) → kinds ts ≡ kinds us → replaced source ts ≡ Ok made → IsReplaced made (replaced source us)
+replaced-alike source ts us made e h = go (without_line (substitution source.equates ts)) (without_line (substitution source.equates us)) (replaced-like source.equates ts us e) h
+  where
+    go : (x y : Result (List Token) TextProblem) → LikeTokens x y → texted x ≡ Ok made → IsReplaced made (texted y)
+    go (Ok a) (Ok b) l h = record { made = b; is = refl; like = (let same : a ≡ made = cc in ap kinds (sym same) ∙ l) }
+    go (Ok a) (Err f) l h = absurd l
+    go (Err e) (Ok b) l h = absurd l
+    go (Err e) (Err f) l h = cc
+
+module _ (names : List (List ℕ)) where
+  first-like : (ts us : List Token) (r : Option Modifier × List Token) → kinds ts ≡ kinds us → modifier_first names ts ≡ Ok r → IsLike r.0 r.1 (modifier_first names us)
+  first-like [] [] r e h = cc
+  first-like [] (u ∷ us) r e h = absurd (omega (arith, length-kinds [] (u ∷ us) e))
+  first-like (t ∷ ts) [] r e h = absurd (omega (arith, length-kinds (t ∷ ts) [] e))
+  first-like (t ∷ ts) (u ∷ us) r e h =
+      let first : t.kind ≡ u.kind = cc in
+      let rest : kinds ts ≡ kinds us = cc in
+      subst (λ k. IsLike r.0 r.1 (modifier_in names k >>= λ m. Ok (Some m, us))) first (go (modifier_in names t.kind) rest h)
+    where
+      go : (x : Result Modifier AsmProblem) → kinds ts ≡ kinds us → (x >>= λ m. Ok (Some m, ts)) ≡ Ok r → IsLike r.0 r.1 (x >>= λ m. Ok (Some m, us))
+      go (Ok m) l g =
+          let same : (Some m, ts) ≡ r = cc in
+          record { rest = us; is = ap (λ q. Ok (q.0, us)) same; like = ap (λ q. kinds q.1) (sym same) ∙ l }
+      go (Err f) l g = cc
+
+  pub modifier-like : (ts us : List Token) (r : Option Modifier × List Token) → kinds ts ≡ kinds us → split_modifier names ts ≡ Ok r → IsLike r.0 r.1 (split_modifier names us)
+  modifier-like [] [] r e h = let same : (None, []) ≡ r = cc in record { rest = []; is = ap (λ q. Ok (q.0, [])) same; like = ap (λ q. kinds q.1) (sym same) }
+  modifier-like [] (u ∷ us) r e h = absurd (omega (arith, length-kinds [] (u ∷ us) e))
+  modifier-like (t ∷ ts) [] r e h = absurd (omega (arith, length-kinds (t ∷ ts) [] e))
+  modifier-like (t ∷ ts) (u ∷ us) r e h =
+      let first : t.kind ≡ u.kind = cc in
+      let rest : kinds ts ≡ kinds us = cc in
+      subst (λ k. IsLike r.0 r.1 (elim (is_dot k) as (λ _. Result (Option Modifier × List Token) AsmProblem) [ true ↦ modifier_first names us | false ↦ Ok (None, u ∷ us) ])) first (go (is_dot t.kind) rest h)
+    where
+      go : (b : Bool) → kinds ts ≡ kinds us → elim b as (λ _. Result (Option Modifier × List Token) AsmProblem) [ true ↦ modifier_first names ts | false ↦ Ok (None, t ∷ ts) ] ≡ Ok r
+          → IsLike r.0 r.1 (elim b as (λ _. Result (Option Modifier × List Token) AsmProblem) [ true ↦ modifier_first names us | false ↦ Ok (None, u ∷ us) ])
+      go true l g = first-like ts us r l g
+      go false l g = let same : (None, t ∷ ts) ≡ r = cc in record { rest = u ∷ us; is = ap (λ q. Ok (q.0, u ∷ us)) same; like = ap (λ q. kinds q.1) (sym same) ∙ e }
