@@ -215,16 +215,12 @@ turn 1 cycle 1 next 0 alive 1 at 3/3
 4000 NOP.F $1, $1
 ";
     check_output(&rt, rt.alloc(), &words, input, output)?;
-    // So many places are kept, and no more.
+    // So many places are kept beside the last one.
     let words = ["-e", "-c", "300000", "imp.load"];
-    let kept = b"turn 200000 cycle 200000 next 0 alive 1 at 200000/200000
-turn 0 cycle 0 next 0 alive 1 at 0/200000
+    let kept = b"turn 200001 cycle 200001 next 0 alive 1 at 200000/200000
+refused 12 NotInHistory 1 200001
 ";
-    check_output(&rt, rt.alloc(), &words, b"run 200000\nundo\n", kept)?;
-    let forgotten = b"turn 200001 cycle 200001 next 0 alive 1 at 200000/200000
-refused 15 Forgotten
-";
-    check_output(&rt, rt.alloc(), &words, b"run 200001\nundo\n", forgotten)
+    check_output(&rt, rt.alloc(), &words, b"run 200001\ngoto 0\n", kept)
 }
 
 #[test]
