@@ -17,7 +17,7 @@ use Rattle.redcode_text.specs.Expression.{kinds, value_of}
 use Rattle.redcode_text.specs.Equates.{substitution}
 use Rattle.redcode_text.specs.Tokens.{without_line}
 use Rattle.redcode_text.proofs.CallerLemmas.{LikeTokens, replaced-like}
-use Rattle.redcode_asm.specs.Assembly.{◌>>=◌, Operands, cell_from, cell_with, expressed, full_operands, given_operands, is_comma, is_dot, mode_of, modifier_first, modifier_in, no_operand, one_operand, operand_value, operands_of, parts_at_commas, reduced, replaced, split_mode, split_modifier, texted, value_in}
+use Rattle.redcode_asm.specs.Assembly.{◌>>=◌, Operands, cell_from, cell_with, expressed, full_operands, given_operands, is_comma, is_dot, mode_of, modifier_first, modifier_in, no_operand, one_operand, operand_value, operands_of, parts_at_commas, reduced, replaced, split_mode, split_modifier, texted}
 use Rattle.redcode_asm.specs.declared.fault.AsmProblem.{AsmProblem}
 use Rattle.redcode_asm.specs.declared.fault.AsmProblem.TheVariants.{Operand}
 

@@ -1,14 +1,11 @@
 -- What the text of a source means, apart from how it is read.
-use Rattle.std.proofs.Common.{◌≡◌, ◌∙◌, refl, ℕ, suc, zero, ◌+◌, List, [], ◌∷◌, ◌++◌, Bool, true, false, ◌||◌, Option, Some, Result, Ok, Err, IfOk, ap, sym, arith}
+use Rattle.std.proofs.Common.{◌≡◌, ◌∙◌, refl, ℕ, suc, zero, ◌+◌, List, [], ◌∷◌, ◌++◌, Bool, true, false, ◌||◌, Option, Result, Ok, Err, IfOk, ap, sym, arith}
 use Rattle.std.specs.List.{list_any}
-use Rattle.redcode_text.specs.declared.token.Token.{Token}
 use Rattle.redcode_text.specs.declared.fault.TextFault.{TextFault}
 use Rattle.redcode_text.specs.declared.fault.TextProblem.{TextProblem}
-use Rattle.redcode_text.specs.Tokens.{◌>>=◌, ◌>>>◌, at_line}
-use Rattle.redcode_text.specs.Source.{Row, Items, Plain, Loop, begins_redcode, from_redcode, read_rows, tree_of_rows}
-use Rattle.redcode_text.specs.Equates.{equate_lines}
-use Rattle.redcode_text.specs.Lines.{Reading, Predefined, Parts, line_read, tokens_counted, parts_of, parts_read, operation_lines, ordinary_line, plain_line, each_line}
-use Rattle.redcode_text.specs.Lines as lines
+use Rattle.redcode_text.specs.Tokens.{◌>>>◌, at_line}
+use Rattle.redcode_text.specs.Source.{Row, Items, Plain, Loop, begins_redcode, from_redcode, read_rows}
+use Rattle.redcode_text.specs.Lines.{Reading, Predefined, plain_line}
 use Rattle.redcode_text.specs.Expansion.{Head, flat, head_line, rounds, in_round, unless_ended}
 
 -- ---- before the first `;redcode`

@@ -1,8 +1,7 @@
 use Rattle.std.proofs.Common.{◌∙◌, ap, rules, sym}
 use Rattle.redcode_text.specs.Views.{predefined_of}
-use Rattle.redcode_asm.specs.Assembly.{cell_from, name_value}
+use Rattle.redcode_asm.specs.Assembly.{cell_from}
 use Rattle.redcode_asm.specs.Code.Fixed.{fixed_value}
-use Rattle.redcode_asm.specs.Code.Sources.{placed_of}
 use Rattle.redcode_asm.proofs.Everywhere.{fixed-made}
 use Rattle.redcode_asm.proofs.sources.Source.cell_of.Goals as goal
 

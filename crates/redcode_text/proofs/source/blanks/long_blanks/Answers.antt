@@ -1,6 +1,5 @@
-use Rattle.std.proofs.Common.{◌+◌, ◌-◌, arith, drop, length, length-drop, subst, sym}
+use Rattle.std.proofs.Common.{arith, length-drop}
 use Rattle.std.proofs.lemmas.List.{take_rest}
-use Rattle.redcode_text.specs.Code.Blanks.{AreBlank}
 use Rattle.redcode_text.proofs.BlankRuns.{blank-push, blanks-from}
 use Rattle.redcode_text.proofs.source.blanks.long_blanks.Goals as goal
 use Rattle.redcode_text.proofs.source.blanks.long_blanks.Goals.{then-to-from-ge-LONG+in-Ok, else-to-from-ge-LONG}
