@@ -1,5 +1,5 @@
 -- What is asked for, put together.
-use Rattle.std.proofs.Common.{◌≡◌, ℕ, List, map, Option, String, Result, Ok, sym}
+use Rattle.std.proofs.Common.{◌≡◌, ℕ, List, map, Option, String, Ok, sym}
 use Rattle.std.specs.Global.{Global}
 use Rattle.std.specs.Prelude.{string_bytes}
 use Rattle.mars_cell.specs.ParameterFaults.{checked_parameters}

@@ -1,10 +1,9 @@
 -- A battle that is refused its start.
-use Rattle.std.proofs.Common.{◌≡◌, refl, ap, Option, Some, None, IfSome, Result, Ok, Err, IfErr, ◌⊎◌, inl, inr}
+use Rattle.std.proofs.Common.{◌≡◌, refl, ap, Option, Some, None, IfSome, Result, Err, IfErr, ◌⊎◌, inl, inr}
 use Rattle.mars_core.specs.State.{State}
 use Rattle.mars_core.specs.declared.battle.start.BattleFault.{BattleFault}
 use Rattle.mars_core.specs.declared.battle.start.BattleFault.TheVariants.{OutOfMemory}
 use Rattle.mars_match.specs.Battles.{unless}
-use Rattle.mars_match.specs.declared.fault.MatchFault.{MatchFault}
 use Rattle.mars_match.specs.declared.fault.MatchFault.TheVariants.{Battle}
 
 -- its fault is want of memory, or the defined one

@@ -1,5 +1,5 @@
 -- What a run that ends well has done.
-use Rattle.std.specs.Prelude.{◌≡◌, ℕ, false, true, List, ◌++◌, map, Option, Result, Ok, string_bytes}
+use Rattle.std.specs.Prelude.{◌≡◌, ℕ, false, true, List, ◌++◌, map, Option, Ok, string_bytes}
 use Rattle.std.specs.Io.KnownBytes.{Appends}
 use Rattle.std.specs.List.{flat_map}
 use Rattle.mars_cell.specs.ParameterFaults.{checked_parameters}

@@ -1,5 +1,4 @@
 use Rattle.std.proofs.lemmas.Result.{on_ok_weaker}
-use Rattle.mars_app.specs.Runs.{RunsWell}
 use Rattle.mars_app.specs.Runs.RunsWell.{helped, written, debugged, contested}
 use Rattle.mars_app.proofs.Asking.{asked_for}
 use Rattle.mars_app.proofs.run.run_words.Goals as goal
