@@ -22,7 +22,7 @@ pub struct FixedCell<'a> {
 #[derive(Drop)]
 pub struct FixedCells<'a> {
     pub cells: Vec<FixedCell<'a>>,
-    /// Which of them has operands of this key: a guess, which is tested.
+    /// Which of them has this key: a guess, which is tested.
     places: IndexMap<u64, usize>,
 }
 
@@ -65,6 +65,14 @@ pub fn key_of(tokens: &[Token]) -> u64 {
     hasher.finish()
 }
 
+/// The same for an instruction, with its operation.
+fn key_of_line(line: &Line) -> u64 {
+    match line.operation {
+        Some(name) => key_of(&line.rest).wrapping_add(name as u64),
+        None => key_of(&line.rest),
+    }
+}
+
 impl<'a> FixedCells<'a> {
     /// No instruction.
     pub fn new(alloc: Global) -> Self
@@ -82,7 +90,7 @@ impl<'a> FixedCells<'a> {
         ensures err { OnErr result (self.new.cells.items ≡ self.old.cells.items) }
     {
         self.cells.reserve(1)?;
-        let Ok(_) = self.places.insert(key_of(&line.rest), self.cells.len()) else {
+        let Ok(_) = self.places.insert(key_of_line(line), self.cells.len()) else {
             return Err(AllocError);
         };
         self.cells.push_reserved(FixedCell { line, cell });
@@ -94,7 +102,7 @@ impl<'a> FixedCells<'a> {
         if self.cells.is_empty() {
             return None;
         }
-        let place = self.places.get(&key_of(&line.rest))?;
+        let place = self.places.get(&key_of_line(line))?;
         Some(*place)
     }
 }

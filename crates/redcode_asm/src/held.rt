@@ -34,7 +34,10 @@ impl<'a> HeldAsserts<'a> {
         ensures err { OnErr result (self.new.asserts.items ≡ self.old.asserts.items) }
     {
         self.asserts.reserve(1)?;
-        let Ok(_) = self.places.insert(key_of(&assert.tokens), self.asserts.len()) else {
+        let Ok(_) = self
+            .places
+            .insert(key_of(&assert.tokens), self.asserts.len())
+        else {
             return Err(AllocError);
         };
         self.asserts.push_reserved(assert);

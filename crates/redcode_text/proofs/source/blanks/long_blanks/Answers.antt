@@ -11,7 +11,7 @@ loop-from-preserved c =
       within = omega (arith, simp (take_rest, length-drop) at c.blank_len.ensures.within);
       blank = elim c.if-to-from-ge-LONG.branch [
         | then-to-from-ge-LONG+in-Ok w ↦
-          rw w.runs-is (rw w.in-Ok.ensures.items (blank-push c.loop-from.runs.items _ source c.loop-from.invariant.blank (λ i here low high. blanks-from source from c.blank_len.result i c.blank_len.ensures.value low high)))
+            rw w.runs-is (rw w.in-Ok.ensures.items (blank-push c.loop-from.runs.items _ source c.loop-from.invariant.blank (λ i here low high. blanks-from source from c.blank_len.result i c.blank_len.ensures.value low high)))
         | else-to-from-ge-LONG w ↦ rw w.runs-is c.loop-from.invariant.blank
       ];
     }
