@@ -273,6 +273,8 @@ def why_unknown(source, name):
     near = like(name, known)
     if name == "PSPACESIZE":
         return "`PSPACESIZE`: P-space is left out."
+    if name.upper() in OPCODES:
+        return f"`{name}` is an opcode: two instructions on one line, or a label of that name?"
     if same:
         return f"`{name}` isn't defined, `{same}` is: case counts."
     if near:

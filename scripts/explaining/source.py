@@ -69,7 +69,8 @@ def parse_line(number, text, equates):
     line = Line(number, text)
     while tokens and NAME.match(tokens[0]):
         word = tokens.pop(0)
-        if word.upper() in OPCODES + DIRECTIVES or word in equates:
+        is_named_anew = tokens[:1] and tokens[0].upper() in ("EQU", "FOR")
+        if word.upper() in OPCODES + DIRECTIVES or word in equates and not is_named_anew:
             line.operation = word
             break
         line.labels.append(word)
@@ -106,9 +107,10 @@ def read_source(data):
 
 
 def like(word, choices):
-    """The one of the choices that is spelt like a word, or None."""
+    """The one of the choices that is spelt like a word, or None: the same letters in another order are the most alike."""
     upper = {choice.upper(): choice for choice in choices}
-    close = get_close_matches(word.upper(), upper, n=1, cutoff=0.6)
+    same = [choice for choice in upper if sorted(choice) == sorted(word.upper())]
+    close = same or get_close_matches(word.upper(), upper, n=1, cutoff=0.6)
     return upper[close[0]] if close else None
 
 

@@ -163,6 +163,6 @@ def position_faults(given, modes):
     elif len(given.files) != 2:
         yield f"`-F` asks for exactly two warriors; files that are named: {len(given.files)}."
     least, greatest = given.number("-d"), given.number("-s") - given.number("-d")
-    if not least <= given.number("-F") <= greatest:
+    if given.number("-F") and not least <= given.number("-F") <= greatest:
         yield f"`-F` takes {least} to {greatest} here, the least distance to the core size less that, not {given.number('-F')}."
 
