@@ -20,6 +20,8 @@ PREDEFINED = {
     "VERSION": "always 80",
     "CURLINE": "the number of instructions before the line",
 }
+MODES = ["#", "$", "*", "@", "{", "<", "}", ">"]
+OPERATORS = ["+", "-", "/", "%"]
 P_SPACE = ("LDP", "STP", "PIN")
 
 
@@ -42,7 +44,8 @@ def not_ascii(source, line):
 
 def bad_token(source, line):
     counters = [loop.counter for loop in source.loops_around(line.number) if loop.counter]
-    for token in TOKEN.findall(line.text.split(";")[0]):
+    tokens = expression_tokens(line) if line.is_assert() else TOKEN.findall(line.text.split(";")[0])
+    for token in tokens:
         yield from token_faults(token, counters)
     for name in line.names():
         if len(source.equates.get(name, [])) > 1:
@@ -80,9 +83,7 @@ def one_name_before(line):
 
 
 def unclosed_for(source, line):
-    fors = sum(other.is_("FOR") for other in source.lines)
-    rofs = sum(other.is_("ROF") for other in source.lines)
-    yield f"FOR stands in {fors} line(s) of the source, ROF in {rofs}."
+    yield loop_counts(source)
     for other in source.lines[line.number:]:
         if not other.operation and len(other.labels) == 1 and not other.rest and like(other.labels[0], ["ROF"]):
             yield f"Line {other.number}: is `{other.labels[0]}` meant as ROF?"
@@ -97,6 +98,12 @@ def rof_alone(source, line):
             if not other.operation and like(word, ["FOR"]):
                 yield f"Line {other.number}: is `{word}` meant as FOR?"
                 return
+    yield loop_counts(source)
+
+
+def loop_counts(source):
+    fors, rofs = (sum(line.is_(word) and not line.unread for line in source.lines) for word in ("FOR", "ROF"))
+    return f"FOR stands in {fors} line(s) of the source, ROF in {rofs}."
 
 
 def label_in_count(source, line):
@@ -126,6 +133,8 @@ def duplicate(source, line):
             yield why_taken(line, name, earlier[0])
         elif equate.number < line.number:
             yield f"`{name}` is an EQU name already, by line {equate.number}."
+        elif line.labels.count(name) > 1:
+            yield f"`{name}` stands in this line {line.labels.count(name)} times as a label: there is no operation between."
         elif "&" not in name:
             yield from label_in_loop(source, line, name)
     if line.operation in source.equates:
@@ -192,7 +201,9 @@ def no_operation(line):
         yield f"`{word}` isn't an opcode of this language."
     elif word:
         yield f"Is `{word}` meant as {meant}? A word that is no opcode is read as a label."
-    elif line.labels:
+    elif not line.labels:
+        yield f"A line begins with a label or an operation, not with `{line.rest[0]}`." if line.rest else "There is no operation."
+    else:
         yield f"None of these words is an opcode, or an EQU name that stands before: {', '.join(line.labels)}."
 
 
@@ -221,6 +232,8 @@ def syntax(source, line):
         if token in source.equates:
             other = source.equates[token][0]
             yield f"`{token}` is replaced by the text of line {other.number}: `{' '.join(other.rest)}`."
+    if (line.is_("ORG") or line.is_("END")) and line.rest[:1] == ["."]:
+        yield f"{line.operation.upper()} has no modifier."
     if "." in tokens:
         yield "A point stands between an opcode and its modifier alone: there are no fractions, and no second modifier."
         return
@@ -229,8 +242,16 @@ def syntax(source, line):
             yield f"A comma may be missing between `{before}` and `{after}`."
     if tokens.count("(") != tokens.count(")"):
         yield f"Parentheses: {tokens.count('(')} opened, {tokens.count(')')} closed."
-    if tokens[-1:] and tokens[-1] in "+-*/%":
+        elif before in MODES and after in MODES:
+            yield f"`{before}` and `{after}`: an operand has one mode."
+        elif before in MODES + OPERATORS and after == ",":
+            yield f"Nothing follows `{before}`."
+    if tokens[-1:] and tokens[-1] in MODES + OPERATORS:
         yield f"Nothing follows `{tokens[-1]}`."
+    if ":" in tokens:
+        yield "A `:` stands behind a label alone."
+    if (line.is_("ORG") or line.is_("END")) and "," in tokens:
+        yield f"{line.operation.upper()} takes one expression."
 
 
 def expression_tokens(line):
@@ -273,6 +294,9 @@ def why_unknown(source, name):
     near = like(name, known)
     if name == "PSPACESIZE":
         return "`PSPACESIZE`: P-space is left out."
+    for line in source.lines:
+        if line.unread and name in line.labels:
+            return f"`{name}` stands in line {line.number}, but {line.unread}."
     if name.upper() in OPCODES:
         return f"`{name}` is an opcode: two instructions on one line, or a label of that name?"
     if same:
@@ -306,14 +330,10 @@ def assert_failed(source, line):
 
 
 def empty(source, line):
-    instructions = [other.number for other in source.lines if other.operation and other.operation.upper() not in DIRECTIVES]
-    marks = [other.number for other in source.lines if re.match(r"\s*;redcode\b", other.text, re.I)]
-    end = next((other.number for other in source.lines if other.is_("END")), None)
-    if instructions and marks and instructions[-1] < marks[0]:
-        yield f"`;redcode` stands in line {marks[0]}: whatever is before it is ignored."
-    if end and instructions and end < instructions[-1]:
-        yield f"The END of line {end} stops reading."
-    if not instructions:
+    unread = [other for other in source.lines if other.unread and other.operation and other.operation.upper() not in DIRECTIVES]
+    for other in unread[:1]:
+        yield f"Line {other.number} has one, but {other.unread}."
+    if not unread:
         yield "No line has an opcode."
 
 

@@ -20,6 +20,8 @@ class Line:
     labels: list = field(default_factory=list)
     operation: str = ""
     rest: list = field(default_factory=list)
+    # Why the line isn't read, where it isn't.
+    unread: str = ""
 
     def names(self):
         """The names in the operands; the modifier isn't one."""
@@ -54,7 +56,7 @@ class Source:
         """Each label with the lines where it stands."""
         found = {}
         for line in self.lines:
-            if not line.is_("EQU") and not line.is_("FOR"):
+            if not line.unread and not line.is_("EQU") and not line.is_("FOR"):
                 for label in line.labels:
                     found.setdefault(label, []).append(line)
         return found
@@ -69,8 +71,8 @@ def parse_line(number, text, equates):
     line = Line(number, text)
     while tokens and NAME.match(tokens[0]):
         word = tokens.pop(0)
-        is_named_anew = tokens[:1] and tokens[0].upper() in ("EQU", "FOR")
-        if word.upper() in OPCODES + DIRECTIVES or word in equates and not is_named_anew:
+        names_what_follows = tokens[:1] and tokens[0].upper() in ("EQU", "FOR")
+        if not names_what_follows and (word.upper() in OPCODES + DIRECTIVES or word in equates):
             line.operation = word
             break
         line.labels.append(word)
@@ -85,11 +87,20 @@ def read_source(data):
     texts = [text.decode("utf-8", "replace").rstrip("\r") for text in data.split(b"\n")]
     if texts and texts[-1] == "":
         texts.pop()
+    first = next((number for number, text in enumerate(texts, 1) if re.match(r"\s*;redcode", text, re.I)), 1)
     lines, equates, open_loops, loops = [], {}, [], []
-    name = None
+    name, end = None, None
     for number, text in enumerate(texts, 1):
         line = parse_line(number, text, equates)
         lines.append(line)
+        if number < first:
+            line.unread = f"what is before the `;redcode` of line {first} is ignored"
+        elif end:
+            line.unread = f"the END of line {end} stops reading"
+        if line.unread:
+            continue
+        if line.is_("END"):
+            end = number
         if line.is_("EQU"):
             name = line.labels[-1] if line.labels else name
             if name:
