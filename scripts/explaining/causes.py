@@ -240,12 +240,12 @@ def syntax(source, line):
     for before, after in zip(tokens, tokens[1:]):
         if ends_operand(before) and begins_operand(after):
             yield f"A comma may be missing between `{before}` and `{after}`."
-    if tokens.count("(") != tokens.count(")"):
-        yield f"Parentheses: {tokens.count('(')} opened, {tokens.count(')')} closed."
         elif before in MODES and after in MODES:
             yield f"`{before}` and `{after}`: an operand has one mode."
         elif before in MODES + OPERATORS and after == ",":
             yield f"Nothing follows `{before}`."
+    if tokens.count("(") != tokens.count(")"):
+        yield f"Parentheses: {tokens.count('(')} opened, {tokens.count(')')} closed."
     if tokens[-1:] and tokens[-1] in MODES + OPERATORS:
         yield f"Nothing follows `{tokens[-1]}`."
     if ":" in tokens:
