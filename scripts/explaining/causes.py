@@ -237,27 +237,30 @@ def syntax(source, line):
     if "." in tokens:
         yield "A point stands between an opcode and its modifier alone: there are no fractions, and no second modifier."
         return
-    for before, after in zip(tokens, tokens[1:]):
-        if ends_operand(before) and begins_operand(after):
-            yield f"A comma may be missing between `{before}` and `{after}`."
-        elif before in MODES and after in MODES:
-            yield f"`{before}` and `{after}`: an operand has one mode."
-        elif before in MODES + OPERATORS and after == ",":
-            yield f"Nothing follows `{before}`."
+    yield from neighbours(tokens)
     if tokens.count("(") != tokens.count(")"):
         yield f"Parentheses: {tokens.count('(')} opened, {tokens.count(')')} closed."
-    if tokens[-1:] and tokens[-1] in MODES + OPERATORS:
-        yield f"Nothing follows `{tokens[-1]}`."
     if ":" in tokens:
         yield "A `:` stands behind a label alone."
     if (line.is_("ORG") or line.is_("END")) and "," in tokens:
         yield f"{line.operation.upper()} takes one expression."
 
 
+def neighbours(tokens):
+    """What can't stand beside one another."""
+    for before, after in zip(tokens, [*tokens[1:], ","]):
+        if ends_operand(before) and begins_operand(after):
+            yield f"A comma may be missing between `{before}` and `{after}`."
+        elif before in MODES and after in MODES:
+            yield f"`{before}` and `{after}`: an operand has one mode."
+        elif before in MODES + OPERATORS and after == ",":
+            yield f"Nothing follows `{before}`."
+
+
 def expression_tokens(line):
     """The tokens of a line's operands, or of its assert."""
     if line.is_assert():
-        return TOKEN.findall(line.text.lstrip()[1:])[1:]
+        return TOKEN.findall(line.text.split(";")[1])[1:]
     return line.rest[2:] if line.rest[:1] == ["."] else line.rest
 
 
