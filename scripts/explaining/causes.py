@@ -159,7 +159,7 @@ def why_taken(line, name, other):
     found = misspelt(other)
     if found:
         return no_operation_here(other, *found)
-    if line.is_("EQU"):
+    if line.is_("EQU") and not other.operation:
         return (f"Line {other.number} uses `{name}` before this EQU, and it was read as a label there: "
                 "as an operation a name stands after its EQU. Move the EQU up.")
     if not other.operation and (other.rest or len(other.labels) > 1):
