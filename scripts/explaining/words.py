@@ -1,0 +1,168 @@
+"""The words of the program: what each takes, and what is wrong with words that the program doesn't take."""
+import re
+from dataclasses import dataclass, field
+
+from explaining.source import like
+
+
+@dataclass
+class Word:
+    meaning: str = ""
+    least: int = 0
+    greatest: int = 0
+    default: int = 0
+    kind: str = "number"
+
+
+WORDS = {
+    "-r": Word("rounds", 1, 100_000, 1),
+    "-s": Word("core size", 1, 1_048_576, 8000),
+    "-c": Word("cycle limit", 1, 10_000_000, 80_000),
+    "-p": Word("process limit", 1, 65_536, 8000),
+    "-l": Word("longest warrior", 1, 1_048_576, 100),
+    "-d": Word("least distance", 1, 1_048_576, 100),
+    "-F": Word("position of the second warrior", 1, 1_048_576),
+    "--read-limit": Word("read limit", 1, 1_048_576),
+    "--write-limit": Word("write limit", 1, 1_048_576),
+    "--seed": Word("seed", 1, 2_147_483_646, 1),
+    "--history": Word("number of places in the history", 1, 1_000_000, 200_000),
+    "--score": Word("formula", kind="text"),
+    **{name: Word(kind="flag") for name in ("-e", "-b", "-o", "--league", "--load", "--help")},
+}
+# Words of other programs, pMARS above all, with what to do.
+PMARS = {
+    "-=": "the score formula is `--score`",
+    "-h": "the help is `--help`",
+    "-k": "`-b` gives a table of fixed columns",
+    "-f": "`--seed` chooses the positions",
+    "-S": "P-space is left out",
+    "-8": "the kit reads Redcode of 1994 alone",
+    "-@": "there are no files of words",
+    **{word: "nothing takes its place" for word in ("-v", "-V", "-P", "-A", "-Q")},
+}
+
+
+@dataclass
+class Given:
+    values: dict = field(default_factory=dict)
+    files: list = field(default_factory=list)
+    faults: list = field(default_factory=list)
+
+    def take(self, name, value):
+        if name in self.values:
+            self.faults.append(f"`{name}` is given twice.")
+        self.values[name] = value
+
+    def number(self, name):
+        value = self.values.get(name)
+        return int(value) if value is not None and re.match(r"\+?\d+$", value) else WORDS[name].default
+
+    def has_asked_help(self):
+        return "--help" in self.values
+
+
+def no_such_word(word):
+    if word in PMARS:
+        return f"`{word}` is no word of the program: {PMARS[word]}."
+    near = like(word, WORDS) if word.startswith("--") else None
+    return f"`{word}` is no word of the program" + (f": is `{near}` meant?" if near else "; `--help` lists them.")
+
+
+def read_words(words):
+    """What the words give, and each that can't be read."""
+    given, words = Given(), list(words)
+    while words:
+        word = words.pop(0)
+        if word == "--":
+            given.files += words
+            break
+        if word.startswith("--"):
+            name, joined, value = word.partition("=")
+            read_long(given, name, value if joined else None, words)
+        elif word.startswith("-") and word != "-":
+            read_letters(given, word[1:], words)
+        else:
+            given.files.append(word)
+    return given
+
+
+def read_long(given, name, value, words):
+    if name not in WORDS:
+        given.faults.append(no_such_word(name))
+    elif WORDS[name].kind == "flag":
+        given.take(name, None)
+        if value is not None:
+            given.faults.append(f"`{name}` takes no value.")
+    else:
+        take_value(given, name, value, words)
+
+
+def read_letters(given, letters, words):
+    """Short words that stand together: `-br 10` is `-b -r 10`."""
+    while letters:
+        name, letters = "-" + letters[0], letters[1:]
+        if name not in WORDS:
+            given.faults.append(no_such_word(name))
+            return
+        if WORDS[name].kind != "flag":
+            take_value(given, name, letters[letters.startswith("="):] if letters else None, words)
+            return
+        given.take(name, None)
+        if letters.startswith("="):
+            given.faults.append(f"`{name}` takes no value.")
+            return
+
+
+def take_value(given, name, value, words):
+    """Takes the value of a word, which stands with it or is the next word."""
+    word = WORDS[name]
+    if value is None and words and (not words[0].startswith("-") or words[0] == "-" or is_signed(word, words[0])):
+        value = words.pop(0)
+    if value is None:
+        given.faults.append(f"`{name}` has no value.")
+        if words and word.kind == "text":
+            given.faults.append(f"A value that begins with `-` is joined by `=`: `{name}={words[0]}`.")
+        return
+    given.take(name, value)
+    if word.kind == "number" and not is_between(value, word.least, word.greatest):
+        given.faults.append(f"`{name}` takes a number from {word.least} to {word.greatest} ({word.meaning}), not `{value}`.")
+
+
+def is_signed(word, value):
+    return word.kind == "number" and re.match(r"-\d+$", value)
+
+
+def is_between(value, least, greatest):
+    return re.match(r"\+?\d+$", value) is not None and least <= int(value) <= greatest
+
+
+def word_faults(words):
+    """Each word that the program can't take, and what they can't be together."""
+    given = read_words(words)
+    faults = list(given.faults)
+    modes = [name for name in ("-e", "--league", "--load") if name in given.values]
+    count = len(given.files)
+    if not count:
+        faults.append("No file of a warrior is named.")
+    elif count > 16:
+        faults.append(f"{count} files are named: 16 warriors at most fight.")
+    if len(modes) > 1:
+        faults.append(f"{' and '.join(f'`{mode}`' for mode in modes)} exclude one another.")
+    if "--league" in modes and count == 1:
+        faults.append("A league asks for at least two warriors.")
+    if "--load" in modes and count > 1:
+        faults.append(f"`--load` writes the load file of one warrior, and {count} files are named.")
+    if "-F" in given.values:
+        faults += list(position_faults(given, modes))
+    return faults
+
+
+def position_faults(given, modes):
+    if "--league" in modes or "--load" in modes:
+        yield "`-F` isn't given with `--league` or `--load`."
+    elif len(given.files) != 2:
+        yield f"`-F` asks for exactly two warriors; files that are named: {len(given.files)}."
+    least, greatest = given.number("-d"), given.number("-s") - given.number("-d")
+    if given.number("-F") and not least <= given.number("-F") <= greatest:
+        yield f"`-F` takes {least} to {greatest} here, the least distance to the core size less that, not {given.number('-F')}."
+
