@@ -123,7 +123,7 @@ class Row:
 
 def fight(program, words):
     """Fights the match: its warriors, and the table of its results."""
-    done = subprocess.run([program, *words.as_list()], capture_output=True, text=True)
+    done = subprocess.run([program, *words.as_list()], capture_output=True, text=True, errors="replace")
     if done.returncode:
         raise told(done.stderr, done.returncode)
     listing, _, results = done.stdout.rpartition("  points   wins   ties losses  warrior\n")
@@ -163,6 +163,10 @@ class Battle:
     commands: list = field(default_factory=list)
     # the number of the warrior, in the order of the match, that has the first turn
     first: int = 0
+
+    def keeping(self, places):
+        """The battle with so many places in the debugger's history."""
+        return Battle(self.words.with_numbers(history=places), self.commands, self.first)
 
 
 def starts_of(words, seed):
@@ -234,7 +238,8 @@ class Debugger:
         self.warriors = len(battle.words.files)
         self.is_laid_out = bool(battle.commands)
         self.process = subprocess.Popen([program, "-e", *battle.words.as_list()], stdin=subprocess.PIPE,
-                                        stdout=subprocess.PIPE, stderr=subprocess.PIPE, text=True)
+                                        stdout=subprocess.PIPE, stderr=subprocess.PIPE, text=True,
+                                        errors="replace")
         self.show()
         for reply in self.ask_each(battle.commands):
             self.checked(reply)
@@ -297,9 +302,10 @@ class Debugger:
     def read_show(self):
         """The rest of a reply to `show`: for each warrior the turn of its death, or None."""
         deaths = []
-        while not (line := self.read_line()).startswith("battle "):
-            parts = line.split()
-            deaths.append(int(parts[3]) if parts[2] == "dead" else None)
+        for _ in range(self.warriors):
+            _, _, state, number = self.read_line().split()
+            deaths.append(int(number) if state == "dead" else None)
+        self.read_line()
         return deaths
 
     def show(self):
