@@ -18,8 +18,8 @@ NUMBERS = {"-r": 1, "-s": 8000, "-c": 80000, "-p": 8000, "-l": 100, "-d": 100, "
            "--read-limit": None, "--write-limit": None, "--seed": 1, "--history": 200000}
 # commands are sent in pieces that a pipe holds, so that neither side waits for the other
 PIECE = 8000
-# the longest list that the debugger shows
-LONGEST_LIST = 1000000
+# the most turns that the debugger makes by a command, and the most cells that it lists
+LONGEST = 1000000
 
 
 class Fault(Exception):
@@ -234,7 +234,6 @@ class Debugger:
 
     def __init__(self, program, battle):
         self.core_size = battle.words.number("-s")
-        self.cycles = battle.words.number("-c")
         self.warriors = len(battle.words.files)
         self.is_laid_out = bool(battle.commands)
         self.process = subprocess.Popen([program, "-e", *battle.words.as_list()], stdin=subprocess.PIPE,
@@ -313,8 +312,9 @@ class Debugger:
         return self.standing("show"), self.read_show()
 
     def run_to_end(self):
-        """Makes all turns that are left."""
-        self.ask(f"until {self.cycles}")
+        """Makes all turns that are left: `run` is refused where there are none."""
+        while not self.ask(f"run {LONGEST}")[0].startswith("refused"):
+            pass
         return self.show()
 
     def first_turn(self):
@@ -340,6 +340,6 @@ class Debugger:
         """All cells, by address."""
         cells = []
         while len(cells) < self.core_size:
-            count = min(LONGEST_LIST, self.core_size - len(cells))
+            count = min(LONGEST, self.core_size - len(cells))
             cells += [line.partition(" ")[2] for line in self.ask(f"list {len(cells)} {count}", count)]
         return cells
