@@ -2,7 +2,7 @@
 use Rattle.std.proofs.Common.{◌≡◌, ℕ, Option, Some, None, IfSome, vec_len, arith}
 use Rattle.mars_cell.specs.Parameters.{Parameters}
 use Rattle.mars_app.specs.Loading.{FitsTwo}
-use Rattle.mars_app.specs.Options.{HaveFittingPosition, IsFittingPosition}
+use Rattle.mars_app.specs.Code.Allowed.{HaveFittingPosition, IsFittingPosition}
 use Rattle.mars_app.specs.declared.options.Options.{Options}
 
 fits : (o : Options) (p : Parameters) (warriors : ℕ) (fixed : Option ℕ) → p.core_size ≡ o.core → p.distance ≡ o.distance → warriors ≡ vec_len o.files

@@ -2,3 +2,5 @@
 pub mod LineBuffer
 pub mod Steps
 pub mod Waiting
+pub mod Allowed
+pub mod Words

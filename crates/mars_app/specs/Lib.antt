@@ -5,6 +5,7 @@ pub mod Lines
 pub mod Replies
 pub mod Readings
 pub mod Transcript
+pub mod CommandLine
 pub mod Options
 pub mod Loading
 pub mod Contests

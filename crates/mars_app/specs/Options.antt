@@ -1,27 +1,163 @@
--- What the options promise.
-use Rattle.std.specs.Prelude.{◌≡◌, ℕ, ◌+◌, ◌≤◌, false, true, ◌&&◌, IfSome, vec_len}
-use Rattle.std.specs.Option.{unwrap_or}
+-- What the words ask for.
+use Rattle.std.specs.Prelude.{◌≡◌, ⊤, ◌⊎◌, ℕ, ◌+◌, ◌==◌, ◌≤◌, ◌^◌, Bool, false, true, not, ◌&&◌, ◌||◌, nat_le, nat_lt, List, [], length, map, Option, None, Some, IfSome, option_and_then, Result, Ok, Err, if◌then◌else◌, codes, string_bytes, vec_len}
+use Rattle.std.specs.Option.{option_map_or, unwrap_or}
+use Rattle.std.specs.Str.{bytes_eq}
+use Rattle.std.specs.Str.Parse.{digits_value, without_leading_plus}
+use Rattle.clap.specs.Faults.{fault_of}
+use Rattle.clap.specs.Kinds.{IsAmong}
+use Rattle.clap.specs.Simple.{matches_of}
+use Rattle.clap.specs.ValueTests.{is_numeral}
+use Rattle.clap.specs.Walk.{Row, Text, all_of, first_of, one_of}
+use Rattle.clap.specs.declared.error.kind.ErrorKind.{ErrorKind}
+use Rattle.clap.specs.declared.error.kind.ErrorKind.TheVariants as kind
 use Rattle.mars_cell.specs.Parameters.{Parameters}
+use Rattle.mars_app.specs.CommandLine.{mars}
 use Rattle.mars_app.specs.declared.options.Options.{Options}
+use Rattle.mars_app.specs.declared.options.WordsFault.{WordsFault}
+use Rattle.mars_app.specs.declared.options.WordsFault.TheVariants as fault
 
-abbrev pub IsBetween : ℕ → ℕ → ℕ → Type 0
-IsBetween least greatest n = (least ≤ n) × (n ≤ greatest)
+-- options, their texts as bytes
+pub record OptionsValue : Type 0 where
+  pub files : List Text
+  pub rounds : ℕ
+  pub core : ℕ
+  pub cycles : ℕ
+  pub processes : ℕ
+  pub longest : ℕ
+  pub distance : ℕ
+  pub fixed : Option ℕ
+  pub debugger : Bool
+  pub brief : Bool
+  pub sorted : Bool
+  pub seed : ℕ
+  pub score : Text
+  pub league : Bool
+  pub load : Bool
+  pub read_limit : Option ℕ
+  pub write_limit : Option ℕ
+  pub history : ℕ
+
+abbrev pub value_of : Options → OptionsValue
+value_of o = record {
+  files = map (λ name. string_bytes name) o.files.items;
+  rounds = o.rounds;
+  core = o.core;
+  cycles = o.cycles;
+  processes = o.processes;
+  longest = o.longest;
+  distance = o.distance;
+  fixed = o.fixed;
+  debugger = o.debugger;
+  brief = o.brief;
+  sorted = o.sorted;
+  seed = o.seed;
+  score = string_bytes o.score;
+  league = o.league;
+  load = o.load;
+  read_limit = o.read_limit;
+  write_limit = o.write_limit;
+  history = o.history;
+}
+
+-- the number that a text is, if it is one of 32 bits; a plus may stand first
+abbrev pub number_of : Text → Option ℕ
+number_of text =
+    let digits = without_leading_plus text in
+    if is_numeral digits && nat_lt (digits_value 10 digits) (2 ^ 32) then Some (digits_value 10 digits) else None
+
+-- the number of a word, where it has one
+abbrev pub given_number : Text → List Row → Option ℕ
+given_number word rows = option_and_then number_of (one_of word rows)
+
+abbrev pub number : Text → List Row → ℕ
+number word rows = unwrap_or (given_number word rows) 0
+
+-- whether a word without a value is given
+abbrev pub is_given : Text → List Row → Bool
+is_given word rows = option_map_or (λ text. bytes_eq text (codes "true")) (one_of word rows) false
+
+-- what the words say
+abbrev pub options_of : List Row → OptionsValue
+options_of rows = record {
+  files = unwrap_or (all_of (codes "FILE") rows) [];
+  rounds = number (codes "rounds") rows;
+  core = number (codes "core") rows;
+  cycles = number (codes "cycles") rows;
+  processes = number (codes "processes") rows;
+  longest = number (codes "longest") rows;
+  distance = number (codes "distance") rows;
+  fixed = given_number (codes "fixed") rows;
+  debugger = is_given (codes "debugger") rows;
+  brief = is_given (codes "brief") rows;
+  sorted = is_given (codes "sorted") rows;
+  seed = number (codes "seed") rows;
+  score = unwrap_or (first_of (codes "score") rows) [];
+  league = is_given (codes "league") rows;
+  load = is_given (codes "load") rows;
+  read_limit = given_number (codes "read-limit") rows;
+  write_limit = given_number (codes "write-limit") rows;
+  history = number (codes "history") rows;
+}
+
+abbrev pub is_between : ℕ → ℕ → ℕ → Bool
+is_between least greatest n = nat_le least n && nat_le n greatest
+
+-- a limit that isn't given is the core size
+abbrev pub is_limit : Option ℕ → Bool
+is_limit limit = option_map_or (is_between 1 1048576) limit true
+
+-- each number is in its range
+abbrev pub has_numbers : OptionsValue → Bool
+has_numbers o = is_between 1 100000 o.rounds && is_between 1 1048576 o.core && is_between 1 10000000 o.cycles
+    && is_between 1 65536 o.processes && is_between 1 1048576 o.longest && is_between 1 1048576 o.distance
+    && is_between 1 2147483646 o.seed && is_between 1 1000000 o.history && is_limit o.read_limit && is_limit o.write_limit
 
 -- from 1 to 16 files, one of which the load file is written, or at least two that fight a league
-pub record HaveFiles (o : Options) : Type 0 where
-  pub count : IsBetween 1 16 (vec_len o.files)
-  pub load : o.load ≡ true → vec_len o.files ≡ 1
-  pub league : o.league ≡ true → 2 ≤ vec_len o.files
+abbrev pub has_files : OptionsValue → Bool
+has_files o = is_between 1 16 (length o.files) && (not o.load || length o.files == 1) && (not o.league || nat_le 2 (length o.files))
+
+-- at most one of the debugger, a league and a load file is asked for
+abbrev pub has_one_mode : OptionsValue → Bool
+has_one_mode o = not (o.debugger && o.league) && not (o.debugger && o.load) && not (o.league && o.load)
 
 -- a position is given for the second of two warriors, at least the least distance from the first one both ways round the core
-pub record IsFittingPosition (o : Options) (position : ℕ) : Type 0 where
-  pub two_files : vec_len o.files ≡ 2
-  pub no_league : o.league ≡ false
-  pub up : o.distance ≤ position
-  pub down : position + o.distance ≤ o.core
+abbrev pub is_fitting : OptionsValue → ℕ → Bool
+is_fitting o position = length o.files == 2 && not o.league && nat_le o.distance position && nat_le (position + o.distance) o.core
 
-abbrev pub HaveFittingPosition : Options → Type 0
-HaveFittingPosition o = IfSome o.fixed (IsFittingPosition o)
+abbrev pub has_fitting_position : OptionsValue → Bool
+has_fitting_position o = option_map_or (is_fitting o) o.fixed true
+
+abbrev pub are_allowed : OptionsValue → Bool
+are_allowed o = has_numbers o && has_files o && has_one_mode o && has_fitting_position o
+
+abbrev pub said_by : List Text → OptionsValue
+said_by words = options_of (matches_of mars words)
+
+-- The words ask for what they say, where `clap` takes them as those of the program and they are allowed. The kinds of its
+-- fault are none where it takes them.
+pub record Ask (words : List Text) (o : OptionsValue) : Type 0 where
+  pub taken : fault_of mars words ≡ []
+  pub said : said_by words ≡ o
+  pub allowed : are_allowed o ≡ true
+
+abbrev pub AskForHelp : List Text → Type 0
+AskForHelp words = IsAmong kind.DisplayHelp (fault_of mars words)
+
+abbrev pub is_help : ErrorKind → Bool
+is_help kind.DisplayHelp = true
+is_help _ = false
+
+-- the words are bad: `clap` refuses them, or they ask for what isn't allowed
+abbrev pub AreBad : List Text → Type 0
+AreBad words = ((k : ErrorKind) × IsAmong k (fault_of mars words) × (is_help k ≡ false))
+    ⊎ ((fault_of mars words ≡ []) × (are_allowed (said_by words) ≡ false))
+
+-- the result is what the words ask for, unless memory ran out
+abbrev pub Reads : List Text → Result Options WordsFault → Type 0
+Reads words (Ok o) = Ask words (value_of o)
+Reads words (Err (fault.Help text)) = AskForHelp words
+Reads words (Err fault.BadWords) = AreBad words
+Reads words (Err fault.OutOfMemory) = ⊤
 
 -- the parameters that the words ask for: a limit that isn't given is the core size
 abbrev pub parameters_of : Options → Parameters
@@ -34,24 +170,3 @@ parameters_of o = record {
   max_length = o.longest;
   distance = o.distance;
 }
-
--- each number is in its range
-pub record AreInRange (o : Options) : Type 0 where
-  pub files : HaveFiles o
-  pub rounds : IsBetween 1 100000 o.rounds
-  pub core : IsBetween 1 1048576 o.core
-  pub cycles : IsBetween 1 10000000 o.cycles
-  pub processes : IsBetween 1 65536 o.processes
-  pub longest : IsBetween 1 1048576 o.longest
-  pub distance : IsBetween 1 1048576 o.distance
-  pub fixed : HaveFittingPosition o
-  pub seed : IsBetween 1 2147483646 o.seed
-  pub read_limit : IfSome o.read_limit (IsBetween 1 1048576)
-  pub write_limit : IfSome o.write_limit (IsBetween 1 1048576)
-  pub history : IsBetween 1 1000000 o.history
-
--- at most one of the debugger, a league and a load file is asked for
-pub record AreExclusive (o : Options) : Type 0 where
-  pub debugger_league : o.debugger && o.league ≡ false
-  pub debugger_load : o.debugger && o.load ≡ false
-  pub league_load : o.league && o.load ≡ false

@@ -2,6 +2,7 @@
 //! forwards.
 #![tactic(auto)]
 
+mod command_line;
 mod contest;
 mod debugger;
 mod fault;

@@ -1,14 +1,17 @@
 //! The words of the program.
-ghost use Rattle.std.specs.Prelude.{◌≤◌, IfOk, IfSome, IsTrue};
-ghost use Rattle.mars_app.specs.Options.{AreInRange, AreExclusive, HaveFiles, HaveFittingPosition};
+ghost use Rattle.std.specs.Prelude.{◌≡◌, [], IfOk, IfSome, IsTrue, codes, map, string_bytes, unwrap_or};
+ghost use Rattle.clap.specs.Matches.{found_of};
+ghost use Rattle.clap.specs.Values.{kind_of};
+ghost use Rattle.clap.specs.Walk.{all_of, first_of, rows_of};
+ghost use Rattle.mars_app.specs.Options.{Reads, are_allowed, given_number, has_files, has_fitting_position, has_numbers, has_one_mode, is_between, is_given, is_limit, number, options_of, value_of};
+ghost use Rattle.mars_app.specs.Code.Allowed.{AreInRange, HaveFiles, HaveFittingPosition, HaveNumbers, IsBetween};
+ghost use Rattle.mars_app.specs.Code.Words.{IsFaultOf};
 
+use crate::command_line::command;
+use clap::ArgMatches;
 use clap::error::ErrorKind;
-use clap::{Arg, ArgAction, ArgMatches, Command, value_parser};
-use std::alloc::{AllocError, AllocFailed, Global};
+use std::alloc::{AllocError, Global};
 use thiserror::Error;
-
-/// The score of a survivor, where no formula is given.
-const DEFAULT_SCORE: &str = "(W*W-1)/S";
 
 /// Why the words aren't taken.
 #[derive(Debug, Drop, Error)]
@@ -25,13 +28,12 @@ pub enum WordsFault {
 }
 
 impl From<AllocError> for WordsFault {
-    fn from(_error: AllocError) -> WordsFault {
-        WordsFault::OutOfMemory
-    }
-}
+    ghost use Rattle.std.specs.Prelude.{◌≡◌};
+    ghost use Rattle.mars_app.specs.declared.options.WordsFault.TheVariants as fault;
 
-impl<T: Drop> From<AllocFailed<T>> for WordsFault {
-    fn from(_error: AllocFailed<T>) -> WordsFault {
+    ghost from_gives = { λ _ to. to ≡ fault.OutOfMemory };
+
+    fn from(_error: AllocError) -> WordsFault {
         WordsFault::OutOfMemory
     }
 }
@@ -69,52 +71,109 @@ pub struct Options {
 }
 
 /// Reads the words that follow the program's name.
+///
+/// BadWords comes where `clap` doesn't take them as those of the program, or where they ask for what isn't allowed; Help
+/// where no bad word stands left of `--help`; OutOfMemory only where a growth was refused.
 pub fn read_options(alloc: Global, words: &[String]) -> Result<Options, WordsFault>
+    ensures value { Reads (map (λ word. string_bytes word) words.now) result }
     ensures range { IfOk result AreInRange }
-    ensures exclusive { IfOk result AreExclusive }
 {
     let matches = match command(alloc)?.try_get_matches_from(words) {
         Ok(matches) => matches,
         Err(error) => return Err(fault_of(alloc, &error)),
     };
-    let options = Options {
-        files: files(alloc, &matches)?,
-        rounds: number(&matches, "rounds", 1, 100_000, 1)?,
-        core: number(&matches, "core", 1, 1_048_576, 8000)?,
-        cycles: number(&matches, "cycles", 1, 10_000_000, 80_000)?,
-        processes: number(&matches, "processes", 1, 65_536, 8000)?,
-        longest: number(&matches, "longest", 1, 1_048_576, 100)?,
-        distance: number(&matches, "distance", 1, 1_048_576, 100)?,
-        fixed: given_number(&matches, "fixed", 1, 1_048_576)?,
-        debugger: matches.get_flag("debugger"),
-        brief: matches.get_flag("brief"),
-        sorted: matches.get_flag("sorted"),
-        seed: number(&matches, "seed", 1, 2_147_483_646, 1)?,
-        score: String::from_str(alloc, matches.get_str("score").unwrap_or(DEFAULT_SCORE))?,
-        league: matches.get_flag("league"),
-        load: matches.get_flag("load"),
-        read_limit: given_number(&matches, "read-limit", 1, 1_048_576)?,
-        write_limit: given_number(&matches, "write-limit", 1, 1_048_576)?,
-        history: number(&matches, "history", 1, 1_000_000, 200_000)?,
-    };
-    if has_number_of_files(&options) && has_one_mode(&options) && has_fitting_position(&options) {
+    let options = options_of(alloc, &matches)?;
+    if are_allowed(&options) {
         Ok(options)
     } else {
         Err(WordsFault::BadWords)
     }
 }
 
+/// What the words say.
+fn options_of(alloc: Global, matches: &ArgMatches<'_>) -> Result<Options, AllocError>
+    ensures { IfOk result (λ options. value_of options ≡ options_of (rows_of (found_of matches.now))) }
+{
+    Ok(Options {
+        files: files(alloc, matches)?,
+        rounds: number(matches, "rounds"),
+        core: number(matches, "core"),
+        cycles: number(matches, "cycles"),
+        processes: number(matches, "processes"),
+        longest: number(matches, "longest"),
+        distance: number(matches, "distance"),
+        fixed: given_number(matches, "fixed"),
+        debugger: is_given(matches, "debugger"),
+        brief: is_given(matches, "brief"),
+        sorted: is_given(matches, "sorted"),
+        seed: number(matches, "seed"),
+        score: score(alloc, matches)?,
+        league: is_given(matches, "league"),
+        load: is_given(matches, "load"),
+        read_limit: given_number(matches, "read-limit"),
+        write_limit: given_number(matches, "write-limit"),
+        history: number(matches, "history"),
+    })
+}
+
+/// Whether what the words say is allowed.
+fn are_allowed(options: &Options) -> bool
+    ensures value { result ≡ are_allowed (value_of options.now) }
+    ensures used { IsTrue result → AreInRange options.now }
+{
+    has_numbers(options)
+        && has_files(options)
+        && has_one_mode(options)
+        && has_fitting_position(options)
+}
+
+/// Whether each number is in its range. `clap` has tested that where it read the words.
+fn has_numbers(options: &Options) -> bool
+    ensures value { result ≡ has_numbers (value_of options.now) }
+    ensures used { IsTrue result → HaveNumbers options.now }
+{
+    is_between(1, 100_000, options.rounds)
+        && is_between(1, 1_048_576, options.core)
+        && is_between(1, 10_000_000, options.cycles)
+        && is_between(1, 65_536, options.processes)
+        && is_between(1, 1_048_576, options.longest)
+        && is_between(1, 1_048_576, options.distance)
+        && is_between(1, 2_147_483_646, options.seed)
+        && is_between(1, 1_000_000, options.history)
+        && is_limit(options.read_limit)
+        && is_limit(options.write_limit)
+}
+
+fn is_between(least: u32, greatest: u32, n: u32) -> bool
+    ensures value { result ≡ is_between least greatest n }
+    ensures used { IsTrue result → IsBetween least greatest n }
+{
+    least <= n && n <= greatest
+}
+
+/// Whether a limit that is given is one of a core.
+fn is_limit(limit: Option<u32>) -> bool
+    ensures value { result ≡ is_limit limit }
+    ensures used { IsTrue result → IfSome limit (IsBetween 1 1048576) }
+{
+    match limit {
+        None => true,
+        Some(limit) => is_between(1, 1_048_576, limit),
+    }
+}
+
 /// Whether there are from 1 to 16 files, one to write the load file of, and at least two for a league.
-fn has_number_of_files(options: &Options) -> bool
-    ensures { IsTrue result → HaveFiles options.now }
+fn has_files(options: &Options) -> bool
+    ensures value { result ≡ has_files (value_of options.now) }
+    ensures used { IsTrue result → HaveFiles options.now }
 {
     let count = options.files.len();
-    1 <= count && count <= 16 && (!options.load || count == 1) && (!options.league || count >= 2)
+    1 <= count && count <= 16 && (!options.load || count == 1) && (!options.league || 2 <= count)
 }
 
 /// Whether at most one of the debugger, a league and a load file is asked for.
 fn has_one_mode(options: &Options) -> bool
-    ensures { IsTrue result → AreExclusive options.now }
+    ensures { result ≡ has_one_mode (value_of options.now) }
 {
     !(options.debugger && options.league)
         && !(options.debugger && options.load)
@@ -124,7 +183,8 @@ fn has_one_mode(options: &Options) -> bool
 /// Whether a position that is given is that of the second of two warriors, at least the least distance from the first one
 /// both ways round the core.
 fn has_fitting_position(options: &Options) -> bool
-    ensures { IsTrue result → HaveFittingPosition options.now }
+    ensures value { result ≡ has_fitting_position (value_of options.now) }
+    ensures used { IsTrue result → HaveFittingPosition options.now }
 {
     match options.fixed {
         None => true,
@@ -137,51 +197,52 @@ fn has_fitting_position(options: &Options) -> bool
     }
 }
 
-/// A number in its range, or the default where the word isn't given.
-fn number(
-    matches: &ArgMatches<'_>,
-    id: &str,
-    least: u32,
-    greatest: u32,
-    default: u32,
-) -> Result<u32, WordsFault>
-    requires low { least ≤ default }
-    requires high { default ≤ greatest }
-    ensures { IfOk result (λ n. (least ≤ n) × (n ≤ greatest)) }
+/// The number of a word, or 0 where it has none.
+fn number(matches: &ArgMatches<'_>, word: &str) -> u32
+    ensures { result ≡ number word.now (rows_of (found_of matches.now)) }
 {
-    match given_number(matches, id, least, greatest)? {
-        Some(n) => Ok(n),
-        None => Ok(default),
-    }
+    given_number(matches, word).unwrap_or(0)
 }
 
-/// A number in its range, where the word is given.
-fn given_number(
-    matches: &ArgMatches<'_>,
-    id: &str,
-    least: u32,
-    greatest: u32,
-) -> Result<Option<u32>, WordsFault>
-    ensures { IfOk result (λ given. IfSome given (λ n. (least ≤ n) × (n ≤ greatest))) }
+/// The number of a word, where it is given.
+fn given_number(matches: &ArgMatches<'_>, word: &str) -> Option<u32>
+    ensures { result ≡ given_number word.now (rows_of (found_of matches.now)) }
 {
-    match matches.get_one::<u32>(id) {
-        None => Ok(None),
-        Some(n) if least <= n && n <= greatest => Ok(Some(n)),
-        Some(_) => Err(WordsFault::BadWords),
-    }
+    matches.get_one(word)
 }
 
-fn files(alloc: Global, matches: &ArgMatches<'_>) -> Result<Vec<String>, AllocError> {
+/// Whether a word without a value is given.
+fn is_given(matches: &ArgMatches<'_>, word: &str) -> bool
+    ensures { result ≡ is_given word.now (rows_of (found_of matches.now)) }
+{
+    matches.get_one(word).unwrap_or(false)
+}
+
+/// The text of the score formula.
+fn score(alloc: Global, matches: &ArgMatches<'_>) -> Result<String, AllocError>
+    ensures { IfOk result (λ score. string_bytes score ≡ unwrap_or (first_of (codes "score") (rows_of (found_of matches.now))) []) }
+{
+    String::from_str(alloc, matches.get_str("score").unwrap_or(""))
+}
+
+/// The names of the warriors' files.
+fn files(alloc: Global, matches: &ArgMatches<'_>) -> Result<Vec<String>, AllocError>
+    ensures { IfOk result (λ files. map (λ name. string_bytes name) files.items ≡ unwrap_or (all_of (codes "FILE") (rows_of (found_of matches.now))) []) }
+{
     let mut files = Vec::new(alloc);
-    if let Some(names) = matches.get_strs("FILE") {
-        for name in names {
-            files.push(String::from_str(alloc, name)?)?;
-        }
+    let Some(names) = matches.get_strs("FILE") else {
+        return Ok(files);
+    };
+    for name in names {
+        files.push(String::from_str(alloc, name)?)?;
     }
     Ok(files)
 }
 
-fn fault_of(alloc: Global, error: &clap::Error) -> WordsFault {
+/// What an error of `clap` comes to.
+fn fault_of(alloc: Global, error: &clap::Error) -> WordsFault
+    ensures { IsFaultOf (kind_of error.now) result }
+{
     match error.kind() {
         ErrorKind::OutOfMemory => WordsFault::OutOfMemory,
         ErrorKind::DisplayHelp => match error.to_string(alloc) {
@@ -190,146 +251,4 @@ fn fault_of(alloc: Global, error: &clap::Error) -> WordsFault {
         },
         _ => WordsFault::BadWords,
     }
-}
-
-/// The command, as `clap` reads it: the help has no short word.
-fn command<'a>(alloc: Global) -> Result<Command<'a>, AllocError> {
-    let command = Command::new(alloc, "mars")
-        .about(
-            "Core War: fights matches and leagues of warriors, and debugs battles forwards and backwards",
-        )
-        .no_binary_name(true)
-        .disable_help_flag(true);
-    files_arg(alloc, modes(alloc, limits(alloc, sizes(alloc, command)?)?)?)
-}
-
-/// The words for the sizes of a battle.
-fn sizes<'a>(alloc: Global, command: Command<'a>) -> Result<Command<'a>, AllocError> {
-    command
-        .arg(counted(alloc, "rounds", 100_000, "Rounds, 1 to 100000 [default: 1]").short('r'))?
-        .arg(counted(
-            alloc,
-            "core",
-            1_048_576,
-            "Core size, 1 to 1048576 [default: 8000]",
-        )
-        .short('s'))?
-        .arg(counted(
-            alloc,
-            "cycles",
-            10_000_000,
-            "Cycle limit, 1 to 10000000 [default: 80000]",
-        )
-        .short('c'))?
-        .arg(counted(
-            alloc,
-            "processes",
-            65_536,
-            "Process limit, 1 to 65536 [default: 8000]",
-        )
-        .short('p'))?
-        .arg(counted(
-            alloc,
-            "longest",
-            1_048_576,
-            "Longest warrior, 1 to the core size [default: 100]",
-        )
-        .short('l'))?
-        .arg(counted(
-            alloc,
-            "distance",
-            1_048_576,
-            "Least distance, from the longest warrior to the core size [default: 100]",
-        )
-        .short('d'))?
-        .arg(counted(
-            alloc,
-            "fixed",
-            1_048_576,
-            "Position of warrior 2, from the least distance to the core size less that",
-        )
-        .short('F'))
-}
-
-/// The long words with a value.
-fn limits<'a>(alloc: Global, command: Command<'a>) -> Result<Command<'a>, AllocError> {
-    command
-        .arg(counted(
-            alloc,
-            "read-limit",
-            1_048_576,
-            "How far is read, 1 to the core size [default: core size]",
-        )
-        .long("read-limit"))?
-        .arg(counted(
-            alloc,
-            "write-limit",
-            1_048_576,
-            "How far is written, 1 to the core size [default: core size]",
-        )
-        .long("write-limit"))?
-        .arg(counted(
-            alloc,
-            "seed",
-            2_147_483_646,
-            "Seed of the positions, 1 to 2147483646 [default: 1]",
-        )
-        .long("seed"))?
-        .arg(counted(
-            alloc,
-            "history",
-            1_000_000,
-            "Places that the debugger's history keeps, 1 to 1000000 [default: 200000]",
-        )
-        .long("history"))?
-        .arg(
-            Arg::new(alloc, "score")
-                .long("score")
-                .value_name("FORMULA")
-                .help(
-                    "What a survivor gets, W being the warriors and S the survivors [default: (W*W-1)/S]",
-                ),
-        )
-}
-
-/// The words without a value.
-fn modes<'a>(alloc: Global, command: Command<'a>) -> Result<Command<'a>, AllocError> {
-    command
-        .arg(flag(
-            alloc,
-            "debugger",
-            "Debugs the battle of the first round by the commands of standard input",
-        )
-        .short('e'))?
-        .arg(flag(alloc, "brief", "No listing of the warriors").short('b'))?
-        .arg(flag(alloc, "sorted", "Results sorted by points").short('o'))?
-        .arg(flag(alloc, "league", "Every pair of warriors fights").long("league"))?
-        .arg(flag(alloc, "load", "Writes the load file of the one warrior").long("load"))?
-        .arg(
-            Arg::new(alloc, "help")
-                .long("help")
-                .action(ArgAction::Help)
-                .help("Prints this help"),
-        )
-}
-
-/// The warriors' files.
-fn files_arg<'a>(alloc: Global, command: Command<'a>) -> Result<Command<'a>, AllocError> {
-    command.arg(
-        Arg::new(alloc, "FILE").required(true).num_args(1..).help(
-            "1 to 16 warriors: sources of Redcode, and load files, whose names end in .load",
-        ),
-    )
-}
-
-fn flag<'a>(alloc: Global, id: &'a str, help: &'a str) -> Arg<'a> {
-    Arg::new(alloc, id).action(ArgAction::SetTrue).help(help)
-}
-
-/// A word with a number from 1 to a greatest one.
-fn counted<'a>(alloc: Global, id: &'a str, greatest: u32, help: &'a str) -> Arg<'a> {
-    Arg::new(alloc, id)
-        .value_name("N")
-        .value_parser(value_parser!(u32).range(1..=i64::from(greatest)))
-        .help(help)
 }

@@ -1,5 +1,5 @@
 //! The program `mars`, over files and streams that are handed in.
-ghost use Rattle.std.specs.Prelude.{◌≡◌, ◌≤◌, ◌⊎◌, ℕ, IfErr, IfOk, Ok, OnOk, Vec, length, vec_len};
+ghost use Rattle.std.specs.Prelude.{◌≡◌, ◌≤◌, ◌⊎◌, ℕ, IfErr, IfOk, Ok, OnOk, Vec, length, map, string_bytes, vec_len};
 ghost use Rattle.std.specs.Global.{Global};
 ghost use Rattle.std.specs.Io.KnownBytes.{Appends, Keeps};
 ghost use Rattle.std.specs.List.{flat_map};
@@ -10,7 +10,8 @@ ghost use Rattle.mars_match.specs.Rounds.{placed_for};
 ghost use Rattle.mars_app.specs.Contests.{BreaksOff, contest_size};
 ghost use Rattle.mars_app.specs.Debugging.{DebugsInPart, DebugsWell, StartsNothing, first_round, session_at};
 ghost use Rattle.mars_app.specs.Loading.{AllFit, FitsTwo};
-ghost use Rattle.mars_app.specs.Options.{IsBetween, parameters_of};
+ghost use Rattle.mars_app.specs.Code.Allowed.{IsBetween};
+ghost use Rattle.mars_app.specs.Options.{parameters_of};
 ghost use Rattle.mars_app.specs.Runs.{RunsWell};
 ghost use Rattle.mars_cell.specs.ParameterFaults.{checked_parameters};
 
@@ -41,7 +42,7 @@ pub fn run<F: WarriorFiles, R: Read, W: Write, E: Write>(
     faults: &mut E,
 ) -> u8
     ensures status { result ≤ 2 }
-    ensures done { result ≡ 0 → RunsWell (F.known files.now) (R.remaining input.old) (R.remaining input.new) (W.contents output.old) (W.contents output.new) }
+    ensures done { result ≡ 0 → RunsWell (map (λ word. string_bytes word) words.now) (F.known files.now) (R.remaining input.old) (R.remaining input.new) (W.contents output.old) (W.contents output.new) }
 {
     match run_words(alloc, words, files, input, output) {
         Ok(()) => 0,
@@ -69,7 +70,7 @@ fn run_words<F: WarriorFiles, R: Read, W: Write>(
     input: &mut R,
     output: &mut W,
 ) -> Result<(), RunFault>
-    ensures { OnOk result (RunsWell (F.known files.now) (R.remaining input.old) (R.remaining input.new) (W.contents output.old) (W.contents output.new)) }
+    ensures { OnOk result (RunsWell (map (λ word. string_bytes word) words.now) (F.known files.now) (R.remaining input.old) (R.remaining input.new) (W.contents output.old) (W.contents output.new)) }
 {
     let options = match read_options(alloc, words) {
         Ok(options) => options,

@@ -731,25 +731,43 @@ Usage: mars [OPTIONS] <FILE>...
 Arguments:
   <FILE>...  1 to 16 warriors: sources of Redcode, and load files, whose names end in .load
 
-Options:
+Contest:
   -r <N>                 Rounds, 1 to 100000 [default: 1]
+  -F <N>                 Position of warrior 2, from the least distance to the core size less that
+      --seed <N>         Seed of the positions, 1 to 2147483646 [default: 1]
+      --score <FORMULA>  What a survivor gets, W being the warriors and S the survivors [default: (W*W-1)/S]
+      --league           Every pair of warriors fights
+
+Core:
   -s <N>                 Core size, 1 to 1048576 [default: 8000]
   -c <N>                 Cycle limit, 1 to 10000000 [default: 80000]
   -p <N>                 Process limit, 1 to 65536 [default: 8000]
   -l <N>                 Longest warrior, 1 to the core size [default: 100]
   -d <N>                 Least distance, from the longest warrior to the core size [default: 100]
-  -F <N>                 Position of warrior 2, from the least distance to the core size less that
       --read-limit <N>   How far is read, 1 to the core size [default: core size]
       --write-limit <N>  How far is written, 1 to the core size [default: core size]
-      --seed <N>         Seed of the positions, 1 to 2147483646 [default: 1]
-      --history <N>      Places that the debugger's history keeps, 1 to 1000000 [default: 200000]
-      --score <FORMULA>  What a survivor gets, W being the warriors and S the survivors [default: (W*W-1)/S]
-  -e                     Debugs the battle of the first round by the commands of standard input
-  -b                     No listing of the warriors
-  -o                     Results sorted by points
-      --league           Every pair of warriors fights
-      --load             Writes the load file of the one warrior
-      --help             Prints this help
+
+Debugger:
+  -e                 Debugs the battle of the first round by the commands of standard input
+      --history <N>  Places that the history keeps, 1 to 1000000 [default: 200000]
+
+Output:
+  -b          No listing of the warriors
+  -o          Results sorted by points
+      --load  Writes the load file of the one warrior
+      --help  Prints this help
+
+At most one of -e, --league and --load is given; -F is for two files, and for no league.
+
+Commands of the debugger, one a line:
+  step, run N, until C, undo, redo, goto T, quit
+  show, core A N, queue W, where A
+  set A CELL, fill A B CELL, move W I A, kill W I, spawn W A
+
+Status: 0 done, 1 a fault of input or files, 2 a fault of the words.
+
+Example: mars -r 100 -b -o imp.red dwarf.red
+More in README.md and docs/USING.md.
 ";
 
 #[test]
