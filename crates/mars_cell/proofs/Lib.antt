@@ -1,5 +1,6 @@
 pub mod Digits
 pub mod FirstLine
+pub mod Heads
 pub mod Listings
 pub mod PartsOf
 pub mod RoundTrip
