@@ -1,10 +1,11 @@
 -- The head of a load file, line after line.
-use Rattle.std.proofs.Common.{◌≡◌, refl, ℕ, zero, suc, ◌<◌, ◌≤◌, Bool, true, false, ◌&&◌, List, [], ◌∷◌, length, drop, Option, None, Some, Result, Ok, Err, ap, ◌∙◌, nat_le, arith}
-use Rattle.std.specs.Prelude.{codes, option_and_then, option_map, slice_get, slice_index, IsUtf8, IsAscii, MatchResult}
+use Rattle.std.proofs.Common.{◌≡◌, refl, ℕ, zero, suc, ◌<◌, Bool, true, false, ◌&&◌, List, [], ◌∷◌, drop, Some, Result, Ok, Err, ap, arith}
+use Rattle.std.specs.Prelude.{codes, option_and_then, option_map, slice_get, IsUtf8, IsAscii, MatchResult}
 use Rattle.std.specs.List.{list_all}
 use Rattle.std.specs.Result.{result_ok}
 use Rattle.std.proofs.lemmas.Str.{IsUtf8-from_ascii}
-use Rattle.mars_cell.specs.Header.{header_of, name_in, name_of, size_in}
+use denote.Ref.{Bor}
+use Rattle.mars_cell.specs.Header.{header_of, name_in, size_in}
 use Rattle.mars_cell.specs.ParameterFaults.{is_within}
 
 printed_is_ascii : (b : ℕ) → is_within 32 126 b ≡ true → b < 128
@@ -20,9 +21,11 @@ ascii [] all i = omega arith
 ascii (b ∷ bs) all zero = printed_is_ascii b (both (is_within 32 126 b) (list_all (is_within 32 126) bs) all).0
 ascii (b ∷ bs) all (suc i) = ascii bs (both (is_within 32 126 b) (list_all (is_within 32 126) bs) all).1 i
 
--- printed bytes are the text that they spell
-pub printed_text : (text : List ℕ) → list_all (is_within 32 126) text ≡ true → IsUtf8 text
-printed_text text all = IsUtf8-from_ascii text (ascii text all)
+-- printed bytes are the UTF-8 of a text, so that a reader of UTF-8 gives them
+pub printed_text : {E : Type 0} (text : List ℕ) (r : Result (Bor (List ℕ)) E) (P : E → Type 0) → list_all (is_within 32 126) text ≡ true
+    → MatchResult r (λ s. (s.now ≡ text) × IsUtf8 text) (λ e. ¬ (IsUtf8 text) × P e) → option_map (λ s. s.now) (result_ok r) ≡ Some text
+printed_text text (Ok s) P all read = ap Some read.0
+printed_text text (Err e) P all read = absurd (read.0 (IsUtf8-from_ascii text (ascii text all)))
 
 -- the lines of a head are those that are taken one after another
 pub header_of-lines : (lines second third : List (List ℕ)) (written : ℕ) (name author : List ℕ)

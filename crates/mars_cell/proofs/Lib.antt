@@ -4,4 +4,5 @@ pub mod Heads
 pub mod Listings
 pub mod PartsOf
 pub mod RoundTrip
+pub mod Values
 pub mod WrittenLines

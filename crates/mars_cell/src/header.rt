@@ -1,8 +1,10 @@
 //! The head of a load file.
 ghost use Rattle.std.specs.Prelude.{◌≡◌, ◌+◌, ◌<◌, ◌≤◌, codes, drop, option_and_then, option_map, slice_get, IfOk, IfSome};
+ghost use Rattle.std.specs.List.{list_all};
 ghost use Rattle.std.specs.Result.{result_map_both};
 ghost use Rattle.mars_cell.specs.Header.{header_of, name_in, name_of, no_header, size_in, size_of, tells_version};
 ghost use Rattle.mars_cell.specs.Load.{lines_of};
+ghost use Rattle.mars_cell.specs.ParameterFaults.{is_within};
 ghost use Rattle.mars_cell.specs.Warriors.{IsName};
 
 use crate::fault::LoadFault;
@@ -66,13 +68,20 @@ fn read_size(digits: &[u8]) -> Option<u32>
     Some(size as u32)
 }
 
+/// Whether all bytes can be printed.
+fn is_printed(text: &[u8]) -> bool
+    ensures { result ≡ list_all (is_within 32 126) text.now }
+{
+    text.iter().all(|byte| b' ' <= *byte && *byte <= b'~')
+}
+
 /// A name, blanks at its ends included.
 #[tactic(auto, unfolding(crate::specs::Header::name_of))]
 fn read_name(text: &[u8]) -> Option<&str>
     ensures value { option_map (λ name. name.now) result ≡ name_of text.now }
     ensures is_name { IfSome result (λ name. IsName name.now) }
 {
-    if text.len() > LONGEST_NAME || !text.iter().all(|byte| b' ' <= *byte && *byte <= b'~') {
+    if text.len() > LONGEST_NAME || !is_printed(text) {
         return None;
     }
     str::from_utf8(text).ok()

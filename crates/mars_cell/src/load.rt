@@ -2,7 +2,7 @@
 ghost use Rattle.std.specs.Prelude.{◌≡◌, ◌<◌, length, All, IfOk, Ok};
 ghost use Rattle.mars_cell.specs.Cells.{FitsCore};
 ghost use Rattle.mars_cell.specs.Load.{body, lines_of, load, is_index, Loads};
-ghost use Rattle.mars_cell.specs.Code.Listing.{ReadsListing, load_from, nothing_read};
+ghost use Rattle.mars_cell.specs.Code.Listing.{ReadsListing, header_value, load_from, nothing_read};
 
 use crate::fault::LoadFault;
 use crate::header::{Header, read_header, tells_version};
@@ -94,8 +94,7 @@ fn read_body(
     lines: Lines<'_>,
     params: &Params,
 ) -> Result<Warrior, LoadFault>
-    ensures value { Loads result (body (record { written = header.entry.written; name = header.entry.name.now; author = header.entry.author.now })
-        params.now.core_size params.now.max_length lines.entry.number (lines_of lines.entry.rest.now)) }
+    ensures value { Loads result (body (header_value header.entry) params.now.core_size params.now.max_length lines.entry.number (lines_of lines.entry.rest.now)) }
     ensures fits { IfOk result (λ warrior. All (FitsCore params.now.core_size) warrior.cells) }
 {
     let sizes = Sizes {

@@ -1,5 +1,5 @@
 //! Writing load files.
-ghost use Rattle.std.specs.Prelude.{◌≡◌, ◌≤◌, ◌++◌, All, IfOk, OnOk, decimal};
+ghost use Rattle.std.specs.Prelude.{◌≡◌, ◌≤◌, ◌++◌, All, IfOk, OnOk, decimal, flat_map, map};
 ghost use Rattle.mars_cell.specs.Cells.{FitsCore};
 ghost use Rattle.mars_cell.specs.Text.{cell_text};
 ghost use Rattle.mars_cell.specs.Written.{load_text, with_newline};
@@ -37,6 +37,17 @@ fn push_cell(text: &mut Vec<u8>, cell: Cell, core_size: u32) -> Result<(), Alloc
     push_line(text, cell.text(core_size).as_str().as_bytes(), b"")
 }
 
+/// Adds the lines of some cells to a text.
+fn push_cells(text: &mut Vec<u8>, cells: &[Cell], core_size: u32) -> Result<(), AllocError>
+    requires { All (FitsCore core_size) cells.now }
+    ensures { OnOk result (text.new.items ≡ text.old.items ++ flat_map with_newline (map (cell_text core_size) cells.now)) }
+{
+    for cell in cells {
+        push_cell(text, *cell, core_size)?;
+    }
+    Ok(())
+}
+
 /// The load file of a warrior for a core of that size, of version 2.
 ///
 /// Its lines, each ended by LF, are `;load 2 ` and the size of the core, `;name ` and the warrior's name, `;author ` and
@@ -51,8 +62,6 @@ pub fn write_load(alloc: Global, warrior: &Warrior, core_size: u32) -> Result<Ve
     push_line(&mut text, b";name ", warrior.name().as_bytes())?;
     push_line(&mut text, b";author ", warrior.author().as_bytes())?;
     push_number(&mut text, b"ORG ", warrior.start())?;
-    for cell in warrior.cells() {
-        push_cell(&mut text, *cell, core_size)?;
-    }
+    push_cells(&mut text, warrior.cells(), core_size)?;
     Ok(text)
 }

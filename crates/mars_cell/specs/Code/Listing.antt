@@ -1,5 +1,6 @@
 -- What the reader of load files holds, line after line.
 use Rattle.std.specs.Prelude.{◌≡◌, ⊤, ℕ, ◌+◌, List, [], ◌∷◌, ◌++◌, Option, None, Some, Result, Ok, Err}
+use Rattle.mars_cell.specs.declared.header.Header.{Header}
 use Rattle.mars_cell.specs.declared.instruction.Cell.{Cell}
 use Rattle.mars_cell.specs.declared.numbers.Number.{Number}
 use Rattle.mars_cell.specs.declared.statements.Statement.{Statement}
@@ -8,7 +9,12 @@ use Rattle.mars_cell.specs.declared.load.Reading.{Reading}
 use Rattle.mars_cell.specs.declared.fault.LoadFault.{LoadFault}
 use Rattle.mars_cell.specs.declared.fault.LoadFault.TheVariants as fault
 use Rattle.mars_cell.specs.Cells.{FitsCore}
+use Rattle.mars_cell.specs.Header.{HeaderValue}
 use Rattle.mars_cell.specs.Load.{line_statement}
+
+-- the head that was read
+abbrev pub header_value : Header → HeaderValue
+header_value h = record { written = h.written; name = h.name.now; author = h.author.now }
 
 -- the cell that a statement gives fits a core of m cells
 abbrev pub StatementFits : ℕ → Statement → Type 0
