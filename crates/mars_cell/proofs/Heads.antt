@@ -28,14 +28,14 @@ printed_text text (Ok s) P all read = ap Some read.0
 printed_text text (Err e) P all read = absurd (read.0 (IsUtf8-from_ascii text (ascii text all)))
 
 -- the lines of a head are those that are taken one after another
-pub header_of-lines : (lines second third : List (List ℕ)) (written : ℕ) (name author : List ℕ)
+pub header_made : (lines second third : List (List ℕ)) (written : ℕ) (name author : List ℕ)
     → option_and_then size_in (slice_get lines 0) ≡ Some written
     → second ≡ drop 1 lines → option_and_then (name_in (codes ";name ")) (slice_get second 0) ≡ Some name
     → third ≡ drop 1 second → option_and_then (name_in (codes ";author ")) (slice_get third 0) ≡ Some author
     → header_of lines ≡ Ok (record { written = written; name = name; author = author })
 unfolding header_of
-header_of-lines [] second third written name author of_first to_second of_second to_third of_third = cc
-header_of-lines (l ∷ []) second third written name author of_first to_second of_second to_third of_third = let there = rw to_second at of_second in cc
-header_of-lines (l ∷ k ∷ []) second third written name author of_first to_second of_second to_third of_third = let there = rw (to_third, to_second) at of_third in cc
-header_of-lines (l ∷ k ∷ j ∷ ls) second third written name author of_first to_second of_second to_third of_third =
+header_made [] second third written name author of_first to_second of_second to_third of_third = cc
+header_made (l ∷ []) second third written name author of_first to_second of_second to_third of_third = let there = rw to_second at of_second in cc
+header_made (l ∷ k ∷ []) second third written name author of_first to_second of_second to_third of_third = let there = rw (to_third, to_second) at of_third in cc
+header_made (l ∷ k ∷ j ∷ ls) second third written name author of_first to_second of_second to_third of_third =
     rw (of_first, rw to_second at of_second, rw (to_third, to_second) at of_third) refl

@@ -108,7 +108,7 @@ fn take_name<'a>(lines: &mut Lines<'a>, word: &[u8]) -> Option<&'a str>
 }
 
 /// Takes the head of a file of version 2, which is its first three lines.
-#[tactic(auto, unfolding(crate::specs::Header::header_of))]
+#[tactic(auto, using(crate::proofs::Heads::header_made), unfolding(crate::specs::Header::header_of))]
 pub fn read_header<'a>(lines: &mut Lines<'a>) -> Result<Header<'a>, LoadFault>
     ensures value { result_map_both (λ header. record { written = header.written; name = header.name.now; author = header.author.now }) (λ fault. fault) result
         ≡ header_of (lines_of lines.old.rest.now) }
