@@ -1,7 +1,5 @@
 //! Load files of sources.
-ghost use Rattle.std.specs.Prelude.{Ok};
-ghost use Rattle.mars_cell.specs.Written.{load_text};
-ghost use Rattle.redcode_asm.specs.Assembly.{◌>>=◌, assembly};
+ghost use Rattle.redcode_asm.specs.LoadFiles.{assembled_load};
 ghost use Rattle.redcode_asm.specs.Outcomes.{Answers};
 
 use crate::assembler::assemble;
@@ -20,8 +18,7 @@ pub fn assemble_load(
     rounds: u32,
     warriors: u32,
 ) -> Result<Vec<u8>, AsmFault>
-    ensures { Answers (λ text. text.items) result
-        (assembly params.now rounds warriors source.now >>= λ warrior. Ok (load_text params.now.core_size warrior)) }
+    ensures { Answers (λ text. text.items) result (assembled_load params.now rounds warriors source.now) }
 {
     let warrior = assemble(alloc, source, params, rounds, warriors)?;
     match write_load(alloc, &warrior, params.core_size()) {
@@ -29,3 +26,6 @@ pub fn assemble_load(
         Err(_) => Err(AsmFault::out_of_memory()),
     }
 }
+
+#[cfg(test)]
+mod tests;
