@@ -7,9 +7,10 @@ use Rattle.mars_cell.specs.declared.instruction.Cell.{Cell}
 use Rattle.mars_cell.specs.declared.numbers.Number.{Number}
 use Rattle.mars_cell.specs.declared.statements.Statement.{Statement}
 use Rattle.mars_cell.specs.declared.statements.Statement.TheVariants as statement
-use Rattle.mars_cell.specs.declared.load.LoadFault.{LoadFault}
-use Rattle.mars_cell.specs.declared.load.LoadFault.TheVariants as fault
-use Rattle.mars_cell.specs.Load.{Loads, with_rest, cells_of, end_in, is_index, line_statement, lines_of, load, nameless_warrior, origin_in, statements, statements_from, warrior_of}
+use Rattle.mars_cell.specs.declared.fault.LoadFault.{LoadFault}
+use Rattle.mars_cell.specs.declared.fault.LoadFault.TheVariants as fault
+use Rattle.mars_cell.specs.Header.{HeaderValue}
+use Rattle.mars_cell.specs.Load.{Loads, body, with_rest, cells_of, end_in, is_index, line_statement, origin_in, statements, statements_from, warrior_of}
 use Rattle.mars_cell.specs.Code.Listing.{Listing, ReadsListing, load_from, nothing_read}
 use Rattle.mars_cell.specs.Warriors.{WarriorValue}
 
@@ -40,22 +41,22 @@ after-end s None e = rw (append-nil, e) refl
 after-none : (s : Listing) → after s [] ≡ s
 after-none s = rw append-nil refl
 
-pub load_from-statements : (m k : ℕ) (s : Listing) (ls : List (List ℕ)) → s.end ≡ None → load_from m k s ls ≡ read_after s (statements m k ls)
+pub load_from-statements : (written m k : ℕ) (s : Listing) (ls : List (List ℕ)) → s.end ≡ None → load_from written m k s ls ≡ read_after s (statements written m k ls)
 unfolding load_from statements
-load_from-statements m k s [] open_end = ap Ok (sym (after-none s))
-load_from-statements m k s (l ∷ ls) open_end =
-    elim (line_statement m l) as (λ t. line_statement m l ≡ t → load_from m k s (l ∷ ls) ≡ read_after s (statements m k (l ∷ ls))) [
+load_from-statements written m k s [] open_end = ap Ok (sym (after-none s))
+load_from-statements written m k s (l ∷ ls) open_end =
+    elim (line_statement written m l) as (λ t. line_statement written m l ≡ t → load_from written m k s (l ∷ ls) ≡ read_after s (statements written m k (l ∷ ls))) [
       | None ↦ λ e. rw (load_from, statements, e) refl
       | Some x ↦ λ e. rw (load_from, statements, e) (elim x as (λ x. elim x [
-        | statement.Nothing ↦ load_from m (k + 1) s ls
-        | statement.Origin n ↦ load_from m (k + 1) (record s { origin = Some n }) ls
+        | statement.Nothing ↦ load_from written m (k + 1) s ls
+        | statement.Origin n ↦ load_from written m (k + 1) (record s { origin = Some n }) ls
         | statement.End n ↦ Ok (record s { end = n })
-        | statement.Instruction c ↦ load_from m (k + 1) (record s { cells = s.cells ++ c ∷ [] }) ls
-      ] ≡ read_after s (statements_from x (statements m (k + 1) ls))) [
-        | statement.Nothing ↦ load_from-statements m (k + 1) s ls open_end ∙ sym (read_after-nothing s (statements m (k + 1) ls))
-        | statement.Origin n ↦ load_from-statements m (k + 1) (record s { origin = Some n }) ls open_end ∙ sym (read_after-origin s n (statements m (k + 1) ls))
+        | statement.Instruction c ↦ load_from written m (k + 1) (record s { cells = s.cells ++ c ∷ [] }) ls
+      ] ≡ read_after s (statements_from x (statements written m (k + 1) ls))) [
+        | statement.Nothing ↦ load_from-statements written m (k + 1) s ls open_end ∙ sym (read_after-nothing s (statements written m (k + 1) ls))
+        | statement.Origin n ↦ load_from-statements written m (k + 1) (record s { origin = Some n }) ls open_end ∙ sym (read_after-origin s n (statements written m (k + 1) ls))
         | statement.End n ↦ ap Ok (sym (after-end s n open_end))
-        | statement.Instruction c ↦ load_from-statements m (k + 1) (record s { cells = s.cells ++ c ∷ [] }) ls open_end ∙ sym (read_after-instruction s c (statements m (k + 1) ls))
+        | statement.Instruction c ↦ load_from-statements written m (k + 1) (record s { cells = s.cells ++ c ∷ [] }) ls open_end ∙ sym (read_after-instruction s c (statements written m (k + 1) ls))
       ])
     ] refl
 
@@ -64,39 +65,40 @@ load_from-statements m k s (l ∷ ls) open_end =
 abbrev pub start_in : Listing → Number
 start_in s = unwrap_or (option_or s.origin s.end) (record { is_negative = false; magnitude = 0 })
 
-abbrev pub warrior_in : ℕ → Listing → Result WarriorValue LoadFault
-warrior_in longest s =
+abbrev pub warrior_in : HeaderValue → ℕ → Listing → Result WarriorValue LoadFault
+warrior_in h longest s =
     if nat_lt longest (length s.cells) then Err fault.TooLong
     else if length s.cells == 0 then Err fault.Empty
-    else if is_index (start_in s) (length s.cells) then Ok (nameless_warrior s.cells (start_in s).magnitude)
+    else if is_index (start_in s) (length s.cells) then Ok (record { name = h.name; author = h.author; cells = s.cells; start = (start_in s).magnitude })
     else Err fault.BadOrigin
 
-abbrev load_with : ℕ → Result (List Statement) ℕ → Result WarriorValue LoadFault
-load_with longest (Err k) = Err (fault.Syntax k)
-load_with longest (Ok ss) = warrior_of longest ss
+abbrev body_with : HeaderValue → ℕ → Result (List Statement) ℕ → Result WarriorValue LoadFault
+body_with h longest (Err k) = Err (fault.Syntax k)
+body_with h longest (Ok ss) = warrior_of h longest ss
 
-load-with : (m longest : ℕ) (bytes : List ℕ) → load m longest bytes ≡ load_with longest (statements m 1 (lines_of bytes))
-unfolding load
-load-with m longest bytes = refl
+body-with : (h : HeaderValue) (m longest k : ℕ) (ls : List (List ℕ)) → body h m longest k ls ≡ body_with h longest (statements h.written m k ls)
+unfolding body
+body-with h m longest k ls = refl
 
-with_listing : (longest : ℕ) (r : Result (List Statement) ℕ) (s : Listing) → read_after nothing_read r ≡ Ok s → load_with longest r ≡ warrior_in longest s
-with_listing longest (Ok ss) s e = let same : after nothing_read ss ≡ s = cc in rw (← same) refl
-with_listing longest (Err k) s e = cc
+with_listing : (h : HeaderValue) (longest : ℕ) (r : Result (List Statement) ℕ) (s : Listing) → read_after nothing_read r ≡ Ok s → body_with h longest r ≡ warrior_in h longest s
+with_listing h longest (Ok ss) s e = let same : after nothing_read ss ≡ s = cc in rw (← same) refl
+with_listing h longest (Err k) s e = cc
 
-with_bad_line : (longest : ℕ) (r : Result (List Statement) ℕ) (k : ℕ) → read_after nothing_read r ≡ Err k → load_with longest r ≡ Err (fault.Syntax k)
-with_bad_line longest (Ok ss) k e = cc
-with_bad_line longest (Err j) k e = let same : j ≡ k = cc in rw same refl
+with_bad_line : (h : HeaderValue) (longest : ℕ) (r : Result (List Statement) ℕ) (k : ℕ) → read_after nothing_read r ≡ Err k → body_with h longest r ≡ Err (fault.Syntax k)
+with_bad_line h longest (Ok ss) k e = cc
+with_bad_line h longest (Err j) k e = let same : j ≡ k = cc in rw same refl
 
-pub load-listing : (m longest : ℕ) (bytes : List ℕ) (s : Listing) → load_from m 1 nothing_read (lines_of bytes) ≡ Ok s → load m longest bytes ≡ warrior_in longest s
-load-listing m longest bytes s e = load-with m longest bytes ∙ with_listing longest (statements m 1 (lines_of bytes)) s (sym (load_from-statements m 1 nothing_read (lines_of bytes) refl) ∙ e)
+pub body-listing : (h : HeaderValue) (m longest k : ℕ) (ls : List (List ℕ)) (s : Listing) → load_from h.written m k nothing_read ls ≡ Ok s → body h m longest k ls ≡ warrior_in h longest s
+body-listing h m longest k ls s e = body-with h m longest k ls ∙ with_listing h longest (statements h.written m k ls) s (sym (load_from-statements h.written m k nothing_read ls refl) ∙ e)
 
-pub load-bad_line : (m longest : ℕ) (bytes : List ℕ) (k : ℕ) → load_from m 1 nothing_read (lines_of bytes) ≡ Err k → load m longest bytes ≡ Err (fault.Syntax k)
-load-bad_line m longest bytes k e = load-with m longest bytes ∙ with_bad_line longest (statements m 1 (lines_of bytes)) k (sym (load_from-statements m 1 nothing_read (lines_of bytes) refl) ∙ e)
+body-bad_line : (h : HeaderValue) (m longest k : ℕ) (ls : List (List ℕ)) (j : ℕ) → load_from h.written m k nothing_read ls ≡ Err j → body h m longest k ls ≡ Err (fault.Syntax j)
+body-bad_line h m longest k ls j e = body-with h m longest k ls ∙ with_bad_line h longest (statements h.written m k ls) j (sym (load_from-statements h.written m k nothing_read ls refl) ∙ e)
 
 -- the reader's fault is the defined one
-pub fault_from_listing : (m longest : ℕ) (bytes : List ℕ) (f : LoadFault) → ReadsListing (Err f) (load_from m 1 nothing_read (lines_of bytes)) → Loads (Err f) (load m longest bytes)
-fault_from_listing m longest bytes fault.OutOfMemory h = tt
-fault_from_listing m longest bytes (fault.Syntax k) h = load-bad_line m longest bytes k h
-fault_from_listing m longest bytes fault.TooLong h = absurd h
-fault_from_listing m longest bytes fault.Empty h = absurd h
-fault_from_listing m longest bytes fault.BadOrigin h = absurd h
+pub fault_from_listing : (h : HeaderValue) (m longest k : ℕ) (ls : List (List ℕ)) (f : LoadFault) → ReadsListing (Err f) (load_from h.written m k nothing_read ls) → Loads (Err f) (body h m longest k ls)
+fault_from_listing h m longest k ls fault.OutOfMemory e = tt
+fault_from_listing h m longest k ls (fault.Syntax j) e = body-bad_line h m longest k ls j e
+fault_from_listing h m longest k ls fault.TooLong e = absurd e
+fault_from_listing h m longest k ls fault.Empty e = absurd e
+fault_from_listing h m longest k ls fault.BadOrigin e = absurd e
+fault_from_listing h m longest k ls fault.Version e = absurd e

@@ -1,5 +1,5 @@
--- The text of a cell is read again as the cell.
-use Rattle.std.proofs.Common.{◌≡◌, refl, ℕ, ◌-◌, ◌/◌, ◌%◌, ◌^◌, ◌<◌, ◌≤◌, Bool, true, false, ◌&&◌, List, [], ◌∷◌, ◌++◌, Some, length, ap, ◌∙◌, nat_eq, nat_le, rules, arith, decimal, append_assoc, append-nil}
+-- The text of a cell is read again as the cell, by value.
+use Rattle.std.proofs.Common.{◌≡◌, refl, ℕ, ◌-◌, ◌/◌, ◌^◌, ◌<◌, ◌≤◌, Bool, true, false, ◌&&◌, List, [], ◌∷◌, ◌++◌, Some, length, sym, ap, ◌∙◌, nat_eq, nat_le, rules, arith, decimal, append_assoc, append-nil}
 use Rattle.std.specs.List.{list_all}
 use Rattle.std.proofs.lemmas.Fmt.{decimal_nonempty, digits_decimal, digits_value-decimal, length-decimal-le}
 use Rattle.std.proofs.lemmas.Str.Parse.{IsNumeralModel, numerals_by_value}
@@ -8,7 +8,6 @@ use Rattle.std.specs.Str.Parse.{digits_value}
 use Rattle.std.specs.Prelude.{codes}
 use Rattle.mars_cell.specs.Parts.{begins_word, is_blank, joins, onto_first, parts}
 use Rattle.std.proofs.lemmas.Bool.{lt-ltb, le-leb, leb-false}
-use Rattle.std.proofs.Math.Nat.{mod-eq_of_lt}
 use Rattle.mars_cell.specs.declared.instruction.Op.{Op}
 use Rattle.mars_cell.specs.declared.instruction.Op.TheVariants as op
 use Rattle.mars_cell.specs.declared.instruction.Modifier.{Modifier}
@@ -18,11 +17,13 @@ use Rattle.mars_cell.specs.declared.instruction.Mode.TheVariants as mode
 use Rattle.mars_cell.specs.declared.instruction.Cell.{Cell}
 use Rattle.mars_cell.specs.Words.{op_name, op_of, modifier_name, modifier_of, mode_name, mode_of}
 use Rattle.mars_cell.specs.declared.numbers.Number.{Number}
+use Rattle.mars_cell.specs.Laws.{carried, carried_number}
 use Rattle.mars_cell.specs.Numbers.{parse_number, residue, split_sign}
 use Rattle.mars_cell.specs.Cells.{FitsCore}
 use Rattle.mars_cell.specs.Text.{cell_text}
 use Rattle.mars_cell.specs.Grammar.{cell_of, comma_at, mode_at, modifier_at, number_at, op_at, operand_at, suffix_at}
 use Rattle.mars_cell.specs.Text.{number_text}
+use Rattle.mars_cell.proofs.Values.{by_value-residue, residue-negative, residue-plain, signed_number}
 
 and_both : (a b : Bool) → (a && b) ≡ true → (a ≡ true) × (b ≡ true)
 and_both true true e = (refl, refl)
@@ -69,22 +70,12 @@ no_minus b e = grind arith
 no_plus : (b : ℕ) → is_ascii_digit b ≡ true → nat_eq b 43 ≡ false
 no_plus b e = grind arith
 
-back : (m n : ℕ) → n < m → m / 2 < n → (m - (m - n) % m) % m ≡ n
-back m n below above =
-    let less : m - n < m = omega arith in
-    let inner : (m - n) % m ≡ m - n = mod-eq_of_lt less in
-    let outer : m - (m - n) ≡ n = omega arith in
-    rw (inner, outer) (mod-eq_of_lt below)
-
 split_sign-digits : (ds : List ℕ) → list_all is_ascii_digit ds ≡ true → split_sign ds ≡ (false, ds)
 unfolding split_sign
 split_sign-digits [] all = refl
 split_sign-digits (b ∷ bs) all =
     let both = and_both (is_ascii_digit b) (list_all is_ascii_digit bs) all in
     rw (no_minus b both.0, no_plus b both.0) refl
-
-abbrev pub signed_number : Bool → ℕ → Number
-signed_number is_negative n = record { is_negative = is_negative; magnitude = n }
 
 parse_number_digits : (minus : Bool) (p ds : List ℕ) → split_sign p ≡ (minus, ds) → 0 < length ds → length ds ≤ 18 → list_all is_ascii_digit ds ≡ true → parse_number p ≡ Some (signed_number minus (digits_value 10 ds))
 unfolding parse_number
@@ -112,12 +103,11 @@ record ReadsBack (m n : ℕ) : Type 0 where
   same : residue m number ≡ n
 
 number_read : (m n : ℕ) → n < m → m < 2 ^ 32 → ReadsBack m n
-unfolding residue
 number_read m n below small =
     elim (nat_le n (m / 2)) as (λ t. nat_le n (m / 2) ≡ t → ReadsBack m n) [
-      | true ↦ λ e. record { number = signed_number false n; is_read = rw e (decimal_read n (omega arith)); same = mod-eq_of_lt below }
+      | true ↦ λ e. record { number = signed_number false n; is_read = rw e (decimal_read n (omega arith)); same = residue-plain m n below }
       | false ↦ λ e. let above : m / 2 < n = leb-false n (m / 2) e in
-          record { number = signed_number true (m - n); is_read = rw e (minus_read (m - n) (omega arith)); same = back m n below above }
+          record { number = signed_number true (m - n); is_read = rw e (minus_read (m - n) (omega arith)); same = residue-negative m n below above }
     ] refl
 
 -- ---- parts
@@ -261,13 +251,15 @@ number_taken : (p : List ℕ) (rest : List (List ℕ)) (r : Number) → parse_nu
 unfolding number_at
 number_taken p rest r e = rw e refl
 
-operand_read : (m : ℕ) (o : Mode) (n : ℕ) (rest : List (List ℕ)) → n < m → m < 2 ^ 32 → operand_at m (mode_name o ∷ number_text m n ∷ rest) ≡ Some (o, n, rest)
+operand_read : (m size : ℕ) (o : Mode) (n : ℕ) (rest : List (List ℕ)) → n < m → m < 2 ^ 32 → operand_at m size (mode_name o ∷ number_text m n ∷ rest) ≡ Some (o, carried_number m size n, rest)
 unfolding operand_at
-operand_read m o n rest below small =
+operand_read m size o n rest below small =
     let r = number_read m n below small in
-    rw (mode_taken o (number_text m n ∷ rest), number_taken (number_text m n) rest r.number r.is_read, r.same) refl
+    let value = by_value-residue m size r.number (signed_number false n) (r.same ∙ sym (residue-plain m n below)) in
+    rw (mode_taken o (number_text m n ∷ rest), number_taken (number_text m n) rest r.number r.is_read, value) refl
 
-pub cell_read : (m : ℕ) (c : Cell) → m < 2 ^ 32 → FitsCore m c → cell_of m (parts (cell_text m c)) ≡ Some c
+-- the text of a cell of m cells is read, for a core of another size, as the cell by value
+pub cell_read : (m size : ℕ) (c : Cell) → m < 2 ^ 32 → FitsCore m c → cell_of m size (parts (cell_text m c)) ≡ Some (carried m size c)
 unfolding cell_of op_at suffix_at modifier_at comma_at
-cell_read m c small fits =
-    rw (cell_parts m c small fits.a fits.b, op_read c.op, modifier_read c.modifier, operand_read m c.a_mode c.a _ fits.a small, operand_read m c.b_mode c.b _ fits.b small) refl
+cell_read m size c small fits =
+    rw (cell_parts m c small fits.a fits.b, op_read c.op, modifier_read c.modifier, operand_read m size c.a_mode c.a _ fits.a small, operand_read m size c.b_mode c.b _ fits.b small) refl

@@ -10,7 +10,7 @@ use Rattle.mars_cell.specs.declared.instruction.Mode.TheVariants as mode
 use Rattle.mars_cell.specs.declared.instruction.Cell.{Cell}
 use Rattle.mars_cell.specs.declared.numbers.Number.{Number}
 use Rattle.mars_cell.specs.Words.{op_of, modifier_of, mode_of}
-use Rattle.mars_cell.specs.Numbers.{parse_number, residue}
+use Rattle.mars_cell.specs.Numbers.{parse_number, by_value}
 use Rattle.mars_cell.specs.Parts.{parts}
 
 infixl 10 ◌>>=◌
@@ -42,9 +42,9 @@ unfoldable pub number_at : List (List ℕ) → Option (Number × List (List ℕ)
 number_at [] = None
 number_at (p ∷ ps) = option_map (λ n. (n, ps)) (parse_number p)
 
--- an operand in a core of m cells
-unfoldable pub operand_at : ℕ → List (List ℕ) → Option (Mode × ℕ × List (List ℕ))
-operand_at m ps = let o = mode_at ps in option_map (λ r. (o.0, residue m r.0, r.1)) (number_at o.1)
+-- an operand in a core of m cells, which was written for a core of another size
+unfoldable pub operand_at : ℕ → ℕ → List (List ℕ) → Option (Mode × ℕ × List (List ℕ))
+operand_at written m ps = let o = mode_at ps in option_map (λ r. (o.0, by_value written m r.0, r.1)) (number_at o.1)
 
 unfoldable pub comma_at : List (List ℕ) → Option (List (List ℕ))
 comma_at [] = None
@@ -75,16 +75,16 @@ default_modifier op.Jmn a b = modifier.B
 default_modifier op.Djn a b = modifier.B
 default_modifier op.Spl a b = modifier.B
 
--- the cell that these parts spell, and no more
-unfoldable pub cell_of : ℕ → List (List ℕ) → Option Cell
-cell_of m ps = do
+-- the cell of a core of m cells that these parts spell, and no more
+unfoldable pub cell_of : ℕ → ℕ → List (List ℕ) → Option Cell
+cell_of written m ps = do
   head ← op_at ps
   suffix ← suffix_at head.1
-  a ← operand_at m suffix.1
+  a ← operand_at written m suffix.1
   after ← comma_at a.2
-  b ← operand_at m after
+  b ← operand_at written m after
   if length b.2 == 0 then Some (record { op = head.0; modifier = unwrap_or suffix.0 (default_modifier head.0 a.0 b.0); a_mode = a.0; a = a.1; b_mode = b.0; b = b.1 }) else None
 
--- the cell of a text alone, with no comment
+-- the cell of a text alone, with no comment, which was written for the core that reads it: so each number is taken modulo m
 abbrev pub read_cell : ℕ → List ℕ → Option Cell
-read_cell m text = cell_of m (parts text)
+read_cell m text = cell_of m m (parts text)

@@ -1,5 +1,5 @@
--- Load files of version 1.
-use Rattle.std.specs.Prelude.{◌≡◌, ⊤, ℕ, ◌+◌, Bool, false, not, ◌==◌, ◌&&◌, ◌||◌, nat_lt, List, [], ◌∷◌, length, Option, None, Some, option_map, unwrap_or, Result, Ok, Err, if◌then◌else◌, codes}
+-- Load files, of version 1 and of version 2.
+use Rattle.std.specs.Prelude.{◌≡◌, ⊤, ℕ, ◌+◌, Bool, false, not, ◌==◌, ◌&&◌, ◌||◌, nat_lt, List, [], ◌∷◌, length, drop, Option, None, Some, option_map, unwrap_or, Result, Ok, Err, if◌then◌else◌, codes}
 use Rattle.std.specs.List.{take_while, flat_map, last_or}
 use Rattle.std.specs.Option.{option_or, option_to_list}
 use Rattle.std.specs.Str.{str_eq_ignore_ascii_case}
@@ -7,11 +7,12 @@ use Rattle.mars_cell.specs.declared.instruction.Cell.{Cell}
 use Rattle.mars_cell.specs.declared.numbers.Number.{Number}
 use Rattle.mars_cell.specs.declared.statements.Statement.{Statement}
 use Rattle.mars_cell.specs.declared.statements.Statement.TheVariants as statement
-use Rattle.mars_cell.specs.declared.load.LoadFault.{LoadFault}
-use Rattle.mars_cell.specs.declared.load.LoadFault.TheVariants as fault
+use Rattle.mars_cell.specs.declared.fault.LoadFault.{LoadFault}
+use Rattle.mars_cell.specs.declared.fault.LoadFault.TheVariants as fault
 use Rattle.mars_cell.specs.Parts.{parts, onto_first}
 use Rattle.mars_cell.specs.Numbers.{parse_number}
 use Rattle.mars_cell.specs.Grammar.{cell_of}
+use Rattle.mars_cell.specs.Header.{HeaderValue, ◌>>=◌, header_of, no_header, tells_version}
 use Rattle.mars_cell.specs.Warriors.{WarriorValue}
 
 -- the lines of some bytes; the last may have no LF
@@ -34,17 +35,17 @@ unfoldable pub end_of : List (List ℕ) → Option (Option Number)
 end_of [] = Some None
 end_of (p ∷ ps) = option_map (λ n. Some n) (lone_number (p ∷ ps))
 
--- what the parts of a line say in a core of m cells
-unfoldable pub statement_of : ℕ → List (List ℕ) → Option Statement
-statement_of m [] = Some statement.Nothing
-statement_of m (p ∷ ps) =
+-- what the parts of a line say in a core of m cells, where the file was written for a core of another size
+unfoldable pub statement_of : ℕ → ℕ → List (List ℕ) → Option Statement
+statement_of written m [] = Some statement.Nothing
+statement_of written m (p ∷ ps) =
     if str_eq_ignore_ascii_case p (codes "ORG") then option_map (λ n. statement.Origin n) (lone_number ps) else
     if str_eq_ignore_ascii_case p (codes "END") then option_map (λ n. statement.End n) (end_of ps) else
-    option_map (λ c. statement.Instruction c) (cell_of m (p ∷ ps))
+    option_map (λ c. statement.Instruction c) (cell_of written m (p ∷ ps))
 
 -- what a line says, if it is of the grammar
-abbrev pub line_statement : ℕ → List ℕ → Option Statement
-line_statement m l = statement_of m (parts (before_comment l))
+abbrev pub line_statement : ℕ → ℕ → List ℕ → Option Statement
+line_statement written m l = statement_of written m (parts (before_comment l))
 
 -- a statement and those of the lines that follow, where these are good
 abbrev pub with_rest : Statement → Result (List Statement) ℕ → Result (List Statement) ℕ
@@ -59,11 +60,11 @@ statements_from (statement.Origin n) rest = with_rest (statement.Origin n) rest
 statements_from (statement.Instruction c) rest = with_rest (statement.Instruction c) rest
 
 -- the statements of some lines up to END, or the number of the first bad line; the first line has number k
-unfoldable pub statements : ℕ → ℕ → List (List ℕ) → Result (List Statement) ℕ
-statements m k [] = Ok []
-statements m k (l ∷ ls) = elim (line_statement m l) [
+unfoldable pub statements : ℕ → ℕ → ℕ → List (List ℕ) → Result (List Statement) ℕ
+statements written m k [] = Ok []
+statements written m k (l ∷ ls) = elim (line_statement written m l) [
   | None ↦ Err k
-  | Some s ↦ statements_from s (statements m (k + 1) ls)
+  | Some s ↦ statements_from s (statements written m (k + 1) ls)
 ]
 
 -- the cell, the start and END's start that a statement gives, as lists of at most one
@@ -97,24 +98,26 @@ start_of ss = unwrap_or (option_or (last_or None (flat_map origin_in ss)) (last_
 abbrev pub is_index : Number → ℕ → Bool
 is_index n len = nat_lt n.magnitude len && (not n.is_negative || n.magnitude == 0)
 
--- a load file of version 1 names neither its warrior nor an author
-abbrev pub nameless_warrior : List Cell → ℕ → WarriorValue
-nameless_warrior cells start = record { name = codes "Unknown"; author = codes "Anonymous"; cells = cells; start = start }
-
--- the warrior of some statements, or the first fault, where a warrior has at most `longest` cells
-abbrev pub warrior_of : ℕ → List Statement → Result WarriorValue LoadFault
-warrior_of longest ss =
+-- the warrior of a head and of some statements, or the first fault, where a warrior has at most `longest` cells
+abbrev pub warrior_of : HeaderValue → ℕ → List Statement → Result WarriorValue LoadFault
+warrior_of h longest ss =
     if nat_lt longest (length (cells_of ss)) then Err fault.TooLong
     else if length (cells_of ss) == 0 then Err fault.Empty
-    else if is_index (start_of ss) (length (cells_of ss)) then Ok (nameless_warrior (cells_of ss) (start_of ss).magnitude)
+    else if is_index (start_of ss) (length (cells_of ss)) then Ok (record { name = h.name; author = h.author; cells = cells_of ss; start = (start_of ss).magnitude })
     else Err fault.BadOrigin
 
--- the warrior of a load file in a core of m cells, or the first fault; a bad line comes before all others
-unfoldable pub load : ℕ → ℕ → List ℕ → Result WarriorValue LoadFault
-load m longest bytes = elim (statements m 1 (lines_of bytes)) [
-  | Err k ↦ Err (fault.Syntax k)
-  | Ok ss ↦ warrior_of longest ss
+-- the warrior of a head and of the lines behind it, of which the first has number k; a bad line comes before all other faults
+unfoldable pub body : HeaderValue → ℕ → ℕ → ℕ → List (List ℕ) → Result WarriorValue LoadFault
+body h m longest k ls = elim (statements h.written m k ls) [
+  | Err j ↦ Err (fault.Syntax j)
+  | Ok ss ↦ warrior_of h longest ss
 ]
+
+-- the warrior of a load file in a core of m cells, or the first fault
+unfoldable pub load : ℕ → ℕ → List ℕ → Result WarriorValue LoadFault
+load m longest bytes =
+    if tells_version bytes then (header_of (lines_of bytes) >>= λ h. body h m longest 4 (drop 3 (lines_of bytes)))
+    else body (no_header m) m longest 1 (lines_of bytes)
 
 -- the result is the defined warrior or the defined fault, unless memory ran out
 abbrev pub Loads : Result WarriorValue LoadFault → Result WarriorValue LoadFault → Type 0

@@ -1,5 +1,5 @@
 -- Numbers as they are written.
-use Rattle.std.specs.Prelude.{ℕ, Bool, true, false, ◌&&◌, ◌==◌, ◌-◌, ◌%◌, nat_lt, nat_le, List, [], ◌∷◌, length, Option, None, Some, if◌then◌else◌}
+use Rattle.std.specs.Prelude.{ℕ, Bool, true, false, ◌&&◌, ◌==◌, ◌-◌, ◌/◌, ◌%◌, nat_lt, nat_le, List, [], ◌∷◌, length, Option, None, Some, if◌then◌else◌}
 use Rattle.std.specs.Char.{is_ascii_digit}
 use Rattle.std.specs.List.{list_all}
 use Rattle.std.specs.Str.Parse.{digits_value}
@@ -24,3 +24,12 @@ parse_number word =
 -- the number from 0 to m-1 that differs from it by a multiple of m
 unfoldable pub residue : ℕ → Number → ℕ
 residue m n = if n.is_negative then (m - n.magnitude % m) % m else n.magnitude % m
+
+-- the number nearest to 0 that differs from it by a multiple of m; of two as near, the positive one
+unfoldable pub nearest : ℕ → Number → Number
+nearest m n =
+    if nat_le (residue m n) (m / 2) then record { is_negative = false; magnitude = residue m n } else record { is_negative = true; magnitude = m - residue m n }
+
+-- the number for a core of m cells, where it was written for a core of another size and is read by value
+abbrev pub by_value : ℕ → ℕ → Number → ℕ
+by_value written m n = residue m (nearest written n)

@@ -1,12 +1,16 @@
--- The load file that is written, of version 1.
+-- The load file that is written, of version 2.
 use Rattle.std.specs.Prelude.{ℕ, List, [], ◌∷◌, ◌++◌, map, codes, decimal}
 use Rattle.std.specs.List.{flat_map}
 use Rattle.mars_cell.specs.Warriors.{WarriorValue}
 use Rattle.mars_cell.specs.Text.{cell_text}
 
 -- the start, then each cell
+abbrev pub statement_lines : ℕ → WarriorValue → List (List ℕ)
+statement_lines m w = (codes "ORG " ++ decimal w.start) ∷ map (cell_text m) w.cells
+
+-- the size of the core, the names, then the statements
 abbrev pub load_lines : ℕ → WarriorValue → List (List ℕ)
-load_lines m w = (codes "ORG " ++ decimal w.start) ∷ map (cell_text m) w.cells
+load_lines m w = (codes ";load 2 " ++ decimal m) ∷ (codes ";name " ++ w.name) ∷ (codes ";author " ++ w.author) ∷ statement_lines m w
 
 -- a line is ended by LF
 abbrev pub with_newline : List ℕ → List ℕ

@@ -5,7 +5,7 @@ ghost use Rattle.mars_cell.specs.Parts.{parts};
 ghost use Rattle.mars_cell.specs.Grammar.{op_at, modifier_at, suffix_at, number_at, mode_at, operand_at, comma_at, default_modifier, cell_of, read_cell};
 
 use crate::instruction::{Cell, Mode, Modifier, Op};
-use crate::numbers::{Number, read_number, residue};
+use crate::numbers::{Number, Sizes, by_value, read_number};
 use crate::parts::Parts;
 use crate::words::{read_mode, read_modifier, read_op};
 
@@ -83,15 +83,14 @@ fn take_mode<'a>(line: Parts<'a>) -> (Mode, Parts<'a>)
 }
 
 #[tactic(auto, unfolding(crate::specs::Grammar::operand_at))]
-fn take_operand<'a>(line: Parts<'a>, core_size: u32) -> Option<(Mode, u32, Parts<'a>)>
-    requires { 0 < core_size }
+fn take_operand<'a>(line: Parts<'a>, sizes: Sizes) -> Option<(Mode, u32, Parts<'a>)>
     ensures value { option_map (λ r. (r.0, r.1, parts r.2.rest.now)) result
-        ≡ operand_at core_size (parts line.entry.rest.now) }
-    ensures below { IfSome result (λ r. r.1 < core_size) }
+        ≡ operand_at sizes.written sizes.core_size (parts line.entry.rest.now) }
+    ensures below { IfSome result (λ r. r.1 < sizes.core_size) }
 {
     let (mode, line) = take_mode(line);
     let (number, line) = take_number(line)?;
-    Some((mode, residue(number, core_size), line))
+    Some((mode, by_value(number, sizes), line))
 }
 
 #[tactic(auto, unfolding(crate::specs::Grammar::comma_at))]
@@ -108,16 +107,15 @@ fn take_comma<'a>(line: Parts<'a>) -> Option<Parts<'a>>
 
 /// The cell that the whole line spells.
 #[tactic(auto, unfolding(crate::specs::Grammar::cell_of))]
-pub fn take_cell(line: Parts<'_>, core_size: u32) -> Option<Cell>
-    requires { 0 < core_size }
-    ensures value { result ≡ cell_of core_size (parts line.entry.rest.now) }
-    ensures fits { IfSome result (FitsCore core_size) }
+pub fn take_cell(line: Parts<'_>, sizes: Sizes) -> Option<Cell>
+    ensures value { result ≡ cell_of sizes.written sizes.core_size (parts line.entry.rest.now) }
+    ensures fits { IfSome result (FitsCore sizes.core_size) }
 {
     let (op, line) = take_op(line)?;
     let (suffix, line) = take_suffix(line)?;
-    let (a_mode, a, line) = take_operand(line, core_size)?;
+    let (a_mode, a, line) = take_operand(line, sizes)?;
     let line = take_comma(line)?;
-    let (b_mode, b, line) = take_operand(line, core_size)?;
+    let (b_mode, b, line) = take_operand(line, sizes)?;
     let mut line = line;
     if line.take_first().is_some() {
         return None;
@@ -142,5 +140,5 @@ pub fn read_cell(text: &[u8], core_size: u32) -> Option<Cell>
     ensures value { result ≡ read_cell core_size text.now }
     ensures fits { IfSome result (FitsCore core_size) }
 {
-    take_cell(Parts::new(text), core_size)
+    take_cell(Parts::new(text), Sizes::same(core_size))
 }

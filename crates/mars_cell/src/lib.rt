@@ -7,9 +7,12 @@
 //! `read_load` take memory.
 #![tactic(auto)]
 
+mod fault;
 mod grammar;
+mod header;
 mod instruction;
 pub mod laws;
+mod lines;
 mod load;
 mod numbers;
 mod parameters;
@@ -20,9 +23,10 @@ mod warriors;
 mod words;
 mod written;
 
+pub use fault::LoadFault;
 pub use grammar::{default_modifier, read_cell};
 pub use instruction::{Cell, Field, Mode, Modifier, Op};
-pub use load::{LoadFault, read_load};
+pub use load::read_load;
 pub use numbers::read_digits;
 pub use parameters::{ParamFault, Params};
 pub use warriors::{Warrior, WarriorFault};

@@ -3,13 +3,36 @@ ghost use Rattle.std.specs.Prelude.{◌≡◌, ◌≤◌, ◌<◌, length, true}
 ghost use Rattle.std.specs.Char.{is_ascii_digit};
 ghost use Rattle.std.specs.List.{list_all};
 ghost use Rattle.std.specs.Str.Parse.{digits_value};
-ghost use Rattle.mars_cell.specs.Numbers.{parse_digits, parse_number, split_sign, residue};
+ghost use Rattle.mars_cell.specs.Numbers.{by_value, nearest, parse_digits, parse_number, split_sign, residue};
 
 /// A number with its sign. A minus may stand before 0, too.
 #[derive(Clone, Copy)]
 pub struct Number {
     pub is_negative: bool,
     pub magnitude: u64,
+}
+
+/// The size of the core that a text was written for, and of the core that reads it.
+#[derive(Clone, Copy)]
+pub struct Sizes {
+    pub written: u32,
+    pub core_size: u32,
+    ghost some_written: { 0 < written },
+    ghost some: { 0 < core_size },
+}
+
+impl Sizes {
+    /// The sizes of a text that was written for the core that reads it.
+    pub fn same(core_size: u32) -> Sizes
+        requires { 0 < core_size }
+        ensures written { result.written ≡ core_size }
+        ensures core_size { result.core_size ≡ core_size }
+    {
+        Sizes {
+            written: core_size,
+            core_size,
+        }
+    }
 }
 
 /// The value of at most 18 digits.
@@ -73,7 +96,7 @@ pub fn read_number(word: &[u8]) -> Option<Number>
 
 /// The number from 0 to `core_size - 1` that differs from it by a multiple of `core_size`.
 #[tactic(auto, unfolding(crate::specs::Numbers::residue))]
-pub fn residue(number: Number, core_size: u32) -> u32
+fn residue(number: Number, core_size: u32) -> u32
     requires { 0 < core_size }
     ensures value { result ≡ residue core_size number }
     ensures below { result < core_size }
@@ -84,4 +107,32 @@ pub fn residue(number: Number, core_size: u32) -> u32
     } else {
         rest
     }
+}
+
+/// The number nearest to 0 that differs from it by a multiple of `core_size`; of two as near, the positive one.
+#[tactic(auto, unfolding(crate::specs::Numbers::nearest))]
+fn nearest(number: Number, core_size: u32) -> Number
+    requires { 0 < core_size }
+    ensures { result ≡ nearest core_size number }
+{
+    let rest = residue(number, core_size);
+    if rest <= core_size / 2 {
+        Number {
+            is_negative: false,
+            magnitude: u64::from(rest),
+        }
+    } else {
+        Number {
+            is_negative: true,
+            magnitude: u64::from(core_size - rest),
+        }
+    }
+}
+
+/// The number for the core that reads it: from the value that it had in the core that it was written for.
+pub fn by_value(number: Number, sizes: Sizes) -> u32
+    ensures value { result ≡ by_value sizes.written sizes.core_size number }
+    ensures below { result < sizes.core_size }
+{
+    residue(nearest(number, sizes.written), sizes.core_size)
 }

@@ -6,7 +6,7 @@ ghost use Rattle.mars_cell.specs.Load.{line_statement, lone_number, end_of, stat
 
 use crate::grammar::take_cell;
 use crate::instruction::Cell;
-use crate::numbers::{Number, read_number};
+use crate::numbers::{Number, Sizes, read_number};
 use crate::parts::Parts;
 use crate::words::is_word;
 
@@ -51,10 +51,9 @@ fn read_end(line: Parts<'_>) -> Option<Option<Number>>
 
 /// What the parts of a line say.
 #[tactic(auto, unfolding(crate::specs::Load::statement_of))]
-fn read_statement(line: Parts<'_>, core_size: u32) -> Option<Statement>
-    requires { 0 < core_size }
-    ensures value { result ≡ statement_of core_size (parts line.entry.rest.now) }
-    ensures fits { IfSome result (StatementFits core_size) }
+fn read_statement(line: Parts<'_>, sizes: Sizes) -> Option<Statement>
+    ensures value { result ≡ statement_of sizes.written sizes.core_size (parts line.entry.rest.now) }
+    ensures fits { IfSome result (StatementFits sizes.core_size) }
 {
     let mut after = line;
     let Some(first) = after.take_first() else {
@@ -67,19 +66,18 @@ fn read_statement(line: Parts<'_>, core_size: u32) -> Option<Statement>
         let number = read_end(after)?;
         Some(Statement::End(number))
     } else {
-        let cell = take_cell(line, core_size)?;
+        let cell = take_cell(line, sizes)?;
         Some(Statement::Instruction(cell))
     }
 }
 
 /// What a line says.
-pub fn read_line(line: &[u8], core_size: u32) -> Option<Statement>
-    requires { 0 < core_size }
-    ensures value { result ≡ line_statement core_size line.now }
-    ensures fits { IfSome result (StatementFits core_size) }
+pub fn read_line(line: &[u8], sizes: Sizes) -> Option<Statement>
+    ensures value { result ≡ line_statement sizes.written sizes.core_size line.now }
+    ensures fits { IfSome result (StatementFits sizes.core_size) }
 {
     let (text, _) = line.split_at(text_len(line));
-    read_statement(Parts::new(text), core_size)
+    read_statement(Parts::new(text), sizes)
 }
 
 /// How many bytes come before the comment.

@@ -232,6 +232,10 @@ fn faults_displayed(rt: HostRuntime) -> Result<(), Fail> {
         format!(in alloc; "{}", LoadFault::OutOfMemory)?.as_str(),
         "5 OutOfMemory"
     );
+    assert_eq!(rt;
+        format!(in alloc; "{}", LoadFault::Version)?.as_str(),
+        "6 Version"
+    );
     Ok(())
 }
 
@@ -311,6 +315,146 @@ fn load_faults(rt: HostRuntime) -> Result<(), Fail> {
     Ok(())
 }
 
+/// The only cell of a warrior.
+fn only_cell(warrior: &Warrior) -> Option<Cell> {
+    match warrior.cells() {
+        [cell] => Some(*cell),
+        _ => None,
+    }
+}
+
+#[test]
+fn named_load_files(rt: HostRuntime) -> Result<(), Fail> {
+    let alloc = rt.alloc();
+    let params = sizes(8000, 2)?;
+    let sixty = "  Sixty bytes; a name keeps each blank and each semicolon  ~";
+    assert_eq!(rt; sixty.len(), 60);
+    let rows: [(&[u8], &str, &str, u32); 7] = [
+        (
+            b";load 2 8\n;name Imp\n;author Dewdney\nORG 0\nMOV.I $0, $7\n",
+            "Imp",
+            "Dewdney",
+            7999,
+        ),
+        (b"ORG 0\nMOV.I $0, $7\n", "Unknown", "Anonymous", 7),
+        (
+            b";load 2 8000\n;name  An ; imp \n;author \n\nMOV 0, -1 ; back\nEND\nprose",
+            " An ; imp ",
+            "",
+            7999,
+        ),
+        (
+            b";load 2 1048576\n;name   Sixty bytes; a name keeps each blank and each semicolon  ~\n;author   Sixty bytes; a name keeps each blank and each semicolon  ~\nMOV 0, 1048575",
+            sixty,
+            sixty,
+            7999,
+        ),
+        (b";load 2 1\n;name \n;author ~\nMOV 0, 1", "", "~", 0),
+        (b";load it\nMOV 0, 7", "Unknown", "Anonymous", 7),
+        (
+            b" ;load 2 8\n;LOAD 3 8\n;load  2 8\nMOV 0, 7",
+            "Unknown",
+            "Anonymous",
+            7,
+        ),
+    ];
+    for (text, name, author, number) in rows {
+        let warrior = read_load(alloc, text, &params)?;
+        assert_eq!(rt; warrior.name(), name);
+        assert_eq!(rt; warrior.author(), author);
+        let imp = cell(Op::Mov, Modifier::I, Mode::Direct, 0, Mode::Direct, number);
+        assert_eq!(rt; only_cell(&warrior), Some(imp));
+    }
+    Ok(())
+}
+
+#[test]
+fn faults_of_heads(rt: HostRuntime) -> Result<(), Fail> {
+    let alloc = rt.alloc();
+    let params = sizes(8000, 2)?;
+    let rows: [(&[u8], LoadFault); 24] = [
+        (b";load 3 8000\nNOP 0, 0", LoadFault::Version),
+        (b";load 1 8000\nNOP 0, 0", LoadFault::Version),
+        (b";load 20 8\nNOP 0, 0", LoadFault::Version),
+        (b";load 02 8\nNOP 0, 0", LoadFault::Version),
+        (b";load 2  8\nx", LoadFault::Version),
+        (b";load 2\t8\nx", LoadFault::Version),
+        (b";load 2 8 \nx", LoadFault::Version),
+        (b";load 2 8\r\nx", LoadFault::Version),
+        (b";load 2 8 9\nx", LoadFault::Version),
+        (b";load 2 08\nx", LoadFault::Version),
+        (b";load 2 0\nx", LoadFault::Version),
+        (b";load 2 +8\nx", LoadFault::Version),
+        (b";load 2 1048577\nx", LoadFault::Version),
+        (b";load 2 4294967304\nx", LoadFault::Version),
+        (b";load 2 18446744073709551624\nx", LoadFault::Version),
+        (
+            b";load 2 8\n;author Dewdney\nORG 0\nMOV.I $0, $7",
+            LoadFault::Syntax(2),
+        ),
+        (
+            b";load 2 8\n;name Imp\r\n;author Dewdney\nMOV 0, 1",
+            LoadFault::Syntax(2),
+        ),
+        (
+            b";load 2 8\n;name \x7f\n;author Dewdney\nMOV 0, 1",
+            LoadFault::Syntax(2),
+        ),
+        (
+            b";load 2 8\n;name This name is one byte longer than the longest one, by one only.\n;author\nx",
+            LoadFault::Syntax(2),
+        ),
+        (b";load 2 8\n;Name Imp\n;author x\nx", LoadFault::Syntax(2)),
+        (b";load 2 8\n ;name Imp\n;author x\nx", LoadFault::Syntax(2)),
+        (
+            b";load 2 8\n;name Imp\n;author D\xc3\xa9\nMOV 0, 1",
+            LoadFault::Syntax(3),
+        ),
+        (
+            b";load 2 8\n;name Imp\n;author Dewdney\nORG 9\n;name x\nx",
+            LoadFault::Syntax(6),
+        ),
+        (
+            b";load 2 8\n;name Imp\n;author Dewdney\nORG 8\nMOV 0, 1",
+            LoadFault::BadOrigin,
+        ),
+    ];
+    for (text, fault) in rows {
+        assert_eq!(rt; read_load(alloc, text, &params).err(), Some(fault));
+    }
+    Ok(())
+}
+
+/// The fault of each beginning of a load file.
+#[test]
+fn beginnings_of_a_load_file(rt: HostRuntime) -> Result<(), Fail> {
+    let alloc = rt.alloc();
+    let params = sizes(8000, 2)?;
+    let file = b";load 2 80\n;name Imp\n;author Dewdney\nMOV.I $0, $79\n".as_slice();
+    assert_eq!(rt; file.len(), 51);
+    for length in 0..=51 {
+        let fault = match length {
+            // `;load ` is a comment yet
+            0..=6 => Some(LoadFault::Empty),
+            // `;load 2 ` tells no core size
+            7..=8 => Some(LoadFault::Version),
+            // `;load 2 8` does, but `;name` isn't a word with its blank
+            9..=16 => Some(LoadFault::Syntax(2)),
+            // `;name ` is, but `;author` isn't
+            17..=28 => Some(LoadFault::Syntax(3)),
+            // the head is whole, and there is no cell
+            29..=37 => Some(LoadFault::Empty),
+            // nor is `MOV.I $0, $` one
+            38..=48 => Some(LoadFault::Syntax(4)),
+            // `MOV.I $0, $7` is
+            _ => None,
+        };
+        let (front, _) = file.split_at(length);
+        assert_eq!(rt; read_load(alloc, front, &params).err(), fault);
+    }
+    Ok(())
+}
+
 #[test]
 fn written_load_file(rt: HostRuntime) -> Result<(), Fail> {
     let alloc = rt.alloc();
@@ -320,14 +464,29 @@ fn written_load_file(rt: HostRuntime) -> Result<(), Fail> {
         cell(Op::Jmp, Modifier::B, Mode::Direct, 7998, Mode::Direct, 0),
         cell(Op::Dat, Modifier::F, Mode::Immediate, 0, Mode::Immediate, 0),
     ]?;
-    let warrior = Warrior::new(String::new(alloc), String::new(alloc), cells, 0)?;
+    let name = String::from_str(alloc, "Dwarf; ")?;
+    let author = String::from_str(alloc, "A. K. Dewdney")?;
+    let warrior = Warrior::new(name, author, cells, 1)?;
     let text = write_load(alloc, &warrior, 8000)?;
     assert!(rt;
         text.as_slice()
-            == b"ORG 0\nADD.AB #4, $3\nMOV.I $2, @2\nJMP.B $-2, $0\nDAT.F #0, #0\n".as_slice()
+            == b";load 2 8000\n;name Dwarf; \n;author A. K. Dewdney\nORG 1\nADD.AB #4, $3\nMOV.I $2, @2\nJMP.B $-2, $0\nDAT.F #0, #0\n".as_slice()
     );
-    let again = read_load(alloc, text.as_slice(), &sizes(8000, 4)?)?;
-    assert_eq!(rt; again.cells(), warrior.cells());
-    assert_eq!(rt; again.start(), 0);
+    for core_size in [8000, 800, 4] {
+        let again = read_load(alloc, text.as_slice(), &sizes(core_size, 4)?)?;
+        assert_eq!(rt; again.name(), "Dwarf; ");
+        assert_eq!(rt; again.author(), "A. K. Dewdney");
+        assert_eq!(rt; again.start(), 1);
+        assert_eq!(rt; again.cells().len(), 4);
+        let jump = cell(
+            Op::Jmp,
+            Modifier::B,
+            Mode::Direct,
+            core_size - 2,
+            Mode::Direct,
+            0,
+        );
+        assert_eq!(rt; again.cells().get(2), Some(&jump));
+    }
     Ok(())
 }

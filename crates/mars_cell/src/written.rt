@@ -1,5 +1,5 @@
 //! Writing load files.
-ghost use Rattle.std.specs.Prelude.{◌≡◌, ◌++◌, All, IfOk, OnOk, codes, decimal};
+ghost use Rattle.std.specs.Prelude.{◌≡◌, ◌≤◌, ◌++◌, All, IfOk, OnOk, decimal, flat_map, map};
 ghost use Rattle.mars_cell.specs.Cells.{FitsCore};
 ghost use Rattle.mars_cell.specs.Text.{cell_text};
 ghost use Rattle.mars_cell.specs.Written.{load_text, with_newline};
@@ -9,37 +9,59 @@ use crate::warriors::Warrior;
 use itoa::Buffer;
 use std::alloc::{AllocError, Global};
 
-/// The line of the start.
-fn origin_line(alloc: Global, start: u32) -> Result<Vec<u8>, AllocError>
-    ensures { IfOk result (λ text. text.items ≡ with_newline (codes "ORG " ++ decimal start)) }
-{
-    let mut digits = Buffer::new();
-    let mut text = Vec::from_slice(alloc, b"ORG ")?;
-    text.extend_from_slice(digits.format(start).as_bytes())?;
-    text.push(b'\n')?;
-    Ok(text)
-}
+// An error of each of these leaves the text as it was, or with a beginning of the line.
 
-/// Adds the line of a cell to a text. An error leaves the text as it was, or with a beginning of the line.
-fn push_cell(text: &mut Vec<u8>, cell: Cell, core_size: u32) -> Result<(), AllocError>
-    requires { FitsCore core_size cell }
-    ensures { OnOk result (text.new.items ≡ text.old.items ++ with_newline (cell_text core_size cell)) }
+/// Adds the line of a word and what follows it to a text.
+fn push_line(text: &mut Vec<u8>, word: &[u8], rest: &[u8]) -> Result<(), AllocError>
+    ensures { OnOk result (text.new.items ≡ text.old.items ++ with_newline (word.now ++ rest.now)) }
 {
-    text.extend_from_slice(cell.text(core_size).as_str().as_bytes())?;
+    text.extend_from_slice(word)?;
+    text.extend_from_slice(rest)?;
     text.push(b'\n')?;
     Ok(())
 }
 
-/// The load file of a warrior for a core of that size: a line `ORG` with the start, then each cell's text on a line.
+/// Adds the line of a word and a number to a text.
+fn push_number(text: &mut Vec<u8>, word: &[u8], number: u32) -> Result<(), AllocError>
+    ensures { OnOk result (text.new.items ≡ text.old.items ++ with_newline (word.now ++ decimal number)) }
+{
+    let mut digits = Buffer::new();
+    push_line(text, word, digits.format(number).as_bytes())
+}
+
+/// Adds the line of a cell to a text.
+fn push_cell(text: &mut Vec<u8>, cell: Cell, core_size: u32) -> Result<(), AllocError>
+    requires { FitsCore core_size cell }
+    ensures { OnOk result (text.new.items ≡ text.old.items ++ with_newline (cell_text core_size cell)) }
+{
+    push_line(text, cell.text(core_size).as_str().as_bytes(), b"")
+}
+
+/// Adds the lines of some cells to a text.
+fn push_cells(text: &mut Vec<u8>, cells: &[Cell], core_size: u32) -> Result<(), AllocError>
+    requires { All (FitsCore core_size) cells.now }
+    ensures { OnOk result (text.new.items ≡ text.old.items ++ flat_map with_newline (map (cell_text core_size) cells.now)) }
+{
+    for cell in cells {
+        push_cell(text, *cell, core_size)?;
+    }
+    Ok(())
+}
+
+/// The load file of a warrior for a core of that size, of version 2.
 ///
-/// Every line is ended by LF. Name and author aren't written. Only want of memory refuses it.
+/// Its lines, each ended by LF, are `;load 2 ` and the size of the core, `;name ` and the warrior's name, `;author ` and
+/// the author's, `ORG ` and the start, then each cell's text. Only want of memory refuses it.
 pub fn write_load(alloc: Global, warrior: &Warrior, core_size: u32) -> Result<Vec<u8>, AllocError>
-    requires { All (FitsCore core_size) warrior.now.cells }
+    requires size { core_size ≤ 1048576 }
+    requires fits { All (FitsCore core_size) warrior.now.cells }
     ensures { IfOk result (λ text. text.items ≡ load_text core_size warrior.now) }
 {
-    let mut text = origin_line(alloc, warrior.start())?;
-    for cell in warrior.cells() {
-        push_cell(&mut text, *cell, core_size)?;
-    }
+    let mut text = Vec::new(alloc);
+    push_number(&mut text, b";load 2 ", core_size)?;
+    push_line(&mut text, b";name ", warrior.name().as_bytes())?;
+    push_line(&mut text, b";author ", warrior.author().as_bytes())?;
+    push_number(&mut text, b"ORG ", warrior.start())?;
+    push_cells(&mut text, warrior.cells(), core_size)?;
     Ok(text)
 }

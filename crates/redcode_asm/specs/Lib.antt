@@ -1,6 +1,7 @@
 -- What a reader of the contracts has to believe; Examples has worked examples of it.
 pub mod Formula
 pub mod Assembly
+pub mod LoadFiles
 pub mod Laws
 pub mod Outcomes
 pub mod Examples

@@ -1,14 +1,20 @@
 -- What the reader of load files holds, line after line.
 use Rattle.std.specs.Prelude.{◌≡◌, ⊤, ℕ, ◌+◌, List, [], ◌∷◌, ◌++◌, Option, None, Some, Result, Ok, Err}
+use Rattle.mars_cell.specs.declared.header.Header.{Header}
 use Rattle.mars_cell.specs.declared.instruction.Cell.{Cell}
 use Rattle.mars_cell.specs.declared.numbers.Number.{Number}
 use Rattle.mars_cell.specs.declared.statements.Statement.{Statement}
 use Rattle.mars_cell.specs.declared.statements.Statement.TheVariants as statement
 use Rattle.mars_cell.specs.declared.load.Reading.{Reading}
-use Rattle.mars_cell.specs.declared.load.LoadFault.{LoadFault}
-use Rattle.mars_cell.specs.declared.load.LoadFault.TheVariants as fault
+use Rattle.mars_cell.specs.declared.fault.LoadFault.{LoadFault}
+use Rattle.mars_cell.specs.declared.fault.LoadFault.TheVariants as fault
 use Rattle.mars_cell.specs.Cells.{FitsCore}
+use Rattle.mars_cell.specs.Header.{HeaderValue}
 use Rattle.mars_cell.specs.Load.{line_statement}
+
+-- the head that was read
+abbrev pub header_value : Header → HeaderValue
+header_value h = record { written = h.written; name = h.name.now; author = h.author.now }
 
 -- the cell that a statement gives fits a core of m cells
 abbrev pub StatementFits : ℕ → Statement → Type 0
@@ -30,15 +36,15 @@ abbrev pub listing : Reading → Listing
 listing r = record { cells = r.cells.items; origin = r.origin; end = r.end }
 
 -- reading on from line number k, up to END: what is read in all, or the number of the first bad line
-unfoldable pub load_from : ℕ → ℕ → Listing → List (List ℕ) → Result Listing ℕ
-load_from m k s [] = Ok s
-load_from m k s (l ∷ ls) = elim (line_statement m l) [
+unfoldable pub load_from : ℕ → ℕ → ℕ → Listing → List (List ℕ) → Result Listing ℕ
+load_from written m k s [] = Ok s
+load_from written m k s (l ∷ ls) = elim (line_statement written m l) [
   | None ↦ Err k
   | Some x ↦ elim x [
-    | statement.Nothing ↦ load_from m (k + 1) s ls
-    | statement.Origin n ↦ load_from m (k + 1) (record s { origin = Some n }) ls
+    | statement.Nothing ↦ load_from written m (k + 1) s ls
+    | statement.Origin n ↦ load_from written m (k + 1) (record s { origin = Some n }) ls
     | statement.End n ↦ Ok (record s { end = n })
-    | statement.Instruction c ↦ load_from m (k + 1) (record s { cells = s.cells ++ c ∷ [] }) ls
+    | statement.Instruction c ↦ load_from written m (k + 1) (record s { cells = s.cells ++ c ∷ [] }) ls
   ]
 ]
 

@@ -8,7 +8,10 @@ use crate::{LoadFault, Mode, Modifier, Op, Warrior, read_load, write_load};
 use std::alloc::Global;
 use std::test::Fail;
 
-const FILE: &[u8] = b"ORG 1\nNOP.F $0, $0\nJMP.B $-1, $0\n";
+const FILE: &[u8] = b";load 2 8\n;name Jumper\n;author A\nORG 1\nNOP.F $0, $0\nJMP.B $-1, $0\n";
+
+/// The same of version 1.
+const NAMELESS: &[u8] = b"ORG 1\nNOP.F $0, $0\nJMP.B $-1, $0\n";
 
 /// The warrior of the file.
 fn jumper(alloc: Global) -> Result<Warrior, Fail>
@@ -38,7 +41,25 @@ fn a_load_file_is_read(rt: HostRuntime) -> Result<(), Fail> {
     ];
     assert_eq!(rt; warrior.cells(), cells.as_slice());
     assert_eq!(rt; warrior.start(), 1);
+    assert_eq!(rt; warrior.name(), "Jumper");
+    assert_eq!(rt; warrior.author(), "A");
+    Ok(())
+}
+
+#[test]
+fn a_nameless_load_file_is_read(rt: HostRuntime) -> Result<(), Fail> {
+    let alloc = rt.alloc();
+    let params = sizes(8, 4)?;
+    let warrior = match read_load(alloc, NAMELESS, &params) {
+        Ok(warrior) => warrior,
+        Err(fault) => {
+            assert_eq!(rt; fault, LoadFault::OutOfMemory);
+            read_load(alloc, NAMELESS, &params)?
+        }
+    };
+    assert_eq!(rt; warrior.cells().len(), 2);
     assert_eq!(rt; warrior.name(), "Unknown");
+    assert_eq!(rt; warrior.author(), "Anonymous");
     Ok(())
 }
 
@@ -64,8 +85,8 @@ fn a_warrior_is_copied(rt: HostRuntime) -> Result<(), Fail> {
     for warrior in [&warrior, &copy] {
         assert_eq!(rt; warrior.cells().len(), 2);
         assert_eq!(rt; warrior.start(), 1);
-        assert_eq!(rt; warrior.name(), "Unknown");
-        assert_eq!(rt; warrior.author(), "Anonymous");
+        assert_eq!(rt; warrior.name(), "Jumper");
+        assert_eq!(rt; warrior.author(), "A");
     }
     Ok(())
 }

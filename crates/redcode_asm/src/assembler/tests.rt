@@ -1,7 +1,7 @@
 //! Sources and their warriors or faults: values that players know, limits at their values and one past them.
 
-use crate::{AsmFault, AsmProblem, assemble};
-use mars_cell::{Params, write_load};
+use crate::{AsmFault, AsmProblem, assemble, assemble_load};
+use mars_cell::Params;
 use redcode_text::{ExprFault, TextProblem};
 use std::alloc::Global;
 use std::test::Fail;
@@ -26,12 +26,14 @@ fn short_warriors() -> Result<Params, Fail> {
     Ok(params)
 }
 
-/// The load file of the warrior of a source.
+/// The load file of the warrior of a source that names neither it nor its author, without the lines of its head.
 fn listing(alloc: Global, params: &Params, source: &[u8]) -> Result<String, Fail> {
-    let warrior = assemble(alloc, source, params, 2, 3)?;
-    let text = write_load(alloc, &warrior, params.core_size())?;
-    let text = String::from_str(alloc, str::from_utf8(&text).ok().ok_or("text")?)?;
-    Ok(text)
+    let file = assemble_load(alloc, source, params, 2, 3)?;
+    let text = str::from_utf8(&file).ok().ok_or("text")?;
+    let (_, statements) = text
+        .split_once("\n;name Unknown\n;author Anonymous\n")
+        .ok_or("head")?;
+    Ok(String::from_str(alloc, statements)?)
 }
 
 fn fault_of(alloc: Global, params: &Params, source: &[u8]) -> Option<AsmFault> {

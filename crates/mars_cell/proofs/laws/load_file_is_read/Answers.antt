@@ -1,6 +1,6 @@
-use Rattle.std.proofs.Common.{arith}
-use Rattle.mars_cell.proofs.WrittenLines.{load-written}
+use Rattle.std.proofs.Common.{◌∙◌, Ok, ap, arith}
+use Rattle.mars_cell.proofs.WrittenLines.{cells-same, load-written}
 use Rattle.mars_cell.proofs.laws.load_file_is_read.Goals as goal
 
 pub returns : goal.returns
-returns c p w range inside few all = load-written p.core_size p.max_length w (omega (arith, range)) (omega (arith, range)) inside few all
+returns c p w range is few all = load-written p.core_size p.core_size p.max_length w range.core_most (omega (arith, range)) is few all ∙ ap Ok (cells-same p.core_size w all)

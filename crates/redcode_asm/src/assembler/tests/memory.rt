@@ -1,6 +1,6 @@
 //! Calls that are refused memory. Each test holds whichever one of its requests is refused, since a second try has memory:
 //! scripts/refuse-memory refuses each in turn.
-use crate::{AsmFault, AsmProblem, Formula, FormulaFault, assemble};
+use crate::{AsmFault, AsmProblem, Formula, FormulaFault, assemble, assemble_load};
 use mars_cell::Params;
 use std::test::Fail;
 
@@ -31,6 +31,29 @@ fn a_source_is_assembled(rt: HostRuntime) -> Result<(), Fail> {
         *pair = (cell.a, cell.b);
     }
     assert_eq!(rt; numbers, [(4, 3), (4, 3), (7998, 0), (7998, 7999)]);
+    Ok(())
+}
+
+#[test]
+fn a_load_file_is_made(rt: HostRuntime) -> Result<(), Fail> {
+    let params = Params::new(8000, 8, 10, 8000, 8000, 4, 4)
+        .ok()
+        .ok_or("parameters")?;
+    let file = match assemble_load(rt.alloc(), SOURCE, &params, 1, 1) {
+        Err(fault) => {
+            let of_memory = AsmFault {
+                line: 0,
+                problem: AsmProblem::OutOfMemory,
+            };
+            assert_eq!(rt; fault, of_memory);
+            assemble_load(rt.alloc(), SOURCE, &params, 1, 1)?
+        }
+        Ok(file) => file,
+    };
+    assert!(rt;
+        file.as_slice()
+            == b";load 2 8000\n;name Four\n;author Anonymous\nORG 2\nADD.AB #4, $3\nADD.AB #4, $3\nJMP.B $-2, $0\nDAT.F $-2, $-1\n".as_slice()
+    );
     Ok(())
 }
 

@@ -1,9 +1,0 @@
-use Rattle.std.proofs.Common.{◌≡◌, ◌++◌, take, map, decimal}
-use Rattle.std.specs.Prelude.{codes}
-use Rattle.std.specs.List.{flat_map}
-use Rattle.mars_cell.specs.Text.{cell_text}
-use Rattle.mars_cell.specs.Written.{with_newline}
-use Rattle.mars_cell.proofs.written.write_load.Given as goal
-
-abbrev pub invariant-loop-cell : goal.invariant-loop-cell
-invariant-loop-cell l = l.text.items ≡ with_newline (codes "ORG " ++ decimal l.warrior.start) ++ flat_map with_newline (map (cell_text l.core_size) (take l.cell-index l.warrior.cells))

@@ -1,0 +1,59 @@
+-- The head of a load file: what it says before its statements.
+use Rattle.std.specs.Prelude.{ℕ, Bool, false, nat_eq, nat_le, ◌&&◌, List, [], ◌∷◌, length, take, drop, slice_get, Option, None, Some, ok_or, option_and_then, Result, Ok, Err, if◌then◌else◌, codes, bytes_eq}
+use Rattle.std.specs.Char.{is_ascii_digit}
+use Rattle.std.specs.List.{list_all, starts_with}
+use Rattle.mars_cell.specs.declared.fault.LoadFault.{LoadFault}
+use Rattle.mars_cell.specs.declared.fault.LoadFault.TheVariants as fault
+use Rattle.mars_cell.specs.Numbers.{parse_digits}
+use Rattle.mars_cell.specs.ParameterFaults.{is_within}
+
+infixl 10 ◌>>=◌
+abbrev pub ◌>>=◌ : {A B : Type 0} → Result A LoadFault → (A → Result B LoadFault) → Result B LoadFault
+(Err f) >>= g = Err f
+(Ok x) >>= g = g x
+
+-- the core size that the file was written for, and the names of the warrior and of its author
+pub record HeaderValue : Type 0 where
+  pub written : ℕ
+  pub name : List ℕ
+  pub author : List ℕ
+
+-- a file of version 1 has no head: it was written for the core that reads it
+abbrev pub no_header : ℕ → HeaderValue
+no_header m = record { written = m; name = codes "Unknown"; author = codes "Anonymous" }
+
+-- what follows a word at the front
+abbrev pub behind : List ℕ → List ℕ → Option (List ℕ)
+behind word bytes = if bytes_eq (take (length word) bytes) word then Some (drop (length word) bytes) else None
+
+abbrev pub begins_digit : List ℕ → Bool
+begins_digit [] = false
+begins_digit (b ∷ bs) = is_ascii_digit b
+
+-- whether a file tells its version; one that doesn't is of version 1
+unfoldable pub tells_version : List ℕ → Bool
+tells_version bytes = elim (behind (codes ";load ") bytes) [ None ↦ false | Some rest ↦ begins_digit rest ]
+
+-- the size of a core that these digits spell, with no 0 before it and nothing behind it
+unfoldable pub size_of : List ℕ → Option ℕ
+size_of digits =
+    if starts_with nat_eq digits (codes "0") then None else option_and_then (λ n. if is_within 1 1048576 n then Some n else None) (parse_digits digits)
+
+-- at most 60 printed characters of ASCII
+unfoldable pub name_of : List ℕ → Option (List ℕ)
+name_of text = if nat_le (length text) 60 && list_all (is_within 32 126) text then Some text else None
+
+-- the first line says for which core the file was written, the next two give a name behind their word
+abbrev pub size_in : List ℕ → Option ℕ
+size_in line = option_and_then size_of (behind (codes ";load 2 ") line)
+
+abbrev pub name_in : List ℕ → List ℕ → Option (List ℕ)
+name_in word line = option_and_then name_of (behind word line)
+
+-- the head of a file of version 2, which is its first three lines, or the first fault
+unfoldable pub header_of : List (List ℕ) → Result HeaderValue LoadFault
+header_of lines = do
+  written ← ok_or (option_and_then size_in (slice_get lines 0)) fault.Version
+  name ← ok_or (option_and_then (name_in (codes ";name ")) (slice_get lines 1)) (fault.Syntax 2)
+  author ← ok_or (option_and_then (name_in (codes ";author ")) (slice_get lines 2)) (fault.Syntax 3)
+  Ok (record { written = written; name = name; author = author })

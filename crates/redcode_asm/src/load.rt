@@ -1,0 +1,31 @@
+//! Load files of sources.
+ghost use Rattle.redcode_asm.specs.LoadFiles.{assembled_load};
+ghost use Rattle.redcode_asm.specs.Outcomes.{Answers};
+
+use crate::assembler::assemble;
+use crate::fault::AsmFault;
+use mars_cell::{Params, write_load};
+use std::alloc::Global;
+
+/// Assembles a source to the load file of its warrior, for a core of these parameters.
+///
+/// The faults are those of `assemble`, which takes the same arguments; what was written is read back by
+/// `mars_cell::read_load` as the very warrior.
+pub fn assemble_load(
+    alloc: Global,
+    source: &[u8],
+    params: &Params,
+    rounds: u32,
+    warriors: u32,
+) -> Result<Vec<u8>, AsmFault>
+    ensures { Answers (λ text. text.items) result (assembled_load params.now rounds warriors source.now) }
+{
+    let warrior = assemble(alloc, source, params, rounds, warriors)?;
+    match write_load(alloc, &warrior, params.core_size()) {
+        Ok(text) => Ok(text),
+        Err(_) => Err(AsmFault::out_of_memory()),
+    }
+}
+
+#[cfg(test)]
+mod tests;
