@@ -1,5 +1,8 @@
 -- What is asked for, put together.
-use Rattle.std.proofs.Common.{◌≡◌, ℕ, List, map, Option, String, Ok, sym}
+use Rattle.std.proofs.Common.{◌≡◌, ◌∙◌, ℕ, List, [], ◌∷◌, map, Option, String, Ok, subst, sym}
+use Rattle.std.proofs.lemmas.List.{append-nil}
+use Rattle.std.specs.Io.KnownBytes.{Appends}
+use Rattle.std.specs.List.{flat_map}
 use Rattle.std.specs.Global.{Global}
 use Rattle.std.specs.Prelude.{string_bytes}
 use Rattle.mars_cell.specs.ParameterFaults.{checked_parameters}
@@ -26,3 +29,8 @@ asked_for words known o p f ws score files count said allowed score_is scored fi
   scored = rw score_is at scored;
   loaded = rw (files_are, count_is) at loaded;
 }
+
+-- the texts of a list of one are its text
+pub appended_alone : {X : Type 0} (old new : Option (List ℕ)) (f : X → List ℕ) (x : X) (text : List ℕ) → Appends old new text → text ≡ f x
+    → Appends old new (flat_map f (x ∷ []))
+appended_alone old new f x text a is = subst (λ (t : List ℕ). Appends old new t) (is ∙ sym (append-nil (f x))) a

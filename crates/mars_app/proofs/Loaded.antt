@@ -1,5 +1,5 @@
 -- Files in memory, and warriors file by file.
-use Rattle.std.proofs.Common.{◌≡◌, refl, ℕ, ◌+◌, ◌<◌, List, [], ◌∷◌, ◌++◌, length, take, drop, get_or, map, Option, Some, String, Vec, true, false}
+use Rattle.std.proofs.Common.{◌≡◌, arith, refl, ℕ, ◌+◌, ◌<◌, List, [], ◌∷◌, ◌++◌, length, take, drop, get_or, map, Option, Some, String, Vec, true, false}
 use Rattle.std.proofs.lemmas.List.{drop_more, map-append, take_more}
 use Rattle.std.specs.Global.{Global}
 use Rattle.std.specs.Prelude.{string_bytes}
@@ -30,3 +30,10 @@ module _ (known : List ℕ → Option (List ℕ)) (p : Parameters) (rounds count
   loaded_more names i d ws w inside all one =
       rw (take_more names i d inside, map-append (λ (s : String Global). string_bytes s) (take i names) (get_or names i d ∷ []))
       (loaded_push (map (λ s. string_bytes s) (take i names)) ws (string_bytes (get_or names i d)) w all one)
+
+  -- one file alone
+  pub loaded_alone : (names : List (String Global)) (w : WarriorValue) (d : String Global) → length names ≡ 1
+      → IsLoaded known p rounds count (string_bytes (get_or names 0 d)) w → AreLoaded known p rounds count (map (λ s. string_bytes s) names) (w ∷ [])
+  loaded_alone [] w d one h = absurd (omega arith)
+  loaded_alone (name ∷ []) w d one h = (h, tt)
+  loaded_alone (name ∷ other ∷ names) w d one h = absurd (omega arith)

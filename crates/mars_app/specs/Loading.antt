@@ -8,6 +8,7 @@ use Rattle.mars_cell.specs.Cells.{FitsCore}
 use Rattle.mars_cell.specs.Load.{load}
 use Rattle.mars_cell.specs.Parameters.{Parameters}
 use Rattle.mars_cell.specs.Warriors.{WarriorValue}
+use Rattle.mars_cell.specs.Written.{load_text}
 use Rattle.redcode_asm.specs.Assembly.{assembly}
 
 -- the numbers of each warrior's cells are addresses in a core of this size
@@ -43,3 +44,8 @@ AreLoaded known p rounds count [] (w ∷ warriors) = ⊥
 AreLoaded known p rounds count (name ∷ names) [] = ⊥
 AreLoaded known p rounds count (name ∷ names) (w ∷ warriors) =
     IsLoaded known p rounds count name w × AreLoaded known p rounds count names warriors
+
+-- the text is the load file of the warrior of that file
+abbrev pub IsLoadFileOf : (List ℕ → Option (List ℕ)) → Parameters → ℕ → ℕ → List ℕ → List ℕ → Type 0
+IsLoadFileOf known p rounds count name text =
+    (w : WarriorValue) × IsLoaded known p rounds count name w × (text ≡ load_text p.core_size w)

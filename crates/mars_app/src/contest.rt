@@ -98,7 +98,8 @@ fn write_listing<W: Write>(
     core_size: u32,
     output: &mut W,
 ) -> Result<(), RunFault>
-    requires { AllFit core_size warriors.now }
+    requires size { core_size ≤ 1048576 }
+    requires fit { AllFit core_size warriors.now }
     ensures ok { OnOk result (Appends (W.contents output.old) (W.contents output.new) (listing core_size brief warriors.now)) }
     ensures err { IfErr result (λ fault. BreaksOff fault (W.contents output.old) (W.contents output.new) (listing core_size brief warriors.now)) }
 {
@@ -119,7 +120,8 @@ fn write_warrior<W: Write>(
     core_size: u32,
     output: &mut W,
 ) -> Result<(), RunFault>
-    requires { All (FitsCore core_size) warrior.now.cells }
+    requires size { core_size ≤ 1048576 }
+    requires fit { All (FitsCore core_size) warrior.now.cells }
     ensures ok { OnOk result (Appends (W.contents output.old) (W.contents output.new) (listed core_size number warrior.now)) }
     ensures err { IfErr result (λ fault. BreaksOff fault (W.contents output.old) (W.contents output.new) (listed core_size number warrior.now)) }
 {
@@ -145,13 +147,14 @@ fn listing_head(number: u64, warrior: &Warrior) -> Line
 }
 
 /// Writes a warrior's load file.
-pub fn write_load_file<W: Write>(
+fn write_load_file<W: Write>(
     alloc: Global,
     warrior: &Warrior,
     core_size: u32,
     output: &mut W,
 ) -> Result<(), RunFault>
-    requires { All (FitsCore core_size) warrior.now.cells }
+    requires size { core_size ≤ 1048576 }
+    requires fit { All (FitsCore core_size) warrior.now.cells }
     ensures ok { OnOk result (Appends (W.contents output.old) (W.contents output.new) (load_text core_size warrior.now)) }
     ensures err { IfErr result (λ fault. BreaksOff fault (W.contents output.old) (W.contents output.new) (load_text core_size warrior.now)) }
 {

@@ -1,12 +1,12 @@
 //! Warriors from their files.
 ghost use Rattle.std.specs.Prelude.{◌≡◌, ◌≤◌, All, IfOk, IfSome, Some, length, map, string_bytes, vec_len};
 ghost use Rattle.mars_cell.specs.Cells.{FitsCore};
-ghost use Rattle.mars_app.specs.Loading.{AllFit, AreLoaded, is_load_file, warrior_of_file};
+ghost use Rattle.mars_app.specs.Loading.{AllFit, AreLoaded, IsLoadFileOf, is_load_file, warrior_of_file};
 
 use crate::fault::RunFault;
 use crate::files::{FileFault, WarriorFiles};
-use mars_cell::{LoadFault, Params, Warrior, read_load};
-use redcode_asm::{AsmFault, AsmProblem, assemble};
+use mars_cell::{LoadFault, Params, Warrior, read_load, write_load};
+use redcode_asm::{AsmFault, AsmProblem, assemble, assemble_load};
 use std::alloc::{AllocError, Global};
 
 /// The most bytes of a warrior's file.
@@ -41,6 +41,34 @@ pub fn load_warriors<F: WarriorFiles>(
         };
     }
     Ok(warriors)
+}
+
+/// The load file of a warrior's file: a source is assembled, and a load file is written anew.
+pub fn load_file_of<F: WarriorFiles>(
+    alloc: Global,
+    files: &F,
+    name: &str,
+    contest: Contest<'_>,
+) -> Result<Vec<u8>, RunFault>
+    ensures { let c = contest.entry in IfOk result (λ text. IsLoadFileOf (F.known files.now) c.params.now c.rounds c.warriors name.now text.items) }
+{
+    let bytes = read_file(alloc, files, name)?;
+    if is_load_file(name) {
+        let warrior = read_warrior(alloc, name, &bytes, contest)?;
+        return match write_load(alloc, &warrior, contest.params.core_size()) {
+            Ok(text) => Ok(text),
+            Err(_) => Err(RunFault::OutOfMemory),
+        };
+    }
+    let Contest {
+        params,
+        rounds,
+        warriors,
+    } = contest;
+    match assemble_load(alloc, &bytes, params, rounds, warriors) {
+        Ok(text) => Ok(text),
+        Err(fault) => Err(assembly_fault(alloc, name, fault)),
+    }
 }
 
 fn read_file<F: WarriorFiles>(alloc: Global, files: &F, name: &str) -> Result<Vec<u8>, RunFault>

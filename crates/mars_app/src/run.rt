@@ -1,25 +1,24 @@
 //! The program `mars`, over files and streams that are handed in.
-ghost use Rattle.std.specs.Prelude.{◌≡◌, ◌≤◌, ◌⊎◌, ℕ, IfErr, IfOk, Ok, OnOk, Vec, length, map, string_bytes, vec_len};
+ghost use Rattle.std.specs.Prelude.{◌≡◌, ◌≤◌, ◌⊎◌, ℕ, IfErr, IfOk, List, Ok, OnOk, Vec, length, map, string_bytes, vec_len};
 ghost use Rattle.std.specs.Global.{Global};
 ghost use Rattle.std.specs.Io.KnownBytes.{Appends, Keeps};
-ghost use Rattle.std.specs.List.{flat_map};
-ghost use Rattle.mars_cell.specs.Written.{load_text};
 ghost use Rattle.mars_core.specs.State.{State};
 ghost use Rattle.mars_match.specs.Answers.{IsAnswer};
 ghost use Rattle.mars_match.specs.Rounds.{placed_for};
-ghost use Rattle.mars_app.specs.Contests.{BreaksOff, contest_size};
+ghost use Rattle.mars_match.specs.Writing.{CutShort};
+ghost use Rattle.mars_app.specs.Contests.{contest_size};
 ghost use Rattle.mars_app.specs.Debugging.{DebugsInPart, DebugsWell, StartsNothing, first_round, session_at};
-ghost use Rattle.mars_app.specs.Loading.{AllFit, FitsTwo};
+ghost use Rattle.mars_app.specs.Loading.{FitsTwo, IsLoadFileOf};
 ghost use Rattle.mars_app.specs.Code.Allowed.{IsBetween};
 ghost use Rattle.mars_app.specs.Options.{parameters_of};
 ghost use Rattle.mars_app.specs.Runs.{RunsWell};
 ghost use Rattle.mars_cell.specs.ParameterFaults.{checked_parameters};
 
-use crate::contest::{match_fault, run_contest, write_load_file, write_part};
+use crate::contest::{match_fault, run_contest, write_part};
 use crate::debugger::{DebugFault, debug};
 use crate::fault::RunFault;
 use crate::files::WarriorFiles;
-use crate::loading::{Contest, load_warriors};
+use crate::loading::{Contest, load_file_of, load_warriors};
 use crate::options::{Options, WordsFault, read_options};
 use mars_cell::{ParamFault, Params, Warrior};
 use mars_core::Battle;
@@ -92,10 +91,10 @@ fn run_words<F: WarriorFiles, R: Read, W: Write>(
         rounds: options.rounds,
         warriors: contest_size(&options),
     };
-    let warriors = load_warriors(alloc, files, options.files.as_slice(), contest)?;
     if options.load {
-        return write_load_files(alloc, &warriors, params.core_size(), output);
+        return write_load_file_of(alloc, files, options.files[0].as_str(), contest, output);
     }
+    let warriors = load_warriors(alloc, files, options.files.as_slice(), contest)?;
     if options.debugger {
         return debug_round(alloc, &options, &params, &warriors, input, output);
     }
@@ -131,21 +130,22 @@ fn contest_size(options: &Options) -> u32
     }
 }
 
-/// Writes each warrior's load file.
-fn write_load_files<W: Write>(
+/// Writes the load file of a warrior's file.
+fn write_load_file_of<F: WarriorFiles, W: Write>(
     alloc: Global,
-    warriors: &[Warrior],
-    core_size: u32,
+    files: &F,
+    name: &str,
+    contest: Contest<'_>,
     output: &mut W,
 ) -> Result<(), RunFault>
-    requires { AllFit core_size warriors.now }
-    ensures ok { OnOk result (Appends (W.contents output.old) (W.contents output.new) (flat_map (load_text core_size) warriors.now)) }
-    ensures err { IfErr result (λ fault. BreaksOff fault (W.contents output.old) (W.contents output.new) (flat_map (load_text core_size) warriors.now)) }
+    ensures ok { let c = contest.entry in OnOk result ((text : List ℕ)
+        × IsLoadFileOf (F.known files.now) c.params.now c.rounds c.warriors name.now text × Appends (W.contents output.old) (W.contents output.new) text) }
+    ensures err { let c = contest.entry in IfErr result (λ fault. Keeps (W.contents output.old) (W.contents output.new)
+        ⊎ ((fault ≡ RunFault.Output) × (text : List ℕ)
+        × IsLoadFileOf (F.known files.now) c.params.now c.rounds c.warriors name.now text × CutShort (W.contents output.old) (W.contents output.new) text)) }
 {
-    for warrior in warriors {
-        write_load_file(alloc, warrior, core_size, output)?;
-    }
-    Ok(())
+    let text = load_file_of(alloc, files, name, contest)?;
+    write_part(output, &text)
 }
 
 /// Debugs the battle of round 0 by the lines of the input.

@@ -39,6 +39,9 @@ fn files(alloc: Global) -> Result<MemoryFiles, Fail> {
     files.add(alloc, "two.load", b"NOP 0, 0\nNOP 0, 0")?;
     files.add(alloc, "empty.load", b"")?;
     files.add(alloc, "far.load", b"ORG 1\nNOP 0, 0")?;
+    files.add(alloc, "future.load", b";load 3 8000\nNOP 0, 0\n")?;
+    files.add(alloc, "headless.load", b";load 2 8\n;author Dewdney\nORG 0\nMOV.I $0, $7\n")?;
+    files.add(alloc, "named.load", NAMED)?;
     add_sources(alloc, &mut files)?;
     Ok(files)
 }
@@ -69,6 +72,9 @@ fn add_sources(alloc: Global, files: &mut MemoryFiles) -> Result<(), Fail> {
     files.add(alloc, "limited.load", limited)?;
     Ok(())
 }
+
+/// A load file that was written for a core of 8 cells: its 7 is the cell before.
+const NAMED: &[u8] = b";load 2 8\n;name Imp\n;author Dewdney\nORG 0\nMOV.I $0, $7\n";
 
 /// Asks for the parameters that hold where no word gives another.
 const GIVEN: &[u8] = b";assert CORESIZE==8000 && MAXPROCESSES==8000 && MAXCYCLES==80000
@@ -200,7 +206,11 @@ fn numbers_out_of_their_ranges(rt: HostRuntime) -> Result<(), Fail> {
 
 /// The words are taken: the one warrior asserts what they give, and its load file is written.
 fn check_taken(rt: &impl Abort, alloc: Global, words: &[&str]) -> Result<(), Fail> {
-    check_output(rt, alloc, words, b"", b"ORG 0\nNOP.F $0, $0\n")
+    let answer = answer(alloc, words, b"")?;
+    assert_eq!(rt; answer.status, 0);
+    assert!(rt; answer.output.as_slice().starts_with(b";load 2 "));
+    assert!(rt; answer.output.as_slice().ends_with(b"\nORG 0\nNOP.F $0, $0\n"));
+    Ok(())
 }
 
 #[test]
@@ -451,10 +461,16 @@ fn a_league(rt: HostRuntime) -> Result<(), Fail> {
 #[test]
 fn a_listing_before_the_results(rt: HostRuntime) -> Result<(), Fail> {
     let output = b"warrior 0: Unknown by Anonymous, 1 instructions
+;load 2 8000
+;name Unknown
+;author Anonymous
 ORG 0
 MOV.I $0, $1
 
 warrior 1: Unknown by Anonymous, 1 instructions
+;load 2 8000
+;name Unknown
+;author Anonymous
 ORG 0
 DAT.F $0, $0
 
@@ -482,8 +498,28 @@ fn a_load_file(rt: HostRuntime) -> Result<(), Fail> {
         rt.alloc(),
         &["--load", "two.load"],
         b"",
-        b"ORG 0\nNOP.F $0, $0\nNOP.F $0, $0\n",
+        b";load 2 8000\n;name Unknown\n;author Anonymous\nORG 0\nNOP.F $0, $0\nNOP.F $0, $0\n",
     )
+}
+
+#[test]
+fn a_load_file_of_another_core(rt: HostRuntime) -> Result<(), Fail> {
+    let words = ["--load", "-s", "8", "-l", "1", "-d", "1", "named.load"];
+    let text = b";load 2 8\n;name Imp\n;author Dewdney\nORG 0\nMOV.I $0, $-1\n";
+    check_output(&rt, rt.alloc(), &words, b"", text)?;
+    let text = b";load 2 8000\n;name Imp\n;author Dewdney\nORG 0\nMOV.I $0, $-1\n";
+    check_output(&rt, rt.alloc(), &["--load", "named.load"], b"", text)?;
+    let output = b"warrior 0: Imp by Dewdney, 1 instructions
+;load 2 8000
+;name Imp
+;author Dewdney
+ORG 0
+MOV.I $0, $-1
+
+  points   wins   ties losses  warrior
+       0      0      0      1  Imp by Dewdney
+";
+    check_output(&rt, rt.alloc(), &["-c", "10", "named.load"], b"", output)
 }
 
 #[test]
@@ -537,7 +573,7 @@ refused 12 NotInHistory 4 6
 
 #[test]
 fn faults(rt: HostRuntime) -> Result<(), Fail> {
-    let rows: [(&[&str], u8, &[u8]); 14] = [
+    let rows: [(&[&str], u8, &[u8]); 16] = [
         (
             &["-e", "-s", "50", "--score", "1+", "imp.load"],
             2,
@@ -611,6 +647,16 @@ fn faults(rt: HostRuntime) -> Result<(), Fail> {
             &["-e", "far.load"],
             1,
             b"mars: far.load: line 0: load 4 BadOrigin\n",
+        ),
+        (
+            &["--load", "future.load"],
+            1,
+            b"mars: future.load: line 0: load 6 Version\n",
+        ),
+        (
+            &["-b", "headless.load"],
+            1,
+            b"mars: headless.load: line 2: load 1 Syntax\n",
         ),
     ];
     for (words, status, line) in rows {
@@ -691,7 +737,7 @@ fn sources_know_the_contest(rt: HostRuntime) -> Result<(), Fail> {
 
 #[test]
 fn the_load_file_of_a_source(rt: HostRuntime) -> Result<(), Fail> {
-    let text = b"ORG 0\nADD.AB #4, $3\nMOV.I $2, @2\nJMP.B $-2, $0\nDAT.F #0, #0\n";
+    let text = b";load 2 8000\n;name Unknown\n;author Anonymous\nORG 0\nADD.AB #4, $3\nMOV.I $2, @2\nJMP.B $-2, $0\nDAT.F #0, #0\n";
     check_output(&rt, rt.alloc(), &["--load", "dwarf.red"], b"", text)
 }
 
