@@ -1,5 +1,5 @@
 -- What is asked for, put together.
-use Rattle.std.proofs.Common.{◌≡◌, ◌∙◌, ℕ, List, [], ◌∷◌, map, Option, String, Ok, subst, sym}
+use Rattle.std.proofs.Common.{◌≡◌, ◌∙◌, ℕ, List, [], ◌∷◌, map, Option, Result, String, Ok, Err, subst, sym}
 use Rattle.std.proofs.lemmas.List.{append-nil}
 use Rattle.std.specs.Io.KnownBytes.{Appends}
 use Rattle.std.specs.List.{flat_map}
@@ -8,7 +8,11 @@ use Rattle.std.specs.Prelude.{string_bytes}
 use Rattle.mars_cell.specs.ParameterFaults.{checked_parameters}
 use Rattle.mars_cell.specs.Parameters.{Parameters}
 use Rattle.mars_cell.specs.Warriors.{WarriorValue}
-use Rattle.redcode_asm.specs.Formula.{formula_of}
+use Rattle.mars_match.specs.Writing.{CutShort}
+use Rattle.redcode_asm.specs.Formula.{Checks, formula_of}
+use Rattle.redcode_asm.specs.declared.fault.FormulaFault.{FormulaFault}
+use Rattle.redcode_asm.specs.declared.fault.FormulaFault.TheVariants.{Expression}
+use Rattle.redcode_text.specs.declared.fault.ExprFault.{ExprFault}
 use Rattle.redcode_text.specs.Tokens.{Scanned}
 use Rattle.mars_app.specs.Contests.{contest_size}
 use Rattle.mars_app.specs.Loading.{AreLoaded}
@@ -34,3 +38,12 @@ asked_for words known o p f ws score files count said allowed score_is scored fi
 pub appended_alone : {X : Type 0} (old new : Option (List ℕ)) (f : X → List ℕ) (x : X) (text : List ℕ) → Appends old new text → text ≡ f x
     → Appends old new (flat_map f (x ∷ []))
 appended_alone old new f x text a is = subst (λ (t : List ℕ). Appends old new t) (is ∙ sym (append-nil (f x))) a
+
+-- a formula's fault, unless memory ran out
+pub formula_fails : (f : FormulaFault) (e : ExprFault) (defined : Result Scanned ExprFault) → Checks (Err f) defined → f ≡ Expression e → defined ≡ Err e
+formula_fails f e defined checks is = subst (λ (g : FormulaFault). Checks (Err g) defined) is checks
+
+-- the same of a text that was cut short
+pub cut_alone : {X : Type 0} (old new : Option (List ℕ)) (f : X → List ℕ) (x : X) (text : List ℕ) → CutShort old new text → text ≡ f x
+    → CutShort old new (flat_map f (x ∷ []))
+cut_alone old new f x text cut is = subst (λ (t : List ℕ). CutShort old new t) (is ∙ sym (append-nil (f x))) cut

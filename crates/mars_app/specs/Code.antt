@@ -3,4 +3,5 @@ pub mod LineBuffer
 pub mod Steps
 pub mod Waiting
 pub mod Allowed
+pub mod Blames
 pub mod Words

@@ -11,6 +11,7 @@ pub mod Loading
 pub mod Contests
 pub mod Debugging
 pub mod Runs
+pub mod Faults
 pub mod Status
 pub mod Examples
 pub mod Code

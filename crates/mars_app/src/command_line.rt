@@ -12,9 +12,9 @@ const AFTER_HELP: &str = "\
 At most one of -e, --league and --load is given; -F is for two files, and for no league.
 
 Commands of the debugger, one a line:
-  step, run N, until C, undo, redo, goto T, quit
-  show, core A N, queue W, where A
-  set A CELL, fill A B CELL, move W I A, kill W I, spawn W A
+  step, run N, until C, undo, redo, goto T
+  edit A CELL, fill A B CELL, move W I A, kill W I, spawn W A
+  list A N, queue W, show, quit
 
 Status: 0 done, 1 a fault of input or files, 2 a fault of the words.
 

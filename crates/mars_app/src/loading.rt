@@ -1,6 +1,8 @@
 //! Warriors from their files.
-ghost use Rattle.std.specs.Prelude.{◌≡◌, ◌≤◌, All, IfOk, IfSome, Some, length, map, string_bytes, vec_len};
+ghost use Rattle.std.specs.Prelude.{◌≡◌, ◌≤◌, All, IfErr, IfOk, IfSome, Some, length, map, string_bytes, vec_len};
 ghost use Rattle.mars_cell.specs.Cells.{FitsCore};
+ghost use Rattle.mars_app.specs.Code.Blames.{IsAssemblyFault, IsLoadFault, IsUnread};
+ghost use Rattle.mars_app.specs.Faults.{FailsToLoad, FirstFails, IsFaultOfFile};
 ghost use Rattle.mars_app.specs.Loading.{AllFit, AreLoaded, IsLoadFileOf, is_load_file, warrior_of_file};
 
 use crate::fault::RunFault;
@@ -31,6 +33,7 @@ pub fn load_warriors<F: WarriorFiles>(
     ensures fit { IfOk result (λ warriors. AllFit contest.entry.params.now.core_size warriors.items) }
     ensures many { IfOk result (λ warriors. vec_len warriors ≡ length names.now) }
     ensures loaded { let c = contest.entry in IfOk result (λ warriors. AreLoaded (F.known files.now) c.params.now c.rounds c.warriors (map (λ name. string_bytes name) names.now) warriors.items) }
+    ensures err { let c = contest.entry in IfErr result (FirstFails (F.known files.now) c.params.now c.rounds c.warriors (map (λ name. string_bytes name) names.now)) }
 {
     let mut warriors = Vec::new(alloc);
     for name in names {
@@ -50,7 +53,8 @@ pub fn load_file_of<F: WarriorFiles>(
     name: &str,
     contest: Contest<'_>,
 ) -> Result<Vec<u8>, RunFault>
-    ensures { let c = contest.entry in IfOk result (λ text. IsLoadFileOf (F.known files.now) c.params.now c.rounds c.warriors name.now text.items) }
+    ensures ok { let c = contest.entry in IfOk result (λ text. IsLoadFileOf (F.known files.now) c.params.now c.rounds c.warriors name.now text.items) }
+    ensures err { let c = contest.entry in IfErr result (FailsToLoad (F.known files.now) c.params.now c.rounds c.warriors name.now) }
 {
     let bytes = read_file(alloc, files, name)?;
     if is_load_file(name) {
@@ -71,7 +75,9 @@ pub fn load_file_of<F: WarriorFiles>(
     }
 }
 
+/// The bytes of a file.
 fn read_file<F: WarriorFiles>(alloc: Global, files: &F, name: &str) -> Result<Vec<u8>, RunFault>
+    ensures err { IfErr result IsUnread }
     ensures few { IfOk result (λ bytes. vec_len bytes ≤ 1048576) }
     ensures whole { IfOk result (λ bytes. IfSome (F.known files.now name.now) (λ whole. bytes.items ≡ whole)) }
 {
@@ -117,6 +123,7 @@ fn read_warrior(
 ) -> Result<Warrior, RunFault>
     ensures value { let c = contest.entry in IfOk result (λ warrior. warrior_of_file c.params.now c.rounds c.warriors name.now bytes.now ≡ Some warrior) }
     ensures fits { IfOk result (λ warrior. All (FitsCore contest.entry.params.now.core_size) warrior.cells) }
+    ensures err { let c = contest.entry in IfErr result (IsFaultOfFile c.params.now c.rounds c.warriors name.now bytes.now) }
 {
     let Contest {
         params,
@@ -136,7 +143,9 @@ fn read_warrior(
 }
 
 /// The fault of a load file: its line is 0 where the fault has none.
-fn load_fault(alloc: Global, name: &str, fault: LoadFault) -> RunFault {
+fn load_fault(alloc: Global, name: &str, fault: LoadFault) -> RunFault
+    ensures { IsLoadFault fault result }
+{
     let line = match fault {
         LoadFault::Syntax(line) => line,
         _ => 0,
@@ -148,7 +157,9 @@ fn load_fault(alloc: Global, name: &str, fault: LoadFault) -> RunFault {
 }
 
 /// The fault of a source.
-fn assembly_fault(alloc: Global, name: &str, fault: AsmFault) -> RunFault {
+fn assembly_fault(alloc: Global, name: &str, fault: AsmFault) -> RunFault
+    ensures { IsAssemblyFault fault result }
+{
     match (fault.problem, shown_name(alloc, name)) {
         (AsmProblem::OutOfMemory, _) | (_, Err(_)) => RunFault::OutOfMemory,
         (_, Ok(name)) => RunFault::Assembly(name, fault.line, fault),

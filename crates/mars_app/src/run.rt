@@ -1,5 +1,5 @@
 //! The program `mars`, over files and streams that are handed in.
-ghost use Rattle.std.specs.Prelude.{◌≡◌, ◌≤◌, ◌⊎◌, ℕ, IfErr, IfOk, List, Ok, OnOk, Vec, length, map, string_bytes, vec_len};
+ghost use Rattle.std.specs.Prelude.{◌≡◌, ◌≢◌, ◌≤◌, ◌⊎◌, ℕ, IfErr, IfOk, List, Ok, OnOk, Vec, length, map, string_bytes, vec_len};
 ghost use Rattle.std.specs.Global.{Global};
 ghost use Rattle.std.specs.Io.KnownBytes.{Appends, Keeps};
 ghost use Rattle.mars_core.specs.State.{State};
@@ -11,7 +11,10 @@ ghost use Rattle.mars_app.specs.Debugging.{DebugsInPart, DebugsWell, StartsNothi
 ghost use Rattle.mars_app.specs.Loading.{FitsTwo, IsLoadFileOf};
 ghost use Rattle.mars_app.specs.Code.Allowed.{IsBetween};
 ghost use Rattle.mars_app.specs.Options.{parameters_of};
+ghost use Rattle.mars_app.specs.Faults.{FailsToLoad, RunFails};
 ghost use Rattle.mars_app.specs.Runs.{RunsWell};
+ghost use Rattle.mars_app.specs.Status.{status_of};
+ghost use Rattle.mars_app.specs.declared.fault.RunFault.{RunFault};
 ghost use Rattle.mars_cell.specs.ParameterFaults.{checked_parameters};
 
 use crate::contest::{match_fault, run_contest, write_part};
@@ -31,7 +34,8 @@ use std::io::{Read, Write};
 /// Runs the program on the words after its name, and gives its exit status.
 ///
 /// With status 0 it has written the help, a load file, the transcript of a debugged battle, or the listing and results of a
-/// match or a league. A fault is one line on `faults`; where that can't be written, the status is the same.
+/// match or a league; another status is that of the first fault. A fault is one line on `faults`; where that can't be
+/// written, the status is the same.
 pub fn run<F: WarriorFiles, R: Read, W: Write, E: Write>(
     alloc: Global,
     words: &[String],
@@ -42,6 +46,7 @@ pub fn run<F: WarriorFiles, R: Read, W: Write, E: Write>(
 ) -> u8
     ensures status { result ≤ 2 }
     ensures done { result ≡ 0 → RunsWell (map (λ word. string_bytes word) words.now) (F.known files.now) (R.remaining input.old) (R.remaining input.new) (W.contents output.old) (W.contents output.new) }
+    ensures failed { result ≢ 0 → (fault : RunFault) × (result ≡ status_of fault) × RunFails (map (λ word. string_bytes word) words.now) (F.known files.now) (R.remaining input.old) (R.remaining input.new) (W.contents output.old) (W.contents output.new) fault }
 {
     match run_words(alloc, words, files, input, output) {
         Ok(()) => 0,
@@ -69,7 +74,8 @@ fn run_words<F: WarriorFiles, R: Read, W: Write>(
     input: &mut R,
     output: &mut W,
 ) -> Result<(), RunFault>
-    ensures { OnOk result (RunsWell (map (λ word. string_bytes word) words.now) (F.known files.now) (R.remaining input.old) (R.remaining input.new) (W.contents output.old) (W.contents output.new)) }
+    ensures ok { OnOk result (RunsWell (map (λ word. string_bytes word) words.now) (F.known files.now) (R.remaining input.old) (R.remaining input.new) (W.contents output.old) (W.contents output.new)) }
+    ensures err { IfErr result (RunFails (map (λ word. string_bytes word) words.now) (F.known files.now) (R.remaining input.old) (R.remaining input.new) (W.contents output.old) (W.contents output.new)) }
 {
     let options = match read_options(alloc, words) {
         Ok(options) => options,
@@ -84,7 +90,9 @@ fn run_words<F: WarriorFiles, R: Read, W: Write>(
     let formula = match Formula::new(alloc, options.score.as_bytes()) {
         Ok(formula) => formula,
         Err(FormulaFault::OutOfMemory) => return Err(RunFault::OutOfMemory),
-        Err(fault) => return Err(RunFault::Formula(fault)),
+        Err(FormulaFault::Expression(fault)) => {
+            return Err(RunFault::Formula(FormulaFault::Expression(fault)));
+        }
     };
     let contest = Contest {
         params: &params,
@@ -140,7 +148,7 @@ fn write_load_file_of<F: WarriorFiles, W: Write>(
 ) -> Result<(), RunFault>
     ensures ok { let c = contest.entry in OnOk result ((text : List ℕ)
         × IsLoadFileOf (F.known files.now) c.params.now c.rounds c.warriors name.now text × Appends (W.contents output.old) (W.contents output.new) text) }
-    ensures err { let c = contest.entry in IfErr result (λ fault. Keeps (W.contents output.old) (W.contents output.new)
+    ensures err { let c = contest.entry in IfErr result (λ fault. (FailsToLoad (F.known files.now) c.params.now c.rounds c.warriors name.now fault × Keeps (W.contents output.old) (W.contents output.new))
         ⊎ ((fault ≡ RunFault.Output) × (text : List ℕ)
         × IsLoadFileOf (F.known files.now) c.params.now c.rounds c.warriors name.now text × CutShort (W.contents output.old) (W.contents output.new) text)) }
 {

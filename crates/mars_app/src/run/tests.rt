@@ -40,7 +40,11 @@ fn files(alloc: Global) -> Result<MemoryFiles, Fail> {
     files.add(alloc, "empty.load", b"")?;
     files.add(alloc, "far.load", b"ORG 1\nNOP 0, 0")?;
     files.add(alloc, "future.load", b";load 3 8000\nNOP 0, 0\n")?;
-    files.add(alloc, "headless.load", b";load 2 8\n;author Dewdney\nORG 0\nMOV.I $0, $7\n")?;
+    files.add(
+        alloc,
+        "headless.load",
+        b";load 2 8\n;author Dewdney\nORG 0\nMOV.I $0, $7\n",
+    )?;
     files.add(alloc, "named.load", NAMED)?;
     add_sources(alloc, &mut files)?;
     Ok(files)
@@ -209,7 +213,12 @@ fn check_taken(rt: &impl Abort, alloc: Global, words: &[&str]) -> Result<(), Fai
     let answer = answer(alloc, words, b"")?;
     assert_eq!(rt; answer.status, 0);
     assert!(rt; answer.output.as_slice().starts_with(b";load 2 "));
-    assert!(rt; answer.output.as_slice().ends_with(b"\nORG 0\nNOP.F $0, $0\n"));
+    assert!(rt;
+        answer
+            .output
+            .as_slice()
+            .ends_with(b"\nORG 0\nNOP.F $0, $0\n")
+    );
     Ok(())
 }
 
@@ -737,7 +746,8 @@ fn sources_know_the_contest(rt: HostRuntime) -> Result<(), Fail> {
 
 #[test]
 fn the_load_file_of_a_source(rt: HostRuntime) -> Result<(), Fail> {
-    let text = b";load 2 8000\n;name Unknown\n;author Anonymous\nORG 0\nADD.AB #4, $3\nMOV.I $2, @2\nJMP.B $-2, $0\nDAT.F #0, #0\n";
+    let text =
+        b";load 2 8000\n;name Unknown\n;author Anonymous\nORG 0\nADD.AB #4, $3\nMOV.I $2, @2\nJMP.B $-2, $0\nDAT.F #0, #0\n";
     check_output(&rt, rt.alloc(), &["--load", "dwarf.red"], b"", text)
 }
 
@@ -806,9 +816,9 @@ Output:
 At most one of -e, --league and --load is given; -F is for two files, and for no league.
 
 Commands of the debugger, one a line:
-  step, run N, until C, undo, redo, goto T, quit
-  show, core A N, queue W, where A
-  set A CELL, fill A B CELL, move W I A, kill W I, spawn W A
+  step, run N, until C, undo, redo, goto T
+  edit A CELL, fill A B CELL, move W I A, kill W I, spawn W A
+  list A N, queue W, show, quit
 
 Status: 0 done, 1 a fault of input or files, 2 a fault of the words.
 

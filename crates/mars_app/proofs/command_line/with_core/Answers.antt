@@ -1,4 +1,4 @@
-use Rattle.std.proofs.Common.{rules, ap, codes, ◌≡◌}
+use Rattle.std.proofs.Common.{ap, codes, ◌≡◌}
 use Rattle.clap.specs.Simple.{app_of, app_of_fields}
 use Rattle.mars_app.specs.CommandLine.{long, number_rule, or_else, short}
 use Rattle.mars_app.proofs.Adding.{HasRule, added, added_last, defaulted, lengthened, shortened}

@@ -1,7 +1,7 @@
 use Rattle.std.proofs.Common.{rules, ap, codes, ◌≡◌}
 use Rattle.clap.specs.Simple.{app_of, app_of_fields}
 use Rattle.mars_app.specs.CommandLine.{flag_rule, help_rule, long, short}
-use Rattle.mars_app.proofs.Adding.{HasRule, added, added_last, defaulted, lengthened, shortened}
+use Rattle.mars_app.proofs.Adding.{HasRule, added, added_last, lengthened, shortened}
 use Rattle.mars_app.proofs.command_line.with_output.Goals as goal
 
 pub returns : goal.returns

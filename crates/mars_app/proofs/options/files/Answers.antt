@@ -1,4 +1,4 @@
-use Rattle.std.proofs.Common.{◌≡◌, ◌∙◌, [], ap, codes, List, Option, map, option_map, sym, refl}
+use Rattle.std.proofs.Common.{◌∙◌, [], ap, codes, List, Option}
 use Rattle.std.specs.Prelude.{unwrap_or}
 use Rattle.clap.proofs.WalkLemmas.{raw_values-rows}
 use Rattle.clap.specs.Matches.{found_of}

@@ -1,4 +1,4 @@
-use Rattle.std.proofs.Common.{◌∙◌, ◌≡◌, ap, inr, refl, map, string_bytes, subst, sym, true, false}
+use Rattle.std.proofs.Common.{◌∙◌, ◌≡◌, ap, inr, refl, map, string_bytes, subst, sym, true}
 use Rattle.clap.specs.Faults.{fault_of, is_simple_and_free}
 use Rattle.clap.specs.Kinds.{HasKind}
 use Rattle.clap.specs.Simple.{App}

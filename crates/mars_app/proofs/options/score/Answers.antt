@@ -1,9 +1,7 @@
-use Rattle.std.proofs.Common.{◌∙◌, [], ap, codes, Option}
+use Rattle.std.proofs.Common.{◌∙◌, ap, codes}
 use Rattle.std.proofs.lemmas.Result.{IfOk-weaker}
-use Rattle.std.specs.Prelude.{unwrap_or}
 use Rattle.clap.proofs.WalkLemmas.{first_value-rows}
 use Rattle.clap.specs.Matches.{found_of}
-use Rattle.clap.specs.Walk.{Text}
 use Rattle.mars_app.proofs.Gotten.{text_or_none}
 use Rattle.mars_app.proofs.options.score.Goals as goal
 
