@@ -340,7 +340,28 @@ def empty(source, line):
         yield "No line has an opcode."
 
 
+def tells_version(source):
+    """Whether a load file begins as one of version 2, so that its next two lines give the names."""
+    return re.match(rb";load \d", source.data) is not None
+
+
+def head_syntax(source, number):
+    word = (b";name ", b";author ")[number - 2]
+    text = source.data.split(b"\n")[number - 1]
+    if not text.startswith(word):
+        yield f"Line {number} of a load file of version 2 begins with `{word.decode()}`, in this spelling, and gives a name or nothing."
+    elif text.endswith(b"\r"):
+        yield "The line ends with a CR before its LF: save the file with LF alone."
+    elif len(text) - len(word) > 60:
+        yield f"The name has {len(text) - len(word)} bytes: 60 at most."
+    else:
+        yield "A name has printed characters of ASCII alone."
+
+
 def load_syntax(source, line):
+    if tells_version(source) and line.number in (2, 3):
+        yield from head_syntax(source, line.number)
+        return
     text = line.text.split(";")[0]
     if source.data.startswith(b"\xef\xbb\xbf") and line.number == 1:
         yield "The file begins with a byte order mark: save it as UTF-8 without it."
@@ -417,12 +438,16 @@ EXPRESSION_FAULTS = {
 }
 LOAD_FAULTS = {
     "1 Syntax": Fault(
-        "This line isn't of the grammar of load files: `OP.MODIFIER mode number , mode number`, `ORG n`, or `END` with or without n.",
+        "This line isn't of the grammar of load files: `OP.MODIFIER mode number , mode number`, `ORG n`, `END` with or without n, or `;name ` and `;author ` behind `;load 2`.",
         causes=load_syntax,
     ),
     "2 TooLong": Fault("The load file has more cells than the longest warrior may have.", GREATER),
     "3 Empty": Fault("The load file has no cell.", "An END before the cells stops reading."),
     "4 BadOrigin": Fault("The start is none of the cells.", "ORG and END count the cells from 0."),
+    "6 Version": Fault(
+        "The first line isn't `;load 2 ` and a core size from 1 to 1048576 alone: no 0 before it, no blank and no CR behind it.",
+        "Where it is meant as a comment, put a blank before it.",
+    ),
 }
 
 

@@ -42,7 +42,7 @@ unfoldable pub number_at : List (List ℕ) → Option (Number × List (List ℕ)
 number_at [] = None
 number_at (p ∷ ps) = option_map (λ n. (n, ps)) (parse_number p)
 
--- an operand in a core of m cells, which was written for a core of another size
+-- an operand in a core of m cells, where the text was written for a core of `written` cells
 unfoldable pub operand_at : ℕ → ℕ → List (List ℕ) → Option (Mode × ℕ × List (List ℕ))
 operand_at written m ps = let o = mode_at ps in option_map (λ r. (o.0, by_value written m r.0, r.1)) (number_at o.1)
 
@@ -85,6 +85,6 @@ cell_of written m ps = do
   b ← operand_at written m after
   if length b.2 == 0 then Some (record { op = head.0; modifier = unwrap_or suffix.0 (default_modifier head.0 a.0 b.0); a_mode = a.0; a = a.1; b_mode = b.0; b = b.1 }) else None
 
--- the cell of a text alone, with no comment, which was written for the core that reads it: so each number is taken modulo m
+-- the cell of a text alone, with no comment, which was written for the core that reads it: each number is taken modulo m
 abbrev pub read_cell : ℕ → List ℕ → Option Cell
 read_cell m text = cell_of m m (parts text)

@@ -32,7 +32,7 @@ carried_number m size n = by_value m size (record { is_negative = false; magnitu
 abbrev pub carried : ℕ → ℕ → Cell → Cell
 carried m size c = record c { a = carried_number m size c.a; b = carried_number m size c.b }
 
--- a load file that was written for a core of m cells is read for another core as the same warrior, its numbers by value
+-- a load file that was written for a core of m cells is read in another core as the same warrior, its numbers by value
 abbrev pub LoadFileIsCarried : Type 0
 LoadFileIsCarried = (m : ℕ) (p : Parameters) (w : WarriorValue) → m ≤ 1048576 → AreInRange p → IsWarrior w → length w.cells ≤ p.max_length → All (FitsCore m) w.cells
     → load p.core_size p.max_length (load_text m w) ≡ Ok (record w { cells = map (carried m p.core_size) w.cells })

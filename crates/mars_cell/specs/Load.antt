@@ -35,7 +35,7 @@ unfoldable pub end_of : List (List ℕ) → Option (Option Number)
 end_of [] = Some None
 end_of (p ∷ ps) = option_map (λ n. Some n) (lone_number (p ∷ ps))
 
--- what the parts of a line say in a core of m cells, where the file was written for a core of another size
+-- what the parts of a line say in a core of m cells, where the file was written for a core of `written` cells
 unfoldable pub statement_of : ℕ → ℕ → List (List ℕ) → Option Statement
 statement_of written m [] = Some statement.Nothing
 statement_of written m (p ∷ ps) =

@@ -30,6 +30,6 @@ unfoldable pub nearest : ℕ → Number → Number
 nearest m n =
     if nat_le (residue m n) (m / 2) then record { is_negative = false; magnitude = residue m n } else record { is_negative = true; magnitude = m - residue m n }
 
--- the number for a core of m cells, where it was written for a core of another size and is read by value
+-- the number in a core of m cells, where it was written for a core of `written` cells and keeps the value that it had there
 abbrev pub by_value : ℕ → ℕ → Number → ℕ
 by_value written m n = residue m (nearest written n)

@@ -1,5 +1,5 @@
 //! The head of a load file.
-ghost use Rattle.std.specs.Prelude.{◌≡◌, ◌+◌, ◌<◌, ◌≤◌, codes, drop, option_and_then, option_map, slice_get, IfOk, IfSome};
+ghost use Rattle.std.specs.Prelude.{◌≡◌, ◌+◌, ◌<◌, drop, option_and_then, option_map, slice_get, IfOk, IfSome};
 ghost use Rattle.std.specs.List.{list_all};
 ghost use Rattle.std.specs.Result.{result_map_both};
 ghost use Rattle.mars_cell.specs.Header.{header_of, name_in, name_of, no_header, size_in, size_of, tells_version};
@@ -99,7 +99,8 @@ fn take_size(lines: &mut Lines<'_>) -> Option<u32>
 
 /// The name that the first line gives behind that word.
 fn take_name<'a>(lines: &mut Lines<'a>, word: &[u8]) -> Option<&'a str>
-    ensures value { option_map (λ name. name.now) result ≡ option_and_then (name_in word.now) (slice_get (lines_of lines.old.rest.now) 0) }
+    ensures value { option_map (λ name. name.now) result
+        ≡ option_and_then (name_in word.now) (slice_get (lines_of lines.old.rest.now) 0) }
     ensures is_name { IfSome result (λ name. IsName name.now) }
     ensures rest { lines_of lines.new.rest.now ≡ drop 1 (lines_of lines.old.rest.now) }
     ensures number { IfSome result (λ _. lines.new.number ≡ lines.old.number + 1) }
@@ -110,7 +111,7 @@ fn take_name<'a>(lines: &mut Lines<'a>, word: &[u8]) -> Option<&'a str>
 /// Takes the head of a file of version 2, which is its first three lines.
 #[tactic(auto, using(crate::proofs::Heads::header_made), unfolding(crate::specs::Header::header_of))]
 pub fn read_header<'a>(lines: &mut Lines<'a>) -> Result<Header<'a>, LoadFault>
-    ensures value { result_map_both (λ header. record { written = header.written; name = header.name.now; author = header.author.now }) (λ fault. fault) result
+    ensures value { result_map_both (λ h. record { written = h.written; name = h.name.now; author = h.author.now }) (λ fault. fault) result
         ≡ header_of (lines_of lines.old.rest.now) }
     ensures rest { IfOk result (λ _. lines_of lines.new.rest.now ≡ drop 3 (lines_of lines.old.rest.now)) }
     ensures number { IfOk result (λ _. lines.new.number ≡ lines.old.number + 3) }

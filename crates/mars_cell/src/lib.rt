@@ -1,10 +1,10 @@
-//! The base of the Core War kit: cells of the core, the parameters of a battle, warriors, and load files of version 1.
+//! The base of the Core War kit: cells of the core, the parameters of a battle, warriors, and load files.
 //!
 //! The layers above may use: a `Params` is in its ranges; a `Warrior` has a cell, starts at one of its cells, and its
 //! names are names; `read_op` and `read_modifier` read words, `Cell::text` and `read_cell` write and read the one line
-//! of a cell, `write_load` and `read_load` whole load files, each exactly as `specs/` defines it, with the fault and its line; what is written is read back
-//! (`laws`). Only want of memory can refuse a call beyond its defined faults, and only `Warrior::copy`, `write_load` and
-//! `read_load` take memory.
+//! of a cell, `write_load` and `read_load` whole load files, each exactly as `specs/` defines it, with the fault and its
+//! line; what is written is read back, by value in a core of another size (`laws`). Only want of memory can refuse a call
+//! beyond its defined faults, and only `Warrior::copy`, `write_load` and `read_load` take memory.
 #![tactic(auto)]
 
 mod fault;

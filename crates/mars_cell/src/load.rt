@@ -146,9 +146,6 @@ pub fn read_load(alloc: Global, bytes: &[u8], params: &Params) -> Result<Warrior
     if !tells_version(bytes) {
         return read_body(alloc, Header::unnamed(params.core_size()), lines, params);
     }
-    let header = match read_header(&mut lines) {
-        Ok(header) => header,
-        Err(fault) => return Err(fault),
-    };
+    let header = read_header(&mut lines)?;
     read_body(alloc, header, lines, params)
 }

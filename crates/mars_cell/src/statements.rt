@@ -1,5 +1,5 @@
 //! What the lines of a load file say.
-ghost use Rattle.std.specs.Prelude.{◌≡◌, ◌<◌, ◌==◌, IfSome, length, not, take_while};
+ghost use Rattle.std.specs.Prelude.{◌≡◌, ◌==◌, IfSome, length, not, take_while};
 ghost use Rattle.mars_cell.specs.Parts.{parts};
 ghost use Rattle.mars_cell.specs.Code.Listing.{StatementFits};
 ghost use Rattle.mars_cell.specs.Load.{line_statement, lone_number, end_of, statement_of};

@@ -1,7 +1,8 @@
 //! The assembler, and score formulas.
 //!
 //! The layers above may use: `assemble` gives the warrior of a source, with numbers below the core size, or its first
-//! fault with its line, exactly as `specs/Assembly` defines them, or want of memory, which has the line 0. `Formula::new`
+//! fault with its line, exactly as `specs/Assembly` defines them, or want of memory, which has the line 0;
+//! `assemble_load` gives the load file of that warrior, or the same fault. `Formula::new`
 //! gives the formula of a text, or its first fault, and `Formula::score` its value for so many warriors and survivors,
 //! exactly as `specs/Formula` defines them; a score takes no memory, and is refused for its values alone (`laws`).
 #![tactic(auto)]
