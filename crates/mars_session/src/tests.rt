@@ -5,7 +5,9 @@ ghost use Rattle.std.specs.Prelude.{◌≡◌, ◌≤◌, false};
 mod memory;
 mod poor_tape;
 
-use crate::{Call, DeltaTape, Refusal, Reply, RingTape, Session, Standing, Tape, WholeTape};
+use crate::{
+    Call, DeltaTape, Refusal, Reply, RingTape, Session, Standing, Tape, WholeTape, commands, moves,
+};
 use mars_cell::{Cell, Mode, Modifier, Op, Params, Warrior};
 use mars_core::{Battle, Edit, Work};
 use poor_tape::PoorTape;
@@ -459,6 +461,38 @@ fn goto_finds_the_first_of_equal_turns(rt: HostRuntime) -> Result<(), Fail> {
         (Call::Redo, imp_at(0, 3, 3)),
     ];
     imp_gives(&rt, alloc, &calls)
+}
+
+/// How many places a goto goes over: those on the way, and at most one more there and back. A refused one goes to both ends.
+fn check_way<T: Start + Drop>(rt: &impl Abort, alloc: Global) -> Result<(), Fail>
+    requires { T.FORGETS ≡ false }
+{
+    let mut tape = PoorTape::new(imp_tape::<T>(alloc)?, 1);
+    assert_eq!(rt; commands::run(&mut tape, 100, 50), imp_at(50, 50, 50));
+    let ways = [
+        (20, 32),
+        (40, 20),
+        (40, 2),
+        (0, 40),
+        (0, 0),
+        (1, 1),
+        (50, 49),
+        (51, 100),
+    ];
+    for (turns, way) in ways {
+        let before = tape.walked();
+        let reply = moves::goto(&mut tape, turns);
+        assert_eq!(rt; reply.is_ok(), turns <= 50);
+        assert_eq!(rt; tape.walked(), before.saturating_add(way));
+    }
+    Ok(())
+}
+
+#[test]
+fn goto_goes_over_the_places_on_the_way(rt: HostRuntime) -> Result<(), Fail> {
+    let alloc = rt.alloc();
+    check_way::<WholeTape>(&rt, alloc)?;
+    check_way::<DeltaTape>(&rt, alloc)
 }
 
 #[test]
