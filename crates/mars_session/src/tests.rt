@@ -3,6 +3,7 @@
 ghost use Rattle.std.specs.Prelude.{◌≡◌, ◌≤◌, false};
 
 mod memory;
+mod no_memory;
 mod poor_tape;
 
 use crate::{
@@ -239,7 +240,7 @@ fn check_cells<T: Tape>(rt: &impl Abort, session: &Session<T>, cells: &[Cell; 2]
     assert_eq!(rt; session.battle().cell(1), Some(cells[1]));
 }
 
-/// Two battles of one warrior have the same cells and the same queue.
+/// Two battles of one warrior have the same cells, the same queue and the same counters, and are over or not alike.
 fn check_same(rt: &impl Abort, one: &Battle, other: &Battle) {
     for address in 0..8 {
         assert_eq!(rt; one.cell(address), other.cell(address));
@@ -248,6 +249,12 @@ fn check_same(rt: &impl Abort, one: &Battle, other: &Battle) {
     for place in 0..one.queue_len(0) {
         assert_eq!(rt; one.process(0, place), other.process(0, place));
     }
+    assert_eq!(rt;
+        (one.turns(), one.cycle(), one.next()),
+        (other.turns(), other.cycle(), other.next())
+    );
+    assert!(rt; one.deaths() == other.deaths());
+    assert_eq!(rt; one.is_over(), other.is_over());
 }
 
 #[test]
