@@ -40,10 +40,14 @@ pub fn battle(alloc: Global) -> Option<Battle> {
     Battle::new(alloc, &params, &[warrior], &[0]).ok()
 }
 
+/// The imp's battle, for which memory is refused at most once.
+fn second_battle(alloc: Global) -> Option<Battle> {
+    battle(alloc).or_else(|| battle(alloc))
+}
+
 /// The imp's tape. One that is refused gives the battle back, and starts at it then.
 pub fn tape<T: Begin>(alloc: Global) -> Option<T> {
-    let battle = battle(alloc).or_else(|| battle(alloc))?;
-    match T::begin(alloc, battle) {
+    match T::begin(alloc, second_battle(alloc)?) {
         Err(battle) => T::begin(alloc, battle).ok(),
         Ok(tape) => Some(tape),
     }
@@ -54,7 +58,7 @@ fn session<T: Begin>(alloc: Global) -> Option<Session<T>> {
     Some(Session::new(tape(alloc)?, 100))
 }
 
-/// Whether a reply is want of memory; over a ring none is, so such a reply isn't passed over there.
+/// Whether a reply is want of memory. A tape that forgets never has it, so there such a reply is no excuse.
 pub fn is_refused<T: Tape>(reply: Reply) -> bool {
     !T::FORGETS && reply == Err(Refusal::OutOfMemory)
 }
@@ -112,6 +116,23 @@ fn reply_of<T: Tape>(
         return session.call(call);
     }
     reply
+}
+
+/// A tape that is refused gives the battle back as it was.
+fn check_beginning<T: Begin>(rt: &impl Abort, alloc: Global) -> Result<(), Fail> {
+    let battle = second_battle(alloc).ok_or("battle")?;
+    let twin = second_battle(alloc).ok_or("twin")?;
+    if let Err(back) = T::begin(alloc, battle) {
+        check_same(rt, &back, &twin);
+    }
+    Ok(())
+}
+
+#[test]
+fn a_tape_begins(rt: HostRuntime) -> Result<(), Fail> {
+    check_beginning::<WholeTape>(&rt, rt.alloc())?;
+    check_beginning::<DeltaTape>(&rt, rt.alloc())?;
+    check_beginning::<RingTape>(&rt, rt.alloc())
 }
 
 /// The commands in the midst of a history of five turns, each with its reply.
