@@ -1,5 +1,5 @@
 -- Turns never fall along a tape, so no place before one with fewer than so many turns is the first with as many.
-use Rattle.std.proofs.Common.{◌≡◌, ◌≢◌, ℕ, zero, suc, ◌+◌, ◌<◌, ◌≤◌, inl, inr, Bool, List, [], ◌∷◌, refl, ap, ◌∙◌, sym, arith, ne_eqb}
+use Rattle.std.proofs.Common.{◌≡◌, ◌≢◌, ℕ, zero, suc, ◌+◌, ◌<◌, ◌≤◌, inl, inr, Bool, List, [], ◌∷◌, refl, ap, ◌∙◌, arith, ne_eqb}
 use Rattle.std.specs.Prelude.{All}
 use Rattle.std.proofs.lemmas.List.Elements.{All-nil, All-cons, All-head, All-tail}
 use Rattle.mars_core.specs.State.{State}
@@ -8,11 +8,10 @@ use Rattle.mars_core.specs.Record.{reverted}
 use Rattle.mars_core.specs.declared.record.Atom.{Atom}
 use Rattle.mars_core.proofs.CallerLemmas.{turns-turn_of, turns-edited}
 use Rattle.mars_session.specs.declared.snapshots.Snapshot.{Snapshot}
-use Rattle.mars_session.specs.History.{Place, History, rewound_from, first_at_turn_from, first_at_turn, goto, position_of}
+use Rattle.mars_session.specs.History.{Place, History, rewound_from, first_at_turn_from, first_at_turn, goto}
 use Rattle.mars_session.specs.Tapes.{TurnsNeverFell}
 use Rattle.mars_session.specs.Code.Journals.{entry_at, mark_at, journal_before, LeadHere}
 use Rattle.mars_session.specs.Code.Whole.{place_of, snapshot_at, before_of, whole_history, IsWhole}
-use Rattle.mars_session.proofs.Walking.{at_first}
 
 -- a record leads to as many turns or more
 leads_turns : (s t : State) (a : Atom) → Leads s a t → s.turns ≤ t.turns
@@ -55,7 +54,3 @@ none_before_from t n (b ∷ before) p after l a =
 
 pub none_before : (t : ℕ) (h : History) → TurnsNeverFell h → h.present.state.turns < t → goto t h ≡ first_at_turn t h
 none_before t h a l = none_before_from t h.present.state.turns h.before h.present h.after l a
-
--- nor is it before the first place
-pub none_before_first : (t : ℕ) (h : History) → position_of h ≡ 0 → goto t h ≡ first_at_turn t h
-none_before_first t h e = ap (λ k. first_at_turn t k) (sym (at_first h h refl e))
