@@ -4,6 +4,7 @@ use Rattle.std.proofs.lemmas.List.{length-take, length-drop}
 use Rattle.std.proofs.lemmas.List.Elements.{All-get_or, All-cons}
 use Rattle.mars_cell.specs.declared.instruction.Cell.{Cell}
 use Rattle.mars_cell.specs.Parameters.{Parameters}
+use Rattle.mars_core.specs.Limits.{most_warriors}
 use Rattle.mars_core.specs.State.{State, state_of, queue_of, is_over_of}
 use Rattle.mars_core.specs.Validity.{IsValid, IsQueue}
 use Rattle.mars_core.specs.Queue.{Queue, addresses_of}
@@ -29,11 +30,11 @@ use Rattle.mars_core.proofs.Turns.{running, filled_length, turn_valid}
 pub record CanApply (atom : Atom) (s : State) : Type 0 where
   pub cells : AreInside (length s.core) atom.cells.items
   pub queue : HasQueue (warrior_of atom.work) (CanRequeue s.params.processes atom.work (length atom.queued.items)) s.queues
-  pub deaths : atom.died ≡ true → length s.deaths < 16
+  pub deaths : atom.died ≡ true → length s.deaths < most_warriors
 
 module _ (s : State) (v : IsValid s) where
   -- where somebody lives, not all have died
-  room_for_death : (w : ℕ) → w < length s.queues → ((queue_of s.queues w ≡ []) → ⊥) → length s.deaths < 16
+  room_for_death : (w : ℕ) → w < length s.queues → ((queue_of s.queues w ≡ []) → ⊥) → length s.deaths < most_warriors
   room_for_death w h lives =
       let alive = live_survives s.queues w h lives in
       let few = v.few in

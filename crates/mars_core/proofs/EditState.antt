@@ -5,6 +5,7 @@ use Rattle.std.proofs.lemmas.List.{length-set, length-map}
 use Rattle.std.proofs.lemmas.List.Elements.{All-set, All-get_or}
 use Rattle.mars_cell.specs.declared.instruction.Cell.{Cell}
 use Rattle.mars_cell.specs.Parameters.{Parameters}
+use Rattle.mars_core.specs.Limits.{most_warriors}
 use Rattle.mars_core.specs.State.{State, state_of, cell_at, is_empty, survivors_of, queue_of, advanced, clock_of}
 use Rattle.mars_core.specs.Queue.{Queue, addresses_of}
 use Rattle.mars_core.specs.Turn.{with_death}
@@ -76,7 +77,7 @@ module _ (p : Parameters) (core : List Cell) (qs : List Queue) (next cycle turns
       rw (addresses-set, length-set, survivors_kept (addresses_of qs) w q'.addresses warrior (λ e. filled (sym queue_at ∙ e)) filled') counted
 
   -- somebody lives, so not all have died
-  pub kill_room : q.addresses ≢ [] → length deaths + survivors_of (addresses_of qs) ≡ length qs → length deaths < 16
+  pub kill_room : q.addresses ≢ [] → length deaths + survivors_of (addresses_of qs) ≡ length qs → length deaths < most_warriors
   kill_room filled counted =
       let alive = live_survives (addresses_of qs) w warrior (λ e. filled (sym queue_at ∙ e)) in
       let few = simp length-map at v.few in

@@ -5,6 +5,7 @@ use Rattle.mars_cell.specs.declared.instruction.Cell.{Cell}
 use Rattle.mars_cell.specs.Cells.{empty_cell}
 use Rattle.mars_cell.specs.Parameters.{Parameters}
 use Rattle.mars_cell.specs.Warriors.{WarriorValue}
+use Rattle.mars_core.specs.Limits.{most_warriors}
 use Rattle.mars_core.specs.State.{State}
 use Rattle.mars_core.specs.declared.battle.start.BattleFault.{BattleFault}
 use Rattle.mars_core.specs.declared.battle.start.BattleFault.TheVariants.{NoWarrior, TooMany, Overlap, StartOutside, FieldOutside}
@@ -46,7 +47,7 @@ fields_inside m (w ∷ warriors) = list_all (is_inside m) w.cells && fields_insi
 abbrev pub start_fault : Parameters → List WarriorValue → List ℕ → Option BattleFault
 start_fault p warriors starts =
     if length warriors == 0 then Some NoWarrior
-    else if nat_lt 16 (length warriors) then Some TooMany
+    else if nat_lt most_warriors (length warriors) then Some TooMany
     else if overlap p.core_size warriors starts then Some Overlap
     else if not (list_all (λ s. nat_lt s p.core_size) starts) then Some StartOutside
     else if not (fields_inside p.core_size warriors) then Some FieldOutside

@@ -1,10 +1,14 @@
 //! The deaths of warriors.
 ghost use Rattle.std.specs.Prelude.{◌≡◌, ◌+◌, ◌<◌, ◌≤◌, length, true, ◌++◌, ◌∷◌, [], if◌then◌else◌};
 ghost use Rattle.arrayvec.specs.ArrayVec.{array_vec_len};
+ghost use Rattle.mars_core.specs.Limits.{most_warriors};
 ghost use Rattle.mars_core.specs.Turn.{with_death};
 ghost use Rattle.mars_core.specs.Record.{without_last};
 
 use arrayvec::ArrayVec;
+
+/// The most warriors of a battle.
+pub const MOST_WARRIORS: usize = 16;
 
 /// The death of a warrior, by its index, and how many turns had been made by all: with the turn that killed it, or at the
 /// edit that did.
@@ -16,8 +20,8 @@ pub struct Death {
 
 /// Notes the death of a warrior, if it died.
 #[inline(always)]
-pub fn note_death(deaths: &mut ArrayVec<Death, 16>, died: bool, warrior: u32, turns: u32)
-    requires { died ≡ true → array_vec_len deaths.old < 16 }
+pub fn note_death(deaths: &mut ArrayVec<Death, MOST_WARRIORS>, died: bool, warrior: u32, turns: u32)
+    requires { died ≡ true → array_vec_len deaths.old < most_warriors }
     ensures { deaths.new.items ≡ with_death died warrior turns deaths.old.items }
 {
     if died {
@@ -28,15 +32,15 @@ pub fn note_death(deaths: &mut ArrayVec<Death, 16>, died: bool, warrior: u32, tu
 /// Notes a death. It is cold, so that turns without one are laid out in a row.
 #[cold]
 #[inline(never)]
-pub fn add_death(deaths: &mut ArrayVec<Death, 16>, death: Death)
-    requires { array_vec_len deaths.old < 16 }
+pub fn add_death(deaths: &mut ArrayVec<Death, MOST_WARRIORS>, death: Death)
+    requires { array_vec_len deaths.old < most_warriors }
     ensures { deaths.new.items ≡ deaths.old.items ++ death ∷ [] }
 {
     deaths.push(death);
 }
 
 /// Takes the last death back, if the warrior died.
-pub fn forget_death(deaths: &mut ArrayVec<Death, 16>, died: bool)
+pub fn forget_death(deaths: &mut ArrayVec<Death, MOST_WARRIORS>, died: bool)
     ensures { deaths.new.items ≡ (if died then without_last 1 deaths.old.items else deaths.old.items) }
 {
     if died {
@@ -45,8 +49,8 @@ pub fn forget_death(deaths: &mut ArrayVec<Death, 16>, died: bool)
 }
 
 /// Copies of the deaths.
-pub fn copy_deaths(deaths: &[Death]) -> ArrayVec<Death, 16>
-    requires { length deaths.now ≤ 16 }
+pub fn copy_deaths(deaths: &[Death]) -> ArrayVec<Death, MOST_WARRIORS>
+    requires { length deaths.now ≤ most_warriors }
     ensures { result.items ≡ deaths.now }
 {
     let mut copies = ArrayVec::new();

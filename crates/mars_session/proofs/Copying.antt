@@ -1,7 +1,7 @@
 -- Whole copies as a history.
 use Rattle.std.proofs.lemmas.Bool.{eqb-true, eqb-false}
 use Rattle.std.proofs.Math.ListN.{length-set}
-use Rattle.std.proofs.Common.{Bool, nat_eq, ◌≡◌, ℕ, zero, suc, ◌+◌, ◌-◌, ◌<◌, ◌≤◌, true, false, List, ◌++◌, length, get_or, set, take, drop, refl, ap, sym, ◌∙◌, arith, add-one}
+use Rattle.std.proofs.Common.{Bool, nat_eq, ◌≡◌, ◌≢◌, ℕ, zero, suc, ◌+◌, ◌-◌, ◌<◌, ◌≤◌, true, false, List, ◌++◌, length, get_or, set, take, drop, refl, ap, sym, ◌∙◌, arith, add-one}
 use Rattle.std.proofs.lemmas.List.{get_or-set_same, get_or-set_other, get_or_read, get_or_append_left, set-append_right, set-set, take_at}
 use Rattle.mars_core.specs.State.{State}
 use Rattle.mars_core.specs.Shape.{SameShape}
@@ -115,10 +115,28 @@ shape_set ks n i x u true e l h k =
     rw same (rw (get_or-set_same ks n x nowhere l) h)
 shape_set ks n i x u false e l h k = rw (get_or-set_other ks n i x nowhere (eqb-false i n e)) k
 
--- the tape stands at the copy after the present one, which has the same shape
+-- where the copy after the present one is made again, and the tape ends there, no place before has more turns
+rises_set : (ks : List Snapshot) (at len : ℕ) (x : Snapshot) → IsWhole ks at len → at + 1 < length ks → (snapshot_at ks at).battle.turns ≤ x.battle.turns
+    → (i j : ℕ) → i ≤ j → j < at + 1 + 1 → (snapshot_at (set ks (at + 1) x) i).battle.turns ≤ (snapshot_at (set ks (at + 1) x) j).battle.turns
+rises_set ks at len x w l h i j m n = by_place (nat_eq i (at + 1)) (nat_eq j (at + 1)) refl refl
+  where
+    by_place : (a b : Bool) → nat_eq i (at + 1) ≡ a → nat_eq j (at + 1) ≡ b → (snapshot_at (set ks (at + 1) x) i).battle.turns ≤ (snapshot_at (set ks (at + 1) x) j).battle.turns
+    by_place true b e f = let here : i ≡ at + 1 = eqb-true i (at + 1) e in let same : j ≡ i = omega arith in rw same (omega arith)
+    by_place false true e f =
+        let differs : i ≢ at + 1 = eqb-false i (at + 1) e in
+        let last : j ≡ at + 1 = eqb-true j (at + 1) f in
+        let below = w.rises i at (omega arith) w.present in
+        rw (get_or-set_other ks (at + 1) i x nowhere differs, last, get_or-set_same ks (at + 1) x nowhere l) (omega (arith, below, h))
+    by_place false false e f =
+        let differs : i ≢ at + 1 = eqb-false i (at + 1) e in
+        let before : j ≢ at + 1 = eqb-false j (at + 1) f in
+        rw (get_or-set_other ks (at + 1) i x nowhere differs, get_or-set_other ks (at + 1) j x nowhere before) (w.rises i j m (omega (arith, w.present)))
+
+-- the tape stands at the copy after the present one, which has the same shape and no fewer turns
 pub whole_more : (ks : List Snapshot) (at len : ℕ) (s : State) → IsWhole ks at len → at + 1 < length ks → SameShape s (snapshot_at ks at).battle
+    → (snapshot_at ks at).battle.turns ≤ s.turns
     → IsWhole (set ks (at + 1) (record { battle = s; mark = false })) (at + 1) (at + 1 + 1)
-whole_more ks at len s w l h =
+whole_more ks at len s w l h more =
     let x : Snapshot = record { battle = s; mark = false } in
     let u = (snapshot_at ks at).battle in
     let count = length-set ks (at + 1) x in
@@ -127,5 +145,6 @@ whole_more ks at len s w l h =
     record {
       present = omega arith;
       copies = omega (arith, count);
+      rises = rises_set ks at len x w l more;
       shapes = λ i j m n. shape_trans _ _ _ (each i m) (shape_sym _ _ (each j n));
     }

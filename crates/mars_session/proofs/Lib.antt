@@ -7,6 +7,7 @@ pub mod Forgetting
 pub mod Keeping
 pub mod Limits
 pub mod Places
+pub mod Rising
 pub mod Scripted
 pub mod Scripts
 pub mod Stepping

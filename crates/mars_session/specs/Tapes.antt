@@ -1,5 +1,5 @@
 -- What a tape is seen as, and which histories come about: each place but the first is one turn or edit after the one before it.
-use Rattle.std.specs.Prelude.{◌≡◌, ◌≤◌, ℕ, zero, suc, Bool, true, false, List, [], ◌∷◌, None, ◌⊎◌}
+use Rattle.std.specs.Prelude.{All, ◌≡◌, ◌≤◌, ℕ, zero, suc, Bool, true, false, List, [], ◌∷◌, None, ◌⊎◌}
 use Rattle.mars_core.specs.State.{State, is_over_of}
 use Rattle.mars_core.specs.Turn.{turn_of}
 use Rattle.mars_core.specs.Edit.{edit_fault, edited}
@@ -50,6 +50,10 @@ pub record IsTapeOf (n : ℕ) (h : History) : Type 0 where
   pub steps : Steps h
   pub last : (last_place h.present h.after).mark ≡ true
   pub within : last_of h ≤ n
+
+-- no place before the present one has more turns
+abbrev pub TurnsNeverFell : History → Type 0
+TurnsNeverFell h = All (λ (p : Place). p.state.turns ≤ h.present.state.turns) h.before
 
 -- the record leads from the i-th place, where p is place 0 and the others follow, to the one after it
 abbrev pub LeadsFrom : Place → List Place → ℕ → Atom → Type 0

@@ -6,7 +6,7 @@ ghost use Rattle.mars_core.specs.Turn.{turn_of};
 ghost use Rattle.mars_core.specs.Edit.{edit_fault, edited};
 ghost use Rattle.mars_session.specs.History.{beginning, places, position_of, last_of, following, marked, cut, append, back, forward};
 ghost use Rattle.mars_session.specs.Memory.{Memory, never, kept, noted};
-ghost use Rattle.mars_session.specs.Tapes.{LeadsAt};
+ghost use Rattle.mars_session.specs.Tapes.{LeadsAt, TurnsNeverFell};
 
 use crate::tapes::Tape;
 use mars_core::{Atom, Battle, Edit};

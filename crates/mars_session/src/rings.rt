@@ -6,6 +6,7 @@ ghost use Rattle.mars_core.specs.Turn.{turn_of};
 ghost use Rattle.mars_core.specs.Edit.{edit_fault, edited};
 ghost use Rattle.mars_session.specs.History.{beginning, position_of, last_of, following, marked, cut, append, back, forward};
 ghost use Rattle.mars_session.specs.Memory.{Memory, kept, noted};
+ghost use Rattle.mars_session.specs.Tapes.{TurnsNeverFell};
 
 use crate::records::Records;
 use crate::tapes::Tape;

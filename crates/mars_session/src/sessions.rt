@@ -139,7 +139,8 @@ impl<T: Tape> Session<T> {
         moves::redo(&mut self.tape)
     }
 
-    /// Goes to the first place after so many turns, or answers `NotInHistory`.
+    /// Goes to the first place after so many turns, over no more places than lie on the way and one; or answers `NotInHistory`,
+    /// after a look at both ends.
     pub fn goto(&mut self, turns: u64) -> Result<Standing, Refusal>
         ensures { Answers self.old (Call.Goto turns) result self.new }
     {

@@ -5,6 +5,7 @@ ghost use Rattle.mars_core.specs.Turn.{turn_of};
 ghost use Rattle.mars_core.specs.Edit.{edit_fault, edited};
 ghost use Rattle.mars_session.specs.History.{History, position_of, last_of, following, marked, cut, append, back, forward};
 ghost use Rattle.mars_session.specs.Memory.{Memory, kept, noted};
+ghost use Rattle.mars_session.specs.Tapes.{TurnsNeverFell};
 
 use mars_core::{Battle, Edit};
 use std::alloc::AllocError;
@@ -30,10 +31,12 @@ pub trait Tape {
     fn now(&self) -> &Battle
         ensures { result.now ≡ (history self.now).present.state };
 
-    /// The present place's number, counted from 0. The room is never less than the number of places that follow.
+    /// The present place's number, counted from 0. The room is never less than the number of places that follow, and no place
+    /// before has more turns.
     fn position(&self) -> u64
         ensures value { result ≡ position_of (history self.now) }
-        ensures covers { following (history self.now) ≤ room self.now };
+        ensures covers { following (history self.now) ≤ room self.now }
+        ensures rises { TurnsNeverFell (history self.now) };
 
     /// How many places there are.
     fn len(&self) -> u64

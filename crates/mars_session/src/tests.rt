@@ -3,9 +3,12 @@
 ghost use Rattle.std.specs.Prelude.{◌≡◌, ◌≤◌, false};
 
 mod memory;
+mod no_memory;
 mod poor_tape;
 
-use crate::{Call, DeltaTape, Refusal, Reply, RingTape, Session, Standing, Tape, WholeTape};
+use crate::{
+    Call, DeltaTape, Refusal, Reply, RingTape, Session, Standing, Tape, WholeTape, commands, moves,
+};
 use mars_cell::{Cell, Mode, Modifier, Op, Params, Warrior};
 use mars_core::{Battle, Edit, Work};
 use poor_tape::PoorTape;
@@ -237,7 +240,7 @@ fn check_cells<T: Tape>(rt: &impl Abort, session: &Session<T>, cells: &[Cell; 2]
     assert_eq!(rt; session.battle().cell(1), Some(cells[1]));
 }
 
-/// Two battles of one warrior have the same cells and the same queue.
+/// Two battles of one warrior have the same cells, the same queue and the same counters, and are over or not alike.
 fn check_same(rt: &impl Abort, one: &Battle, other: &Battle) {
     for address in 0..8 {
         assert_eq!(rt; one.cell(address), other.cell(address));
@@ -246,6 +249,12 @@ fn check_same(rt: &impl Abort, one: &Battle, other: &Battle) {
     for place in 0..one.queue_len(0) {
         assert_eq!(rt; one.process(0, place), other.process(0, place));
     }
+    assert_eq!(rt;
+        (one.turns(), one.cycle(), one.next()),
+        (other.turns(), other.cycle(), other.next())
+    );
+    assert!(rt; one.deaths() == other.deaths());
+    assert_eq!(rt; one.is_over(), other.is_over());
 }
 
 #[test]
@@ -459,6 +468,38 @@ fn goto_finds_the_first_of_equal_turns(rt: HostRuntime) -> Result<(), Fail> {
         (Call::Redo, imp_at(0, 3, 3)),
     ];
     imp_gives(&rt, alloc, &calls)
+}
+
+/// How many places a goto goes over: those on the way, and at most one more there and back. A refused one goes to both ends.
+fn check_way<T: Start + Drop>(rt: &impl Abort, alloc: Global) -> Result<(), Fail>
+    requires { T.FORGETS ≡ false }
+{
+    let mut tape = PoorTape::new(imp_tape::<T>(alloc)?, 1);
+    assert_eq!(rt; commands::run(&mut tape, 100, 50), imp_at(50, 50, 50));
+    let ways = [
+        (20, 32),
+        (40, 20),
+        (40, 2),
+        (0, 40),
+        (0, 0),
+        (1, 1),
+        (50, 49),
+        (51, 100),
+    ];
+    for (turns, way) in ways {
+        let before = tape.walked();
+        let reply = moves::goto(&mut tape, turns);
+        assert_eq!(rt; reply.is_ok(), turns <= 50);
+        assert_eq!(rt; tape.walked(), before.saturating_add(way));
+    }
+    Ok(())
+}
+
+#[test]
+fn goto_goes_over_the_places_on_the_way(rt: HostRuntime) -> Result<(), Fail> {
+    let alloc = rt.alloc();
+    check_way::<WholeTape>(&rt, alloc)?;
+    check_way::<DeltaTape>(&rt, alloc)
 }
 
 #[test]

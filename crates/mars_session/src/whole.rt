@@ -7,6 +7,7 @@ ghost use Rattle.mars_core.specs.Edit.{edit_fault, edited};
 ghost use Rattle.mars_core.specs.Shape.{SameShape};
 ghost use Rattle.mars_session.specs.History.{History, beginning, marked, cut, append, back, forward};
 ghost use Rattle.mars_session.specs.Memory.{Memory, never, kept, noted};
+ghost use Rattle.mars_session.specs.Tapes.{TurnsNeverFell};
 ghost use Rattle.mars_session.specs.Code.Whole.{snapshot_at, whole_history, IsGrown};
 
 use crate::snapshots::Snapshot;

@@ -1,5 +1,6 @@
 //! Changes of a battle by hand.
 ghost use Rattle.std.specs.Prelude.{◌≡◌, ◌<◌, ◌≤◌, length, IfOk, MatchOption, if◌then◌else◌};
+ghost use Rattle.mars_core.specs.Limits.{most_warriors};
 ghost use Rattle.mars_core.specs.State.{advanced as spec_advanced};
 ghost use Rattle.mars_core.specs.Queue.{addresses_of};
 ghost use Rattle.mars_core.specs.Validity.{IsValid};
@@ -243,7 +244,7 @@ fn cell_fault(core_size: u32, cell: Cell) -> Option<EditFault>
 
 /// The clock after a process was taken out of a queue: it advances where its warrior died.
 fn clock_after_kill(queues: &[ProcessQueue], clock: Clock, died: bool) -> Clock
-    requires few { length queues.now ≤ 16 }
+    requires few { length queues.now ≤ most_warriors }
     requires cycle { clock.cycle ≤ 10000000 }
     ensures { result ≡ (if died then spec_advanced (addresses_of queues.now) clock clock.next else clock) }
 {

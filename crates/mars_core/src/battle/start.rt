@@ -10,6 +10,7 @@ mod overlap;
 use crate::battle::Battle;
 use crate::battle::start::layout::{first_queues, lay_all, lay_anew, refill_queues};
 use crate::battle::start::overlap::has_overlap;
+use crate::deaths::MOST_WARRIORS;
 use arrayvec::ArrayVec;
 use mars_cell::{Cell, Params, Warrior};
 use std::alloc::Global;
@@ -105,7 +106,7 @@ fn find_fault(params: &Params, warriors: &[Warrior], starts: &[u32]) -> Option<B
     if warriors.is_empty() {
         return Some(BattleFault::NoWarrior);
     }
-    if warriors.len() > 16 {
+    if warriors.len() > MOST_WARRIORS {
         return Some(BattleFault::TooMany);
     }
     if has_overlap(core_size, warriors, starts) {

@@ -1,6 +1,7 @@
 //! Addresses, and the core as it is written.
 ghost use Rattle.std.specs.Prelude.{◌≡◌, ℕ, ◌+◌, ◌%◌, ◌<◌, ◌≤◌, length, false, Some};
 ghost use Rattle.mars_cell.specs.Cells.{FitsCore, field_of};
+ghost use Rattle.mars_core.specs.Limits.{largest_core};
 ghost use Rattle.mars_core.specs.State.{cell_at as spec_cell_at};
 ghost use Rattle.mars_core.specs.Addresses.{address_after as spec_address_after, fold, raised as spec_raised, lowered as spec_lowered};
 ghost use Rattle.mars_core.specs.Writes.{write_cell, write_field};
@@ -13,7 +14,7 @@ use mars_cell::{Cell, Field};
 /// The remainder of a number below twice the size of the core: no division is needed.
 #[inline(always)]
 pub fn remainder(core_size: u32, number: u32) -> u32
-    requires size { core_size ≤ 1048576 }
+    requires size { core_size ≤ largest_core }
     requires number { number < core_size + core_size }
     ensures value { result ≡ number % core_size }
     ensures inside { result < core_size }
@@ -29,7 +30,7 @@ pub fn remainder(core_size: u32, number: u32) -> u32
 #[inline(always)]
 #[tactic(auto, unfolding(crate::specs::Addresses::address_after))]
 pub fn address_after(core_size: u32, address: u32, distance: u32) -> u32
-    requires size { core_size ≤ 1048576 }
+    requires size { core_size ≤ largest_core }
     requires address { address < core_size }
     requires distance { distance < core_size }
     ensures value { result ≡ spec_address_after core_size address distance }
@@ -42,7 +43,7 @@ pub fn address_after(core_size: u32, address: u32, distance: u32) -> u32
 #[inline(always)]
 #[tactic(auto, unfolding(crate::specs::Addresses::address_after, crate::specs::Addresses::raised))]
 pub fn next_address(core_size: u32, address: u32) -> u32
-    requires size { core_size ≤ 1048576 }
+    requires size { core_size ≤ largest_core }
     requires address { address < core_size }
     ensures value { result ≡ spec_address_after core_size address 1 }
     ensures inside { result < core_size }
@@ -54,7 +55,7 @@ pub fn next_address(core_size: u32, address: u32) -> u32
 #[inline(always)]
 #[tactic(auto, using(crate::proofs::Folding::after_next))]
 pub fn skip_address(core_size: u32, address: u32) -> u32
-    requires size { core_size ≤ 1048576 }
+    requires size { core_size ≤ largest_core }
     requires address { address < core_size }
     ensures value { result ≡ spec_address_after core_size address 2 }
     ensures inside { result < core_size }
@@ -66,7 +67,7 @@ pub fn skip_address(core_size: u32, address: u32) -> u32
 #[inline(always)]
 #[tactic(auto, using(crate::proofs::Folding::fold_whole), unfolding(crate::specs::Addresses::fold))]
 pub fn folded<const LIMITED: bool>(core_size: u32, limit: u32, pointer: u32) -> u32
-    requires size { core_size ≤ 1048576 }
+    requires size { core_size ≤ largest_core }
     requires limit_least { 1 ≤ limit }
     requires limit_most { limit ≤ core_size }
     requires pointer { pointer < core_size + core_size }
@@ -119,7 +120,7 @@ fn folded_at(core_size: u32, limit: u32, pointer: u32) -> u32
 #[inline(always)]
 #[tactic(auto, unfolding(crate::specs::Addresses::raised))]
 pub fn raised(core_size: u32, number: u32) -> u32
-    requires size { core_size ≤ 1048576 }
+    requires size { core_size ≤ largest_core }
     requires number { number < core_size }
     ensures value { result ≡ spec_raised core_size number }
     ensures inside { result < core_size }
@@ -132,7 +133,7 @@ pub fn raised(core_size: u32, number: u32) -> u32
 #[inline(always)]
 #[tactic(auto, unfolding(crate::specs::Addresses::lowered))]
 pub fn lowered(core_size: u32, number: u32) -> u32
-    requires size { core_size ≤ 1048576 }
+    requires size { core_size ≤ largest_core }
     requires number { number < core_size }
     ensures value { result ≡ spec_lowered core_size number }
     ensures inside { result < core_size }
@@ -186,7 +187,7 @@ pub fn write(core: &mut [Cell], address: u32, cell: Cell) -> CellChange
 #[tactic(auto, unfolding(crate::specs::Writes::write_field, crate::specs::Writes::write_cell))]
 pub fn raise_field(core_size: u32, core: &mut [Cell], field: Field, address: u32) -> CellChange
     requires core { IsCore core_size core.old }
-    requires size { core_size ≤ 1048576 }
+    requires size { core_size ≤ largest_core }
     requires inside { address < core_size }
     ensures noted { noted core.new (Some result) ≡ write_field (spec_raised core_size) field (unwritten core.old) address }
     ensures core { IsCore core_size core.new }
@@ -201,7 +202,7 @@ pub fn raise_field(core_size: u32, core: &mut [Cell], field: Field, address: u32
 #[tactic(auto, unfolding(crate::specs::Writes::write_field, crate::specs::Writes::write_cell))]
 pub fn lower_field(core_size: u32, core: &mut [Cell], field: Field, address: u32) -> CellChange
     requires core { IsCore core_size core.old }
-    requires size { core_size ≤ 1048576 }
+    requires size { core_size ≤ largest_core }
     requires inside { address < core_size }
     ensures noted { noted core.new (Some result) ≡ write_field (spec_lowered core_size) field (unwritten core.old) address }
     ensures core { IsCore core_size core.new }

@@ -1,5 +1,6 @@
 //! Whose turn it is, in which cycle, and when a battle is over.
 ghost use Rattle.std.specs.Prelude.{◌≡◌, ℕ, ◌+◌, ◌<◌, ◌≤◌, length, List, IfSome};
+ghost use Rattle.mars_core.specs.Limits.{most_warriors};
 ghost use Rattle.mars_core.specs.State.{live_from, survivors_of, ends, advanced as spec_advanced};
 ghost use Rattle.mars_core.specs.Queue.{addresses_of};
 
@@ -16,7 +17,7 @@ pub struct Clock {
 #[inline(always)]
 #[tactic(auto, using(crate::proofs::Live::advanced_next, crate::proofs::Live::advanced_round))]
 pub fn clock_after_turn(queues: &[ProcessQueue], clock: Clock) -> Clock
-    requires few { length queues.now ≤ 16 }
+    requires few { length queues.now ≤ most_warriors }
     requires next { clock.next < length queues.now }
     requires cycle { clock.cycle ≤ 10000000 }
     ensures { result ≡ spec_advanced (addresses_of queues.now) clock (clock.next + 1) }
@@ -41,7 +42,7 @@ pub fn clock_after_turn(queues: &[ProcessQueue], clock: Clock) -> Clock
 /// The clock moved to the least live index from `from` on, else to the least one in the next cycle.
 #[tactic(auto, unfolding(crate::specs::State::advanced))]
 pub fn advanced(queues: &[ProcessQueue], clock: Clock, from: usize) -> Clock
-    requires few { length queues.now ≤ 16 }
+    requires few { length queues.now ≤ most_warriors }
     requires cycle { clock.cycle ≤ 10000000 }
     ensures { result ≡ spec_advanced (addresses_of queues.now) clock from }
 {

@@ -1,5 +1,6 @@
 //! The evaluation of operands.
 ghost use Rattle.std.specs.Prelude.{◌≡◌, ◌<◌, ◌≤◌, false, None};
+ghost use Rattle.mars_core.specs.Limits.{largest_core};
 ghost use Rattle.mars_core.specs.State.{cell_at as spec_cell_at};
 ghost use Rattle.mars_core.specs.Addresses.{address_after as spec_address_after};
 ghost use Rattle.mars_core.specs.Validity.{IsCore};
@@ -202,7 +203,7 @@ fn address_through<const LIMITED: bool>(
     through: u32,
     number: u32,
 ) -> u32
-    requires size { core_size ≤ 1048576 }
+    requires size { core_size ≤ largest_core }
     requires pc { pc < core_size }
     requires pointer { pointer < core_size }
     requires through { through < core_size }

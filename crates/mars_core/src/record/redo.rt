@@ -1,12 +1,13 @@
 //! What a record makes of the parts of a battle, going forth again.
 ghost use Rattle.std.specs.Prelude.{◌≡◌, ℕ, ◌<◌, length, All, true};
 ghost use Rattle.arrayvec.specs.ArrayVec.{array_vec_len};
+ghost use Rattle.mars_core.specs.Limits.{most_warriors};
 ghost use Rattle.mars_core.specs.Record.{rewritten, warrior_of as spec_warrior_of, queue_after_work, with_queue, deaths_after};
 ghost use Rattle.mars_core.specs.Queue.{addresses_of, Queue as Contents};
 ghost use Rattle.mars_core.specs.Code.Records.{CanRequeue, HasQueue};
 ghost use Rattle.mars_core.specs.declared.record.CellChange.{CellChange as Change};
 
-use crate::deaths::{Death, note_death};
+use crate::deaths::{Death, MOST_WARRIORS, note_death};
 use crate::queue::ProcessQueue;
 use crate::record::{CellChange, Work, warrior_of};
 use arrayvec::ArrayVec;
@@ -53,8 +54,13 @@ fn renew(queue: &mut ProcessQueue, work: Work, queued: &[u32])
 }
 
 /// Notes the death of the warrior that the work is about, if it died.
-pub fn note_recorded_death(deaths: &mut ArrayVec<Death, 16>, work: Work, died: bool, turns: u32)
-    requires { died ≡ true → array_vec_len deaths.old < 16 }
+pub fn note_recorded_death(
+    deaths: &mut ArrayVec<Death, MOST_WARRIORS>,
+    work: Work,
+    died: bool,
+    turns: u32,
+)
+    requires { died ≡ true → array_vec_len deaths.old < most_warriors }
     ensures { deaths.new.items ≡ deaths_after (spec_warrior_of work) died turns deaths.old.items }
 {
     if let Some(warrior) = warrior_of(work) {

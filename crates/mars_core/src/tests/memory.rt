@@ -1,13 +1,13 @@
 //! Calls that are refused memory. Each test holds whichever one of its requests is refused, since a second try has memory:
 //! scripts/refuse-memory refuses each in turn.
-use super::params;
+use super::{check_same, params};
 use crate::{Battle, BattleFault};
 use mars_cell::{Params, Warrior, read_cell};
 use std::alloc::Global;
 use std::test::Fail;
 
 /// Warriors of one cell each in a core of 8 cells.
-fn one_cells(alloc: Global, texts: &[&str]) -> Option<Vec<Warrior>> {
+pub fn one_cells(alloc: Global, texts: &[&str]) -> Option<Vec<Warrior>> {
     let mut warriors = Vec::new(alloc);
     for text in texts {
         let mut cells = Vec::new(alloc);
@@ -19,7 +19,7 @@ fn one_cells(alloc: Global, texts: &[&str]) -> Option<Vec<Warrior>> {
 }
 
 /// A battle of one that copies itself and one that stays.
-fn start(alloc: Global, params: &Params) -> Result<Battle, BattleFault> {
+pub fn start(alloc: Global, params: &Params) -> Result<Battle, BattleFault> {
     let texts: [&str; 2] = ["MOV.I $0, $1", "JMP.B $0, $0"];
     match one_cells(alloc, &texts) {
         Some(warriors) if warriors.len() == 2 => Battle::new(alloc, params, &warriors, &[0, 4]),
@@ -56,18 +56,25 @@ fn a_battle_starts(rt: HostRuntime) -> Result<(), Fail> {
     Ok(())
 }
 
+/// A battle, for which memory is refused at most once.
+fn second_start(alloc: Global, params: &Params) -> Option<Battle> {
+    start(alloc, params).or_else(|_| start(alloc, params)).ok()
+}
+
 #[test]
 fn a_battle_is_copied(rt: HostRuntime) -> Result<(), Fail> {
     let params = params(8, 2, 8, 8)?;
-    let battle = match start(rt.alloc(), &params) {
-        Err(_) => start(rt.alloc(), &params).ok().ok_or("battle")?,
-        Ok(battle) => battle,
-    };
+    let battle = second_start(rt.alloc(), &params).ok_or("battle")?;
+    let twin = second_start(rt.alloc(), &params).ok_or("twin")?;
     let mut copy = match battle.copy(rt.alloc()) {
-        Err(_) => battle.copy(rt.alloc())?,
+        Err(_) => {
+            check_same(&rt, &battle, &twin);
+            battle.copy(rt.alloc())?
+        }
         Ok(copy) => copy,
     };
-    assert_eq!(rt; (battle.turns(), battle.cycle()), (0, 0));
+    check_same(&rt, &copy, &battle);
     assert_eq!(rt; end_of(&mut copy), (3, 1, true, true));
+    check_same(&rt, &battle, &twin);
     Ok(())
 }

@@ -1,6 +1,6 @@
 //! Calls that are refused memory, over each kind of tape. Each test holds whichever one of its requests is refused, since a
 //! second try has memory: scripts/refuse-memory refuses each in turn.
-use super::{blank, direct, idle, imp_at};
+use super::{at, blank, check_same, direct, idle, imp_at};
 use crate::{Call, DeltaTape, Refusal, Reply, RingTape, Session, Tape, WholeTape};
 use mars_cell::{Modifier, Op, Params, Warrior};
 use mars_core::Battle;
@@ -9,7 +9,7 @@ use std::process::Abort;
 use std::test::Fail;
 
 /// A tape that starts at a battle, or hands it back.
-trait Begin: Tape + Drop {
+pub trait Begin: Tape + Drop {
     fn begin(alloc: Global, battle: Battle) -> Result<Self, Battle>;
 }
 
@@ -32,7 +32,7 @@ impl Begin for RingTape {
 }
 
 /// The imp in a core of 8 cells.
-fn battle(alloc: Global) -> Option<Battle> {
+pub fn battle(alloc: Global) -> Option<Battle> {
     let params = Params::new(8, 8, 80000, 8, 8, 1, 1).ok()?;
     let mut cells = Vec::new(alloc);
     cells.push(direct(Op::Mov, Modifier::I, 0, 1)).ok()?;
@@ -40,50 +40,121 @@ fn battle(alloc: Global) -> Option<Battle> {
     Battle::new(alloc, &params, &[warrior], &[0]).ok()
 }
 
-/// The imp's session. A tape that is refused gives the battle back, and starts at it then.
-fn session<T: Begin>(alloc: Global) -> Option<Session<T>> {
-    let battle = battle(alloc).or_else(|| battle(alloc))?;
-    let tape = match T::begin(alloc, battle) {
-        Err(battle) => T::begin(alloc, battle).ok()?,
-        Ok(tape) => tape,
-    };
-    Some(Session::new(tape, 100))
+/// The imp's battle, for which memory is refused at most once.
+fn second_battle(alloc: Global) -> Option<Battle> {
+    battle(alloc).or_else(|| battle(alloc))
 }
 
-/// A call's reply, once it has memory; a refused call leaves the battle and the places where they are.
-fn reply_of<T: Tape>(rt: &impl Abort, session: &mut Session<T>, call: Call) -> Reply {
-    let (before, cell) = (session.standing(), session.battle().cell(3));
-    let reply = session.call(call);
-    if reply != Err(Refusal::OutOfMemory) {
-        return reply;
+/// The imp's tape. One that is refused gives the battle back, and starts at it then.
+pub fn tape<T: Begin>(alloc: Global) -> Option<T> {
+    match T::begin(alloc, second_battle(alloc)?) {
+        Err(battle) => T::begin(alloc, battle).ok(),
+        Ok(tape) => Some(tape),
     }
-    assert_eq!(rt; session.standing(), before);
-    assert_eq!(rt; session.battle().cell(3), cell);
-    session.call(call)
+}
+
+/// The imp's session.
+fn session<T: Begin>(alloc: Global) -> Option<Session<T>> {
+    Some(Session::new(tape(alloc)?, 100))
+}
+
+/// Whether a reply is want of memory. A tape that forgets never has it, so there such a reply is no excuse.
+pub fn is_refused<T: Tape>(reply: Reply) -> bool {
+    !T::FORGETS && reply == Err(Refusal::OutOfMemory)
+}
+
+/// A call's reply, once it has memory.
+fn second_reply<T: Tape>(session: &mut Session<T>, call: Call) -> Reply {
+    let reply = session.call(call);
+    if is_refused::<T>(reply) {
+        return session.call(call);
+    }
+    reply
 }
 
 /// Five turns, and back to the third place.
-fn with_future<T: Begin>(rt: &impl Abort, alloc: Global) -> Option<Session<T>> {
+pub fn with_future<T: Begin>(alloc: Global) -> Option<Session<T>> {
     let mut session = session(alloc)?;
-    assert_eq!(rt; reply_of(rt, &mut session, Call::Run(5)), imp_at(5, 5, 5));
-    assert_eq!(rt; session.call(Call::Goto(2)), imp_at(2, 2, 5));
+    second_reply(&mut session, Call::Run(5)).ok()?;
+    session.call(Call::Goto(2)).ok()?;
     Some(session)
 }
 
-/// Each command in the midst of a history: refused, it keeps the future.
-fn check_commands<T: Begin>(rt: &impl Abort, alloc: Global) -> Result<(), Fail> {
-    let commands = [
+/// Two sessions stand at the same place, of the same cells, queues and counters, between the same marked places.
+fn check_same_place<T: Tape>(rt: &impl Abort, one: &mut Session<T>, other: &mut Session<T>) {
+    assert_eq!(rt; one.standing(), other.standing());
+    check_same(rt, one.battle(), other.battle());
+    let turns = one.standing().turns;
+    for call in [Call::Undo, Call::Redo] {
+        assert_eq!(rt; one.call(call), other.call(call));
+        assert_eq!(rt; one.goto(turns), other.goto(turns));
+    }
+}
+
+/// Two sessions stand at the same place of the same history, of at most 20 places without edits.
+pub fn check_same_sessions<T: Tape>(rt: &impl Abort, one: &mut Session<T>, other: &mut Session<T>) {
+    let start = one.standing();
+    check_same_place(rt, one, other);
+    for turns in 0..20 {
+        assert_eq!(rt; one.goto(turns), other.goto(turns));
+        check_same_place(rt, one, other);
+    }
+    assert_eq!(rt; one.goto(start.turns), Ok(start));
+    assert_eq!(rt; other.goto(start.turns), Ok(start));
+}
+
+/// A call's reply, once it has memory. Refused it, the session is as its twin, which the call wasn't made to.
+fn reply_of<T: Tape>(
+    rt: &impl Abort,
+    session: &mut Session<T>,
+    twin: &mut Session<T>,
+    call: Call,
+) -> Reply {
+    let reply = session.call(call);
+    if is_refused::<T>(reply) {
+        check_same_sessions(rt, session, twin);
+        return session.call(call);
+    }
+    reply
+}
+
+/// A tape that is refused gives the battle back as it was.
+fn check_beginning<T: Begin>(rt: &impl Abort, alloc: Global) -> Result<(), Fail> {
+    let battle = second_battle(alloc).ok_or("battle")?;
+    let twin = second_battle(alloc).ok_or("twin")?;
+    if let Err(back) = T::begin(alloc, battle) {
+        check_same(rt, &back, &twin);
+    }
+    Ok(())
+}
+
+#[test]
+fn a_tape_begins(rt: HostRuntime) -> Result<(), Fail> {
+    check_beginning::<WholeTape>(&rt, rt.alloc())?;
+    check_beginning::<DeltaTape>(&rt, rt.alloc())?;
+    check_beginning::<RingTape>(&rt, rt.alloc())
+}
+
+/// The commands in the midst of a history of five turns, each with its reply.
+pub fn all_commands() -> [(Call, Reply); 8] {
+    [
         (Call::Step, imp_at(3, 3, 3)),
         (Call::Run(9), imp_at(11, 11, 11)),
         (Call::Until(9), imp_at(9, 9, 9)),
         (Call::SetCell(7, idle()), imp_at(2, 3, 3)),
         (Call::Fill(3, 7, blank()), imp_at(2, 7, 7)),
         (Call::MoveProcess(0, 0, 6), imp_at(2, 3, 3)),
+        (Call::Kill(0, 0), at(2, 2, 0, 0, 3, 3)),
         (Call::Spawn(0, 6), imp_at(2, 3, 3)),
-    ];
-    for (call, reply) in commands {
-        let mut session: Session<T> = with_future(rt, alloc).ok_or("session")?;
-        assert_eq!(rt; reply_of(rt, &mut session, call), reply);
+    ]
+}
+
+/// Each command in the midst of a history: refused, it changes nothing, and keeps the future.
+fn check_commands<T: Begin>(rt: &impl Abort, alloc: Global) -> Result<(), Fail> {
+    for (call, reply) in all_commands() {
+        let mut session: Session<T> = with_future(alloc).ok_or("session")?;
+        let mut twin: Session<T> = with_future(alloc).ok_or("twin")?;
+        assert_eq!(rt; reply_of(rt, &mut session, &mut twin, call), reply);
     }
     Ok(())
 }
@@ -103,46 +174,52 @@ fn commands_over_a_ring(rt: HostRuntime) -> Result<(), Fail> {
     check_commands::<RingTape>(&rt, rt.alloc())
 }
 
-/// As many turns as follow take no memory, so no request is refused.
-fn check_known_places<T: Begin>(rt: &impl Abort, alloc: Global) -> Result<(), Fail> {
-    let mut session: Session<T> = with_future(rt, alloc).ok_or("session")?;
-    assert_eq!(rt; session.call(Call::Run(3)), imp_at(5, 5, 5));
-    assert_eq!(rt; session.call(Call::Undo), imp_at(2, 2, 5));
-    assert_eq!(rt; session.call(Call::Redo), imp_at(5, 5, 5));
+/// The first command of all: refused, it leaves the one place.
+fn check_first_run<T: Begin>(rt: &impl Abort, alloc: Global) -> Result<(), Fail> {
+    let mut session: Session<T> = session(alloc).ok_or("session")?;
+    let mut twin: Session<T> = self::session(alloc).ok_or("twin")?;
+    assert_eq!(rt;
+        reply_of(rt, &mut session, &mut twin, Call::Run(5)),
+        imp_at(5, 5, 5)
+    );
     Ok(())
 }
 
 #[test]
-fn places_that_are_there(rt: HostRuntime) -> Result<(), Fail> {
-    check_known_places::<WholeTape>(&rt, rt.alloc())?;
-    check_known_places::<DeltaTape>(&rt, rt.alloc())?;
-    check_known_places::<RingTape>(&rt, rt.alloc())
+fn a_first_run(rt: HostRuntime) -> Result<(), Fail> {
+    check_first_run::<WholeTape>(&rt, rt.alloc())?;
+    check_first_run::<DeltaTape>(&rt, rt.alloc())?;
+    check_first_run::<RingTape>(&rt, rt.alloc())
 }
 
 /// A list of calls: no memory for the replies leaves all as it was, and a call without memory is as if it weren't there.
 fn check_list<T: Begin>(rt: &impl Abort, alloc: Global) -> Result<(), Fail> {
     let calls = [
         Call::Run(5),
-        Call::SetCell(3, idle()),
+        Call::Goto(3),
+        Call::Run(4),
         Call::Undo,
-        Call::Spawn(0, 6),
+        Call::Step,
     ];
-    let mut session: Session<T> = session(alloc).ok_or("session")?;
-    let before = session.standing();
+    let mut session: Session<T> = with_future(alloc).ok_or("session")?;
+    let mut twin: Session<T> = with_future(alloc).ok_or("twin")?;
     let mut out = Vec::new(alloc);
+    if out.push(imp_at(2, 2, 5)).is_err() {
+        out.push(imp_at(2, 2, 5))?;
+    }
     if session.apply_all(&calls, &mut out).is_err() {
-        assert_eq!(rt; session.standing(), before);
-        assert_eq!(rt; out.len(), 0);
+        check_same_sessions(rt, &mut session, &mut twin);
+        assert_eq!(rt; out.len(), 1);
         session.apply_all(&calls, &mut out)?;
     }
-    assert_eq!(rt; out.len(), calls.len());
-    let mut other: Session<T> = self::session(alloc).ok_or("session")?;
-    for (call, reply) in calls.iter().zip(out.iter()) {
-        if *reply != Err(Refusal::OutOfMemory) {
-            assert_eq!(rt; reply_of(rt, &mut other, *call), *reply);
+    assert_eq!(rt; out.len(), calls.len() + 1);
+    assert_eq!(rt; out[0], imp_at(2, 2, 5));
+    for (call, reply) in calls.iter().zip(out[1..].iter()) {
+        if !is_refused::<T>(*reply) {
+            assert_eq!(rt; second_reply(&mut twin, *call), *reply);
         }
     }
-    assert_eq!(rt; session.standing(), other.standing());
+    check_same_sessions(rt, &mut session, &mut twin);
     Ok(())
 }
 

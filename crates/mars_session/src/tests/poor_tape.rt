@@ -1,4 +1,4 @@
-//! A tape that is refused memory after so many growths.
+//! A tape that is refused memory after so many growths, and counts the places that it goes over.
 ghost use Rattle.std.proofs.Common.{refl, rules};
 ghost use Rattle.std.specs.Prelude.{◌≡◌, ◌+◌, ◌≤◌, [], None, is_some, false, OnOk, IsOk};
 ghost use Rattle.mars_core.specs.State.{is_over_of};
@@ -6,6 +6,7 @@ ghost use Rattle.mars_core.specs.Turn.{turn_of};
 ghost use Rattle.mars_core.specs.Edit.{edit_fault, edited};
 ghost use Rattle.mars_session.specs.History.{following, position_of, last_of, marked, cut, append, back, forward};
 ghost use Rattle.mars_session.specs.Memory.{Memory, never, kept, noted};
+ghost use Rattle.mars_session.specs.Tapes.{TurnsNeverFell};
 
 use crate::Tape;
 use mars_core::{Battle, Edit};
@@ -18,6 +19,7 @@ pub struct PoorTape<T: Tape> {
     tape: T,
     room: u64,
     growths: u64,
+    walked: u64,
 }
 
 impl<T: Tape> Model for PoorTape<T> {
@@ -51,7 +53,13 @@ impl<T: Tape> PoorTape<T> {
             tape,
             room,
             growths,
+            walked: 0,
         }
+    }
+
+    /// How many places it went back and on, all in all.
+    pub fn walked(&self) -> u64 {
+        self.walked
     }
 }
 
@@ -123,11 +131,13 @@ impl<T: Tape> Tape for PoorTape<T> {
 
     fn back(&mut self) {
         self.tape.back();
+        self.walked = self.walked.saturating_add(1);
         self.room = places_after(&self.tape);
     }
 
     fn forward(&mut self) {
         self.tape.forward();
+        self.walked = self.walked.saturating_add(1);
         self.room = places_after(&self.tape);
     }
 }

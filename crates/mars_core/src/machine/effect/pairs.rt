@@ -1,6 +1,7 @@
 //! Numbers that belong together by the modifier: what an opcode makes of them, and how it tests them.
 ghost use Rattle.std.specs.Prelude.{◌≡◌, ◌<◌, ◌≤◌};
 ghost use Rattle.mars_cell.specs.Cells.{FitsCore};
+ghost use Rattle.mars_core.specs.Limits.{largest_core};
 ghost use Rattle.mars_core.specs.Effect.{pairs_of, takes_whole_cells as spec_takes_whole_cells, with_pairs as spec_with_pairs, all_pairs_pass as spec_all_pairs_pass, are_equal_cells as spec_are_equal_cells, are_equal as spec_are_equal};
 ghost use Rattle.mars_core.specs.Code.Opcodes.{new_number as spec_new_number, passes_test as spec_passes_test};
 
@@ -25,7 +26,7 @@ pub fn with_pairs(
     b: Cell,
     target: Cell,
 ) -> Cell
-    requires core_size { (1 ≤ core_size) × (core_size ≤ 1048576) }
+    requires core_size { (1 ≤ core_size) × (core_size ≤ largest_core) }
     requires a { FitsCore core_size a }
     requires b { FitsCore core_size b }
     requires target { FitsCore core_size target }
@@ -66,7 +67,7 @@ pub fn with_pairs(
 /// The number that an opcode makes of one of the A-copy and one of the B-copy.
 #[inline(always)]
 pub fn new_number(core_size: u32, op: Op, x: u32, y: u32) -> u32
-    requires core_size { (1 ≤ core_size) × (core_size ≤ 1048576) }
+    requires core_size { (1 ≤ core_size) × (core_size ≤ largest_core) }
     requires x { x < core_size }
     requires y { y < core_size }
     requires divisor { op ≡ Op.Div → 1 ≤ x }
@@ -90,7 +91,7 @@ pub fn new_number(core_size: u32, op: Op, x: u32, y: u32) -> u32
 #[inline(always)]
 #[tactic(auto, unfolding(crate::specs::Effect::are_equal))]
 pub fn are_equal(core_size: u32, modifier: Modifier, a: Cell, b: Cell) -> bool
-    requires core_size { (1 ≤ core_size) × (core_size ≤ 1048576) }
+    requires core_size { (1 ≤ core_size) × (core_size ≤ largest_core) }
     requires b { FitsCore core_size b }
     ensures { result ≡ spec_are_equal modifier a b }
 {
@@ -112,7 +113,7 @@ fn are_equal_cells(a: Cell, b: Cell) -> bool
 /// Whether every pair of the modifier passes the opcode's test.
 #[inline(always)]
 pub fn all_pairs_pass(core_size: u32, op: Op, modifier: Modifier, a: Cell, b: Cell) -> bool
-    requires core_size { (1 ≤ core_size) × (core_size ≤ 1048576) }
+    requires core_size { (1 ≤ core_size) × (core_size ≤ largest_core) }
     requires b { FitsCore core_size b }
     ensures { result ≡ spec_all_pairs_pass (spec_passes_test core_size op) a b (pairs_of modifier) }
 {
@@ -133,7 +134,7 @@ pub fn all_pairs_pass(core_size: u32, op: Op, modifier: Modifier, a: Cell, b: Ce
 /// The test that an opcode makes of a number of the A-copy and one of the B-copy.
 #[inline(always)]
 fn passes_test(core_size: u32, op: Op, x: u32, y: u32) -> bool
-    requires core_size { (1 ≤ core_size) × (core_size ≤ 1048576) }
+    requires core_size { (1 ≤ core_size) × (core_size ≤ largest_core) }
     requires y { y < core_size }
     ensures { result ≡ spec_passes_test core_size op x y }
 {

@@ -1,7 +1,8 @@
-use Rattle.std.proofs.Common.{ap, true, arith}
+use Rattle.std.proofs.Common.{ap, sym, true, arith}
 use Rattle.mars_session.specs.History.{position_of, following}
 use Rattle.mars_session.specs.Tapes.{Taped}
 use Rattle.mars_session.proofs.Stepping.{journal_position, journal_following}
+use Rattle.mars_session.proofs.Rising.{journal_rises}
 use Rattle.mars_session.proofs.deltas.DeltaTapeTape.position.Goals as goal
 
 pub returns-clause-value : goal.returns-clause-value
@@ -14,3 +15,8 @@ returns-clause-covers c =
     let s = c.self.inside in
     let rest = journal_following true s.entries.items s.at s.battle in
     omega (arith, rest, ap (λ (t : Taped). following t.history) c.self.view_is, ap (λ (t : Taped). t.room) c.self.view_is, s.entries.ok.0, s.entries.ok.1)
+
+pub returns-clause-rises : goal.returns-clause-rises
+returns-clause-rises c =
+    let s = c.self.inside in
+    rw (sym (ap (λ (t : Taped). t.history) c.self.view_is)) (journal_rises true s.entries.items s.at s.battle c.self.invariant.here)

@@ -1,7 +1,8 @@
-use Rattle.std.proofs.Common.{ap, arith}
+use Rattle.std.proofs.Common.{ap, sym, arith}
 use Rattle.mars_session.specs.History.{position_of, following}
 use Rattle.mars_session.specs.Tapes.{Ringed}
 use Rattle.mars_session.proofs.Stepping.{journal_position, journal_following}
+use Rattle.mars_session.proofs.Rising.{journal_rises}
 use Rattle.mars_session.proofs.rings.RingTapeTape.position.Goals as goal
 
 pub returns-clause-value : goal.returns-clause-value
@@ -14,3 +15,8 @@ returns-clause-covers c =
     let r = c.self.inside.records in
     let i = c.self.invariant in
     omega (arith, i.within, i.few, journal_following r.first_mark r.ring.items r.at c.self.inside.battle, ap (λ (t : Ringed). following t.history) c.self.view_is)
+
+pub returns-clause-rises : goal.returns-clause-rises
+returns-clause-rises c =
+    let r = c.self.inside.records in
+    rw (sym (ap (λ (t : Ringed). t.history) c.self.view_is)) (journal_rises r.first_mark r.ring.items r.at c.self.inside.battle c.self.invariant.journal.here)

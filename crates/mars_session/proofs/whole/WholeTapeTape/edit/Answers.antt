@@ -1,7 +1,7 @@
 use Rattle.std.proofs.Common.{◌<◌, ◌+◌, length, ◌∙◌, ap, arith}
 use Rattle.mars_core.specs.Edit.{edited}
 use Rattle.mars_session.specs.History.{append}
-use Rattle.mars_core.proofs.CallerLemmas.{shape-edited}
+use Rattle.mars_core.proofs.CallerLemmas.{shape-edited, turns-edited}
 use Rattle.mars_session.specs.Tapes.{Taped}
 use Rattle.mars_session.specs.Code.Whole.{snapshot_at}
 use Rattle.mars_session.proofs.Copying.{whole_append, whole_more}
@@ -19,4 +19,5 @@ invariant_of-self c =
     let ks = c.self.inside.copies.items in
     let at = c.self.inside.at in
     let inside : at + 1 < length ks = omega (arith, ap (λ (t : Taped). t.room) c.self.view_is, c.requires.room) in
-    rw c.edit_on.ensures (whole_more ks at c.self.inside.len (edited (snapshot_at ks at).battle c.args.edit) c.self.invariant inside (shape-edited (snapshot_at ks at).battle c.args.edit))
+    rw c.edit_on.ensures (whole_more ks at c.self.inside.len (edited (snapshot_at ks at).battle c.args.edit) c.self.invariant inside (shape-edited (snapshot_at ks at).battle c.args.edit)
+    (omega (arith, turns-edited (snapshot_at ks at).battle c.args.edit)))

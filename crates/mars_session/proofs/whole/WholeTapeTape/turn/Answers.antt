@@ -1,7 +1,7 @@
 use Rattle.std.proofs.Common.{◌<◌, ◌+◌, length, ◌∙◌, ap, arith}
 use Rattle.mars_core.specs.Turn.{turn_of}
 use Rattle.mars_session.specs.History.{append}
-use Rattle.mars_core.proofs.CallerLemmas.{shape-turn_of}
+use Rattle.mars_core.proofs.CallerLemmas.{shape-turn_of, turns-turn_of}
 use Rattle.mars_session.specs.Tapes.{Taped}
 use Rattle.mars_session.specs.Code.Whole.{snapshot_at}
 use Rattle.mars_session.proofs.Copying.{whole_append, whole_more}
@@ -19,4 +19,5 @@ invariant_of-self c =
     let ks = c.self.inside.copies.items in
     let at = c.self.inside.at in
     let inside : at + 1 < length ks = omega (arith, ap (λ (t : Taped). t.room) c.self.view_is, c.requires.room) in
-    rw c.turn_on.ensures (whole_more ks at c.self.inside.len (turn_of (snapshot_at ks at).battle) c.self.invariant inside (shape-turn_of (snapshot_at ks at).battle))
+    rw c.turn_on.ensures (whole_more ks at c.self.inside.len (turn_of (snapshot_at ks at).battle) c.self.invariant inside (shape-turn_of (snapshot_at ks at).battle)
+    (omega (arith, turns-turn_of (snapshot_at ks at).battle)))

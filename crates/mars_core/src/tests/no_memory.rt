@@ -1,0 +1,112 @@
+//! Calls that take no memory. Each test makes its objects, asks for memory once more, and holds whether that and all that
+//! comes after it is refused or not: scripts/refuse-memory refuses all requests from each on. Where the objects themselves
+//! are refused, there is nothing to show.
+ghost use Rattle.std.specs.Prelude.{◌≡◌, IfSome};
+ghost use Rattle.mars_core.specs.Leads.{Leads};
+
+use super::memory::{one_cells, start};
+use super::{cell, check_same, go_back, go_forth, params, restarted};
+use crate::{Atom, Battle, BattleFault, Edit, EditFault, Over};
+use mars_cell::Params;
+use std::alloc::Global;
+use std::test::Fail;
+
+/// Asks for memory, which is the first request of all that are refused.
+fn ask(alloc: Global) {
+    let _asked: Result<Vec<u64>, _> = Vec::with_capacity(alloc, 1);
+}
+
+/// A turn: the battle before, its record, the battle after, and that once more.
+#[derive(Drop)]
+struct Made {
+    before: Battle,
+    atom: Atom,
+    after: Battle,
+    battle: Battle,
+}
+
+/// The first turn of a battle.
+fn first_turn(alloc: Global, params: &Params) -> Option<Made>
+    ensures { IfSome result (λ made. Leads made.before made.atom made.after × (made.battle ≡ made.after)) }
+{
+    let mut battle = start(alloc, params).ok()?;
+    let Ok(before) = battle.copy(alloc) else {
+        return None;
+    };
+    let Ok(atom) = battle.turn() else {
+        return None;
+    };
+    let Ok(after) = battle.copy(alloc) else {
+        return None;
+    };
+    Some(Made {
+        before,
+        atom,
+        after,
+        battle,
+    })
+}
+
+#[test]
+fn turns_back_and_forth(rt: HostRuntime) -> Result<(), Fail> {
+    let params = params(8, 2, 8, 8)?;
+    let Some(mut made) = first_turn(rt.alloc(), &params) else {
+        return Ok(());
+    };
+    ask(rt.alloc());
+    go_back(&rt, &mut made.battle, &made.atom, &made.before);
+    go_forth(&rt, &mut made.battle, &made.atom, &made.after);
+    made.battle.copy_into(&mut made.after);
+    check_same(&rt, &made.after, &made.battle);
+    assert!(rt; made.battle.turn().is_ok());
+    assert_eq!(rt; (made.battle.turns(), made.battle.cycle()), (2, 1));
+    Ok(())
+}
+
+#[test]
+fn edits_of_a_battle(rt: HostRuntime) -> Result<(), Fail> {
+    let params = params(8, 2, 8, 8)?;
+    let stay = cell(8, "JMP.B $0, $0")?;
+    let Ok(mut battle) = start(rt.alloc(), &params) else {
+        return Ok(());
+    };
+    ask(rt.alloc());
+    let edits = [
+        (Edit::SetCell(2, stay), None),
+        (Edit::Spawn(0, 2), None),
+        (Edit::Spawn(0, 2), Some(EditFault::QueueFull)),
+        (Edit::MoveProcess(0, 1, 3), None),
+        (Edit::KillProcess(0, 0), None),
+        (Edit::KillProcess(1, 0), None),
+    ];
+    for (edit, fault) in edits {
+        assert_eq!(rt; battle.edit(edit).err(), fault);
+    }
+    assert_eq!(rt;
+        (battle.cell(2), battle.process(0, 0)),
+        (Some(stay), Some(3))
+    );
+    assert_eq!(rt; battle.turn().err(), Some(Over));
+    Ok(())
+}
+
+#[test]
+fn a_run_and_another_round(rt: HostRuntime) -> Result<(), Fail> {
+    let params = params(8, 2, 8, 8)?;
+    let texts: [&str; 2] = ["MOV.I $0, $4", "JMP.B $0, $0"];
+    let Some(warriors) = one_cells(rt.alloc(), &texts) else {
+        return Ok(());
+    };
+    let Ok(mut battle) = start(rt.alloc(), &params) else {
+        return Ok(());
+    };
+    ask(rt.alloc());
+    battle.run_to_end();
+    assert_eq!(rt; (battle.turns(), battle.cycle()), (20, 10));
+    let outside = restarted(&mut battle, &warriors, [0, 9])?;
+    assert_eq!(rt; outside, Err(BattleFault::StartOutside));
+    assert_eq!(rt; restarted(&mut battle, &warriors, [0, 4])?, Ok(()));
+    battle.run_to_end();
+    assert_eq!(rt; (battle.turns(), battle.alive(0)), (3, false));
+    Ok(())
+}

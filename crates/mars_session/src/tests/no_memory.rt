@@ -1,0 +1,168 @@
+//! Calls that take no memory. Each test makes its objects, asks for memory once more, and holds whether that and all that
+//! comes after it is refused or not: scripts/refuse-memory refuses all requests from each on. Where the objects themselves
+//! are refused, there is nothing to show.
+use super::memory::{
+    Begin, all_commands, battle, check_same_sessions, is_refused, tape, with_future,
+};
+use super::{at, blank, idle, imp_at};
+use crate::{Call, DeltaTape, Refusal, RingTape, Session, Tape, WholeTape, commands, moves};
+use std::alloc::Global;
+use std::process::Abort;
+use std::test::Fail;
+
+/// Asks for memory, which is the first request of all that are refused.
+fn ask(alloc: Global) {
+    let _asked: Result<Vec<u64>, _> = Vec::with_capacity(alloc, 1);
+}
+
+/// Each command in the midst of a history that needs no more places than follow.
+fn check_places_that_are_there<T: Begin>(rt: &impl Abort, alloc: Global) {
+    for (call, reply) in [
+        (Call::Step, imp_at(3, 3, 3)),
+        (Call::Run(3), imp_at(5, 5, 5)),
+        (Call::Until(5), imp_at(5, 5, 5)),
+        (Call::SetCell(7, idle()), imp_at(2, 3, 3)),
+        (Call::Fill(3, 5, blank()), imp_at(2, 5, 5)),
+        (Call::MoveProcess(0, 0, 6), imp_at(2, 3, 3)),
+        (Call::Kill(0, 0), at(2, 2, 0, 0, 3, 3)),
+        (Call::Spawn(0, 6), imp_at(2, 3, 3)),
+    ] {
+        let Some(mut session) = with_future::<T>(alloc) else {
+            return;
+        };
+        ask(alloc);
+        assert_eq!(rt; session.call(call), reply);
+    }
+}
+
+#[test]
+fn places_that_are_there(rt: HostRuntime) -> Result<(), Fail> {
+    check_places_that_are_there::<WholeTape>(&rt, rt.alloc());
+    check_places_that_are_there::<DeltaTape>(&rt, rt.alloc());
+    check_places_that_are_there::<RingTape>(&rt, rt.alloc());
+    Ok(())
+}
+
+#[test]
+fn each_command_over_a_ring(rt: HostRuntime) -> Result<(), Fail> {
+    for (call, reply) in all_commands() {
+        let Some(mut session) = with_future::<RingTape>(rt.alloc()) else {
+            return Ok(());
+        };
+        ask(rt.alloc());
+        assert_eq!(rt; session.call(call), reply);
+    }
+    Ok(())
+}
+
+/// Moves to places, and to none.
+fn check_moves<T: Begin>(rt: &impl Abort, alloc: Global) {
+    let Some(mut session) = with_future::<T>(alloc) else {
+        return;
+    };
+    ask(alloc);
+    for (call, reply) in [
+        (Call::Undo, imp_at(0, 0, 5)),
+        (Call::Undo, Err(Refusal::NothingToUndo)),
+        (Call::Goto(4), imp_at(4, 4, 5)),
+        (Call::Goto(6), Err(Refusal::NotInHistory(0, 5))),
+        (Call::Redo, imp_at(5, 5, 5)),
+        (Call::Redo, Err(Refusal::NothingToRedo)),
+    ] {
+        assert_eq!(rt; session.call(call), reply);
+    }
+    assert_eq!(rt; Ok(session.standing()), imp_at(5, 5, 5));
+    assert_eq!(rt; session.battle().process(0, 0), Some(5));
+}
+
+#[test]
+fn moves_over_each_tape(rt: HostRuntime) -> Result<(), Fail> {
+    check_moves::<WholeTape>(&rt, rt.alloc());
+    check_moves::<DeltaTape>(&rt, rt.alloc());
+    check_moves::<RingTape>(&rt, rt.alloc());
+    Ok(())
+}
+
+/// A run that is refused leaves the session as it was.
+fn check_refused_run<T: Begin>(rt: &impl Abort, alloc: Global) {
+    let (Some(mut session), Some(mut twin)) = (with_future::<T>(alloc), with_future::<T>(alloc))
+    else {
+        return;
+    };
+    ask(alloc);
+    let reply = session.call(Call::Run(90));
+    if is_refused::<T>(reply) {
+        check_same_sessions(rt, &mut session, &mut twin);
+    } else {
+        assert_eq!(rt; reply, imp_at(92, 92, 92));
+    }
+}
+
+#[test]
+fn a_refused_run(rt: HostRuntime) -> Result<(), Fail> {
+    check_refused_run::<WholeTape>(&rt, rt.alloc());
+    check_refused_run::<DeltaTape>(&rt, rt.alloc());
+    check_refused_run::<RingTape>(&rt, rt.alloc());
+    Ok(())
+}
+
+/// How many places a tape has room for without memory, up to 100.
+fn room_of<T: Tape>(tape: &mut T) -> u64 {
+    let mut room = 0;
+    for n in 1..101 {
+        if tape.reserve(n).is_ok() {
+            room = n;
+        }
+    }
+    room
+}
+
+/// A run that is refused leaves the tape's room as it was: at least the three places that follow.
+fn check_room<T: Begin>(rt: &impl Abort, alloc: Global) {
+    let Some(mut tape) = tape::<T>(alloc) else {
+        return;
+    };
+    if commands::run(&mut tape, 100, 5).is_err() || moves::goto(&mut tape, 2).is_err() {
+        return;
+    }
+    ask(alloc);
+    let room = room_of(&mut tape);
+    assert!(rt; room >= 3);
+    if is_refused::<T>(commands::run(&mut tape, 100, 90)) {
+        assert_eq!(rt; room_of(&mut tape), room);
+    }
+}
+
+#[test]
+fn room_after_a_refused_run(rt: HostRuntime) -> Result<(), Fail> {
+    check_room::<WholeTape>(&rt, rt.alloc());
+    check_room::<DeltaTape>(&rt, rt.alloc());
+    check_room::<RingTape>(&rt, rt.alloc());
+    Ok(())
+}
+
+#[test]
+fn a_session_over_records(rt: HostRuntime) -> Result<(), Fail> {
+    let Some(battle) = battle(rt.alloc()) else {
+        return Ok(());
+    };
+    ask(rt.alloc());
+    let tape = DeltaTape::new(rt.alloc(), battle).ok().ok_or("tape")?;
+    let mut session = Session::new(tape, 100);
+    assert_eq!(rt; session.call(Call::Undo), Err(Refusal::NothingToUndo));
+    Ok(())
+}
+
+#[test]
+fn records_of_a_tape(rt: HostRuntime) -> Result<(), Fail> {
+    let Some(mut tape) = tape::<DeltaTape>(rt.alloc()) else {
+        return Ok(());
+    };
+    if commands::run(&mut tape, 100, 2).is_err() {
+        return Ok(());
+    }
+    ask(rt.alloc());
+    assert!(rt; tape.atom(0).is_some() && tape.atom(1).is_some());
+    assert!(rt; tape.atom(2).is_none());
+    Ok(())
+}
