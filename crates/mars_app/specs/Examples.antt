@@ -1,3 +1,4 @@
 -- Worked examples. The check computes each of them.
 pub mod Requests
 pub mod Replies
+pub mod CommandLines
