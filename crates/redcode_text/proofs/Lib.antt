@@ -26,7 +26,6 @@ pub mod PartSteps
 pub mod UsedSteps
 pub mod OrdinarySteps
 pub mod TextSteps
-pub mod AssertSteps
 pub mod CommentSteps
 pub mod PlainSteps
 pub mod CountSteps
