@@ -20,7 +20,7 @@ pub mod EquateLookup
 pub mod Replacing
 pub mod SourceLines
 pub mod PairSteps
-pub mod BlankRuns
+pub mod LongRuns
 pub mod RowTokens
 pub mod PartSteps
 pub mod UsedSteps

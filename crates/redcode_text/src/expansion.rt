@@ -11,7 +11,7 @@ use crate::names::predefined::Names;
 use crate::program::Program;
 use crate::reader::Reading;
 use crate::reader::repeat::read_all;
-use crate::source::blanks::long_blanks;
+use crate::source::runs::long_runs;
 use crate::source::{read_rows, rows_of};
 use std::alloc::Global;
 
@@ -43,10 +43,10 @@ fn program_of(reading: Reading) -> Program
 fn read_source(alloc: Global, bytes: &[u8], names: &Names) -> Result<Reading, TextFault>
     ensures { Answers (λ reading. reading_of reading) result (flat (predefined_of names.now) (tree_of bytes.now) nothing_read) }
 {
-    let Ok(blanks) = long_blanks(alloc, bytes) else {
+    let Ok(runs) = long_runs(alloc, bytes) else {
         return Err(TextProblem::OutOfMemory.at_line(0));
     };
-    let Ok(rows) = rows_of(alloc, bytes, &blanks) else {
+    let Ok(rows) = rows_of(alloc, bytes, &runs) else {
         return Err(TextProblem::OutOfMemory.at_line(0));
     };
     let Ok(mut reading) = Reading::new(alloc, bytes) else {

@@ -1,14 +1,14 @@
 //! A line of a source, and what kind it is of.
 ghost use Rattle.std.specs.Prelude.{◌≡◌, ◌≤◌, ◌<◌, ◌+◌, ◌==◌, not, drop, length, IfSome};
 ghost use Rattle.std.specs.List.{prefix_len};
-ghost use Rattle.redcode_text.specs.Code.Blanks.{AreBlank};
+ghost use Rattle.redcode_text.specs.Code.Runs.{AreRuns};
 ghost use Rattle.redcode_text.specs.Code.Comments.{assert_place, said, said_of};
 ghost use Rattle.redcode_text.specs.Code.Kinds.{IsKind, kind_of, word_place};
 ghost use Rattle.redcode_text.specs.Source.{blank_len, is_comment, first_word_at, has_word, leading_word_at, line_kind, past_blanks, past_colon, past_word, second_word_at};
 
 use crate::characters::{blank_len, is_word, word_len};
-use crate::source::blanks::BlankRun;
 use crate::source::directives::{Comment, comment_of};
+use crate::source::runs::LongRun;
 
 /// What a line is, with the place of its word FOR or EQU.
 #[derive(Clone, Copy, PartialEq, Eq, Debug)]
@@ -133,8 +133,8 @@ pub struct Row<'a> {
     /// The index of its first byte in the source.
     pub at: usize,
     pub bytes: &'a [u8],
-    /// The long runs of blanks in it, by their places in the source.
-    pub blanks: &'a [BlankRun],
+    /// The long runs in it, by their places in the source.
+    pub runs: &'a [LongRun],
     kind: LineKind,
     /// How many blanks stand in front.
     indent: usize,
@@ -144,7 +144,7 @@ pub struct Row<'a> {
     comment_len: usize,
     /// What the line says, if it is a comment.
     comment: Comment<'a>,
-    ghost are_blank: { AreBlank at blanks.now bytes.now },
+    ghost are_runs: { AreRuns at runs.now bytes.now },
     ghost kind_is: { IsKind kind bytes.now },
     ghost indent_is: { indent ≡ blank_len bytes.now },
     ghost indented: { indent ≤ length bytes.now },
@@ -159,9 +159,9 @@ pub struct Row<'a> {
 impl<'a> Row<'a> {
     ghost use Rattle.redcode_text.specs.Code.Rows.{row_of};
 
-    /// The line of this number, whose first byte has this index in the source, with its long runs of blanks.
-    pub fn new(number: usize, at: usize, bytes: &'a [u8], blanks: &'a [BlankRun]) -> Self
-        requires { AreBlank at blanks.now bytes.now }
+    /// The line of this number, whose first byte has this index in the source, with its long runs.
+    pub fn new(number: usize, at: usize, bytes: &'a [u8], runs: &'a [LongRun]) -> Self
+        requires { AreRuns at runs.now bytes.now }
         ensures { row_of result ≡ record { number = number; at = at; bytes = bytes.now } }
     {
         let indent = blank_len(bytes);
@@ -170,7 +170,7 @@ impl<'a> Row<'a> {
             number,
             at,
             bytes,
-            blanks,
+            runs,
             kind: line_kind(bytes),
             indent,
             code_len,
