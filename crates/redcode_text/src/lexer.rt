@@ -135,10 +135,11 @@ fn front_of(text: Text<'_>, next: usize, at: usize) -> Front
             kind: RunKind::Word(zeros_to),
             to,
         }) => Front {
+            place: text.at + at,
             plain: to - at,
             zeros: zeros_to.saturating_sub(text.at + at).min(to - at),
         },
-        _ => Front::unknown(),
+        _ => Front::unknown(text.at + at),
     }
 }
 

@@ -16,9 +16,10 @@ use crate::token::TokenKind;
 use itoa::Buffer;
 use std::alloc::{AllocError, Global};
 
-/// What is known of the front of a word without going over it.
+/// Where a word begins in the source, and what is known of its front without going over it.
 #[derive(Clone, Copy)]
 pub struct Front {
+    pub place: usize,
     /// So many bytes are letters, digits and `_`.
     pub plain: usize,
     /// So many bytes are zeros.
@@ -26,12 +27,16 @@ pub struct Front {
 }
 
 impl Front {
-    /// Nothing is known.
-    pub fn unknown() -> Self
+    /// Nothing is known but the place.
+    pub fn unknown(place: usize) -> Self
         ensures plain { result.plain ≡ 0 }
         ensures zeros { result.zeros ≡ 0 }
     {
-        Front { plain: 0, zeros: 0 }
+        Front {
+            place,
+            plain: 0,
+            zeros: 0,
+        }
     }
 }
 
@@ -109,7 +114,7 @@ fn plain_word(
     if !begins_name(word.bytes) {
         return Err(TextProblem::BadToken);
     }
-    match names.index_of(alloc, word.bytes) {
+    match names.index_at(alloc, word.bytes, word.front.place) {
         Ok(index) => Ok(Spelled {
             kind: TokenKind::Name(index),
             len,
@@ -204,7 +209,7 @@ pub fn read_word(
     let joined = join_word(alloc, loops, word.bytes)?;
     let whole = Word {
         bytes: &joined,
-        front: Front::unknown(),
+        front: Front::unknown(word.front.place),
     };
     joined_word(alloc, loops, names, whole, len)
 }
