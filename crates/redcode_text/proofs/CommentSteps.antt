@@ -54,9 +54,9 @@ module _ (row : Row) (st : Reading) where
       let author_place : directive_text_at (codes "author") row.bytes ≡ blank_len row.bytes + 7 = omega arith in
       let assert_place : directive_text_at (codes "assert") row.bytes ≡ blank_len row.bytes + 7 = omega arith in
       let assert_said : no_author row st ≡ said_line (assert_or_nothing (text_found (59 ∷ codes "assert") row.bytes)) row st =
-          ap (λ m. assert_else m (begins (codes "assert") row.bytes m)) assert_place ∙ by-assert (blank_len row.bytes + 7) (begins (codes "assert") row.bytes (blank_len row.bytes + 7)) in
+      ap (λ m. assert_else m (begins (codes "assert") row.bytes m)) assert_place ∙ by-assert (blank_len row.bytes + 7) (begins (codes "assert") row.bytes (blank_len row.bytes + 7)) in
       let author_is : no_name row st ≡ said_line (author_said row.bytes) row st =
-          ap (λ m. author_else m (begins (codes "author") row.bytes m)) author_place ∙ by-author (blank_len row.bytes + 7) (begins (codes "author") row.bytes (blank_len row.bytes + 7)) _ assert_said in
+      ap (λ m. author_else m (begins (codes "author") row.bytes m)) author_place ∙ by-author (blank_len row.bytes + 7) (begins (codes "author") row.bytes (blank_len row.bytes + 7)) _ assert_said in
       ap (λ m. name_else m (begins (codes "name") row.bytes m)) name_place ∙ by-name (blank_len row.bytes + 5) (begins (codes "name") row.bytes (blank_len row.bytes + 5)) _ author_is
 
 -- the same with what is kept of it

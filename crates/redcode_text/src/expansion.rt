@@ -74,8 +74,8 @@ fn read_source(alloc: Global, bytes: &[u8], names: &Names) -> Result<Reading, Te
 /// OutOfMemory, with the line 0, comes only where a growth was refused, in place of what would have come later.
 ///
 /// The time is linear in the length of the source, in the words of the lines that are read, those of a loop once for each
-/// round, and in the replacements in counts, of which each count has at most 65,536. Blanks count once: a long run of them
-/// is passed over in one step.
+/// round, and in the replacements in counts, of which each count has at most 65,536. A long run of blanks counts once, and so
+/// does a long number; in each further round a long name is compared once, and one with joins is made anew.
 #[tactic(auto, unfolding(crate::specs::Expansion::expansion))]
 pub fn expand(alloc: Global, bytes: &[u8], names: &Names) -> Result<Program, TextFault>
     ensures { Answers (λ program. program) result (expansion (predefined_of names.now) bytes.now) }

@@ -131,10 +131,12 @@ fn front_of(text: Text<'_>, next: usize, at: usize) -> Front
     ensures { IsFront result (drop at text.entry.bytes.now) }
 {
     match reach_of(text, next, at) {
-        Some(Reach {
-            kind: RunKind::Word(zeros_to),
-            to,
-        }) => Front {
+        Some(
+            Reach {
+                kind: RunKind::Word(zeros_to),
+                to,
+            },
+        ) => Front {
             place: text.at + at,
             plain: to - at,
             zeros: zeros_to.saturating_sub(text.at + at).min(to - at),
@@ -161,7 +163,13 @@ fn add_token(
     ensures len { IfOk result (λ len. (1 ≤ len) × (at + len ≤ length text.entry.bytes.now)) }
     ensures room { vec_len tokens.old ≤ room → vec_len tokens.new ≤ room }
 {
-    let Spelled { kind, len } = match read_token(alloc, loops, names, &text.bytes[at..], front_of(text, next, at)) {
+    let Spelled { kind, len } = match read_token(
+        alloc,
+        loops,
+        names,
+        &text.bytes[at..],
+        front_of(text, next, at),
+    ) {
         Ok(found) => found,
         Err(problem) => return Err(problem),
     };
@@ -202,10 +210,12 @@ fn past_blank(text: Text<'_>, next: usize, at: usize) -> usize
     ensures blank { (i : ℕ) → at ≤ i → i < result → is_blank (slice_index text.entry.bytes.now i) ≡ true }
 {
     match reach_of(text, next, at) {
-        Some(Reach {
-            kind: RunKind::Blanks,
-            to,
-        }) => to,
+        Some(
+            Reach {
+                kind: RunKind::Blanks,
+                to,
+            },
+        ) => to,
         _ => at + 1,
     }
 }

@@ -401,6 +401,18 @@ fn long_lines(rt: HostRuntime) -> Result<(), Fail> {
     Ok(())
 }
 
+#[test]
+fn a_fault_has_the_line_of_the_use(rt: HostRuntime) -> Result<(), Fail> {
+    let program = expand(rt.alloc(), b"x EQU x\nm EQU DAT x\nn EQU m\nn x\n", &NAMES)?;
+    let rest = &program.lines()[0].rest;
+    assert_eq!(rt; (rest[0].line, rest[1].line), (4, 4));
+    assert_eq!(rt;
+        program.substitute(rt.alloc(), &rest[..1]).err(),
+        at(4, TextProblem::EquDepth)
+    );
+    Ok(())
+}
+
 /// A source with long words in a loop: its counter, a name with a join to the counter and one without, and a number.
 fn long_words_in_loop(rt: HostRuntime) -> Result<Vec<u8>, Fail> {
     let word = copies(rt, b"x", 300)?;
@@ -428,9 +440,16 @@ fn long_words_in_each_round(rt: HostRuntime) -> Result<(), Fail> {
     let mut round = 0;
     for line in program.lines() {
         round += 1;
-        assert_eq!(rt; program.names().name(line.labels[0]).map(|name| name.len()), Some(303));
+        assert_eq!(rt;
+            program.names().name(line.labels[0]).map(|name| name.len()),
+            Some(303)
+        );
         let kinds = [line.rest[0].kind, line.rest[1].kind, line.rest[2].kind];
-        let expected = [program.lines()[0].rest[0].kind, TokenKind::Number(round), TokenKind::Number(70)];
+        let expected = [
+            program.lines()[0].rest[0].kind,
+            TokenKind::Number(round),
+            TokenKind::Number(70),
+        ];
         assert_eq!(rt; kinds, expected);
     }
     Ok(())
