@@ -1,63 +1,85 @@
--- What `;name` and `;author` leave.
-use Rattle.std.proofs.Common.{◌≡◌, ℕ, ◌+◌, ◌-◌, List, [], ◌∷◌, ◌&&◌, ◌==◌, drop, take, length, Bool, true, false, nat_eq, Some, Result, Ok, refl, ap, sym, ◌∙◌, arith}
+-- What a comment line adds.
+use Rattle.std.proofs.Common.{◌≡◌, ℕ, ◌+◌, List, [], ◌∷◌, ◌&&◌, ◌==◌, drop, length, Bool, true, false, cond, nat_eq, Some, None, Result, Ok, refl, ap, sym, ◌∙◌, arith}
 use Rattle.std.proofs.lemmas.Bool.{eqb-true}
-use Rattle.std.proofs.lemmas.List.{take_rest}
 use Rattle.std.specs.Prelude.{codes}
 use Rattle.std.specs.List.{starts_with}
 use Rattle.std.specs.Str.{str_to_ascii_lowercase}
 use Rattle.redcode_text.specs.declared.fault.TextProblem.{TextProblem}
-use Rattle.redcode_text.specs.Code.Comments.{no_author, no_name}
-use Rattle.redcode_text.specs.Code.Rows.{text_found}
-use Rattle.redcode_text.specs.Lines.{Reading, comment_line, directive_value, unless_empty}
+use Rattle.redcode_text.specs.Code.Comments.{Said, assert_at, assert_or_nothing, author_or, author_said, name_or, printed_value, said, said_line, text_found, with_author_text, with_name_text}
+use Rattle.redcode_text.specs.Lines.{Reading, assert_line, comment_line, directive_value, unless_empty}
 use Rattle.redcode_text.specs.Source.{Row, blank_len, directive_text, directive_text_at, ends_word, has_directive_word, without_blanks}
-use Rattle.redcode_text.proofs.AssertSteps.{found}
 
-abbrev ok : List ℕ → Result (List ℕ) TextProblem
-ok l = Ok l
+-- a comment line that is neither `;name` nor `;author`
+abbrev no_author : Row → Reading → Result Reading TextProblem
+no_author row st = elim (has_directive_word (codes "assert") row.bytes) [ true ↦ assert_line row st | false ↦ Ok st ]
 
-clash : (l old : List ℕ) → true ≡ false → unless_empty [] old ≡ l
-clash l old e = cc
+-- a comment line that isn't `;name`
+abbrev no_name : Row → Reading → Result Reading TextProblem
+no_name row st =
+    elim (has_directive_word (codes "author") row.bytes) [
+      | true ↦ Ok (record st { author = unless_empty (directive_value (directive_text (codes "author") row.bytes)) st.author })
+      | false ↦ no_author row st
+    ]
+
+-- whether a line is a directive whose text begins there
+abbrev begins : List ℕ → List ℕ → ℕ → Bool
+begins word bytes at = starts_with nat_eq (str_to_ascii_lowercase (without_blanks bytes)) (59 ∷ word) && ends_word (drop at bytes)
+
+module _ (row : Row) (st : Reading) where
+  abbrev name_else : ℕ → Bool → Result Reading TextProblem
+  name_else at t = elim t as (λ _. Result Reading TextProblem) [ true ↦ Ok (record st { name = unless_empty (directive_value (drop at row.bytes)) st.name }) | false ↦ no_name row st ]
+
+  abbrev author_else : ℕ → Bool → Result Reading TextProblem
+  author_else at t = elim t as (λ _. Result Reading TextProblem) [ true ↦ Ok (record st { author = unless_empty (directive_value (drop at row.bytes)) st.author }) | false ↦ no_author row st ]
+
+  abbrev assert_else : ℕ → Bool → Result Reading TextProblem
+  assert_else at t = elim t as (λ _. Result Reading TextProblem) [ true ↦ assert_at row at st | false ↦ Ok st ]
+
+  by-assert : (at : ℕ) (t : Bool) → assert_else at t ≡ said_line (assert_or_nothing (cond t (Some at) None)) row st
+  by-assert at true = refl
+  by-assert at false = refl
+
+  by-author : (at : ℕ) (t : Bool) (other : Said) → no_author row st ≡ said_line other row st → author_else at t ≡ said_line (author_or row.bytes other (cond t (Some at) None)) row st
+  by-author at true other e = refl
+  by-author at false other e = e
+
+  by-name : (at : ℕ) (t : Bool) (other : Said) → no_name row st ≡ said_line other row st → name_else at t ≡ said_line (name_or row.bytes other (cond t (Some at) None)) row st
+  by-name at true other e = refl
+  by-name at false other e = e
+
+  -- what a comment line adds, by what it says
+  pub comment-said : comment_line row st ≡ said_line (said row.bytes) row st
+  comment-said =
+      let name_place : directive_text_at (codes "name") row.bytes ≡ blank_len row.bytes + 5 = omega arith in
+      let author_place : directive_text_at (codes "author") row.bytes ≡ blank_len row.bytes + 7 = omega arith in
+      let assert_place : directive_text_at (codes "assert") row.bytes ≡ blank_len row.bytes + 7 = omega arith in
+      let assert_said : no_author row st ≡ said_line (assert_or_nothing (text_found (59 ∷ codes "assert") row.bytes)) row st =
+      ap (λ m. assert_else m (begins (codes "assert") row.bytes m)) assert_place ∙ by-assert (blank_len row.bytes + 7) (begins (codes "assert") row.bytes (blank_len row.bytes + 7)) in
+      let author_is : no_name row st ≡ said_line (author_said row.bytes) row st =
+      ap (λ m. author_else m (begins (codes "author") row.bytes m)) author_place ∙ by-author (blank_len row.bytes + 7) (begins (codes "author") row.bytes (blank_len row.bytes + 7)) _ assert_said in
+      ap (λ m. name_else m (begins (codes "name") row.bytes m)) name_place ∙ by-name (blank_len row.bytes + 5) (begins (codes "name") row.bytes (blank_len row.bytes + 5)) _ author_is
+
+-- the same with what is kept of it
+pub as-said : (what : Said) (row : Row) (st : Reading) → what ≡ said row.bytes → comment_line row st ≡ said_line what row st
+as-said what row st e = comment-said row st ∙ ap (λ s. said_line s row st) (sym e)
 
 given : (l old : List ℕ) (n : ℕ) → n ≡ length l → (n == 0) ≡ false → unless_empty l old ≡ l
-given [] old n e h = clash [] old (sym (ap (λ m. m == 0) e) ∙ h)
+given [] old n e h = let c : true ≡ false = sym (ap (λ m. m == 0) e) ∙ h in cc
 given (b ∷ bs) old n e h = refl
 
 empty : (l old : List ℕ) (n : ℕ) → n ≡ length l → (n == 0) ≡ true → unless_empty l old ≡ old
 empty [] old n e h = refl
 empty (b ∷ bs) old n e h = let z : n ≡ 0 = eqb-true n 0 h in absurd (omega (arith, e, z))
 
-same : (a b : List ℕ) → ok a ≡ ok b → a ≡ b
-same a b e = cc
+module _ (st : Reading) (text value : List ℕ) (n : ℕ) (is : printed_value text ≡ value) (len : n ≡ length value) where
+  pub name-given : (n == 0) ≡ false → with_name_text text st ≡ record st { name = value }
+  name-given h = ap (λ l. record st { name = l }) (ap (λ l. unless_empty l st.name) is ∙ given value st.name n len h)
 
--- the value of a directive's text, as the code has it
-pub text-value : (bytes value : List ℕ) (at : ℕ) → ok (directive_value (take (length bytes - at) (drop at bytes))) ≡ ok value → directive_value (drop at bytes) ≡ value
-text-value bytes value at e = ap directive_value (sym (take_rest bytes at)) ∙ same _ value e
+  pub name-kept : (n == 0) ≡ true → with_name_text text st ≡ st
+  name-kept h = ap (λ l. record st { name = l }) (ap (λ l. unless_empty l st.name) is ∙ empty value st.name n len h)
 
-is-author : (row : Row) (st : Reading) (at : ℕ) → Some at ≡ text_found (59 ∷ codes "author") row.bytes → no_name row st ≡ Ok (record st { author = unless_empty (directive_value (drop at row.bytes)) st.author })
-is-author row st at e =
-    let n : blank_len row.bytes + 7 ≡ directive_text_at (codes "author") row.bytes = omega arith in
-    let f = found _ _ at e in
-    let is : has_directive_word (codes "author") row.bytes ≡ true = ap (λ m. starts_with nat_eq (str_to_ascii_lowercase (without_blanks row.bytes)) (59 ∷ codes "author") && ends_word (drop m row.bytes)) (sym n) ∙ f.0 in
-    ap (λ (t : Bool). elim t as (λ _. Result Reading TextProblem) [ true ↦ Ok (record st { author = unless_empty (directive_value (directive_text (codes "author") row.bytes)) st.author }) | false ↦ no_author row st ]) is
-    ∙ ap (λ m. Ok (record st { author = unless_empty (directive_value (drop m row.bytes)) st.author })) (sym (f.1 ∙ n))
+  pub author-given : (n == 0) ≡ false → with_author_text text st ≡ record st { author = value }
+  author-given h = ap (λ l. record st { author = l }) (ap (λ l. unless_empty l st.author) is ∙ given value st.author n len h)
 
-is-name : (row : Row) (st : Reading) (at : ℕ) → Some at ≡ text_found (59 ∷ codes "name") row.bytes → comment_line row st ≡ Ok (record st { name = unless_empty (directive_value (drop at row.bytes)) st.name })
-is-name row st at e =
-    let n : blank_len row.bytes + 5 ≡ directive_text_at (codes "name") row.bytes = omega arith in
-    let f = found _ _ at e in
-    let is : has_directive_word (codes "name") row.bytes ≡ true = ap (λ m. starts_with nat_eq (str_to_ascii_lowercase (without_blanks row.bytes)) (59 ∷ codes "name") && ends_word (drop m row.bytes)) (sym n) ∙ f.0 in
-    ap (λ (t : Bool). elim t as (λ _. Result Reading TextProblem) [ true ↦ Ok (record st { name = unless_empty (directive_value (directive_text (codes "name") row.bytes)) st.name }) | false ↦ no_name row st ]) is
-    ∙ ap (λ m. Ok (record st { name = unless_empty (directive_value (drop m row.bytes)) st.name })) (sym (f.1 ∙ n))
-
-module _ (row : Row) (st : Reading) (at : ℕ) (value : List ℕ) (len : ℕ) (is : directive_value (drop at row.bytes) ≡ value) (same-len : len ≡ length value) where
-  pub author-given : Some at ≡ text_found (59 ∷ codes "author") row.bytes → (len == 0) ≡ false → no_name row st ≡ Ok (record st { author = value })
-  author-given e n = is-author row st at e ∙ ap (λ l. Ok (record st { author = l })) (ap (λ l. unless_empty l st.author) is ∙ given value st.author len same-len n)
-
-  pub author-kept : Some at ≡ text_found (59 ∷ codes "author") row.bytes → (len == 0) ≡ true → no_name row st ≡ Ok st
-  author-kept e n = is-author row st at e ∙ ap (λ l. Ok (record st { author = l })) (ap (λ l. unless_empty l st.author) is ∙ empty value st.author len same-len n)
-
-  pub name-given : Some at ≡ text_found (59 ∷ codes "name") row.bytes → (len == 0) ≡ false → comment_line row st ≡ Ok (record st { name = value })
-  name-given e n = is-name row st at e ∙ ap (λ l. Ok (record st { name = l })) (ap (λ l. unless_empty l st.name) is ∙ given value st.name len same-len n)
-
-  pub name-kept : Some at ≡ text_found (59 ∷ codes "name") row.bytes → (len == 0) ≡ true → comment_line row st ≡ Ok st
-  name-kept e n = is-name row st at e ∙ ap (λ l. Ok (record st { name = l })) (ap (λ l. unless_empty l st.name) is ∙ empty value st.name len same-len n)
+  pub author-kept : (n == 0) ≡ true → with_author_text text st ≡ st
+  author-kept h = ap (λ l. record st { author = l }) (ap (λ l. unless_empty l st.author) is ∙ empty value st.author n len h)

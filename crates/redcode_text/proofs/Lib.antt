@@ -20,13 +20,12 @@ pub mod EquateLookup
 pub mod Replacing
 pub mod SourceLines
 pub mod PairSteps
-pub mod BlankRuns
+pub mod LongRuns
 pub mod RowTokens
 pub mod PartSteps
 pub mod UsedSteps
 pub mod OrdinarySteps
 pub mod TextSteps
-pub mod AssertSteps
 pub mod CommentSteps
 pub mod PlainSteps
 pub mod CountSteps

@@ -2,7 +2,7 @@
 use Rattle.std.proofs.Common.{◌≡◌, ℕ, zero, suc, ◌-◌, List, Option, None, Some, Result, Ok, refl, ap, sym, ◌∙◌, arith}
 use Rattle.redcode_text.specs.declared.fault.TextProblem.{TextProblem}
 use Rattle.redcode_text.specs.declared.token.Token.{Token}
-use Rattle.redcode_text.specs.Lines.{Parts, Predefined, Reading, Step, before_first, behind_last, each_line, line_added, operation_lines, ordinary_line, parts_of, parts_read}
+use Rattle.redcode_text.specs.Lines.{Parts, Predefined, Reading, Step, before_first, behind_last, each_line, line_added, on_line, operation_lines, ordinary_line, parts_of, parts_read}
 use Rattle.redcode_text.specs.Code.Problems.{Fails}
 use Rattle.redcode_text.specs.Tokens.{◌>>=◌}
 use Rattle.redcode_text.specs.Code.Used.{used}
@@ -20,7 +20,7 @@ module _ (ps : Predefined) (number : ℕ) (ts : List Token) (st : Reading) where
   ordinary-fails zero e h = fails-bind e (parts_of ps st ts) (then_read None) h
   ordinary-fails (suc depth) e h = fails-bind e (parts_of ps st ts) (then_read (Some (ordinary_line ps number depth))) h
 
-  pub ordinary-plain : (depth : ℕ) (p : Parts) → parts_of ps st ts ≡ Ok p → operation_lines st p.operation ≡ None → ordinary_line ps number depth ts st ≡ Ok (line_added number p st)
+  pub ordinary-plain : (depth : ℕ) (p : Parts) → parts_of ps st ts ≡ Ok p → operation_lines st p.operation ≡ None → ordinary_line ps number depth ts st ≡ Ok (line_added number (record p { rest = on_line number p.rest }) st)
   ordinary-plain zero p h none = ap (λ r. r >>= then_read None) h ∙ ap (λ o. parts_read None number p o st) none
   ordinary-plain (suc depth) p h none = ap (λ r. r >>= then_read (Some (ordinary_line ps number depth))) h ∙ ap (λ o. parts_read (Some (ordinary_line ps number depth)) number p o st) none
 

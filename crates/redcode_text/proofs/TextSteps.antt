@@ -1,9 +1,10 @@
 -- The text of a directive, without the blanks at its ends.
 use Rattle.std.proofs.Common.{◌≡◌, ℕ, suc, ◌+◌, ◌-◌, ◌<◌, ◌≤◌, List, [], ◌∷◌, length, drop, get_or, map, min, reverse, take, true, cond, ap, sym, ◌∙◌, arith}
-use Rattle.std.proofs.lemmas.List.{reverse-append, take_more, take_min, take_rest, take-map}
+use Rattle.std.proofs.lemmas.List.{reverse-append, take_more, take_min, take-map}
 use Rattle.std.specs.List.{prefix_len}
-use Rattle.redcode_text.specs.Lines.{directive_value, printable}
-use Rattle.redcode_text.specs.Source.{blank_len, without_blanks}
+use Rattle.redcode_text.specs.Lines.{printable}
+use Rattle.redcode_text.specs.Code.Comments.{printed_value}
+use Rattle.redcode_text.specs.Source.{without_blanks}
 use Rattle.redcode_text.specs.Tokens.{is_blank}
 
 without-one : (b : ℕ) (bs : List ℕ) → is_blank b ≡ true → without_blanks (b ∷ bs) ≡ without_blanks bs
@@ -20,12 +21,8 @@ trim-one text len some within e =
     let back : reverse (take len text) ≡ x ∷ reverse (take (len - 1) text) = ap (λ m. reverse (take m text)) (sym n) ∙ ap reverse (take_more text (len - 1) 0 (omega arith)) ∙ reverse-append (take (len - 1) text) (x ∷ []) in
     sym (ap reverse (ap without_blanks back ∙ without-one x (reverse (take (len - 1) text)) e))
 
--- the text without blanks at both ends, printable, and at most 60 bytes of it
-pub value-is : (text front body : List ℕ) (blanks n : ℕ) → front ≡ take (length text - blanks) (drop blanks text) → blanks ≡ blank_len text → body ≡ reverse (without_blanks (reverse front)) → n ≡ min (length body) 60
-    → map printable (take n body) ≡ directive_value text
-value-is text front body blanks n f b t m =
-    let front_is : front ≡ without_blanks text = f ∙ take_rest text blanks ∙ ap (λ k. drop k text) b in
-    let same : n ≡ min 60 (length body) = omega (arith, m) in
-    ap (map printable) (ap (λ k. take k body) same ∙ take_min 60 body)
-    ∙ sym (take-map printable 60 body)
-    ∙ ap (λ l. take 60 (map printable l)) (t ∙ ap (λ l. reverse (without_blanks (reverse l))) front_is)
+-- at most 60 bytes of a text, printable
+pub value-is : (text : List ℕ) (n : ℕ) → n ≡ min (length text) 60 → map printable (take n text) ≡ printed_value text
+value-is text n m =
+    let same : n ≡ min 60 (length text) = omega (arith, m) in
+    ap (map printable) (ap (λ k. take k text) same ∙ take_min 60 text) ∙ sym (take-map printable 60 text)

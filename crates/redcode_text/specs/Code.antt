@@ -2,7 +2,7 @@
 pub mod Problems
 pub mod Kinds
 pub mod Rows
-pub mod Blanks
+pub mod Runs
 pub mod Pairs
 pub mod Scanning
 pub mod Climbing

@@ -199,6 +199,14 @@ line_added number p st =
       ended = is_end st.names p.operation;
     }
 
+-- a token as one of a line of this number
+abbrev pub token_on_line : ℕ → Token → Token
+token_on_line number t = record t { line = number }
+
+-- tokens as those of a line of this number: that of the use, where they come from EQU
+abbrev pub on_line : ℕ → List Token → List Token
+on_line number ts = map (token_on_line number) ts
+
 -- these tokens before the first line, and those behind the last
 abbrev pub before_first : List Token → List (List Token) → List (List Token)
 before_first ts [] = ts ∷ []
@@ -223,7 +231,7 @@ operation_lines st None = None
 
 -- a line in its parts: where its operation is an EQU name, the lines of that name take its place, unless they are too deep
 abbrev pub parts_read : Option (List Token → Step) → ℕ → Parts → Option (List (List Token)) → Step
-parts_read deeper number p None st = Ok (line_added number p st)
+parts_read deeper number p None st = Ok (line_added number (record p { rest = on_line number p.rest }) st)
 parts_read None number p (Some lines) st = Err EquDepth
 parts_read (Some ordinary) number p (Some lines) st = each_line ordinary (behind_last (before_first p.label_tokens lines) p.rest) st
 

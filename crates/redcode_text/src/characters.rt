@@ -27,7 +27,7 @@ pub fn is_letter(byte: u8) -> bool
 }
 
 /// Whether a byte is a letter, a digit or `_`.
-fn is_word_byte(byte: u8) -> bool
+pub fn is_word_byte(byte: u8) -> bool
     ensures { result ≡ is_word_byte byte }
 {
     is_letter(byte) || byte.is_ascii_digit()

@@ -11,7 +11,7 @@ use crate::names::predefined::Names;
 use crate::program::Program;
 use crate::reader::Reading;
 use crate::reader::repeat::read_all;
-use crate::source::blanks::long_blanks;
+use crate::source::runs::long_runs;
 use crate::source::{read_rows, rows_of};
 use std::alloc::Global;
 
@@ -43,10 +43,10 @@ fn program_of(reading: Reading) -> Program
 fn read_source(alloc: Global, bytes: &[u8], names: &Names) -> Result<Reading, TextFault>
     ensures { Answers (λ reading. reading_of reading) result (flat (predefined_of names.now) (tree_of bytes.now) nothing_read) }
 {
-    let Ok(blanks) = long_blanks(alloc, bytes) else {
+    let Ok(runs) = long_runs(alloc, bytes) else {
         return Err(TextProblem::OutOfMemory.at_line(0));
     };
-    let Ok(rows) = rows_of(alloc, bytes, &blanks) else {
+    let Ok(rows) = rows_of(alloc, bytes, &runs) else {
         return Err(TextProblem::OutOfMemory.at_line(0));
     };
     let Ok(mut reading) = Reading::new(alloc, bytes) else {
@@ -74,8 +74,8 @@ fn read_source(alloc: Global, bytes: &[u8], names: &Names) -> Result<Reading, Te
 /// OutOfMemory, with the line 0, comes only where a growth was refused, in place of what would have come later.
 ///
 /// The time is linear in the length of the source, in the words of the lines that are read, those of a loop once for each
-/// round, and in the replacements in counts, of which each count has at most 65,536. Blanks count once: a long run of them
-/// is passed over in one step.
+/// round, and in the replacements in counts, of which each count has at most 65,536. A long run of blanks counts once, and so
+/// does a long number; in each further round a long name is compared once, and one with joins is made anew.
 #[tactic(auto, unfolding(crate::specs::Expansion::expansion))]
 pub fn expand(alloc: Global, bytes: &[u8], names: &Names) -> Result<Program, TextFault>
     ensures { Answers (λ program. program) result (expansion (predefined_of names.now) bytes.now) }

@@ -1,12 +1,12 @@
 //! The tokens of a line.
-ghost use Rattle.std.specs.Prelude.{◌≡◌, ◌≤◌, ◌<◌, ◌+◌, ◌^◌, ℕ, [], drop, length, slice_index, true, vec_len, IfOk};
-ghost use Rattle.redcode_text.specs.Code.Blanks.{AreBlank};
+ghost use Rattle.std.specs.Prelude.{◌≡◌, ◌≤◌, ◌<◌, ◌+◌, ◌^◌, ℕ, [], drop, length, slice_index, take, true, vec_len, IfOk, IfSome, IsAscii};
+ghost use Rattle.redcode_text.specs.Code.Runs.{AreRuns, IsFront, stands};
 ghost use Rattle.redcode_text.specs.Outcomes.{Answers};
 ghost use Rattle.redcode_text.specs.Views.{scan_of};
 ghost use Rattle.redcode_text.specs.Code.Problems.{Gives};
 ghost use Rattle.redcode_text.specs.Code.Scanning.{found_alone, with_names};
 ghost use Rattle.redcode_text.specs.Code.Scanning.{one_token};
-ghost use Rattle.redcode_text.specs.Tokens.{is_blank, scan_from, scanned, sign_token, token_at};
+ghost use Rattle.redcode_text.specs.Tokens.{begins_word, is_blank, scan_from, scanned, sign_token, token_at, word_len};
 
 pub mod open_loops;
 mod signs;
@@ -16,9 +16,9 @@ use crate::characters::{begins_word, is_blank, word_len};
 use crate::fault::{TextFault, TextProblem};
 use crate::lexer::open_loops::OpenLoops;
 use crate::lexer::signs::{one_byte_sign, two_byte_sign};
-use crate::lexer::words::{Spelled, read_word};
+use crate::lexer::words::{Front, Spelled, Word, read_word};
 use crate::names::NameTable;
-use crate::source::blanks::BlankRun;
+use crate::source::runs::{LongRun, RunKind};
 use crate::token::{Token, TokenKind};
 use std::alloc::Global;
 
@@ -30,9 +30,9 @@ pub struct Text<'a> {
     /// The index of its first byte in the source.
     pub at: usize,
     pub bytes: &'a [u8],
-    /// Long runs of blanks, by their places in the source, in order.
-    pub blanks: &'a [BlankRun],
-    ghost are_blank: { AreBlank at blanks.now bytes.now },
+    /// Long runs, by their places in the source, in order.
+    pub runs: &'a [LongRun],
+    ghost are_runs: { AreRuns at runs.now bytes.now },
 }
 
 /// The sign at the front of some bytes: one of two bytes goes before one of one byte.
@@ -60,13 +60,31 @@ fn read_sign(bytes: &[u8]) -> Result<Spelled, TextProblem>
     }
 }
 
-/// The token at the front of some bytes, which begin with no blank.
+/// The word that some bytes begin with, of whose front this is known.
+fn word_of<'a>(bytes: &'a [u8], front: Front) -> Word<'a>
+    requires { IsFront front bytes.now }
+    ensures bytes { result.bytes.now ≡ take (word_len bytes.now) bytes.now }
+    ensures ascii { IsAscii result.bytes.now }
+    ensures front { IsFront result.front result.bytes.now }
+    ensures within { length result.bytes.now ≤ length bytes.now }
+    ensures some { begins_word bytes.now ≡ true → 1 ≤ length result.bytes.now }
+{
+    let len = front.plain + word_len(&bytes[front.plain..]);
+    Word {
+        bytes: &bytes[..len],
+        front,
+    }
+}
+
+/// The token at the front of some bytes, which begin with no blank, and with a word whose front is known.
 fn read_token(
     alloc: Global,
     loops: &OpenLoops,
     names: &mut NameTable,
     bytes: &[u8],
+    front: Front,
 ) -> Result<Spelled, TextProblem>
+    requires { IsFront front bytes.now }
     ensures value { Gives (with_names names.new) result (token_at loops.now names.old bytes.now) }
     ensures len { IfOk result (λ s. (1 ≤ s.len) × (s.len ≤ length bytes.now)) }
 {
@@ -77,29 +95,81 @@ fn read_token(
         return Err(TextProblem::NotAscii);
     }
     if begins_word(bytes) {
-        return read_word(alloc, loops, names, &bytes[..word_len(bytes)]);
+        return read_word(alloc, loops, names, word_of(bytes, front));
     }
     read_sign(bytes)
 }
 
-/// Reads the token that begins at a place of a text, and says how many bytes it takes.
+/// A run that reaches over a place of a text, up to a place.
+#[derive(Clone, Copy)]
+struct Reach {
+    kind: RunKind,
+    to: usize,
+}
+
+/// How far the run of this index reaches, where it reaches over a place of a text.
+fn reach_of(text: Text<'_>, next: usize, at: usize) -> Option<Reach>
+    requires within { at < length text.bytes.now }
+    requires fits { text.at + length text.bytes.now < 2 ^ 64 }
+    ensures on { IfSome result (λ reach. at < reach.to) }
+    ensures within { IfSome result (λ reach. reach.to ≤ length text.entry.bytes.now) }
+    ensures stands { IfSome result (λ reach. (i : ℕ) → at ≤ i → i < reach.to → stands reach.kind (text.entry.at + i) (slice_index text.entry.bytes.now i) ≡ true) }
+{
+    match text.runs.get(next) {
+        Some(run) if run.from <= text.at + at && text.at + at < run.to => Some(Reach {
+            kind: run.kind,
+            to: (run.to - text.at).min(text.bytes.len()),
+        }),
+        _ => None,
+    }
+}
+
+/// What is known of the front of a word at a place of a text: it is in the run of this index, where that reaches there.
+fn front_of(text: Text<'_>, next: usize, at: usize) -> Front
+    requires within { at < length text.bytes.now }
+    requires fits { text.at + length text.bytes.now < 2 ^ 64 }
+    ensures { IsFront result (drop at text.entry.bytes.now) }
+{
+    match reach_of(text, next, at) {
+        Some(
+            Reach {
+                kind: RunKind::Word(zeros_to),
+                to,
+            },
+        ) => Front {
+            place: text.at + at,
+            plain: to - at,
+            zeros: zeros_to.saturating_sub(text.at + at).min(to - at),
+        },
+        _ => Front::unknown(text.at + at),
+    }
+}
+
+/// Reads the token that begins at a place of a text, where the run of this index may reach, and says how many bytes it takes.
 fn add_token(
     alloc: Global,
     loops: &OpenLoops,
     text: Text<'_>,
+    next: usize,
     at: usize,
     room: usize,
     names: &mut NameTable,
     tokens: &mut Vec<Token>,
 ) -> Result<usize, TextProblem>
-    requires within { at ≤ length text.bytes.now }
+    requires within { at < length text.bytes.now }
     requires fits { text.at + length text.bytes.now < 2 ^ 64 }
     ensures value { Gives (λ len. (len, scan_of tokens.new names.new)) result
         (one_token loops.now text.entry.number room (text.entry.at + at) (drop at text.entry.bytes.now) (scan_of tokens.old names.old)) }
     ensures len { IfOk result (λ len. (1 ≤ len) × (at + len ≤ length text.entry.bytes.now)) }
     ensures room { vec_len tokens.old ≤ room → vec_len tokens.new ≤ room }
 {
-    let Spelled { kind, len } = match read_token(alloc, loops, names, &text.bytes[at..]) {
+    let Spelled { kind, len } = match read_token(
+        alloc,
+        loops,
+        names,
+        &text.bytes[at..],
+        front_of(text, next, at),
+    ) {
         Ok(found) => found,
         Err(problem) => return Err(problem),
     };
@@ -119,12 +189,12 @@ fn add_token(
     }
 }
 
-/// Whether the run of blanks of this index ends before a place of a text.
+/// Whether the run of this index ends before a place of a text.
 fn is_passed(text: Text<'_>, next: usize, at: usize) -> bool
     requires { text.at + at < 2 ^ 64 }
-    ensures { result ≡ true → next < length text.entry.blanks.now }
+    ensures { result ≡ true → next < length text.entry.runs.now }
 {
-    match text.blanks.get(next) {
+    match text.runs.get(next) {
         Some(run) => run.to <= text.at + at,
         None => false,
     }
@@ -139,10 +209,13 @@ fn past_blank(text: Text<'_>, next: usize, at: usize) -> usize
     ensures within { result ≤ length text.entry.bytes.now }
     ensures blank { (i : ℕ) → at ≤ i → i < result → is_blank (slice_index text.entry.bytes.now i) ≡ true }
 {
-    match text.blanks.get(next) {
-        Some(run) if run.from <= text.at + at && text.at + at < run.to => {
-            (run.to - text.at).min(text.bytes.len())
-        }
+    match reach_of(text, next, at) {
+        Some(
+            Reach {
+                kind: RunKind::Blanks,
+                to,
+            },
+        ) => to,
         _ => at + 1,
     }
 }
@@ -170,7 +243,7 @@ pub fn read_tokens(
         } else if is_blank(text.bytes[at]) {
             at = past_blank(text, next, at);
         } else {
-            match add_token(alloc, loops, text, at, room, names, tokens) {
+            match add_token(alloc, loops, text, next, at, room, names, tokens) {
                 Ok(len) => at += len,
                 Err(problem) => return Err(problem),
             }
@@ -201,7 +274,7 @@ pub fn scan(alloc: Global, text: &[u8]) -> Result<LineTokens, TextFault>
         number: 1,
         at: 0,
         bytes: text,
-        blanks: &[],
+        runs: &[],
     };
     let loops = OpenLoops::new(alloc);
     match read_tokens(alloc, &loops, line, text.len(), &mut names, &mut tokens) {

@@ -5,7 +5,7 @@
 //! operation or an operand means is not asked here. The way of a source, with the file of each step:
 //!
 //! ```text
-//! source             bytes -> rows from the first `;redcode` on, each with its kind and its long runs of blanks (blanks);
+//! source             bytes -> rows from the first `;redcode` on, each with its kind, its comment and its long runs (runs);
 //!                    the ROF of each FOR (blocks)
 //! reader/repeat      rows one after another, those of a loop once for each round; its head (repeat/head)
 //!   reader/line        a row that is neither FOR nor ROF

@@ -1,5 +1,5 @@
 //! The names of a text.
-ghost use Rattle.std.specs.Prelude.{◌≡◌, length, [], IfOk, OnOk, IsAscii, slice_get, option_map};
+ghost use Rattle.std.specs.Prelude.{◌≡◌, length, [], IfOk, IfSome, OnOk, IsAscii, slice_get, option_map};
 ghost use Rattle.redcode_text.specs.Lines.{name_at};
 ghost use Rattle.redcode_text.specs.Tokens.{name_index, with_name};
 
@@ -9,14 +9,19 @@ mod seed;
 pub mod set;
 
 use crate::names::seed::Seed;
-use indexmap::IndexSet;
+use indexmap::{IndexMap, IndexSet};
 use std::alloc::{AllocError, Global};
 use std::marker::Model;
+
+/// How long a name is for which the place in the text is kept where it stands.
+const LONG: usize = 256;
 
 /// Names, in the order of their first use.
 #[derive(Drop)]
 pub struct NameTable {
     names: IndexSet<String, Seed>,
+    /// The indices of the long names, by the places in the text where they stand: guesses, which are tested.
+    guesses: IndexMap<usize, usize>,
 }
 
 impl Model for NameTable {
@@ -34,11 +39,47 @@ impl NameTable {
     {
         NameTable {
             names: IndexSet::with_hasher(alloc, Seed::new(text)),
+            guesses: IndexMap::new(alloc),
         }
     }
 
+    /// The index of a name that stands at a place of the text; it is added where it is new. A long one is compared with the
+    /// name that was found at its place before, so that it isn't hashed in each round of its loop.
+    pub(crate) fn index_at(
+        &mut self,
+        alloc: Global,
+        name: &[u8],
+        place: usize,
+    ) -> Result<usize, AllocError>
+        requires ascii { IsAscii name.now }
+        ensures index { IfOk result (λ n. n ≡ name_index self.old name.now) }
+        ensures names { OnOk result (self.new ≡ with_name self.old name.now) }
+    {
+        if name.len() < LONG {
+            return self.index_of(alloc, name);
+        }
+        if let Some(index) = self.guess(name, place) {
+            return Ok(index);
+        }
+        let index = self.index_of(alloc, name)?;
+        self.guesses.insert(place, index)?;
+        Ok(index)
+    }
+
+    /// The index of a name, if it is the name that was found at a place of the text before.
+    fn guess(&self, name: &[u8], place: usize) -> Option<usize>
+        ensures index { IfSome result (λ n. n ≡ name_index self.now name.now) }
+        ensures there { IfSome result (λ _. with_name self.now name.now ≡ self.now) }
+    {
+        let index = *self.guesses.get(&place)?;
+        if index >= self.names.len() || self.bytes_of(index) != name {
+            return None;
+        }
+        Some(index)
+    }
+
     /// The index of a name, which is added where it is new.
-    pub(crate) fn index_of(&mut self, alloc: Global, name: &[u8]) -> Result<usize, AllocError>
+    fn index_of(&mut self, alloc: Global, name: &[u8]) -> Result<usize, AllocError>
         requires ascii { IsAscii name.now }
         ensures index { IfOk result (λ n. n ≡ name_index self.old name.now) }
         ensures names { OnOk result (self.new ≡ with_name self.old name.now) }

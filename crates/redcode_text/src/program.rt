@@ -131,7 +131,7 @@ impl Program {
     ///
     /// The answer has at most 65,536 tokens. The first fault from the left is EquDepth where replacements nest more
     /// than 32 deep, BadToken for a name of several lines, or TooLong for more than 65,536 tokens or replacements. It
-    /// has the line of its token among `tokens`; want of memory has line 0.
+    /// has the line of its token among `tokens`, which is that of the use; want of memory has line 0.
     pub fn substitute(&self, alloc: Global, tokens: &[Token]) -> Result<Vec<Token>, TextFault>
         ensures value { Answers (λ made. made.items) result (substitution self.now.equates tokens.now) }
         ensures few { IfOk result (λ made. vec_len made ≤ limit) }

@@ -127,7 +127,7 @@ impl Reading {
             number: row.number,
             at: row.at + at,
             bytes: &row.bytes[at..at + row.code_len(at)],
-            blanks: row.blanks,
+            runs: row.runs,
         };
         let mut tokens = Vec::new(alloc);
         let room = MAX_TOKENS - self.tokens_read;

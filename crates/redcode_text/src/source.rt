@@ -1,18 +1,18 @@
 //! The lines of a source.
 ghost use Rattle.std.specs.Prelude.{◌≡◌, ◌≤◌, ◌==◌, length, map, not, IfOk};
 ghost use Rattle.std.specs.List.{prefix_len};
-ghost use Rattle.redcode_text.specs.Code.Blanks.{AreBlank};
+ghost use Rattle.redcode_text.specs.Code.Runs.{AreRuns};
 ghost use Rattle.redcode_text.specs.Code.Rows.{row_of};
 ghost use Rattle.redcode_text.specs.Source.{read_rows, rows_of};
 
-pub mod blanks;
 pub mod blocks;
 pub mod directives;
 pub mod row;
+pub mod runs;
 
-use crate::source::blanks::{BlankRun, runs_before};
 use crate::source::directives::has_directive;
 use crate::source::row::Row;
+use crate::source::runs::{LongRun, runs_before};
 use std::alloc::{AllocError, Global};
 
 /// How many bytes the first line has.
@@ -23,13 +23,13 @@ fn line_len(bytes: &[u8]) -> usize
     bytes.iter().take_while(|byte| **byte != b'\n').count()
 }
 
-/// The lines of a source, whose long runs of blanks these are.
+/// The lines of a source, whose long runs these are.
 pub fn rows_of<'a>(
     alloc: Global,
     source: &'a [u8],
-    blanks: &'a [BlankRun],
+    runs: &'a [LongRun],
 ) -> Result<Vec<Row<'a>>, AllocError>
-    requires { AreBlank 0 blanks.now source.now }
+    requires { AreRuns 0 runs.now source.now }
     ensures { IfOk result (λ rows. map row_of rows.items ≡ rows_of source.now) }
 {
     let mut rows = Vec::new(alloc);
@@ -38,8 +38,8 @@ pub fn rows_of<'a>(
     let mut first = 0;
     while at < source.len() {
         let end = at + line_len(&source[at..]);
-        let count = runs_before(&blanks[first..], end);
-        let row = Row::new(number, at, &source[at..end], &blanks[first..first + count]);
+        let count = runs_before(&runs[first..], end);
+        let row = Row::new(number, at, &source[at..end], &runs[first..first + count]);
         let Ok(()) = rows.push(row) else {
             return Err(AllocError);
         };

@@ -68,7 +68,8 @@ pub enum TokenKind {
 #[derive(Clone, Copy, Debug, PartialEq, Eq)]
 pub struct Token {
     pub kind: TokenKind,
-    /// The number of its line, from 1 over the whole file.
+    /// The number of its line, from 1 over the whole file; in the lines of a program, where it comes from EQU, that of the line
+    /// that uses it.
     pub line: usize,
     /// Its spelling are the bytes of the source from `from` up to, but not with, `to`.
     pub from: usize,

@@ -1,9 +1,27 @@
--- A comment line, one question after another.
-use Rattle.std.specs.Prelude.{ℕ, ◌++◌, Result, Ok, true, false, [], ◌∷◌, codes}
+-- What a comment line says, as the code keeps it.
+use Rattle.std.specs.Prelude.{ℕ, ◌+◌, ◌++◌, ◌&&◌, List, [], ◌∷◌, Option, Some, None, Result, Ok, codes, drop, length, map, nat_eq, reverse, take, if◌then◌else◌}
+use Rattle.std.specs.List.{starts_with}
+use Rattle.std.specs.Str.{str_to_ascii_lowercase}
 use Rattle.redcode_text.specs.declared.fault.TextProblem.{TextProblem}
-use Rattle.redcode_text.specs.Lines.{Reading, assert_line, directive_value, row_tokens, unless_empty}
-use Rattle.redcode_text.specs.Source.{Row, directive_text, has_directive_word}
+use Rattle.redcode_text.specs.declared.source.directives.Comment.{Comment}
+use Rattle.redcode_text.specs.declared.source.directives.Comment.TheVariants.{Name, Author, Assert, Other}
+use Rattle.redcode_text.specs.Lines.{Reading, printable, row_tokens, unless_empty}
+use Rattle.redcode_text.specs.Source.{Row, blank_len, ends_word, without_blanks}
 use Rattle.redcode_text.specs.Tokens.{◌>>=◌}
+
+-- a text without the blanks at both ends
+abbrev pub trimmed : List ℕ → List ℕ
+trimmed text = reverse (without_blanks (reverse (without_blanks text)))
+
+-- the value of `;name` or `;author` with such a text
+abbrev pub printed_value : List ℕ → List ℕ
+printed_value text = take 60 (map printable text)
+
+abbrev pub with_name_text : List ℕ → Reading → Reading
+with_name_text text st = record st { name = unless_empty (printed_value text) st.name }
+
+abbrev pub with_author_text : List ℕ → Reading → Reading
+with_author_text text st = record st { author = unless_empty (printed_value text) st.author }
 
 -- an assert whose expression begins at this place of its row
 abbrev pub assert_at : Row → ℕ → Reading → Result Reading TextProblem
@@ -11,14 +29,51 @@ assert_at row at st =
     row_tokens row at st >>= λ r.
     Ok (record (r.1) { asserts = r.1.asserts ++ record { number = row.number; current_line = r.1.instructions; tokens = r.0 } ∷ [] })
 
--- a comment line that is neither `;name` nor `;author`
-abbrev pub no_author : Row → Reading → Result Reading TextProblem
-no_author row st = elim (has_directive_word (codes "assert") row.bytes) [ true ↦ assert_line row st | false ↦ Ok st ]
+-- where the text behind these first bytes of a directive begins, where a line is that directive
+abbrev pub text_found : List ℕ → List ℕ → Option ℕ
+text_found directive bytes =
+    if starts_with nat_eq (str_to_ascii_lowercase (without_blanks bytes)) directive && ends_word (drop (blank_len bytes + length directive) bytes)
+    then Some (blank_len bytes + length directive) else None
 
--- a comment line that isn't `;name`
-abbrev pub no_name : Row → Reading → Result Reading TextProblem
-no_name row st =
-    elim (has_directive_word (codes "author") row.bytes) [
-      | true ↦ Ok (record st { author = unless_empty (directive_value (directive_text (codes "author") row.bytes)) st.author })
-      | false ↦ no_author row st
-    ]
+-- what a comment says: the text of `;name` or `;author`, without the blanks at both ends, or where the expression of an assert begins
+pub data Said : Type 0 where
+  NameSaid : List ℕ → Said
+  AuthorSaid : List ℕ → Said
+  AssertSaid : ℕ → Said
+  NothingSaid : Said
+
+abbrev pub said_of : Comment → Said
+said_of (Name text) = NameSaid text.now
+said_of (Author text) = AuthorSaid text.now
+said_of (Assert at) = AssertSaid at
+said_of Other = NothingSaid
+
+-- where the expression of an assert begins
+abbrev pub assert_place : Comment → ℕ
+assert_place (Assert at) = at
+assert_place comment = 0
+
+abbrev pub assert_or_nothing : Option ℕ → Said
+assert_or_nothing (Some at) = AssertSaid at
+assert_or_nothing None = NothingSaid
+
+abbrev pub author_or : List ℕ → Said → Option ℕ → Said
+author_or bytes other (Some at) = AuthorSaid (trimmed (drop at bytes))
+author_or bytes other None = other
+
+abbrev pub name_or : List ℕ → Said → Option ℕ → Said
+name_or bytes other (Some at) = NameSaid (trimmed (drop at bytes))
+name_or bytes other None = other
+
+abbrev pub author_said : List ℕ → Said
+author_said bytes = author_or bytes (assert_or_nothing (text_found (59 ∷ codes "assert") bytes)) (text_found (59 ∷ codes "author") bytes)
+
+-- what a line says
+abbrev pub said : List ℕ → Said
+said bytes = name_or bytes (author_said bytes) (text_found (59 ∷ codes "name") bytes)
+
+abbrev pub said_line : Said → Row → Reading → Result Reading TextProblem
+said_line (NameSaid text) row st = Ok (with_name_text text st)
+said_line (AuthorSaid text) row st = Ok (with_author_text text st)
+said_line (AssertSaid at) row st = assert_at row at st
+said_line NothingSaid row st = Ok st

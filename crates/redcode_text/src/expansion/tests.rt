@@ -401,6 +401,84 @@ fn long_lines(rt: HostRuntime) -> Result<(), Fail> {
     Ok(())
 }
 
+#[test]
+fn a_fault_has_the_line_of_the_use(rt: HostRuntime) -> Result<(), Fail> {
+    let program = expand(rt.alloc(), b"x EQU x\nm EQU DAT x\nn EQU m\nn x\n", &NAMES)?;
+    let rest = &program.lines()[0].rest;
+    assert_eq!(rt; (rest[0].line, rest[1].line), (4, 4));
+    assert_eq!(rt;
+        program.substitute(rt.alloc(), &rest[..1]).err(),
+        at(4, TextProblem::EquDepth)
+    );
+    Ok(())
+}
+
+/// A source with long words in a loop: its counter, a name with a join to the counter and one without, and a number.
+fn long_words_in_loop(rt: HostRuntime) -> Result<Vec<u8>, Fail> {
+    let word = copies(rt, b"x", 300)?;
+    let mut source = Vec::new(rt.alloc());
+    source.extend_from_slice(&word)?;
+    source.extend_from_slice(b" FOR 3\n")?;
+    source.extend_from_slice(&word)?;
+    source.extend_from_slice(b"y&")?;
+    source.extend_from_slice(&word)?;
+    source.extend_from_slice(b" DAT ")?;
+    source.extend_from_slice(&word)?;
+    source.extend_from_slice(b"y ")?;
+    source.extend_from_slice(&word)?;
+    source.extend_from_slice(b" ")?;
+    source.extend_from_slice(&copies(rt, b"0", 300)?)?;
+    source.extend_from_slice(b"70\nROF\n")?;
+    Ok(source)
+}
+
+#[test]
+fn long_words_in_each_round(rt: HostRuntime) -> Result<(), Fail> {
+    let source = long_words_in_loop(rt)?;
+    let program = expand(rt.alloc(), &source, &NAMES)?;
+    assert_eq!(rt; program.lines().len(), 3);
+    let mut round = 0;
+    for line in program.lines() {
+        round += 1;
+        assert_eq!(rt;
+            program.names().name(line.labels[0]).map(|name| name.len()),
+            Some(303)
+        );
+        let kinds = [line.rest[0].kind, line.rest[1].kind, line.rest[2].kind];
+        let expected = [
+            program.lines()[0].rest[0].kind,
+            TokenKind::Number(round),
+            TokenKind::Number(70),
+        ];
+        assert_eq!(rt; kinds, expected);
+    }
+    Ok(())
+}
+
+#[test]
+fn long_words_that_are_no_tokens(rt: HostRuntime) -> Result<(), Fail> {
+    let mut zeros = copies(rt, b"0", 300)?;
+    zeros.push(b'x')?;
+    assert_eq!(rt; fault_of(rt, &zeros), at(1, TextProblem::BadToken));
+    let mut joined = copies(rt, b"x", 300)?;
+    joined.extend_from_slice(b"&i")?;
+    assert_eq!(rt; fault_of(rt, &joined), at(1, TextProblem::BadToken));
+    Ok(())
+}
+
+#[test]
+fn an_assert_ends_at_a_comment(rt: HostRuntime) -> Result<(), Fail> {
+    let program = expand(
+        rt.alloc(),
+        b" ;assert 1 + 1;2;3\n;assert\t2\n;assert;4\n;asserts 5\n",
+        &NAMES,
+    )?;
+    assert_eq!(rt; program.asserts().len(), 2);
+    assert_eq!(rt; program.asserts()[0].tokens.len(), 3);
+    assert_eq!(rt; program.asserts()[1].tokens.len(), 1);
+    Ok(())
+}
+
 /// Names `a0`, `a1` and so on, each with these bytes behind it.
 fn numbered(rt: HostRuntime, count: usize, behind: &str) -> Result<Vec<u8>, Fail> {
     let mut source = Vec::new(rt.alloc());

@@ -32,7 +32,7 @@ fn read_inside(rt: HostRuntime, text: &[u8]) -> Result<(Option<TokenKind>, Strin
         number: 1,
         at: 0,
         bytes: text,
-        blanks: &[],
+        runs: &[],
     };
     let read = read_tokens(alloc, &loops, row, 100, &mut names, &mut tokens);
     let name = String::from_str(alloc, names.name(0).unwrap_or(""))?;

@@ -4,6 +4,7 @@ ghost use Rattle.std.specs.Char.{is_ascii_digit};
 ghost use Rattle.std.specs.List.{list_all, prefix_len};
 ghost use Rattle.std.specs.Str.Parse.{digits_value};
 ghost use Rattle.redcode_text.specs.Code.Problems.{Gives};
+ghost use Rattle.redcode_text.specs.Code.Runs.{IsFront};
 ghost use Rattle.redcode_text.specs.Code.Scanning.{with_names};
 ghost use Rattle.redcode_text.specs.Tokens.{joined, number_kind, plain_word_found, round_digits, round_of, word_found, word_token};
 
@@ -15,10 +16,50 @@ use crate::token::TokenKind;
 use itoa::Buffer;
 use std::alloc::{AllocError, Global};
 
+/// Where a word begins in the source, and what is known of its front without going over it.
+#[derive(Clone, Copy)]
+pub struct Front {
+    pub place: usize,
+    /// So many bytes are letters, digits and `_`.
+    pub plain: usize,
+    /// So many bytes are zeros.
+    pub zeros: usize,
+}
+
+impl Front {
+    /// Nothing is known but the place.
+    pub fn unknown(place: usize) -> Self
+        ensures plain { result.plain ≡ 0 }
+        ensures zeros { result.zeros ≡ 0 }
+    {
+        Front {
+            place,
+            plain: 0,
+            zeros: 0,
+        }
+    }
+}
+
+/// A word, and what is known of its front.
+#[derive(Clone, Copy)]
+pub struct Word<'a> {
+    pub bytes: &'a [u8],
+    pub front: Front,
+}
+
 fn are_digits(word: &[u8]) -> bool
     ensures { result ≡ list_all is_ascii_digit word.now }
 {
     word.iter().all(|byte| byte.is_ascii_digit())
+}
+
+/// A word without the zeros that are known to stand in front of it.
+fn past_zeros<'a>(word: Word<'a>) -> &'a [u8]
+    requires { IsFront word.front word.bytes.now }
+    ensures digits { list_all is_ascii_digit word.entry.bytes.now ≡ list_all is_ascii_digit result.now }
+    ensures value { digits_value 10 word.entry.bytes.now ≡ digits_value 10 result.now }
+{
+    &word.bytes[word.front.zeros..]
 }
 
 /// The number that decimal digits spell, where it is below 2^64.
@@ -57,21 +98,23 @@ pub struct Spelled {
 fn plain_word(
     alloc: Global,
     names: &mut NameTable,
-    word: &[u8],
+    word: Word<'_>,
     len: usize,
 ) -> Result<Spelled, TextProblem>
-    requires { IsAscii word.now }
-    ensures value { Gives (with_names names.new) result (plain_word_found names.old len word.now) }
+    requires ascii { IsAscii word.bytes.now }
+    requires front { IsFront word.front word.bytes.now }
+    ensures value { Gives (with_names names.new) result (plain_word_found names.old len word.entry.bytes.now) }
     ensures len { IfOk result (λ s. s.len ≡ len) }
 {
-    if are_digits(word) {
-        let kind = number_kind(word)?;
+    let digits = past_zeros(word);
+    if are_digits(digits) {
+        let kind = number_kind(digits)?;
         return Ok(Spelled { kind, len });
     }
-    if !begins_name(word) {
+    if !begins_name(word.bytes) {
         return Err(TextProblem::BadToken);
     }
-    match names.index_of(alloc, word) {
+    match names.index_at(alloc, word.bytes, word.front.place) {
         Ok(index) => Ok(Spelled {
             kind: TokenKind::Name(index),
             len,
@@ -85,14 +128,15 @@ fn joined_word(
     alloc: Global,
     loops: &OpenLoops,
     names: &mut NameTable,
-    word: &[u8],
+    word: Word<'_>,
     len: usize,
 ) -> Result<Spelled, TextProblem>
-    requires { IsAscii word.now }
-    ensures value { Gives (with_names names.new) result (word_found names.old len word.now (round_of loops.now word.now)) }
+    requires ascii { IsAscii word.bytes.now }
+    requires front { IsFront word.front word.bytes.now }
+    ensures value { let bytes = word.entry.bytes.now in Gives (with_names names.new) result (word_found names.old len bytes (round_of loops.now bytes)) }
     ensures len { IfOk result (λ s. s.len ≡ len) }
 {
-    match loops.round_of(word) {
+    match loops.round_of(word.bytes) {
         Some(round) => Ok(Spelled {
             kind: TokenKind::Number(i64::from(round)),
             len,
@@ -151,15 +195,21 @@ pub fn read_word(
     alloc: Global,
     loops: &OpenLoops,
     names: &mut NameTable,
-    word: &[u8],
+    word: Word<'_>,
 ) -> Result<Spelled, TextProblem>
-    requires { IsAscii word.now }
-    ensures value { Gives (with_names names.new) result (word_token loops.now names.old word.now) }
-    ensures len { IfOk result (λ s. s.len ≡ length word.now) }
+    requires ascii { IsAscii word.bytes.now }
+    requires front { IsFront word.front word.bytes.now }
+    ensures value { Gives (with_names names.new) result (word_token loops.now names.old word.entry.bytes.now) }
+    ensures len { IfOk result (λ s. s.len ≡ length word.entry.bytes.now) }
 {
-    if !word.contains(&b'&') {
-        return joined_word(alloc, loops, names, word, word.len());
+    let len = word.bytes.len();
+    if !word.bytes[word.front.plain..].contains(&b'&') {
+        return joined_word(alloc, loops, names, word, len);
     }
-    let joined = join_word(alloc, loops, word)?;
-    joined_word(alloc, loops, names, &joined, word.len())
+    let joined = join_word(alloc, loops, word.bytes)?;
+    let whole = Word {
+        bytes: &joined,
+        front: Front::unknown(word.front.place),
+    };
+    joined_word(alloc, loops, names, whole, len)
 }

@@ -1,6 +1,6 @@
 //! Comment lines, among them directives.
-ghost use Rattle.std.specs.Prelude.{◌≡◌, ◌≤◌, ◌<◌, ◌+◌, ◌^◌, length};
-ghost use Rattle.redcode_text.specs.Code.Comments.{assert_at, no_author, no_name};
+ghost use Rattle.std.specs.Prelude.{◌≡◌, ◌≤◌, ◌<◌, ◌+◌, ◌^◌, length, Ok};
+ghost use Rattle.redcode_text.specs.Code.Comments.{assert_at, with_author_text, with_name_text};
 ghost use Rattle.redcode_text.specs.Code.Readings.{reading_of};
 ghost use Rattle.redcode_text.specs.Lines.{comment_line};
 ghost use Rattle.redcode_text.specs.Code.Problems.{Gives};
@@ -9,7 +9,7 @@ ghost use Rattle.redcode_text.specs.Code.Rows.{row_of};
 use crate::fault::TextProblem;
 use crate::program::Assert;
 use crate::reader::Reading;
-use crate::source::directives::{directive_text_at, directive_value};
+use crate::source::directives::{Comment, directive_value};
 use crate::source::row::Row;
 use std::alloc::Global;
 
@@ -19,40 +19,34 @@ impl Reading {
         requires { row.at + length row.bytes.now < 2 ^ 64 }
         ensures { Gives (λ _. reading_of self.new) result (comment_line (row_of row.entry) (reading_of self.old)) }
     {
-        if let Some(at) = directive_text_at(b";name", row.bytes, row.indent()) {
-            let name = directive_value(alloc, &row.bytes[at..])?;
-            if !name.is_empty() {
-                self.name = name;
-            }
-            return Ok(());
+        match row.comment() {
+            Comment::Name(text) => self.take_name(alloc, text),
+            Comment::Author(text) => self.take_author(alloc, text),
+            Comment::Assert(at) => self.read_assert(alloc, row, at),
+            Comment::Other => Ok(()),
         }
-        self.read_author(alloc, row)
     }
 
-    /// Reads a comment line that isn't `;name`: `;author`, `;assert`, or nothing.
-    fn read_author(&mut self, alloc: Global, row: Row<'_>) -> Result<(), TextProblem>
-        requires { row.at + length row.bytes.now < 2 ^ 64 }
-        ensures { Gives (λ _. reading_of self.new) result (no_name (row_of row.entry) (reading_of self.old)) }
+    /// Takes the text of `;name`, without the blanks at both ends.
+    fn take_name(&mut self, alloc: Global, text: &[u8]) -> Result<(), TextProblem>
+        ensures { Gives (λ _. reading_of self.new) result (Ok (with_name_text text.now (reading_of self.old))) }
     {
-        if let Some(at) = directive_text_at(b";author", row.bytes, row.indent()) {
-            let author = directive_value(alloc, &row.bytes[at..])?;
-            if !author.is_empty() {
-                self.author = author;
-            }
-            return Ok(());
+        let name = directive_value(alloc, text)?;
+        if !name.is_empty() {
+            self.name = name;
         }
-        self.read_assert_line(alloc, row)
+        Ok(())
     }
 
-    /// Reads a comment line that is neither `;name` nor `;author`: `;assert`, or nothing.
-    fn read_assert_line(&mut self, alloc: Global, row: Row<'_>) -> Result<(), TextProblem>
-        requires { row.at + length row.bytes.now < 2 ^ 64 }
-        ensures { Gives (λ _. reading_of self.new) result (no_author (row_of row.entry) (reading_of self.old)) }
+    /// Takes the text of `;author`, without the blanks at both ends.
+    fn take_author(&mut self, alloc: Global, text: &[u8]) -> Result<(), TextProblem>
+        ensures { Gives (λ _. reading_of self.new) result (Ok (with_author_text text.now (reading_of self.old))) }
     {
-        match directive_text_at(b";assert", row.bytes, row.indent()) {
-            Some(at) => self.read_assert(alloc, row, at),
-            None => Ok(()),
+        let author = directive_value(alloc, text)?;
+        if !author.is_empty() {
+            self.author = author;
         }
+        Ok(())
     }
 
     /// Reads the expression of an assert, which begins at a place of a row.

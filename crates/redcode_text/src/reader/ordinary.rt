@@ -3,7 +3,7 @@ ghost use Rattle.std.specs.Prelude.{◌≡◌, ◌≤◌, drop, length, take, If
 ghost use Rattle.redcode_text.specs.Views.{predefined_of};
 ghost use Rattle.redcode_text.specs.Code.Readings.{parts_at, reading_of};
 ghost use Rattle.redcode_text.specs.Code.Labels.{AreLabels};
-ghost use Rattle.redcode_text.specs.Lines.{may_label, parts_of, split_colon, each_line, line_added, operation_lines, ordinary_line};
+ghost use Rattle.redcode_text.specs.Lines.{may_label, parts_of, split_colon, each_line, line_added, on_line, operation_lines, ordinary_line};
 ghost use Rattle.redcode_text.specs.Code.Problems.{Gives};
 ghost use Rattle.redcode_text.specs.Code.Used.{used};
 
@@ -192,14 +192,20 @@ fn used_lines(
     }
 }
 
-/// A copy of tokens.
-fn copied(alloc: Global, tokens: &[Token]) -> Result<Vec<Token>, TextProblem>
-    ensures { Gives (λ made. made.items) result (Ok tokens.now) }
+/// A copy of tokens as those of a line of this number, so that a fault of one that comes from EQU has the line of its use.
+fn on_line(alloc: Global, number: usize, tokens: &[Token]) -> Result<Vec<Token>, TextProblem>
+    ensures { Gives (λ made. made.items) result (Ok (on_line number tokens.now)) }
 {
-    match Vec::from_slice(alloc, tokens) {
-        Ok(made) => Ok(made),
-        Err(_) => Err(TextProblem::OutOfMemory),
+    let mut made = Vec::new(alloc);
+    for token in tokens {
+        let Ok(()) = made.push(Token {
+            line: number,
+            ..*token
+        }) else {
+            return Err(TextProblem::OutOfMemory);
+        };
     }
+    Ok(made)
 }
 
 impl Reading {
@@ -223,9 +229,9 @@ impl Reading {
     ) -> Result<(), TextProblem>
         requires { vec_len self.old.lines < self.old.lines_read }
         ensures { Gives (λ _. reading_of self.new) result
-            (Ok (line_added number (record { labels = parts.labels.items; label_tokens = []; operation = parts.operation; rest = rest.now }) (reading_of self.old))) }
+            (Ok (line_added number (record { labels = parts.labels.items; label_tokens = []; operation = parts.operation; rest = on_line number rest.now }) (reading_of self.old))) }
     {
-        let rest = copied(alloc, rest)?;
+        let rest = on_line(alloc, number, rest)?;
         let Parts {
             labels,
             operation,

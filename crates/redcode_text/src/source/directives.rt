@@ -2,9 +2,9 @@
 ghost use Rattle.std.specs.Prelude.{◌≡◌, ◌≤◌, ◌<◌, ◌+◌, length, map, reverse, string_bytes, take, true, nat_eq, IfOk, IfSome, Ok};
 ghost use Rattle.std.specs.List.{starts_with};
 ghost use Rattle.std.specs.Str.{str_to_ascii_lowercase};
-ghost use Rattle.redcode_text.specs.Lines.{directive_value, printable};
+ghost use Rattle.redcode_text.specs.Lines.{printable};
+ghost use Rattle.redcode_text.specs.Code.Comments.{assert_place, printed_value, said, said_of, text_found, trimmed};
 ghost use Rattle.redcode_text.specs.Code.Problems.{Gives};
-ghost use Rattle.redcode_text.specs.Code.Rows.{text_found};
 ghost use Rattle.redcode_text.specs.Programs.{IsPrinted};
 ghost use Rattle.redcode_text.specs.Source.{blank_len, without_blanks};
 
@@ -30,7 +30,7 @@ pub fn has_directive(directive: &[u8], bytes: &[u8], indent: usize) -> bool
 
 /// Where the text of a directive begins, where a line, which so many blanks begin, is that directive: a blank or nothing stands
 /// behind its word.
-pub fn directive_text_at(directive: &[u8], bytes: &[u8], indent: usize) -> Option<usize>
+fn directive_text_at(directive: &[u8], bytes: &[u8], indent: usize) -> Option<usize>
     requires indent { indent ≡ blank_len bytes.now }
     requires inside { indent ≤ length bytes.now }
     requires low { str_to_ascii_lowercase directive.now ≡ directive.now }
@@ -87,12 +87,49 @@ fn printed(alloc: Global, bytes: &[u8]) -> Result<String, TextProblem>
     Ok(text)
 }
 
-/// The text of `;name` or `;author`: without the blanks at both ends, in printable bytes, 60 of them at most.
-pub fn directive_value(alloc: Global, text: &[u8]) -> Result<String, TextProblem>
-    ensures value { Gives (λ value. string_bytes value) result (Ok (directive_value text.now)) }
-    ensures printed { IfOk result (λ value. IsPrinted (string_bytes value)) }
+/// The text of `;name` or `;author`, without the blanks at both ends.
+fn trimmed(text: &[u8]) -> &[u8]
+    ensures { result.now ≡ trimmed text.now }
 {
     let front = &text[blank_len(text)..];
-    let trimmed = &front[..trimmed_len(front)];
+    &front[..trimmed_len(front)]
+}
+
+/// The value of `;name` or `;author`, from its text without blanks at both ends: printable bytes, 60 of them at most.
+pub fn directive_value(alloc: Global, trimmed: &[u8]) -> Result<String, TextProblem>
+    ensures value { Gives (λ value. string_bytes value) result (Ok (printed_value trimmed.now)) }
+    ensures printed { IfOk result (λ value. IsPrinted (string_bytes value)) }
+{
     printed(alloc, &trimmed[..trimmed.len().min(MAX_NAME)])
+}
+
+/// What a comment says.
+#[derive(Clone, Copy)]
+pub enum Comment<'a> {
+    /// `;name`, with its text, without the blanks at both ends.
+    Name(&'a [u8]),
+    /// `;author`, with its text in the same way.
+    Author(&'a [u8]),
+    /// `;assert`, with the place of its expression.
+    Assert(usize),
+    Other,
+}
+
+/// What a line says that so many blanks begin, as a comment.
+pub fn comment_of<'a>(bytes: &'a [u8], indent: usize) -> Comment<'a>
+    requires indent { indent ≡ blank_len bytes.now }
+    requires inside { indent ≤ length bytes.now }
+    ensures value { said_of result ≡ said bytes.now }
+    ensures inside { assert_place result ≤ length bytes.now }
+{
+    if let Some(at) = directive_text_at(b";name", bytes, indent) {
+        return Comment::Name(trimmed(&bytes[at..]));
+    }
+    if let Some(at) = directive_text_at(b";author", bytes, indent) {
+        return Comment::Author(trimmed(&bytes[at..]));
+    }
+    match directive_text_at(b";assert", bytes, indent) {
+        Some(at) => Comment::Assert(at),
+        None => Comment::Other,
+    }
 }

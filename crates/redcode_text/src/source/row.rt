@@ -1,12 +1,14 @@
 //! A line of a source, and what kind it is of.
-ghost use Rattle.std.specs.Prelude.{◌≡◌, ◌≤◌, ◌+◌, ◌==◌, not, drop, length, IfSome};
+ghost use Rattle.std.specs.Prelude.{◌≡◌, ◌≤◌, ◌<◌, ◌+◌, ◌==◌, not, drop, length, IfSome};
 ghost use Rattle.std.specs.List.{prefix_len};
-ghost use Rattle.redcode_text.specs.Code.Blanks.{AreBlank};
+ghost use Rattle.redcode_text.specs.Code.Runs.{AreRuns};
+ghost use Rattle.redcode_text.specs.Code.Comments.{assert_place, said, said_of};
 ghost use Rattle.redcode_text.specs.Code.Kinds.{IsKind, kind_of, word_place};
 ghost use Rattle.redcode_text.specs.Source.{blank_len, is_comment, first_word_at, has_word, leading_word_at, line_kind, past_blanks, past_colon, past_word, second_word_at};
 
 use crate::characters::{blank_len, is_word, word_len};
-use crate::source::blanks::BlankRun;
+use crate::source::directives::{Comment, comment_of};
+use crate::source::runs::LongRun;
 
 /// What a line is, with the place of its word FOR or EQU.
 #[derive(Clone, Copy, PartialEq, Eq, Debug)]
@@ -103,11 +105,23 @@ fn line_kind(bytes: &[u8]) -> LineKind
 }
 
 /// How many bytes stand before a comment.
-fn comment_at(bytes: &[u8]) -> usize
+fn code_len(bytes: &[u8]) -> usize
     ensures value { result ≡ prefix_len (λ b. not (b == 59)) bytes.now }
     ensures within { result ≤ length bytes.now }
 {
     bytes.iter().take_while(|byte| **byte != b';').count()
+}
+
+/// How many bytes behind the first `;`, which stands at a place, stand before the next one.
+fn comment_len(bytes: &[u8], at: usize) -> usize
+    requires { at ≤ length bytes.now }
+    ensures value { result ≡ prefix_len (λ b. not (b == 59)) (drop (at + 1) bytes.now) }
+    ensures within { at < length bytes.now → at + 1 + result ≤ length bytes.now }
+{
+    match &bytes[at..] {
+        [_, comment @ ..] => code_len(comment),
+        [] => 0,
+    }
 }
 
 /// A line of a source, without its LF. What is found out by going over its bytes is kept, since a line of a loop is read again
@@ -119,37 +133,49 @@ pub struct Row<'a> {
     /// The index of its first byte in the source.
     pub at: usize,
     pub bytes: &'a [u8],
-    /// The long runs of blanks in it, by their places in the source.
-    pub blanks: &'a [BlankRun],
+    /// The long runs in it, by their places in the source.
+    pub runs: &'a [LongRun],
     kind: LineKind,
     /// How many blanks stand in front.
     indent: usize,
     /// How many bytes stand before a comment.
     code_len: usize,
-    ghost are_blank: { AreBlank at blanks.now bytes.now },
+    /// How many bytes behind the first `;` stand before the next one.
+    comment_len: usize,
+    /// What the line says, if it is a comment.
+    comment: Comment<'a>,
+    ghost are_runs: { AreRuns at runs.now bytes.now },
     ghost kind_is: { IsKind kind bytes.now },
     ghost indent_is: { indent ≡ blank_len bytes.now },
     ghost indented: { indent ≤ length bytes.now },
     ghost code_len_is: { code_len ≡ prefix_len (λ b. not (b == 59)) bytes.now },
     ghost code_inside: { code_len ≤ length bytes.now },
+    ghost comment_len_is: { comment_len ≡ prefix_len (λ b. not (b == 59)) (drop (code_len + 1) bytes.now) },
+    ghost comment_inside: { code_len < length bytes.now → code_len + 1 + comment_len ≤ length bytes.now },
+    ghost comment_is: { said_of comment ≡ said bytes.now },
+    ghost assert_inside: { assert_place comment ≤ length bytes.now },
 }
 
 impl<'a> Row<'a> {
     ghost use Rattle.redcode_text.specs.Code.Rows.{row_of};
 
-    /// The line of this number, whose first byte has this index in the source, with its long runs of blanks.
-    pub fn new(number: usize, at: usize, bytes: &'a [u8], blanks: &'a [BlankRun]) -> Self
-        requires { AreBlank at blanks.now bytes.now }
+    /// The line of this number, whose first byte has this index in the source, with its long runs.
+    pub fn new(number: usize, at: usize, bytes: &'a [u8], runs: &'a [LongRun]) -> Self
+        requires { AreRuns at runs.now bytes.now }
         ensures { row_of result ≡ record { number = number; at = at; bytes = bytes.now } }
     {
+        let indent = blank_len(bytes);
+        let code_len = code_len(bytes);
         Row {
             number,
             at,
             bytes,
-            blanks,
+            runs,
             kind: line_kind(bytes),
-            indent: blank_len(bytes),
-            code_len: comment_at(bytes),
+            indent,
+            code_len,
+            comment_len: comment_len(bytes, code_len),
+            comment: comment_of(bytes, indent),
         }
     }
 
@@ -177,10 +203,22 @@ impl<'a> Row<'a> {
         ensures value { result ≡ prefix_len (λ b. not (b == 59)) (drop at self.now.bytes.now) }
         ensures within { at + result ≤ length self.now.bytes.now }
     {
-        if at == 0 {
-            return self.code_len;
+        if at <= self.code_len {
+            return self.code_len - at;
         }
-        comment_at(&self.bytes[at..])
+        let behind = at - self.code_len - 1;
+        if behind <= self.comment_len {
+            return self.comment_len - behind;
+        }
+        code_len(&self.bytes[at..])
+    }
+
+    /// What the line says, if it is a comment.
+    pub fn comment(&self) -> Comment<'a>
+        ensures value { said_of result ≡ said self.now.bytes.now }
+        ensures inside { assert_place result ≤ length self.now.bytes.now }
+    {
+        self.comment
     }
 
     /// What kind the line is of.

@@ -2,7 +2,7 @@ use Rattle.std.proofs.Common.{◌≡◌, ◌+◌, ◌-◌, ◌∙◌, arith, dro
 use Rattle.redcode_text.specs.Views.{scan_of}
 use Rattle.redcode_text.specs.Code.Problems.{Fails}
 use Rattle.redcode_text.specs.Tokens.{scan_from}
-use Rattle.redcode_text.proofs.BlankRuns.{scan-blanks}
+use Rattle.redcode_text.proofs.LongRuns.{scan-blanks}
 use Rattle.redcode_text.proofs.Scans.{scan-token, scan-fails}
 use Rattle.redcode_text.proofs.lexer.read_tokens.Goals as goal
 

@@ -3,7 +3,7 @@ use Rattle.std.proofs.lemmas.List.{take_rest}
 use Rattle.redcode_text.specs.Code.Rows.{row_of}
 use Rattle.redcode_text.specs.Source.{lines_of, rows_from}
 use Rattle.redcode_text.proofs.SourceLines.{map-snoc, row-step}
-use Rattle.redcode_text.proofs.BlankRuns.{blank-row}
+use Rattle.redcode_text.proofs.LongRuns.{row-runs}
 use Rattle.redcode_text.proofs.source.rows_of.Goals as goal
 
 pub loop-at-preserved : goal.loop-at-preserved
@@ -24,6 +24,6 @@ loop-at-preserved c =
 pub new-row-requires : goal.new-row-requires
 new-row-requires c =
     let source = c.args.source.now in let at = c.loop-at.at in
-    blank-row c.args.blanks.now source c.loop-at.first c.runs_before-count.result at c.line_len.result c.requires
+    row-runs c.args.runs.now source c.loop-at.first c.runs_before-count.result at c.line_len.result c.requires
     (omega (arith, c.loop-at.invariant.among, simp (take_rest, length-drop) at c.runs_before-count.ensures))
     (omega (arith, simp (take_rest, length-drop) at c.line_len.ensures.within, c.loop-at-test.true))

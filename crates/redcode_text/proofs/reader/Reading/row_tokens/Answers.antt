@@ -1,4 +1,5 @@
 use Rattle.std.proofs.Common.{◌≡◌, arith, length}
+use Rattle.redcode_text.proofs.LongRuns.{part-runs}
 use Rattle.redcode_text.proofs.RowTokens.{code-is, row-ok, row-fails}
 use Rattle.redcode_text.specs.Code.Readings.{reading_of}
 use Rattle.redcode_text.specs.Views.{scan_of}
@@ -16,3 +17,7 @@ pub returns-in-Err-clause-value : goal.returns-in-Err-clause-value
 returns-in-Err-clause-value c =
     row-fails (reading_of c.args.self.now) (row_of c.args.row) c.args.at _ c.new-tokens.result.items (code-is c.args.row.bytes.now c.args.at c.code_len.result c.code_len.ensures.value) c.new-tokens.ensures.items
     c.in-Err.problem c.in-Err.ensures.value
+
+pub invariant_of-code : goal.invariant_of-code
+invariant_of-code c =
+    let row = c.args.row in record { are_runs = part-runs row.runs.now row.bytes.now row.at c.args.at c.code_len.result row.are_runs c.code_len.ensures.within }
