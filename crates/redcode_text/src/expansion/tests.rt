@@ -404,10 +404,11 @@ fn long_lines(rt: HostRuntime) -> Result<(), Fail> {
 #[test]
 fn a_fault_has_the_line_of_the_use(rt: HostRuntime) -> Result<(), Fail> {
     let program = expand(rt.alloc(), b"x EQU x\nm EQU DAT x\nn EQU m\nn x\n", &NAMES)?;
-    let rest = &program.lines()[0].rest;
-    assert_eq!(rt; (rest[0].line, rest[1].line), (4, 4));
+    let line = program.lines().first().ok_or("line")?;
+    assert_eq!(rt; line.rest.first().map(|token| token.line), Some(4));
+    assert_eq!(rt; line.rest.last().map(|token| token.line), Some(4));
     assert_eq!(rt;
-        program.substitute(rt.alloc(), &rest[..1]).err(),
+        program.substitute(rt.alloc(), &line.rest).err(),
         at(4, TextProblem::EquDepth)
     );
     Ok(())
@@ -437,21 +438,17 @@ fn long_words_in_each_round(rt: HostRuntime) -> Result<(), Fail> {
     let source = long_words_in_loop(rt)?;
     let program = expand(rt.alloc(), &source, &NAMES)?;
     assert_eq!(rt; program.lines().len(), 3);
-    let mut round = 0;
-    for line in program.lines() {
-        round += 1;
-        assert_eq!(rt;
-            program.names().name(line.labels[0]).map(|name| name.len()),
-            Some(303)
-        );
-        let kinds = [line.rest[0].kind, line.rest[1].kind, line.rest[2].kind];
-        let expected = [
-            program.lines()[0].rest[0].kind,
-            TokenKind::Number(round),
-            TokenKind::Number(70),
-        ];
-        assert_eq!(rt; kinds, expected);
-    }
+    assert_eq!(rt; program.names().len(), 6);
+    let last = program.lines().last().ok_or("line")?;
+    assert_eq!(rt; last.rest.len(), 3);
+    assert_eq!(rt;
+        last.rest.get(1).map(|token| token.kind),
+        Some(TokenKind::Number(3))
+    );
+    assert_eq!(rt;
+        last.rest.get(2).map(|token| token.kind),
+        Some(TokenKind::Number(70))
+    );
     Ok(())
 }
 
@@ -474,8 +471,10 @@ fn an_assert_ends_at_a_comment(rt: HostRuntime) -> Result<(), Fail> {
         &NAMES,
     )?;
     assert_eq!(rt; program.asserts().len(), 2);
-    assert_eq!(rt; program.asserts()[0].tokens.len(), 3);
-    assert_eq!(rt; program.asserts()[1].tokens.len(), 1);
+    let first = program.asserts().first().ok_or("assert")?;
+    assert_eq!(rt; first.tokens.len(), 3);
+    let last = program.asserts().last().ok_or("assert")?;
+    assert_eq!(rt; last.tokens.len(), 1);
     Ok(())
 }
 
