@@ -438,7 +438,6 @@ fn long_words_in_each_round(rt: HostRuntime) -> Result<(), Fail> {
     let source = long_words_in_loop(rt)?;
     let program = expand(rt.alloc(), &source, &NAMES)?;
     assert_eq!(rt; program.lines().len(), 3);
-    assert_eq!(rt; program.names().len(), 6);
     let last = program.lines().last().ok_or("line")?;
     assert_eq!(rt; last.rest.len(), 3);
     assert_eq!(rt;
