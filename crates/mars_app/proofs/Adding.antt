@@ -1,7 +1,7 @@
 -- What the words become that are added to a command: a rule each, one behind the other.
 use Rattle.std.specs.Prelude.{◌≡◌, ℕ, false, true, [], ◌∷◌, Option, None, Some, IfOk, IsSomeAnd, Result, Ok, Err}
 use Rattle.std.specs.Borrow.{Bor}
-use Rattle.std.proofs.Common.{◌∙◌, ap, ap₂, refl}
+use Rattle.std.proofs.Common.{◌∙◌, ap, ap₂}
 use Rattle.clap.specs.Built.{AddsArg}
 use Rattle.clap.specs.Simple.{App, app_of, with_rule}
 use Rattle.clap.specs.Walk.{Rule, Text, rule_of}

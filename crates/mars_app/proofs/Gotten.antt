@@ -6,7 +6,7 @@ use Rattle.std.specs.List.{list_all}
 use Rattle.std.specs.Option.{option_map_or, unwrap_or}
 use Rattle.std.specs.Str.{bytes_eq}
 use Rattle.std.specs.Str.Parse.{AllDigits, IsNumeral, ParsesBool, ParsesUnsigned, digits_value, without_leading_plus}
-use Rattle.std.proofs.Common.{◌∙◌, ap, refl, sym, subst}
+use Rattle.std.proofs.Common.{◌∙◌, ap, refl, sym}
 use Rattle.std.proofs.lemmas.Bool.{lt-ltb, ltb-true}
 use Rattle.std.proofs.lemmas.List.{take_all}
 use Rattle.std.proofs.lemmas.Slice.Eq.{bytes_eq-Decides}

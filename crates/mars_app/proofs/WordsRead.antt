@@ -1,6 +1,6 @@
 -- What a parse of the words comes to.
 use Rattle.std.specs.Global.{Global}
-use Rattle.std.specs.Prelude.{String, ◌≡◌, ◌≤◌, ◌+◌, Bool, true, false, ◌&&◌, List, [], Err, Option, None, Some, IfSome, length, map, string_bytes, vec_len, nat_le}
+use Rattle.std.specs.Prelude.{String, ◌≡◌, true, List, [], Err}
 use Rattle.std.proofs.Common.{◌∙◌, ap, refl, sym, subst, inl, inr}
 use Rattle.clap.specs.Faults.{fault_of, is_simple_and_free}
 use Rattle.clap.specs.Kinds.{HasKind, IsAmong}

@@ -1,5 +1,5 @@
 -- What the words ask for.
-use Rattle.std.specs.Prelude.{◌≡◌, ⊤, ◌⊎◌, ℕ, ◌+◌, ◌==◌, ◌≤◌, ◌^◌, Bool, false, true, not, ◌&&◌, ◌||◌, nat_le, nat_lt, List, [], length, map, Option, None, Some, IfSome, option_and_then, Result, Ok, Err, if◌then◌else◌, codes, string_bytes, vec_len}
+use Rattle.std.specs.Prelude.{◌≡◌, ⊤, ◌⊎◌, ℕ, ◌+◌, ◌==◌, ◌^◌, Bool, false, true, not, ◌&&◌, ◌||◌, nat_le, nat_lt, List, [], length, map, Option, None, Some, option_and_then, Result, Ok, Err, if◌then◌else◌, codes, string_bytes}
 use Rattle.std.specs.Option.{option_map_or, unwrap_or}
 use Rattle.std.specs.Str.{bytes_eq}
 use Rattle.std.specs.Str.Parse.{digits_value, without_leading_plus}

@@ -1,6 +1,5 @@
 -- Worked examples: what the words of the program ask for.
-use Rattle.std.specs.Prelude.{◌≡◌, [], ◌∷◌, List, Some, codes, false, true, refl}
-use Rattle.std.specs.Prelude.{ℕ}
+use Rattle.std.specs.Prelude.{◌≡◌, ℕ, [], ◌∷◌, List, codes, false, true, refl}
 use Rattle.clap.proofs.OnLiterals.{clap_on_literals}
 use Rattle.clap.specs.Faults.{fault_of}
 use Rattle.clap.specs.declared.error.kind.ErrorKind.TheVariants as kind
