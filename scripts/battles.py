@@ -129,7 +129,8 @@ def fight(program, words):
     listing, _, results = done.stdout.rpartition("  points   wins   ties losses  warrior\n")
     warriors = []
     for part in listing.strip().split("\n\n"):
-        head, origin, *cells = part.split("\n")
+        # The head of the load file says the size of the core and the names, which are known.
+        head, _size, _name, _author, origin, *cells = part.split("\n")
         title = re.fullmatch(r"warrior \d+: (.*), \d+ instructions", head)[1]
         warriors.append(Warrior(title, cells, int(origin.split()[1])))
     rows = [Row(*map(int, line.split()[:4])) for line in results.splitlines()]
