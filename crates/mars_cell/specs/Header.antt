@@ -4,6 +4,7 @@ use Rattle.std.specs.Char.{is_ascii_digit}
 use Rattle.std.specs.List.{list_all, starts_with}
 use Rattle.mars_cell.specs.declared.fault.LoadFault.{LoadFault}
 use Rattle.mars_cell.specs.declared.fault.LoadFault.TheVariants as fault
+use Rattle.mars_cell.specs.Limits.{largest_core, longest_name}
 use Rattle.mars_cell.specs.Numbers.{parse_digits}
 use Rattle.mars_cell.specs.ParameterFaults.{is_within}
 
@@ -37,11 +38,11 @@ tells_version bytes = elim (behind (codes ";load ") bytes) [ None ↦ false | So
 -- the size of a core that these digits spell, with no 0 before it and nothing behind it
 unfoldable pub size_of : List ℕ → Option ℕ
 size_of digits =
-    if starts_with nat_eq digits (codes "0") then None else option_and_then (λ n. if is_within 1 1048576 n then Some n else None) (parse_digits digits)
+    if starts_with nat_eq digits (codes "0") then None else option_and_then (λ n. if is_within 1 largest_core n then Some n else None) (parse_digits digits)
 
 -- at most 60 printed characters of ASCII
 unfoldable pub name_of : List ℕ → Option (List ℕ)
-name_of text = if nat_le (length text) 60 && list_all (is_within 32 126) text then Some text else None
+name_of text = if nat_le (length text) longest_name && list_all (is_within 32 126) text then Some text else None
 
 -- the first line says for which core the file was written, the next two give a name behind their word
 abbrev pub size_in : List ℕ → Option ℕ

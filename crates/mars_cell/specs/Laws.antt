@@ -2,6 +2,7 @@
 use Rattle.std.specs.Prelude.{◌≡◌, ℕ, ◌<◌, ◌≤◌, ◌^◌, false, length, map, All, Some, Ok}
 use Rattle.mars_cell.specs.declared.instruction.Cell.{Cell}
 use Rattle.mars_cell.specs.declared.numbers.Number.{Number}
+use Rattle.mars_cell.specs.Limits.{largest_core}
 use Rattle.mars_cell.specs.Cells.{FitsCore}
 use Rattle.mars_cell.specs.Grammar.{read_cell}
 use Rattle.mars_cell.specs.Load.{load}
@@ -34,5 +35,5 @@ carried m size c = record c { a = carried_number m size c.a; b = carried_number 
 
 -- a load file that was written for a core of m cells is read in another core as the same warrior, its numbers by value
 abbrev pub LoadFileIsCarried : Type 0
-LoadFileIsCarried = (m : ℕ) (p : Parameters) (w : WarriorValue) → m ≤ 1048576 → AreInRange p → IsWarrior w → length w.cells ≤ p.max_length → All (FitsCore m) w.cells
+LoadFileIsCarried = (m : ℕ) (p : Parameters) (w : WarriorValue) → m ≤ largest_core → AreInRange p → IsWarrior w → length w.cells ≤ p.max_length → All (FitsCore m) w.cells
     → load p.core_size p.max_length (load_text m w) ≡ Ok (record w { cells = map (carried m p.core_size) w.cells })

@@ -1,5 +1,6 @@
 -- Warriors.
 use Rattle.std.specs.Prelude.{ℕ, ◌<◌, ◌≤◌, List, length, All}
+use Rattle.mars_cell.specs.Limits.{longest_name}
 use Rattle.mars_cell.specs.declared.instruction.Cell.{Cell}
 
 -- a program with its name and author
@@ -11,7 +12,7 @@ pub record WarriorValue : Type 0 where
 
 -- at most 60 printed characters of ASCII
 pub record IsName (bytes : List ℕ) : Type 0 where
-  pub short : length bytes ≤ 60
+  pub short : length bytes ≤ longest_name
   pub printed : All (λ b. (32 ≤ b) × (b ≤ 126)) bytes
 
 -- what each warrior keeps: it starts at one of its cells, and its name and author are names

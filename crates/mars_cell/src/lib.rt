@@ -28,7 +28,7 @@ pub use grammar::{default_modifier, read_cell};
 pub use instruction::{Cell, Field, Mode, Modifier, Op};
 pub use load::read_load;
 pub use numbers::read_digits;
-pub use parameters::{ParamFault, Params};
+pub use parameters::{LARGEST_CORE, MOST_CYCLES, MOST_PROCESSES, ParamFault, Params};
 pub use warriors::{Warrior, WarriorFault};
 pub use words::{read_modifier, read_op};
 pub use written::write_load;

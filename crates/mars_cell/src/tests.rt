@@ -4,6 +4,7 @@ use super::*;
 use std::test::Fail;
 
 mod memory;
+mod no_memory;
 
 fn cell(op: Op, modifier: Modifier, a_mode: Mode, a: u32, b_mode: Mode, b: u32) -> Cell
     ensures { result ≡ record { op = op; modifier = modifier; a_mode = a_mode; a = a; b_mode = b_mode; b = b } }

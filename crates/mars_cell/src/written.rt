@@ -1,6 +1,7 @@
 //! Writing load files.
 ghost use Rattle.std.specs.Prelude.{◌≡◌, ◌≤◌, ◌++◌, All, IfOk, OnOk, decimal, flat_map, map};
 ghost use Rattle.mars_cell.specs.Cells.{FitsCore};
+ghost use Rattle.mars_cell.specs.Limits.{largest_core};
 ghost use Rattle.mars_cell.specs.Text.{cell_text};
 ghost use Rattle.mars_cell.specs.Written.{load_text, with_newline};
 
@@ -53,7 +54,7 @@ fn push_cells(text: &mut Vec<u8>, cells: &[Cell], core_size: u32) -> Result<(), 
 /// Its lines, each ended by LF, are `;load 2 ` and the size of the core, `;name ` and the warrior's name, `;author ` and
 /// the author's, `ORG ` and the start, then each cell's text. Only want of memory refuses it.
 pub fn write_load(alloc: Global, warrior: &Warrior, core_size: u32) -> Result<Vec<u8>, AllocError>
-    requires size { core_size ≤ 1048576 }
+    requires size { core_size ≤ largest_core }
     requires fits { All (FitsCore core_size) warrior.now.cells }
     ensures { IfOk result (λ text. text.items ≡ load_text core_size warrior.now) }
 {

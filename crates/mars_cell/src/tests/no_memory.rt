@@ -1,0 +1,86 @@
+//! Calls that take no memory. Each test makes its objects, asks for memory once more, and holds whether that and all that
+//! comes after it is refused or not: scripts/refuse-memory refuses all requests from each on. Where the objects themselves
+//! are refused, there is nothing to show.
+ghost use Rattle.std.specs.Prelude.{IfSome, string_bytes};
+ghost use Rattle.mars_cell.specs.Warriors.{IsName};
+
+use super::{cell, sizes};
+use crate::{
+    Cell, Mode, Modifier, Op, ParamFault, Params, Warrior, WarriorFault, default_modifier,
+    read_cell, read_modifier, read_op,
+};
+use std::alloc::Global;
+use std::test::Fail;
+
+/// Asks for memory, which is the first request of all that are refused.
+fn ask(alloc: Global) {
+    let _asked: Result<Vec<u64>, _> = Vec::with_capacity(alloc, 1);
+}
+
+#[test]
+fn words_and_cells(rt: HostRuntime) {
+    ask(rt.alloc());
+    let add = cell(Op::Add, Modifier::Ab, Mode::Immediate, 4, Mode::Direct, 3);
+    assert!(rt; add.text(8).as_str() == "ADD.AB #4, $3");
+    assert!(rt; read_cell(b"ADD.AB #4, $3", 8) == Some(add));
+    assert!(rt; read_cell(b"ADD.AB #4", 8).is_none());
+    assert!(rt; read_op(b"Add") == Some(Op::Add));
+    assert!(rt; read_modifier(b"aB") == Some(Modifier::Ab));
+    assert_eq!(rt;
+        default_modifier(Op::Add, Mode::Immediate, Mode::Direct),
+        Modifier::Ab
+    );
+}
+
+#[test]
+fn parameters(rt: HostRuntime) -> Result<(), Fail> {
+    ask(rt.alloc());
+    assert_eq!(rt; sizes(8, 4)?.core_size(), 8);
+    let fault = Params::new(8, 1, 1, 9, 1, 1, 1).err();
+    assert_eq!(rt; fault, Some(ParamFault::Limit));
+    Ok(())
+}
+
+/// Cells that do nothing.
+fn idle(alloc: Global, len: usize) -> Option<Vec<Cell>> {
+    let mut cells = Vec::with_capacity(alloc, len).ok()?;
+    for _ in 0..len {
+        cells.push(Cell::empty()).ok()?;
+    }
+    Some(cells)
+}
+
+/// A name.
+fn ann(alloc: Global) -> Option<String>
+    ensures { IfSome result (λ name. IsName (string_bytes name)) }
+{
+    match String::from_str(alloc, "Ann") {
+        Ok(name) => Some(name),
+        Err(_) => None,
+    }
+}
+
+#[test]
+fn warriors(rt: HostRuntime) -> Result<(), Fail> {
+    let alloc = rt.alloc();
+    for (len, start, fault) in [
+        (2, 1, None),
+        (2, 2, Some(WarriorFault::BadOrigin)),
+        (0, 0, Some(WarriorFault::Empty)),
+    ] {
+        let (Some(name), Some(author), Some(cells)) = (ann(alloc), ann(alloc), idle(alloc, len))
+        else {
+            return Ok(());
+        };
+        ask(alloc);
+        match Warrior::new(name, author, cells, start) {
+            Ok(warrior) => {
+                assert!(rt; fault.is_none());
+                assert_eq!(rt; (warrior.name(), warrior.author()), ("Ann", "Ann"));
+                assert_eq!(rt; (warrior.cells().len(), warrior.start()), (len, start));
+            }
+            Err(found) => assert_eq!(rt; Some(found), fault),
+        }
+    }
+    Ok(())
+}
