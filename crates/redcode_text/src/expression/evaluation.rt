@@ -16,10 +16,10 @@ use std::marker::Model;
 /// What waits for the rest of an expression.
 #[derive(Clone, Copy)]
 enum Pending {
-    /// A value, and the operator that waits for its right side.
-    Value(i64, Sign),
     /// An open parenthesis, and where the unary signs before it begin and end among the tokens.
     Open(usize, usize),
+    /// A value, and the operator that waits for its right side.
+    Value(i64, Sign),
 }
 
 impl Default for Pending {
