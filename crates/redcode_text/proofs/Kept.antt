@@ -55,7 +55,7 @@ counted-kept ts st = go (nat_lt limit (st.tokens_read + length ts))
     go true = tt
     go false = refl
 
-unless-kept : (step : Step) (st : Reading) → Kept loops_of st.loops (step st) → Kept loops_of st.loops (unless_ended step st)
+unless-kept : (step : Step) (st : Reading) → Kept loops_of st.loops (step st) → Kept loops_of st.loops (unless_ended st step)
 unless-kept step st h = go st.ended
   where
     go : (c : Bool) → Kept loops_of st.loops (elim c as (λ _. Result Reading TextProblem) [ true ↦ Ok st | false ↦ step st ])
@@ -65,7 +65,7 @@ unless-kept step st h = go st.ended
 each-kept : (o : List Token → Step) → ((ts : List Token) (st : Reading) → Kept loops_of st.loops (o ts st)) → (ls : List (List Token)) (st : Reading) → Kept loops_of st.loops (each_line o ls st)
 each-kept o d [] st = refl
 each-kept o d (l ∷ ls) st =
-    kept-then loops_of st.loops (line_read st >>= tokens_counted l >>= o l) (unless_ended (each_line o ls))
+    kept-then loops_of st.loops (line_read st >>= tokens_counted l >>= o l) (λ a. unless_ended a (each_line o ls))
     (kept-then loops_of st.loops (line_read st >>= tokens_counted l) (o l) (kept-then loops_of st.loops (line_read st) (tokens_counted l) (line-kept loops_of st refl) (counted-kept l)) (d l))
     (λ a. unless-kept (each_line o ls) a (each-kept o d ls a))
 

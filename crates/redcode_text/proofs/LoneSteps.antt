@@ -4,8 +4,8 @@ use Rattle.redcode_text.specs.declared.fault.TextFault.{TextFault}
 use Rattle.redcode_text.specs.declared.fault.TextProblem.{TextProblem}
 use Rattle.redcode_text.specs.declared.fault.TextProblem.TheVariants.{UnclosedFor, RofAlone}
 use Rattle.redcode_text.specs.declared.source.row.Row as code
-use Rattle.redcode_text.specs.Expansion.{flat, unless_ended, unpaired_line}
-use Rattle.redcode_text.specs.Lines.{Predefined, Reading, line_read, plain_line}
+use Rattle.redcode_text.specs.Expansion.{flat, unpaired_line}
+use Rattle.redcode_text.specs.Lines.{Predefined, Reading, line_read, plain_line, unless_ended}
 use Rattle.redcode_text.specs.Code.Loops.{one_loop}
 use Rattle.redcode_text.specs.Outcomes.{FailsAt}
 use Rattle.redcode_text.specs.Code.Rows.{row_of}

@@ -5,8 +5,8 @@ use Rattle.redcode_text.specs.declared.fault.TextFault.{TextFault}
 use Rattle.redcode_text.specs.declared.fault.TextProblem.{TextProblem}
 use Rattle.redcode_text.specs.Tokens.{◌>>>◌, at_line}
 use Rattle.redcode_text.specs.Source.{Row, Items, Plain, Loop, begins_redcode, from_redcode, read_rows}
-use Rattle.redcode_text.specs.Lines.{Reading, Predefined, plain_line}
-use Rattle.redcode_text.specs.Expansion.{Head, flat, head_line, rounds, in_round, unless_ended}
+use Rattle.redcode_text.specs.Lines.{Reading, Predefined, plain_line, unless_ended}
+use Rattle.redcode_text.specs.Expansion.{Head, flat, head_line, rounds, in_round}
 
 -- ---- before the first `;redcode`
 

@@ -12,7 +12,7 @@ use Rattle.redcode_text.specs.Tokens.{◌>>=◌, ◌>>>◌, at_line, without_lin
 use Rattle.redcode_text.specs.Source.{Row, Items, Plain, Loop, tree_of}
 use Rattle.redcode_text.specs.Source as source
 use Rattle.redcode_text.specs.Equates.{Equate, substitution}
-use Rattle.redcode_text.specs.Lines.{Reading, Line, Assert, Predefined, predefined_value, with_current_line, name_at, is_predefined, line_read, row_tokens, tokens_before, tokens_after, name_in_front, plain_line}
+use Rattle.redcode_text.specs.Lines.{Reading, Line, Assert, Predefined, predefined_value, with_current_line, name_at, is_predefined, line_read, row_tokens, tokens_before, tokens_after, name_in_front, plain_line, unless_ended}
 
 -- ---- the head of a loop
 
@@ -69,9 +69,6 @@ abbrev pub unpaired_line : TextProblem → Reading → Result Reading TextProble
 unpaired_line problem st = line_read st >>= λ _. Err problem
 
 -- ---- the whole
-
-abbrev pub unless_ended : Reading → (Reading → Result Reading TextFault) → Result Reading TextFault
-unless_ended st rest = elim st.ended [ true ↦ Ok st | false ↦ rest st ]
 
 abbrev pub in_round : Option (List ℕ) → ℕ → Reading → Reading
 in_round counter round st = record st { loops = record { counter = counter; round = round } ∷ st.loops }

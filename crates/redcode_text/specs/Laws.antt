@@ -6,8 +6,8 @@ use Rattle.redcode_text.specs.declared.fault.TextFault.{TextFault}
 use Rattle.redcode_text.specs.Tokens.{◌>>=◌, ◌>>>◌}
 use Rattle.redcode_text.specs.Source.{Row, Items, Plain, Loop, begins_redcode, read_rows, tree_of_rows}
 use Rattle.redcode_text.specs.Equates.{equate_lines}
-use Rattle.redcode_text.specs.Lines.{Reading, Predefined, Parts, line_read, tokens_counted, parts_of, ordinary_line, plain_line}
-use Rattle.redcode_text.specs.Expansion.{Head, flat, head_line, rounds, unless_ended}
+use Rattle.redcode_text.specs.Lines.{Reading, Predefined, Parts, line_read, tokens_counted, parts_of, ordinary_line, plain_line, unless_ended}
+use Rattle.redcode_text.specs.Expansion.{Head, flat, head_line, rounds}
 
 -- lines before the first `;redcode` have no effect
 abbrev pub LinesBeforeRedcodeAreUnread : Type 0

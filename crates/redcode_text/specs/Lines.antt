@@ -217,13 +217,14 @@ behind_last [] ts = ts ∷ []
 behind_last (l ∷ []) ts = (l ++ ts) ∷ []
 behind_last (l ∷ m ∷ ls) ts = l ∷ behind_last (m ∷ ls) ts
 
-abbrev pub unless_ended : Step → Step
-unless_ended step st = elim st.ended [ true ↦ Ok st | false ↦ step st ]
+-- what follows, unless an END was read
+abbrev pub unless_ended : {E : Type 0} → Reading → (Reading → Result Reading E) → Result Reading E
+unless_ended st rest = elim st.ended [ true ↦ Ok st | false ↦ rest st ]
 
 -- the lines that come from EQU, each by the same rules as an ordinary line
 abbrev pub each_line : (List Token → Step) → List (List Token) → Step
 each_line ordinary [] st = Ok st
-each_line ordinary (l ∷ ls) st = line_read st >>= tokens_counted l >>= ordinary l >>= unless_ended (each_line ordinary ls)
+each_line ordinary (l ∷ ls) st = line_read st >>= tokens_counted l >>= ordinary l >>= λ a. unless_ended a (each_line ordinary ls)
 
 abbrev pub operation_lines : Reading → Option ℕ → Option (List (List Token))
 operation_lines st (Some n) = equate_lines st.equates n

@@ -2,8 +2,8 @@
 use Rattle.std.specs.Prelude.{◌≡◌, ℕ, ◌+◌, ◌<◌, ◌≤◌, ◌^◌, List, length, get_or, Result, Ok, Err}
 use Rattle.redcode_text.specs.declared.fault.TextFault.{TextFault}
 use Rattle.redcode_text.specs.declared.source.row.Row as code
-use Rattle.redcode_text.specs.Expansion.{flat, head_line, rof_line, rounds, unless_ended}
-use Rattle.redcode_text.specs.Lines.{Predefined, Reading}
+use Rattle.redcode_text.specs.Expansion.{flat, head_line, rof_line, rounds}
+use Rattle.redcode_text.specs.Lines.{Predefined, Reading, unless_ended}
 use Rattle.redcode_text.specs.Outcomes.{FailsAt}
 use Rattle.redcode_text.specs.Code.Rows.{row_of}
 use Rattle.redcode_text.specs.Code.Pairs.{here_from}
