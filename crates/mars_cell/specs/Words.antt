@@ -1,5 +1,6 @@
 -- The words of a cell, as they are printed and as they are read.
-use Rattle.std.specs.Prelude.{ℕ, List, Option, None, Some, if◌then◌else◌, codes}
+use Rattle.std.specs.Prelude.{ℕ, List, [], ◌∷◌, Option, if◌then◌else◌, codes}
+use Rattle.std.specs.List.{find}
 use Rattle.std.specs.Str.{bytes_eq, str_eq_ignore_ascii_case}
 use Rattle.mars_cell.specs.declared.instruction.Op.{Op}
 use Rattle.mars_cell.specs.declared.instruction.Op.TheVariants as op
@@ -45,45 +46,24 @@ mode_name mode.BPredecrement = codes "<"
 mode_name mode.APostincrement = codes "}"
 mode_name mode.BPostincrement = codes ">"
 
--- the opcode of a word in either case; CMP is another spelling of SEQ
+abbrev pub ops : List Op
+ops = op.Dat ∷ op.Mov ∷ op.Add ∷ op.Sub ∷ op.Mul ∷ op.Div ∷ op.Mod ∷ op.Jmp ∷ op.Jmz ∷ op.Jmn ∷ op.Djn ∷ op.Seq ∷ op.Sne ∷ op.Slt ∷ op.Spl ∷ op.Nop ∷ []
+
+abbrev pub modifiers : List Modifier
+modifiers = modifier.A ∷ modifier.B ∷ modifier.Ab ∷ modifier.Ba ∷ modifier.F ∷ modifier.X ∷ modifier.I ∷ []
+
+abbrev pub modes : List Mode
+modes = mode.Immediate ∷ mode.Direct ∷ mode.AIndirect ∷ mode.BIndirect ∷ mode.APredecrement ∷ mode.BPredecrement ∷ mode.APostincrement ∷ mode.BPostincrement ∷ []
+
+-- the opcode whose name the word is, in either case; CMP is another name of SEQ
 unfoldable pub op_of : List ℕ → Option Op
 op_of word =
-    if str_eq_ignore_ascii_case word (codes "DAT") then Some op.Dat else
-    if str_eq_ignore_ascii_case word (codes "MOV") then Some op.Mov else
-    if str_eq_ignore_ascii_case word (codes "ADD") then Some op.Add else
-    if str_eq_ignore_ascii_case word (codes "SUB") then Some op.Sub else
-    if str_eq_ignore_ascii_case word (codes "MUL") then Some op.Mul else
-    if str_eq_ignore_ascii_case word (codes "DIV") then Some op.Div else
-    if str_eq_ignore_ascii_case word (codes "MOD") then Some op.Mod else
-    if str_eq_ignore_ascii_case word (codes "JMP") then Some op.Jmp else
-    if str_eq_ignore_ascii_case word (codes "JMZ") then Some op.Jmz else
-    if str_eq_ignore_ascii_case word (codes "JMN") then Some op.Jmn else
-    if str_eq_ignore_ascii_case word (codes "DJN") then Some op.Djn else
-    if str_eq_ignore_ascii_case word (codes "SEQ") then Some op.Seq else
-    if str_eq_ignore_ascii_case word (codes "CMP") then Some op.Seq else
-    if str_eq_ignore_ascii_case word (codes "SNE") then Some op.Sne else
-    if str_eq_ignore_ascii_case word (codes "SLT") then Some op.Slt else
-    if str_eq_ignore_ascii_case word (codes "SPL") then Some op.Spl else
-    if str_eq_ignore_ascii_case word (codes "NOP") then Some op.Nop else None
+    let name = if str_eq_ignore_ascii_case word (codes "CMP") then codes "SEQ" else word in find (λ o. str_eq_ignore_ascii_case name (op_name o)) ops
 
--- the modifier of a word in either case
+-- the modifier whose name the word is, in either case
 unfoldable pub modifier_of : List ℕ → Option Modifier
-modifier_of word =
-    if str_eq_ignore_ascii_case word (codes "A") then Some modifier.A else
-    if str_eq_ignore_ascii_case word (codes "B") then Some modifier.B else
-    if str_eq_ignore_ascii_case word (codes "AB") then Some modifier.Ab else
-    if str_eq_ignore_ascii_case word (codes "BA") then Some modifier.Ba else
-    if str_eq_ignore_ascii_case word (codes "F") then Some modifier.F else
-    if str_eq_ignore_ascii_case word (codes "X") then Some modifier.X else
-    if str_eq_ignore_ascii_case word (codes "I") then Some modifier.I else None
+modifier_of word = find (λ m. str_eq_ignore_ascii_case word (modifier_name m)) modifiers
 
+-- the mode whose byte the word is
 unfoldable pub mode_of : List ℕ → Option Mode
-mode_of word =
-    if bytes_eq word (codes "#") then Some mode.Immediate else
-    if bytes_eq word (codes "$") then Some mode.Direct else
-    if bytes_eq word (codes "*") then Some mode.AIndirect else
-    if bytes_eq word (codes "@") then Some mode.BIndirect else
-    if bytes_eq word (codes "{") then Some mode.APredecrement else
-    if bytes_eq word (codes "<") then Some mode.BPredecrement else
-    if bytes_eq word (codes "}") then Some mode.APostincrement else
-    if bytes_eq word (codes ">") then Some mode.BPostincrement else None
+mode_of word = find (λ m. bytes_eq (mode_name m) word) modes

@@ -6,6 +6,26 @@ ghost use Rattle.mars_cell.specs.Words.{op_name, modifier_name, mode_name, op_of
 use crate::instruction::{Mode, Modifier, Op};
 
 impl Op {
+    /// All opcodes.
+    const ALL: [Op; 16] = [
+        Op::Dat,
+        Op::Mov,
+        Op::Add,
+        Op::Sub,
+        Op::Mul,
+        Op::Div,
+        Op::Mod,
+        Op::Jmp,
+        Op::Jmz,
+        Op::Jmn,
+        Op::Djn,
+        Op::Seq,
+        Op::Sne,
+        Op::Slt,
+        Op::Spl,
+        Op::Nop,
+    ];
+
     /// The opcode's name of three letters.
     pub(crate) fn name(self) -> &'static str
         ensures value { result.now ≡ op_name self }
@@ -33,6 +53,17 @@ impl Op {
 }
 
 impl Modifier {
+    /// All modifiers.
+    const ALL: [Modifier; 7] = [
+        Modifier::A,
+        Modifier::B,
+        Modifier::Ab,
+        Modifier::Ba,
+        Modifier::F,
+        Modifier::X,
+        Modifier::I,
+    ];
+
     /// The modifier's name of one or two letters.
     pub(crate) fn name(self) -> &'static str
         ensures value { result.now ≡ modifier_name self }
@@ -51,6 +82,18 @@ impl Modifier {
 }
 
 impl Mode {
+    /// All modes.
+    const ALL: [Mode; 8] = [
+        Mode::Immediate,
+        Mode::Direct,
+        Mode::AIndirect,
+        Mode::BIndirect,
+        Mode::APredecrement,
+        Mode::BPredecrement,
+        Mode::APostincrement,
+        Mode::BPostincrement,
+    ];
+
     /// The mode's byte, which stands before a number.
     pub(crate) fn name(self) -> &'static str
         ensures value { result.now ≡ mode_name self }
@@ -76,48 +119,16 @@ pub fn is_word(part: &[u8], word: &[u8]) -> bool
     part.eq_ignore_ascii_case(word)
 }
 
-/// The opcode that a word names, in either case.
+/// The opcode that a word names, in either case; `CMP` is another name of `SEQ`.
 #[tactic(auto, unfolding(crate::specs::Words::op_of))]
 pub fn read_op(word: &[u8]) -> Option<Op>
     ensures { result ≡ op_of word.now }
 {
-    if is_word(word, b"DAT") {
-        Some(Op::Dat)
-    } else if is_word(word, b"MOV") {
-        Some(Op::Mov)
-    } else if is_word(word, b"ADD") {
-        Some(Op::Add)
-    } else if is_word(word, b"SUB") {
-        Some(Op::Sub)
-    } else if is_word(word, b"MUL") {
-        Some(Op::Mul)
-    } else if is_word(word, b"DIV") {
-        Some(Op::Div)
-    } else if is_word(word, b"MOD") {
-        Some(Op::Mod)
-    } else if is_word(word, b"JMP") {
-        Some(Op::Jmp)
-    } else if is_word(word, b"JMZ") {
-        Some(Op::Jmz)
-    } else if is_word(word, b"JMN") {
-        Some(Op::Jmn)
-    } else if is_word(word, b"DJN") {
-        Some(Op::Djn)
-    } else if is_word(word, b"SEQ") {
-        Some(Op::Seq)
-    } else if is_word(word, b"CMP") {
-        Some(Op::Seq)
-    } else if is_word(word, b"SNE") {
-        Some(Op::Sne)
-    } else if is_word(word, b"SLT") {
-        Some(Op::Slt)
-    } else if is_word(word, b"SPL") {
-        Some(Op::Spl)
-    } else if is_word(word, b"NOP") {
-        Some(Op::Nop)
-    } else {
-        None
-    }
+    let word = if is_word(word, b"CMP") { b"SEQ" } else { word };
+    Op::ALL
+        .iter()
+        .copied()
+        .find(|op| is_word(word, op.name().as_bytes()))
 }
 
 /// The modifier that a word names, in either case.
@@ -125,23 +136,10 @@ pub fn read_op(word: &[u8]) -> Option<Op>
 pub fn read_modifier(word: &[u8]) -> Option<Modifier>
     ensures { result ≡ modifier_of word.now }
 {
-    if is_word(word, b"A") {
-        Some(Modifier::A)
-    } else if is_word(word, b"B") {
-        Some(Modifier::B)
-    } else if is_word(word, b"AB") {
-        Some(Modifier::Ab)
-    } else if is_word(word, b"BA") {
-        Some(Modifier::Ba)
-    } else if is_word(word, b"F") {
-        Some(Modifier::F)
-    } else if is_word(word, b"X") {
-        Some(Modifier::X)
-    } else if is_word(word, b"I") {
-        Some(Modifier::I)
-    } else {
-        None
-    }
+    Modifier::ALL
+        .iter()
+        .copied()
+        .find(|modifier| is_word(word, modifier.name().as_bytes()))
 }
 
 /// The mode of a byte.
@@ -149,23 +147,8 @@ pub fn read_modifier(word: &[u8]) -> Option<Modifier>
 pub fn read_mode(word: &[u8]) -> Option<Mode>
     ensures { result ≡ mode_of word.now }
 {
-    if word == b"#".as_slice() {
-        Some(Mode::Immediate)
-    } else if word == b"$".as_slice() {
-        Some(Mode::Direct)
-    } else if word == b"*".as_slice() {
-        Some(Mode::AIndirect)
-    } else if word == b"@".as_slice() {
-        Some(Mode::BIndirect)
-    } else if word == b"{".as_slice() {
-        Some(Mode::APredecrement)
-    } else if word == b"<".as_slice() {
-        Some(Mode::BPredecrement)
-    } else if word == b"}".as_slice() {
-        Some(Mode::APostincrement)
-    } else if word == b">".as_slice() {
-        Some(Mode::BPostincrement)
-    } else {
-        None
-    }
+    Mode::ALL
+        .iter()
+        .copied()
+        .find(|mode| mode.name().as_bytes() == word)
 }
