@@ -10,35 +10,25 @@ use crate::characters::is_word;
 use crate::names::predefined::Names;
 use crate::reader::Reading;
 
+/// The words that are operations by themselves.
+const OPERATIONS: [&[u8]; 25] = [
+    b"dat", b"mov", b"add", b"sub", b"mul", b"div", b"mod", b"jmp", b"jmz", b"jmn", b"djn", b"seq",
+    b"sne", b"slt", b"spl", b"nop", b"cmp", b"org", b"end", b"equ", b"for", b"rof", b"ldp", b"stp",
+    b"pin",
+];
+
+/// Whether a name is one of some words, in either case.
+fn is_among(name: &[u8], words: &[&[u8]]) -> bool
+    ensures { result ≡ list_any (λ word. str_eq_ignore_ascii_case name.now word.now) words.now }
+{
+    words.iter().any(|word| is_word(name, word))
+}
+
 /// Whether a word is an operation by itself, in either case.
 fn is_operation_word(name: &[u8]) -> bool
     ensures { result ≡ list_any (str_eq_ignore_ascii_case name.now) operations }
 {
-    is_word(name, b"dat")
-        || is_word(name, b"mov")
-        || is_word(name, b"add")
-        || is_word(name, b"sub")
-        || is_word(name, b"mul")
-        || is_word(name, b"div")
-        || is_word(name, b"mod")
-        || is_word(name, b"jmp")
-        || is_word(name, b"jmz")
-        || is_word(name, b"jmn")
-        || is_word(name, b"djn")
-        || is_word(name, b"seq")
-        || is_word(name, b"sne")
-        || is_word(name, b"slt")
-        || is_word(name, b"spl")
-        || is_word(name, b"nop")
-        || is_word(name, b"cmp")
-        || is_word(name, b"org")
-        || is_word(name, b"end")
-        || is_word(name, b"equ")
-        || is_word(name, b"for")
-        || is_word(name, b"rof")
-        || is_word(name, b"ldp")
-        || is_word(name, b"stp")
-        || is_word(name, b"pin")
+    is_among(name, &OPERATIONS)
 }
 
 impl Reading {
