@@ -1,5 +1,6 @@
 -- What a line asks for.
-use Rattle.std.specs.Prelude.{ℕ, ◌==◌, List, length, Option, Some, None, option_map, unwrap_or, if◌then◌else◌, codes}
+use Rattle.std.specs.Prelude.{ℕ, ◌==◌, List, [], ◌∷◌, length, Option, Some, None, option_map, unwrap_or, if◌then◌else◌, codes}
+use Rattle.std.specs.List.{find}
 use Rattle.std.specs.Str.{bytes_eq}
 use Rattle.mars_cell.specs.Grammar.{◌>>=◌, read_cell}
 use Rattle.mars_session.specs.declared.calls.Call.TheVariants as call
@@ -9,25 +10,29 @@ use Rattle.mars_app.specs.declared.request.Command.TheVariants as command
 use Rattle.mars_app.specs.declared.request.Request.{Request}
 use Rattle.mars_app.specs.declared.request.Request.TheVariants as request
 
--- the command that a word names
-unfoldable pub command_of : List ℕ → Option Command
-command_of w =
-    if bytes_eq w (codes "step") then Some command.Step
-    else if bytes_eq w (codes "run") then Some command.Run
-    else if bytes_eq w (codes "until") then Some command.Until
-    else if bytes_eq w (codes "edit") then Some command.Edit
-    else if bytes_eq w (codes "fill") then Some command.Fill
-    else if bytes_eq w (codes "move") then Some command.Move
-    else if bytes_eq w (codes "kill") then Some command.Kill
-    else if bytes_eq w (codes "spawn") then Some command.Spawn
-    else if bytes_eq w (codes "undo") then Some command.Undo
-    else if bytes_eq w (codes "redo") then Some command.Redo
-    else if bytes_eq w (codes "goto") then Some command.Goto
-    else if bytes_eq w (codes "list") then Some command.List
-    else if bytes_eq w (codes "queue") then Some command.Queue
-    else if bytes_eq w (codes "show") then Some command.Show
-    else if bytes_eq w (codes "quit") then Some command.Quit
-    else None
+abbrev pub word_of : Command → List ℕ
+word_of command.Step = codes "step"
+word_of command.Run = codes "run"
+word_of command.Until = codes "until"
+word_of command.Edit = codes "edit"
+word_of command.Fill = codes "fill"
+word_of command.Move = codes "move"
+word_of command.Kill = codes "kill"
+word_of command.Spawn = codes "spawn"
+word_of command.Undo = codes "undo"
+word_of command.Redo = codes "redo"
+word_of command.Goto = codes "goto"
+word_of command.List = codes "list"
+word_of command.Queue = codes "queue"
+word_of command.Show = codes "show"
+word_of command.Quit = codes "quit"
+
+abbrev pub commands : List Command
+commands = command.Step ∷ command.Run ∷ command.Until ∷ command.Edit ∷ command.Fill ∷ command.Move ∷ command.Kill ∷ command.Spawn ∷ command.Undo ∷ command.Redo ∷ command.Goto ∷ command.List ∷ command.Queue ∷ command.Show ∷ command.Quit ∷ []
+
+-- the command whose word it is
+abbrev pub command_of : List ℕ → Option Command
+command_of w = find (λ c. bytes_eq (word_of c) w) commands
 
 -- x, where no word follows
 unfoldable pub alone : {X : Type 0} → X → List ℕ → Option X

@@ -2,7 +2,7 @@
 ghost use Rattle.std.specs.Prelude.{◌≡◌, ◌≤◌, false, IfOk};
 ghost use Rattle.clap.specs.Simple.{app_of};
 ghost use Rattle.clap.specs.Walk.{rule_of};
-ghost use Rattle.mars_app.specs.CommandLine.{contest_rules, core_rules, debugger_rules, file_rule, flag_rule, mars, number_rule, output_rules, with_rules};
+ghost use Rattle.mars_app.specs.CommandLine.{contest_rules, core_rules, debugger_rules, file_rule, flag_rule, help_rule, mars, number_rule, output_rules, score_rule, with_rules};
 
 use clap::{Arg, ArgAction, Command, value_parser};
 use std::alloc::{AllocError, Global};
@@ -32,11 +32,7 @@ pub fn command<'a>(alloc: Global) -> Result<Command<'a>, AllocError>
         .after_help(AFTER_HELP)
         .no_binary_name(true)
         .disable_help_flag(true)
-        .arg(
-            Arg::new(alloc, "FILE").required(true).num_args(1..).help(
-                "1 to 16 warriors: sources of Redcode, and load files, whose names end in .load",
-            ),
-        )?;
+        .arg(files(alloc))?;
     let command = with_core(alloc, with_contest(alloc, command)?)?;
     with_output(alloc, with_debugger(alloc, command)?)
 }
@@ -69,13 +65,7 @@ fn with_contest<'a>(alloc: Global, command: Command<'a>) -> Result<Command<'a>, 
             .long("seed")
             .default_value("1"),
         )?
-        .arg(
-            Arg::new(alloc, "score")
-                .long("score")
-                .value_name("FORMULA")
-                .default_value("(W*W-1)/S")
-                .help("What a survivor gets, W being the warriors and S the survivors"),
-        )?
+        .arg(score(alloc).long("score").default_value("(W*W-1)/S"))?
         .arg(flag(alloc, "league", "Every pair of warriors fights").long("league"))
 }
 
@@ -169,12 +159,37 @@ fn with_output<'a>(alloc: Global, command: Command<'a>) -> Result<Command<'a>, A
         .arg(flag(alloc, "brief", "No listing of the warriors").short('b'))?
         .arg(flag(alloc, "sorted", "Results sorted by points").short('o'))?
         .arg(flag(alloc, "load", "Writes the load file of the one warrior").long("load"))?
-        .arg(
-            Arg::new(alloc, "help")
-                .long("help")
-                .action(ArgAction::Help)
-                .help("Prints this help"),
-        )
+        .arg(help(alloc).long("help"))
+}
+
+/// The names of the warriors' files.
+fn files<'a>(alloc: Global) -> Arg<'a>
+    ensures rule { rule_of result ≡ file_rule }
+    ensures local { result.global ≡ false }
+{
+    Arg::new(alloc, "FILE").required(true).num_args(1..).help(
+        "1 to 16 warriors: sources of Redcode, and load files, whose names end in .load",
+    )
+}
+
+/// The word with the formula of points.
+fn score<'a>(alloc: Global) -> Arg<'a>
+    ensures rule { rule_of result ≡ score_rule }
+    ensures local { result.global ≡ false }
+{
+    Arg::new(alloc, "score").value_name("FORMULA").help(
+        "What a survivor gets, W being the warriors and S the survivors",
+    )
+}
+
+/// The word for the help.
+fn help<'a>(alloc: Global) -> Arg<'a>
+    ensures rule { rule_of result ≡ help_rule }
+    ensures local { result.global ≡ false }
+{
+    Arg::new(alloc, "help")
+        .action(ArgAction::Help)
+        .help("Prints this help")
 }
 
 /// A word without a value.

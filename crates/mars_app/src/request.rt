@@ -1,6 +1,6 @@
 //! What a line of the debugger asks for.
 ghost use Rattle.std.specs.Prelude.{◌≡◌, ◌<◌, option_map};
-ghost use Rattle.mars_app.specs.Requests.{command_of, alone, one_number, two_numbers, three_numbers, with_arguments, request_of};
+ghost use Rattle.mars_app.specs.Requests.{command_of, word_of, alone, one_number, two_numbers, three_numbers, with_arguments, request_of};
 
 use crate::words::{split_number, split_word};
 use mars_cell::read_cell;
@@ -40,43 +40,58 @@ pub enum Request {
     Unknown,
 }
 
-#[tactic(auto, unfolding(crate::specs::Requests::command_of))]
+impl Command {
+    /// All commands.
+    const ALL: [Command; 15] = [
+        Command::Step,
+        Command::Run,
+        Command::Until,
+        Command::Edit,
+        Command::Fill,
+        Command::Move,
+        Command::Kill,
+        Command::Spawn,
+        Command::Undo,
+        Command::Redo,
+        Command::Goto,
+        Command::List,
+        Command::Queue,
+        Command::Show,
+        Command::Quit,
+    ];
+
+    /// The word of the command.
+    fn word(self) -> &'static str
+        ensures { result.now ≡ word_of self }
+    {
+        match self {
+            Command::Step => "step",
+            Command::Run => "run",
+            Command::Until => "until",
+            Command::Edit => "edit",
+            Command::Fill => "fill",
+            Command::Move => "move",
+            Command::Kill => "kill",
+            Command::Spawn => "spawn",
+            Command::Undo => "undo",
+            Command::Redo => "redo",
+            Command::Goto => "goto",
+            Command::List => "list",
+            Command::Queue => "queue",
+            Command::Show => "show",
+            Command::Quit => "quit",
+        }
+    }
+}
+
+/// The command that a word names.
 fn read_command(word: &[u8]) -> Option<Command>
     ensures { result ≡ command_of word.now }
 {
-    if word == b"step".as_slice() {
-        Some(Command::Step)
-    } else if word == b"run".as_slice() {
-        Some(Command::Run)
-    } else if word == b"until".as_slice() {
-        Some(Command::Until)
-    } else if word == b"edit".as_slice() {
-        Some(Command::Edit)
-    } else if word == b"fill".as_slice() {
-        Some(Command::Fill)
-    } else if word == b"move".as_slice() {
-        Some(Command::Move)
-    } else if word == b"kill".as_slice() {
-        Some(Command::Kill)
-    } else if word == b"spawn".as_slice() {
-        Some(Command::Spawn)
-    } else if word == b"undo".as_slice() {
-        Some(Command::Undo)
-    } else if word == b"redo".as_slice() {
-        Some(Command::Redo)
-    } else if word == b"goto".as_slice() {
-        Some(Command::Goto)
-    } else if word == b"list".as_slice() {
-        Some(Command::List)
-    } else if word == b"queue".as_slice() {
-        Some(Command::Queue)
-    } else if word == b"show".as_slice() {
-        Some(Command::Show)
-    } else if word == b"quit".as_slice() {
-        Some(Command::Quit)
-    } else {
-        None
-    }
+    Command::ALL
+        .iter()
+        .copied()
+        .find(|command| command.word().as_bytes() == word)
 }
 
 /// The request, where no word follows.

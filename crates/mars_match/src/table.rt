@@ -1,5 +1,6 @@
 //! Tables of results.
-ghost use Rattle.std.specs.Prelude.{◌≡◌, ◌≤◌, length};
+ghost use Rattle.std.specs.Prelude.{◌≡◌};
+ghost use Rattle.mars_cell.specs.Warriors.{IsName};
 
 use arrayvec::ArrayString;
 use std::marker::Model;
@@ -16,7 +17,7 @@ pub struct Row {
 }
 
 impl Model for Row {
-    ghost use Rattle.mars_match.specs.Tables.{RowValue};
+    ghost use Rattle.mars_match.specs.Tables.{IsRow, RowValue};
 
     ghost Value = { RowValue };
 
@@ -28,14 +29,23 @@ impl Model for Row {
       ties = r.ties;
       losses = r.losses;
     } };
+
+    ghost invariant = { λ r. IsRow (record {
+      name = r.name.bytes;
+      author = r.author.bytes;
+      points = r.points;
+      wins = r.wins;
+      ties = r.ties;
+      losses = r.losses;
+    }) };
 }
 
 impl Row {
-    /// A row of a warrior's name and author, of at most 60 bytes each, its points, and how often it survived alone, with
+    /// A row of a warrior's name and author, of at most 60 bytes from 32 to 126 each, its points, and how often it survived alone, with
     /// others, and not.
     pub fn new(name: &str, author: &str, points: i64, wins: u64, ties: u64, losses: u64) -> Row
-        requires name { length name.now ≤ 60 }
-        requires author { length author.now ≤ 60 }
+        requires name { IsName name.now }
+        requires author { IsName author.now }
         ensures { result ≡ record {
           name = name.now;
           author = author.now;
@@ -45,31 +55,31 @@ impl Row {
           losses = losses;
         } }
     {
-        let mut row = Row {
-            name: ArrayString::new(),
-            author: ArrayString::new(),
+        let (mut row_name, mut row_author) = (ArrayString::new(), ArrayString::new());
+        row_name.push_str(name);
+        row_author.push_str(author);
+        Row {
+            name: row_name,
+            author: row_author,
             points,
             wins,
             ties,
             losses,
-        };
-        row.name.push_str(name);
-        row.author.push_str(author);
-        row
+        }
     }
 
-    /// The name, at most 60 bytes.
+    /// The name: at most 60 bytes, each from 32 to 126.
     pub fn name(&self) -> &str
         ensures value { result.now ≡ self.now.name }
-        ensures short { length result.now ≤ 60 }
+        ensures is_name { IsName self.now.name }
     {
         self.name.as_str()
     }
 
-    /// The author's name, at most 60 bytes.
+    /// The author's name: at most 60 bytes, each from 32 to 126.
     pub fn author(&self) -> &str
         ensures value { result.now ≡ self.now.author }
-        ensures short { length result.now ≤ 60 }
+        ensures is_name { IsName self.now.author }
     {
         self.author.as_str()
     }

@@ -115,21 +115,6 @@ fn written(
     (writer.bytes, done)
 }
 
-/// A table of names, authors, points, wins, ties and losses.
-fn table_of(alloc: Global, rows: &[(&str, &str, i64, [u64; 3])]) -> Result<Table, Fail> {
-    let mut table = Table {
-        rows: Vec::new(alloc),
-    };
-    for &(name, author, points, [wins, ties, losses]) in rows {
-        if name.len() > 60 || author.len() > 60 {
-            return Err("name".into());
-        }
-        let row = Row::new(name, author, points, wins, ties, losses);
-        table.rows.push(row).ok().ok_or("memory")?;
-    }
-    Ok(table)
-}
-
 const LEAGUE: &str = "  points   wins   ties losses  warrior
        4      1      1      0  Imp by Dewdney
        4      1      1      0  Stay by Anonymous
@@ -138,13 +123,14 @@ const LEAGUE: &str = "  points   wins   ties losses  warrior
 
 #[test]
 fn results(rt: HostRuntime) -> Result<(), Fail> {
-    let rows: [(&str, &str, i64, [u64; 3]); 3] = [
-        ("Dead", "Anonymous", 0, [0, 0, 2]),
-        ("Imp", "Dewdney", 4, [1, 1, 0]),
-        ("Stay", "Anonymous", 4, [1, 1, 0]),
-    ];
-    let table = table_of(rt.alloc(), &rows)?;
-    let (text, done) = written(rt.alloc(), &table, true, 1000, 1000, false);
+    let alloc = rt.alloc();
+    let rows = vec![in alloc;
+        Row::new("Dead", "Anonymous", 0, 0, 0, 2),
+        Row::new("Imp", "Dewdney", 4, 1, 1, 0),
+        Row::new("Stay", "Anonymous", 4, 1, 1, 0),
+    ]?;
+    let table = Table { rows };
+    let (text, done) = written(alloc, &table, true, 1000, 1000, false);
     assert_eq!(rt; done, Ok(()));
     assert_eq!(rt; text.as_slice(), LEAGUE.as_bytes());
     let loaded = "  points   wins   ties losses  warrior
@@ -152,7 +138,7 @@ fn results(rt: HostRuntime) -> Result<(), Fail> {
        4      1      1      0  Imp by Dewdney
        4      1      1      0  Stay by Anonymous
 ";
-    let (text, done) = written(rt.alloc(), &table, false, 7, 1000, false);
+    let (text, done) = written(alloc, &table, false, 7, 1000, false);
     assert_eq!(rt; done, Ok(()));
     assert_eq!(rt; text.as_slice(), loaded.as_bytes());
     Ok(())
@@ -160,12 +146,13 @@ fn results(rt: HostRuntime) -> Result<(), Fail> {
 
 #[test]
 fn wide_results(rt: HostRuntime) -> Result<(), Fail> {
-    let rows: [(&str, &str, i64, [u64; 3]); 2] = [
-        ("A", "", i64::MIN, [1000000, 0, 0]),
-        ("B", "C", 123456789, [0, 0, u64::MAX]),
-    ];
-    let table = table_of(rt.alloc(), &rows)?;
-    let (text, _) = written(rt.alloc(), &table, true, 1000, 1000, false);
+    let alloc = rt.alloc();
+    let rows = vec![in alloc;
+        Row::new("A", "", i64::MIN, 1000000, 0, 0),
+        Row::new("B", "C", 123456789, 0, 0, u64::MAX),
+    ]?;
+    let table = Table { rows };
+    let (text, _) = written(alloc, &table, true, 1000, 1000, false);
     let wide = "  points   wins   ties losses  warrior
 123456789      0      0 18446744073709551615  B by C
 -9223372036854775808 1000000      0      0  A by \n";
@@ -175,21 +162,22 @@ fn wide_results(rt: HostRuntime) -> Result<(), Fail> {
 
 #[test]
 fn failing_writers(rt: HostRuntime) -> Result<(), Fail> {
-    let rows: [(&str, &str, i64, [u64; 3]); 3] = [
-        ("Imp", "Dewdney", 4, [1, 1, 0]),
-        ("Stay", "Anonymous", 4, [1, 1, 0]),
-        ("Dead", "Anonymous", 0, [0, 0, 2]),
-    ];
-    let table = table_of(rt.alloc(), &rows)?;
+    let alloc = rt.alloc();
+    let rows = vec![in alloc;
+        Row::new("Imp", "Dewdney", 4, 1, 1, 0),
+        Row::new("Stay", "Anonymous", 4, 1, 1, 0),
+        Row::new("Dead", "Anonymous", 0, 0, 0, 2),
+    ]?;
+    let table = Table { rows };
     let all = LEAGUE.as_bytes();
     for room in 0..all.len() {
         for (size, sorted, idles) in [(1000, false, false), (3, true, false), (1, true, true)] {
-            let (text, done) = written(rt.alloc(), &table, sorted, size, room, idles);
+            let (text, done) = written(alloc, &table, sorted, size, room, idles);
             assert_eq!(rt; done, Err(WriteFault), "room for {room}");
             assert_eq!(rt; text.as_slice(), &all[..room], "room for {room}");
         }
     }
-    let (text, done) = written(rt.alloc(), &table, false, 1000, all.len(), false);
+    let (text, done) = written(alloc, &table, false, 1000, all.len(), false);
     assert_eq!(rt; done, Ok(()));
     assert_eq!(rt; text.as_slice(), all);
     Ok(())

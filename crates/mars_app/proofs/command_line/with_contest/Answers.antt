@@ -1,7 +1,7 @@
 use Rattle.std.proofs.Common.{ap, codes, ◌≡◌}
 use Rattle.clap.specs.Simple.{app_of, app_of_fields}
 use Rattle.mars_app.specs.CommandLine.{flag_rule, long, number_rule, or_else, score_rule, short}
-use Rattle.mars_app.proofs.Adding.{HasRule, added, added_last, defaulted, explained, lengthened, shortened, value_named}
+use Rattle.mars_app.proofs.Adding.{HasRule, added, added_last, defaulted, lengthened, shortened}
 use Rattle.mars_app.proofs.command_line.with_contest.Goals as goal
 
 pub returns : goal.returns
@@ -16,9 +16,9 @@ returns c =
     let word_3 : HasRule c.default_value-2.result (long (or_else (codes "1") (number_rule (codes "seed") 2147483646))) =
     defaulted _ _ _ _ c.default_value-2.ensures (lengthened _ _ _ _ c.long.ensures (record { is = c.number-3.ensures.rule; local = c.number-3.ensures.local })) in
     let with_3 = added _ c.default_value-2.result _ _ _ c.in_ok-arg-3.ensures word_3 with_2 in
-    let word_4 : HasRule c.help.result (long (or_else (codes "(W*W-1)/S") score_rule)) =
-    explained _ _ _ _ c.help.ensures (defaulted _ _ _ _ c.default_value-3.ensures (value_named _ _ _ _ c.value_name.ensures (lengthened _ _ _ _ c.long-2.ensures (record { is = c.new.ensures.rule; local = c.new.ensures.optional.1 })))) in
-    let with_4 = added _ c.help.result _ _ _ c.in_ok-arg-4.ensures word_4 with_3 in
+    let word_4 : HasRule c.default_value-3.result (long (or_else (codes "(W*W-1)/S") score_rule)) =
+    defaulted _ _ _ _ c.default_value-3.ensures (lengthened _ _ _ _ c.long-2.ensures (record { is = c.score.ensures.rule; local = c.score.ensures.local })) in
+    let with_4 = added _ c.default_value-3.result _ _ _ c.in_ok-arg-4.ensures word_4 with_3 in
     let word_5 : HasRule c.long-3.result (long (flag_rule (codes "league"))) =
     lengthened _ _ _ _ c.long-3.ensures (record { is = c.flag.ensures.rule; local = c.flag.ensures.local }) in
     added_last _ c.long-3.result c.arg-5.result _ _ c.arg-5.ensures word_5 with_4

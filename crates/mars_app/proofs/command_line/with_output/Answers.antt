@@ -1,4 +1,4 @@
-use Rattle.std.proofs.Common.{rules, ap, codes, ◌≡◌}
+use Rattle.std.proofs.Common.{ap, codes, ◌≡◌}
 use Rattle.clap.specs.Simple.{app_of, app_of_fields}
 use Rattle.mars_app.specs.CommandLine.{flag_rule, help_rule, long, short}
 use Rattle.mars_app.proofs.Adding.{HasRule, added, added_last, lengthened, shortened}
@@ -16,6 +16,6 @@ returns c =
     let word_3 : HasRule c.long.result (long (flag_rule (codes "load"))) =
     lengthened _ _ _ _ c.long.ensures (record { is = c.flag-3.ensures.rule; local = c.flag-3.ensures.local }) in
     let with_3 = added _ c.long.result _ _ _ c.in_ok-arg-3.ensures word_3 with_2 in
-    let word_4 : HasRule c.help.result (long help_rule) =
-    record { is = search rules; local = search rules } in
-    added_last _ c.help.result c.arg-4.result _ _ c.arg-4.ensures word_4 with_3
+    let word_4 : HasRule c.long-2.result (long help_rule) =
+    lengthened _ _ _ _ c.long-2.ensures (record { is = c.help.ensures.rule; local = c.help.ensures.local }) in
+    added_last _ c.long-2.result c.arg-4.result _ _ c.arg-4.ensures word_4 with_3
