@@ -10,35 +10,24 @@ use crate::characters::is_word;
 use crate::names::predefined::Names;
 use crate::reader::Reading;
 
+/// The words that are operations by themselves, in either case.
+const OPERATIONS: [&str; 25] = [
+    "dat", "mov", "add", "sub", "mul", "div", "mod", "jmp", "jmz", "jmn", "djn", "seq", "sne",
+    "slt", "spl", "nop", "cmp", "org", "end", "equ", "for", "rof", "ldp", "stp", "pin",
+];
+
+/// Whether a word is one of these, in either case.
+fn is_among(word: &[u8], words: &[&str]) -> bool
+    ensures { result ≡ list_any (λ other. str_eq_ignore_ascii_case word.now other.now) words.now }
+{
+    words.iter().any(|other| is_word(word, other.as_bytes()))
+}
+
 /// Whether a word is an operation by itself, in either case.
 fn is_operation_word(name: &[u8]) -> bool
     ensures { result ≡ list_any (str_eq_ignore_ascii_case name.now) operations }
 {
-    is_word(name, b"dat")
-        || is_word(name, b"mov")
-        || is_word(name, b"add")
-        || is_word(name, b"sub")
-        || is_word(name, b"mul")
-        || is_word(name, b"div")
-        || is_word(name, b"mod")
-        || is_word(name, b"jmp")
-        || is_word(name, b"jmz")
-        || is_word(name, b"jmn")
-        || is_word(name, b"djn")
-        || is_word(name, b"seq")
-        || is_word(name, b"sne")
-        || is_word(name, b"slt")
-        || is_word(name, b"spl")
-        || is_word(name, b"nop")
-        || is_word(name, b"cmp")
-        || is_word(name, b"org")
-        || is_word(name, b"end")
-        || is_word(name, b"equ")
-        || is_word(name, b"for")
-        || is_word(name, b"rof")
-        || is_word(name, b"ldp")
-        || is_word(name, b"stp")
-        || is_word(name, b"pin")
+    is_among(name, &OPERATIONS)
 }
 
 impl Reading {
