@@ -18,10 +18,23 @@ use indexmap::IndexMap;
 use std::alloc::{AllocError, Global};
 use std::marker::Model;
 
+/// Notes the place of a name.
+fn note_place(places: &mut Vec<usize>, name: usize, place: usize) -> Result<(), AllocError> {
+    if places.len() <= name {
+        places.resize(name.saturating_add(1), 0)?;
+    }
+    if let Some(noted) = places.get_mut(name) {
+        *noted = place;
+    }
+    Ok(())
+}
+
 /// The EQU names, in the order of their definitions, each with its lines.
 #[derive(Drop)]
 pub struct Equates {
     lines: IndexMap<usize, Vec<Vec<Token>>>,
+    /// Where each EQU name stands among them: guesses, which are tested.
+    places: Vec<usize>,
     /// Values that were worked out since the last change of the lines.
     known: KnownValues,
 }
@@ -46,6 +59,7 @@ impl Equates {
     {
         Equates {
             lines: IndexMap::new(alloc),
+            places: Vec::new(alloc),
             known: KnownValues::new(alloc),
         }
     }
@@ -54,7 +68,22 @@ impl Equates {
     pub fn lines_of(&self, name: usize) -> Option<&[Vec<Token>]>
         ensures { option_map (λ lines. map (λ line. line.items) lines.now) result ≡ equate_lines self.now name }
     {
+        if let Some(lines) = self.guess(name) {
+            return Some(lines);
+        }
         let lines = self.lines.get(&name)?;
+        Some(lines)
+    }
+
+    /// The same without hashing the name, where it stands at the place that was noted.
+    fn guess(&self, name: usize) -> Option<&[Vec<Token>]>
+        ensures { IfSome result (λ lines. equate_lines self.now name ≡ Some (map (λ line. line.items) lines.now)) }
+    {
+        let place = *self.places.get(name)?;
+        let (key, lines) = self.lines.get_index(place)?;
+        if *key != name {
+            return None;
+        }
         Some(lines)
     }
 }
@@ -210,6 +239,9 @@ impl Equates {
         ensures { Gives (λ _. self.new) result (Ok (self.old ++ record { name = name; lines = line.items ∷ [] } ∷ [])) }
     {
         self.known.clear();
+        if note_place(&mut self.places, name, self.lines.len()).is_err() {
+            return Err(TextProblem::OutOfMemory);
+        }
         let mut lines = Vec::new(alloc);
         let Ok(()) = lines.push(line) else {
             return Err(TextProblem::OutOfMemory);
