@@ -1,15 +1,13 @@
 //! Instructions whose cell is the same wherever they stand, so that those of the same tokens are evaluated once.
 ghost use Rattle.std.specs.Prelude.{◌≡◌, [], ◌∷◌, ◌++◌, IfSome, OnOk, OnErr, true};
-ghost use Rattle.redcode_text.specs.Expression.{kinds};
 ghost use Rattle.redcode_text.specs.Views.{predefined_of};
 ghost use Rattle.redcode_asm.specs.Code.Fixed.{AreFixed, IsFixed};
 
 use crate::sources::Source;
 use indexmap::IndexMap;
 use mars_cell::Cell;
-use redcode_text::{Line, Token, TokenKind};
+use redcode_text::{Line, are_alike, key_of};
 use std::alloc::{AllocError, Global};
-use std::hash::{DefaultHasher, Hasher};
 
 /// An instruction, and its cell.
 #[derive(Clone, Copy)]
@@ -26,46 +24,7 @@ pub struct FixedCells<'a> {
     places: IndexMap<u64, usize>,
 }
 
-fn is_same_kind(kind: TokenKind, other: TokenKind) -> bool
-    ensures { result ≡ true → kind ≡ other }
-{
-    match (kind, other) {
-        (TokenKind::Number(value), TokenKind::Number(other)) => value == other,
-        (TokenKind::Name(name), TokenKind::Name(other)) => name == other,
-        (TokenKind::Sign(sign), TokenKind::Sign(other)) => sign == other,
-        _ => false,
-    }
-}
-
-/// Whether tokens are of the same kinds, wherever they stand.
-pub fn are_alike(tokens: &[Token], others: &[Token]) -> bool
-    ensures { result ≡ true → kinds tokens.now ≡ kinds others.now }
-{
-    if tokens.len() != others.len() {
-        return false;
-    }
-    for at in 0..tokens.len() {
-        if !is_same_kind(tokens[at].kind, others[at].kind) {
-            return false;
-        }
-    }
-    true
-}
-
-/// A number for tokens, by which those of the same kinds are found again.
-pub fn key_of(tokens: &[Token]) -> u64 {
-    let mut hasher = DefaultHasher::new();
-    for token in tokens {
-        match token.kind {
-            TokenKind::Number(value) => hasher.write_i64(value),
-            TokenKind::Name(name) => hasher.write_usize(name),
-            TokenKind::Sign(sign) => hasher.write_u8(sign as u8),
-        }
-    }
-    hasher.finish()
-}
-
-/// The same for an instruction, with its operation.
+/// A number for an instruction, by which those of the same operation and tokens are found again.
 fn key_of_line(line: &Line) -> u64 {
     match line.operation {
         Some(name) => key_of(&line.rest).wrapping_add(name as u64),

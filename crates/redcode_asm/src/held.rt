@@ -3,10 +3,9 @@ ghost use Rattle.std.specs.Prelude.{◌≡◌, [], ◌∷◌, ◌++◌, OnOk, On
 ghost use Rattle.redcode_text.specs.Views.{predefined_of};
 ghost use Rattle.redcode_asm.specs.Code.Fixed.{AreHeld, IsHeld};
 
-use crate::fixed::{are_alike, key_of};
 use crate::sources::Source;
 use indexmap::IndexMap;
-use redcode_text::Assert;
+use redcode_text::{Assert, are_alike, key_of};
 use std::alloc::{AllocError, Global};
 
 /// Asserts that hold wherever they stand.

@@ -11,22 +11,15 @@ use Rattle.redcode_text.specs.Code.Problems.{Gives}
 use Rattle.redcode_text.specs.Tokens.{◌>>=◌, without_line}
 use Rattle.redcode_text.proofs.Failing.{fails-itself}
 
-gives-itself : (r : Result ℕ TextProblem) → Gives (λ n. n) r r
-gives-itself (Ok n) = refl
-gives-itself (Err e) = fails-itself ℕ e
-
 module _ (ps : Predefined) (st : Reading) where
-  abbrev valued : List Token → Result ℕ TextProblem
+  abbrev pub valued : List Token → Result ℕ TextProblem
   valued us = as_count (value_of (λ n. predefined_value (with_current_line ps st.instructions) (name_at st.names n)) (kinds us))
 
-  abbrev judged : List Token → Result ℕ TextProblem
+  abbrev pub judged : List Token → Result ℕ TextProblem
   judged us = elim (has_label ps st (kinds us)) as (λ _. Result ℕ TextProblem) [ true ↦ Err LabelInCount | false ↦ valued us ]
 
-  pub count-is : (ts us read : List Token) (r : Result ℕ TextProblem) → without_line (substitution st.equates ts) ≡ Ok us → read ≡ us → has_label ps st (kinds read) ≡ false → r ≡ valued read → Gives (λ n. n) r (count_of ps st ts)
-  count-is ts us read r h same none is =
-      let whole : r ≡ count_of ps st ts =
+  pub count-is : (ts us : List Token) (r : Result ℕ TextProblem) → without_line (substitution st.equates ts) ≡ Ok us → has_label ps st (kinds us) ≡ false → r ≡ valued us → r ≡ count_of ps st ts
+  count-is ts us r h none is =
       is
-      ∙ sym (ap (λ (b : Bool). elim b as (λ _. Result ℕ TextProblem) [ true ↦ Err LabelInCount | false ↦ valued read ]) none)
-      ∙ ap judged same
-      ∙ sym (ap (λ q. q >>= judged) h) in
-      subst (Gives (λ n. n) r) whole (gives-itself r)
+      ∙ sym (ap (λ (b : Bool). elim b as (λ _. Result ℕ TextProblem) [ true ↦ Err LabelInCount | false ↦ valued us ]) none)
+      ∙ sym (ap (λ q. q >>= judged) h)

@@ -29,6 +29,7 @@ pub mod TextSteps
 pub mod CommentSteps
 pub mod PlainSteps
 pub mod CountSteps
+pub mod KnownValues
 pub mod Kept
 pub mod LoopSteps
 pub mod LoneSteps

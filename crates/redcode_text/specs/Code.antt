@@ -1,5 +1,6 @@
 -- How the code holds and reaches what is defined. All of this serves the proofs alone.
 pub mod Problems
+pub mod Values
 pub mod Kinds
 pub mod Rows
 pub mod Runs

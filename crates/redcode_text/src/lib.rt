@@ -15,7 +15,7 @@
 //!     reader/ordinary    labels, operation, rest; where the operation is an EQU name, its lines in its place
 //! reader             all that has been read so far, within `limits`
 //! expansion          what is kept of it: a `program`
-//! names/equates      later, for each operand: EQU names -> their tokens
+//! names/equates      later, for each operand: EQU names -> their tokens; values that are kept (names/values)
 //! expression         tokens -> a value
 //! ```
 //!
@@ -37,6 +37,7 @@
 //!   `specs/Equates` defines it.
 //! - `Names` has the values of the predefined names, `Names::value_at` one of them, `NameTable` the names of a text.
 //! - `is_instruction` tells which lines are instructions, and `is_spelled` whether an operation is a word.
+//! - `are_alike` tells whether tokens are of the same kinds, and `key_of` gives a number by which such are found again.
 //! - `scan` gives the tokens and the names of a text of one line, or its first fault, exactly as `specs/Tokens` defines
 //!   them.
 //! - `check_shape` tells whether tokens have the shape of an expression, and `eval` gives the value of an expression
@@ -66,4 +67,5 @@ pub use lexer::{LineTokens, scan};
 pub use names::NameTable;
 pub use names::predefined::Names;
 pub use program::{Assert, Line, Program, is_instruction, is_spelled};
+pub use token::alike::{are_alike, key_of};
 pub use token::{Sign, Token, TokenKind};

@@ -7,6 +7,7 @@ pub mod equates;
 pub mod predefined;
 mod seed;
 pub mod set;
+pub mod values;
 
 use crate::names::seed::Seed;
 use indexmap::{IndexMap, IndexSet};

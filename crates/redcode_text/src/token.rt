@@ -1,5 +1,7 @@
 //! The tokens of a line.
 
+pub mod alike;
+
 /// A sign of one or two bytes.
 #[derive(Clone, Copy, Debug, PartialEq, Eq)]
 pub enum Sign {

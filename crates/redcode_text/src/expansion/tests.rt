@@ -306,16 +306,17 @@ fn as_many_loops_as_may_be_open(rt: HostRuntime) -> Result<(), Fail> {
     Ok(())
 }
 
-/// EQU names of which each stands for two of the one before, up to `e` and this number, and a line that uses the last.
-fn doubled(rt: HostRuntime, last: usize) -> Result<Vec<u8>, Fail> {
-    let mut source = Vec::from_slice(rt.alloc(), b"e0 EQU 1\n")?;
+/// EQU names `e0`, which stands for a leaf, up to `e` and this number, of which each stands for two of the one before, and
+/// a text behind them.
+fn doublings(rt: HostRuntime, leaf: &str, last: usize, behind: &str) -> Result<Vec<u8>, Fail> {
+    let first = format!(in rt.alloc(); "e0 EQU {leaf}\n")?;
+    let mut source = Vec::from_slice(rt.alloc(), first.as_bytes())?;
     for before in 0..last {
         let index = before + 1;
         let line = format!(in rt.alloc(); "e{index} EQU e{before}+e{before}\n")?;
         source.extend_from_slice(line.as_bytes())?;
     }
-    let use_line = format!(in rt.alloc(); "DAT e{last}\n")?;
-    source.extend_from_slice(use_line.as_bytes())?;
+    source.extend_from_slice(behind.as_bytes())?;
     Ok(source)
 }
 
@@ -331,9 +332,9 @@ fn substituted_len(rt: HostRuntime, source: &[u8]) -> Result<usize, TextFault> {
 
 #[test]
 fn as_many_names_as_may_be_replaced(rt: HostRuntime) -> Result<(), Fail> {
-    let most = doubled(rt, 15)?;
+    let most = doublings(rt, "1", 15, "DAT e15\n")?;
     assert_eq!(rt; substituted_len(rt, &most), Ok(65_535));
-    let more = doubled(rt, 16)?;
+    let more = doublings(rt, "1", 16, "DAT e16\n")?;
     let too_long = TextFault {
         line: 18,
         problem: TextProblem::TooLong,
@@ -355,6 +356,60 @@ fn as_many_names_as_may_be_replaced(rt: HostRuntime) -> Result<(), Fail> {
         substituted_len(rt, b"x EQU 1\n EQU 2\nDAT x\n"),
         Err(several)
     );
+    Ok(())
+}
+
+/// `e15` takes 65,535 replacements and makes 65,535 tokens.
+#[test]
+fn as_many_tokens_as_replacements_may_make(rt: HostRuntime) -> Result<(), Fail> {
+    let tokens = doublings(rt, "1", 15, "DAT e15 1\n")?;
+    assert_eq!(rt; substituted_len(rt, &tokens), Ok(65_536));
+    let too_long = TextFault {
+        line: 17,
+        problem: TextProblem::TooLong,
+    };
+    let more = doublings(rt, "1", 15, "DAT e15 1 1\n")?;
+    assert_eq!(rt; substituted_len(rt, &more), Err(too_long));
+    let replacements = doublings(rt, "1", 15, "z EQU\nDAT z e15\n")?;
+    assert_eq!(rt; substituted_len(rt, &replacements), Ok(65_535));
+    let more = doublings(rt, "1", 15, "z EQU\nDAT z z e15\n")?;
+    let too_long = TextFault {
+        line: 18,
+        problem: TextProblem::TooLong,
+    };
+    assert_eq!(rt; substituted_len(rt, &more), Err(too_long));
+    Ok(())
+}
+
+fn count_lines(rt: HostRuntime, source: &[u8]) -> Result<usize, Fail> {
+    let program = expand(rt.alloc(), source, &NAMES)?;
+    Ok(program.lines().len())
+}
+
+/// Counts of many tokens are kept, where their names still stand for the same.
+#[test]
+fn counts_that_are_met_again(rt: HostRuntime) -> Result<(), Fail> {
+    let loops = "FOR e5\nDAT 0\nROF\nx EQU 2\nFOR e5\nDAT 0\nROF\nFOR e5\nDAT 0\nROF\n";
+    let same = doublings(rt, "1", 5, loops)?;
+    assert_eq!(rt; count_lines(rt, &same)?, 96);
+    let warriors = doublings(rt, "WARRIORS", 5, loops)?;
+    assert_eq!(rt; count_lines(rt, &warriors)?, 192);
+    let lines = "FOR e5\nROF\nDAT 0\nFOR e5\nDAT 1\nROF\nFOR e5\nDAT 1\nROF\n";
+    let current = doublings(rt, "CURLINE", 5, lines)?;
+    assert_eq!(rt; count_lines(rt, &current)?, 1 + 32 + 32 * 33);
+    let labels = doublings(rt, "1", 5, "FOR e5\nROF\nFOR e5+y\nROF\n")?;
+    assert_eq!(rt; fault_of(rt, &labels), at(9, TextProblem::LabelInCount));
+    Ok(())
+}
+
+#[test]
+fn as_long_as_names_may_be(rt: HostRuntime) -> Result<(), Fail> {
+    for len in 60..62 {
+        let mut source = Vec::from_slice(rt.alloc(), b";name ")?;
+        source.extend_from_slice(&copies(rt, b"x", len)?)?;
+        let program = expand(rt.alloc(), &source, &NAMES)?;
+        assert_eq!(rt; program.name().len(), 60);
+    }
     Ok(())
 }
 

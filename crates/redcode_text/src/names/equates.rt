@@ -1,32 +1,55 @@
 //! EQU names, and tokens with EQU names replaced.
-ghost use Rattle.std.specs.Prelude.{◌≡◌, [], ◌∷◌, ◌++◌, map, Some, None, Ok, Err, MatchResult, option_map, ◌≤◌, vec_len, IfOk};
+ghost use Rattle.std.specs.Prelude.{◌≡◌, [], ◌∷◌, ◌++◌, map, Some, None, Ok, Err, MatchResult, option_map, ◌≤◌, vec_len, IfOk, IfSome};
 ghost use Rattle.redcode_text.specs.declared.limits.TheConstants.{MAX_REPLACED};
 ghost use Rattle.redcode_text.specs.Equates.{Replaced, equate_lines, token_lines, one_line, one_more, kept, replaced_name, replaced_token, each_replaced, replacing, depth_limit, each_replaced_at_line, substitution};
 ghost use Rattle.redcode_text.specs.Lines.{with_line};
 ghost use Rattle.redcode_text.specs.Outcomes.{Answers};
 ghost use Rattle.redcode_text.specs.Code.Problems.{Gives};
-ghost use Rattle.redcode_text.specs.Tokens.{at_line};
+ghost use Rattle.redcode_text.specs.Code.Values.{IsValued};
+ghost use Rattle.redcode_text.specs.Tokens.{at_line, without_line};
 
+use crate::expression::{Env, eval};
 use crate::fault::{TextFault, TextProblem};
 use crate::limits::{MAX_NESTING, MAX_REPLACED, MAX_REPLACEMENTS};
+use crate::names::values::{KnownValue, KnownValues, NameValues, stand_for, values_of};
+use crate::token::alike::are_alike;
 use crate::token::{Token, TokenKind};
 use indexmap::IndexMap;
-use std::alloc::Global;
+use std::alloc::{AllocError, Global};
 use std::marker::Model;
+
+/// Notes the place of a name.
+fn note_place(places: &mut Vec<usize>, name: usize, place: usize) -> Result<(), AllocError> {
+    if places.len() <= name {
+        places.resize(name.saturating_add(1), 0)?;
+    }
+    if let Some(noted) = places.get_mut(name) {
+        *noted = place;
+    }
+    Ok(())
+}
 
 /// The EQU names, in the order of their definitions, each with its lines.
 #[derive(Drop)]
 pub struct Equates {
     lines: IndexMap<usize, Vec<Vec<Token>>>,
+    /// Where each EQU name stands among them: guesses, which are tested.
+    places: Vec<usize>,
+    /// Values that were worked out since the last change of the lines.
+    known: KnownValues,
 }
 
 impl Model for Equates {
     ghost use Rattle.std.specs.Prelude.{List, map};
+    ghost use Rattle.std.specs.List.{All};
+    ghost use Rattle.redcode_text.specs.Code.Values.{IsKnown};
     ghost use Rattle.redcode_text.specs.Equates.{Equate};
 
     ghost Value = { List Equate };
 
     ghost view = { λ s. map (λ e. record { name = e.0; lines = map (λ line. line.items) e.1.items }) s.lines.entries };
+
+    ghost invariant = { λ s. All (IsKnown (map (λ e. record { name = e.0; lines = map (λ line. line.items) e.1.items }) s.lines.entries)) s.known.values.items };
 }
 
 impl Equates {
@@ -36,6 +59,8 @@ impl Equates {
     {
         Equates {
             lines: IndexMap::new(alloc),
+            places: Vec::new(alloc),
+            known: KnownValues::new(alloc),
         }
     }
 
@@ -43,7 +68,22 @@ impl Equates {
     pub fn lines_of(&self, name: usize) -> Option<&[Vec<Token>]>
         ensures { option_map (λ lines. map (λ line. line.items) lines.now) result ≡ equate_lines self.now name }
     {
+        if let Some(lines) = self.guess(name) {
+            return Some(lines);
+        }
         let lines = self.lines.get(&name)?;
+        Some(lines)
+    }
+
+    /// The same without hashing the name, where it stands at the place that was noted.
+    fn guess(&self, name: usize) -> Option<&[Vec<Token>]>
+        ensures { IfSome result (λ lines. equate_lines self.now name ≡ Some (map (λ line. line.items) lines.now)) }
+    {
+        let place = *self.places.get(name)?;
+        let (key, lines) = self.lines.get_index(place)?;
+        if *key != name {
+            return None;
+        }
         Some(lines)
     }
 }
@@ -198,6 +238,10 @@ impl Equates {
         requires { equate_lines self.old name ≡ None }
         ensures { Gives (λ _. self.new) result (Ok (self.old ++ record { name = name; lines = line.items ∷ [] } ∷ [])) }
     {
+        self.known.clear();
+        if note_place(&mut self.places, name, self.lines.len()).is_err() {
+            return Err(TextProblem::OutOfMemory);
+        }
         let mut lines = Vec::new(alloc);
         let Ok(()) = lines.push(line) else {
             return Err(TextProblem::OutOfMemory);
@@ -212,6 +256,7 @@ impl Equates {
     pub fn add_line(&mut self, line: Vec<Token>) -> Result<(), TextProblem>
         ensures { Gives (λ _. self.new) result (Ok (with_line self.old line.items)) }
     {
+        self.known.clear();
         let Some((name, mut lines)) = self.lines.pop() else {
             return Ok(());
         };
@@ -222,5 +267,45 @@ impl Equates {
             Ok(_) => Ok(()),
             Err(_) => Err(TextProblem::OutOfMemory),
         }
+    }
+}
+
+impl Equates {
+    /// The value of an expression that was kept, where its names stand for what they stood for.
+    pub fn known_value<E: Env>(&self, tokens: &[Token], env: &E) -> Option<i64>
+        ensures { IfSome result (λ value. IsValued self.now (E.value_of env.now) tokens.now value) }
+    {
+        let place = self.known.guess(tokens)?;
+        if place >= self.known.values.len() {
+            return None;
+        }
+        let known = &self.known.values[place];
+        if !are_alike(tokens, &known.tokens) || !stand_for(env, &known.names) {
+            return None;
+        }
+        Some(known.value)
+    }
+
+    /// Keeps the value of an expression, which is this one once its EQU names are replaced, if it has one.
+    pub fn keep_value<E: Env>(
+        &mut self,
+        alloc: Global,
+        tokens: &[Token],
+        replaced: &[Token],
+        env: &E,
+    ) -> Result<(), AllocError>
+        requires { without_line (substitution self.old tokens.now) ≡ Ok replaced.now }
+        ensures { self.new ≡ self.old }
+    {
+        let names = values_of(alloc, replaced, env)?;
+        let Ok(value) = eval(replaced, &NameValues { values: &names }) else {
+            return Ok(());
+        };
+        let tokens = Vec::from_slice(alloc, tokens)?;
+        self.known.add(KnownValue {
+            tokens,
+            names,
+            value,
+        })
     }
 }

@@ -1,6 +1,5 @@
 //! The names that have values before anything is read.
-ghost use Rattle.std.specs.Prelude.{◌≡◌};
-ghost use Rattle.std.specs.Str.{bytes_eq};
+ghost use Rattle.std.specs.Prelude.{◌≡◌, map};
 ghost use Rattle.redcode_text.specs.Views.{predefined_of};
 ghost use Rattle.redcode_text.specs.Lines.{predefined_value, with_current_line};
 
@@ -25,43 +24,62 @@ pub struct Names {
     pub version: i64,
 }
 
-fn is_same(predefined: &[u8], name: &[u8]) -> bool
-    ensures { result ≡ bytes_eq predefined.now name.now }
+/// A name, and what it stands for.
+#[derive(Clone, Copy)]
+struct NamedValue<'a> {
+    name: &'a str,
+    value: i64,
+}
+
+/// What a name stands for, among these.
+fn value_among(values: &[NamedValue<'_>], name: &[u8]) -> Option<i64>
+    ensures { result ≡ predefined_value (map (λ v. (v.name.now, v.value)) values.now) name.now }
 {
-    predefined == name
+    let [first, rest @ ..] = values else {
+        return None;
+    };
+    if first.name.as_bytes() == name {
+        return Some(first.value);
+    }
+    value_among(rest, name)
+}
+
+fn named(name: &str, value: i64) -> NamedValue<'_>
+    ensures name { result.name.now ≡ name.now }
+    ensures value { result.value ≡ value }
+{
+    NamedValue { name, value }
 }
 
 impl Names {
+    /// The predefined names, but for CURLINE.
+    fn table(&self) -> [NamedValue<'static>; 8]
+        ensures { map (λ v. (v.name.now, v.value)) result ≡ predefined_of self.now }
+    {
+        [
+            named("CORESIZE", self.core_size),
+            named("MAXPROCESSES", self.max_processes),
+            named("MAXCYCLES", self.max_cycles),
+            named("MAXLENGTH", self.max_length),
+            named("MINDISTANCE", self.min_distance),
+            named("ROUNDS", self.rounds),
+            named("WARRIORS", self.warriors),
+            named("VERSION", self.version),
+        ]
+    }
+
     /// The value of a predefined name.
     fn value(&self, name: &[u8]) -> Option<i64>
         ensures { result ≡ predefined_value (predefined_of self.now) name.now }
     {
-        if is_same(b"CORESIZE", name) {
-            Some(self.core_size)
-        } else if is_same(b"MAXPROCESSES", name) {
-            Some(self.max_processes)
-        } else if is_same(b"MAXCYCLES", name) {
-            Some(self.max_cycles)
-        } else if is_same(b"MAXLENGTH", name) {
-            Some(self.max_length)
-        } else if is_same(b"MINDISTANCE", name) {
-            Some(self.min_distance)
-        } else if is_same(b"ROUNDS", name) {
-            Some(self.rounds)
-        } else if is_same(b"WARRIORS", name) {
-            Some(self.warriors)
-        } else if is_same(b"VERSION", name) {
-            Some(self.version)
-        } else {
-            None
-        }
+        value_among(&self.table(), name)
     }
 
     /// The value of a predefined name, where CURLINE has this one.
     pub fn value_at(&self, current_line: u32, name: &[u8]) -> Option<i64>
         ensures { result ≡ predefined_value (with_current_line (predefined_of self.now) current_line) name.now }
     {
-        if is_same(b"CURLINE", name) {
+        if b"CURLINE".as_slice() == name {
             return Some(i64::from(current_line));
         }
         self.value(name)

@@ -10,18 +10,17 @@ use crate::characters::is_word;
 use crate::names::predefined::Names;
 use crate::reader::Reading;
 
-/// The words that are operations by themselves.
-const OPERATIONS: [&[u8]; 25] = [
-    b"dat", b"mov", b"add", b"sub", b"mul", b"div", b"mod", b"jmp", b"jmz", b"jmn", b"djn", b"seq",
-    b"sne", b"slt", b"spl", b"nop", b"cmp", b"org", b"end", b"equ", b"for", b"rof", b"ldp", b"stp",
-    b"pin",
+/// The words that are operations by themselves, in either case.
+const OPERATIONS: [&str; 25] = [
+    "dat", "mov", "add", "sub", "mul", "div", "mod", "jmp", "jmz", "jmn", "djn", "seq", "sne",
+    "slt", "spl", "nop", "cmp", "org", "end", "equ", "for", "rof", "ldp", "stp", "pin",
 ];
 
-/// Whether a name is one of some words, in either case.
-fn is_among(name: &[u8], words: &[&[u8]]) -> bool
-    ensures { result ≡ list_any (λ word. str_eq_ignore_ascii_case name.now word.now) words.now }
+/// Whether a word is one of these, in either case.
+fn is_among(word: &[u8], words: &[&str]) -> bool
+    ensures { result ≡ list_any (λ other. str_eq_ignore_ascii_case word.now other.now) words.now }
 {
-    words.iter().any(|word| is_word(name, word))
+    words.iter().any(|other| is_word(word, other.as_bytes()))
 }
 
 /// Whether a word is an operation by itself, in either case.

@@ -1,5 +1,7 @@
 //! The head of a loop: its counter and its count.
-ghost use Rattle.std.specs.Prelude.{◌≡◌, ◌<◌, ◌+◌, ◌^◌, length, ◌≤◌, option_map, string_bytes, Ok};
+ghost use Rattle.std.specs.Prelude.{◌≡◌, ◌<◌, ◌+◌, ◌^◌, length, ◌≤◌, option_map, string_bytes, Ok, IfSome};
+ghost use Rattle.redcode_text.specs.Equates.{substitution};
+ghost use Rattle.redcode_text.specs.Tokens.{without_line};
 ghost use Rattle.redcode_text.specs.Expansion.{as_count, count_of, has_label, counter_name, head_line};
 ghost use Rattle.redcode_text.specs.Expression.{kinds};
 ghost use Rattle.redcode_text.specs.Code.Heads.{head_of};
@@ -19,6 +21,9 @@ use crate::reader::sides::{keep_after, name_in_front};
 use crate::source::row::Row;
 use crate::token::{Token, TokenKind};
 use std::alloc::Global;
+
+/// How many tokens of a count are many.
+const MANY: usize = 32;
 
 /// The head of a loop: its counter, if it has one, and how often its body is read.
 #[derive(Drop)]
@@ -73,29 +78,90 @@ impl Reading {
         false
     }
 
-    /// How often the body of a loop is read.
-    #[tactic(auto, using(crate::proofs::Failing::fails_bare))]
-    pub fn count_of(
+    /// What names stand for in a count here.
+    fn count_names<'a>(&'a self, predefined: &'a Names) -> CountNames<'a>
+        ensures predefined { result.predefined.now ≡ predefined.now }
+        ensures names { result.names.now ≡ self.now.names }
+        ensures line { result.current_line ≡ self.now.instructions }
+    {
+        CountNames {
+            predefined,
+            names: &self.names,
+            current_line: self.instructions as u32,
+        }
+    }
+
+    /// How often the body of a loop is read, where the value of its count is known.
+    fn known_count(&self, names: &Names, tokens: &[Token]) -> Option<Result<u32, TextProblem>>
+        ensures { IfSome result (λ count. count ≡ count_of (predefined_of names.now) (reading_of self.now) tokens.now) }
+    {
+        let value = self.equates.known_value(tokens, &self.count_names(names))?;
+        Some(as_count(Ok(value)))
+    }
+
+    /// The same, where these are the tokens with their EQU names replaced.
+    fn replaced_count(
         &self,
+        names: &Names,
+        tokens: &[Token],
+        replaced: &[Token],
+    ) -> Result<u32, TextProblem>
+        requires { without_line (substitution self.now.equates tokens.now) ≡ Ok replaced.now }
+        ensures { result ≡ count_of (predefined_of names.now) (reading_of self.now) tokens.now }
+    {
+        if self.has_label(names, replaced) {
+            return Err(TextProblem::LabelInCount);
+        }
+        as_count(eval(replaced, &self.count_names(names)))
+    }
+
+    /// Keeps the value of a count of which these are the tokens with their EQU names replaced, where they are many.
+    fn keep_count(
+        &mut self,
         alloc: Global,
         names: &Names,
         tokens: &[Token],
-    ) -> Result<u32, TextProblem>
-        ensures { Gives (λ count. count) result (count_of (predefined_of names.now) (reading_of self.now) tokens.now) }
+        replaced: &[Token],
+    ) -> Result<(), TextProblem>
+        requires { without_line (substitution self.old.equates tokens.now) ≡ Ok replaced.now }
+        ensures value { Gives (λ _. reading_of self.new) result (Ok (reading_of self.old)) }
+        ensures same { reading_of self.new ≡ reading_of self.old }
     {
-        let tokens = match self.equates.substitute(alloc, tokens) {
-            Ok(tokens) => tokens,
-            Err(fault) => return Err(fault.problem),
-        };
-        if self.has_label(names, &tokens) {
-            return Err(TextProblem::LabelInCount);
+        if replaced.len() < MANY {
+            return Ok(());
         }
         let env = CountNames {
             predefined: names,
             names: &self.names,
             current_line: self.instructions as u32,
         };
-        as_count(eval(&tokens, &env))
+        match self.equates.keep_value(alloc, tokens, replaced, &env) {
+            Ok(()) => Ok(()),
+            Err(_) => Err(TextProblem::OutOfMemory),
+        }
+    }
+
+    /// How often the body of a loop is read.
+    #[tactic(auto, using(crate::proofs::Failing::fails_bare))]
+    pub fn count_of(
+        &mut self,
+        alloc: Global,
+        names: &Names,
+        tokens: &[Token],
+    ) -> Result<u32, TextProblem>
+        ensures value { Gives (λ count. count) result (count_of (predefined_of names.now) (reading_of self.old) tokens.now) }
+        ensures same { reading_of self.new ≡ reading_of self.old }
+    {
+        if let Some(count) = self.known_count(names, tokens) {
+            return count;
+        }
+        let replaced = match self.equates.substitute(alloc, tokens) {
+            Ok(replaced) => replaced,
+            Err(fault) => return Err(fault.problem),
+        };
+        let count = self.replaced_count(names, tokens, &replaced)?;
+        self.keep_count(alloc, names, tokens, &replaced)?;
+        Ok(count)
     }
 }
 

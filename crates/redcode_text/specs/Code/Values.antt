@@ -1,0 +1,23 @@
+-- Values of expressions that are kept.
+use Rattle.std.specs.Prelude.{◌≡◌, ℕ, ℤ, List, [], ◌∷◌, Option, Some, None, Ok, true, false, ◌==◌}
+use Rattle.redcode_text.specs.declared.names.values.KnownValue.{KnownValue}
+use Rattle.redcode_text.specs.declared.names.values.NameValue.{NameValue}
+use Rattle.redcode_text.specs.declared.token.Token.{Token}
+use Rattle.redcode_text.specs.Equates.{Equate, substitution}
+use Rattle.redcode_text.specs.Expression.{kinds, value_of}
+use Rattle.redcode_text.specs.Tokens.{without_line}
+
+-- what a name stands for, among these
+abbrev pub value_among : List NameValue → ℕ → Option ℤ
+value_among [] name = None
+value_among (v ∷ vs) name = elim (name == v.name) [ true ↦ Some v.value | false ↦ value_among vs name ]
+
+-- tokens that have a value once their EQU names are replaced, and this one
+pub record IsValued (equates : List Equate) (names : ℕ → Option ℤ) (tokens : List Token) (value : ℤ) : Type 0 where
+  pub made : List Token
+  pub replaced : without_line (substitution equates tokens) ≡ Ok made
+  pub is : value_of names (kinds made) ≡ Ok value
+
+-- all tokens of these kinds have the value that is kept of them
+pub record IsKnown (equates : List Equate) (known : KnownValue) : Type 0 where
+  pub each : (tokens : List Token) → kinds tokens ≡ kinds known.tokens.items → IsValued equates (value_among known.names.items) tokens known.value
