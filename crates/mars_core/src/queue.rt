@@ -1,5 +1,5 @@
 //! The queues of processes.
-ghost use Rattle.std.specs.Prelude.{◌≡◌, ℕ, ◌+◌, ◌-◌, ◌<◌, ◌≤◌, ◌∷◌, [], ◌++◌, length, drop, take, All, IfOk, slice_get, slice_set, slice_index, remove, insert, ◌==◌, nat_lt, if◌then◌else◌};
+ghost use Rattle.std.specs.Prelude.{◌≡◌, ℕ, ◌+◌, ◌-◌, ◌<◌, ◌≤◌, ◌∷◌, [], ◌++◌, length, drop, take, All, IfOk, IfSome, IfNone, slice_get, slice_set, slice_index, remove, insert, ◌==◌, nat_lt, if◌then◌else◌};
 ghost use Rattle.mars_core.specs.State.{is_empty as spec_is_empty};
 ghost use Rattle.mars_core.specs.Queue.{Queue as Contents};
 ghost use Rattle.mars_core.specs.Record.{without_last};
@@ -57,6 +57,16 @@ impl ProcessQueue {
         ensures { result ≡ slice_get self.now.addresses place }
     {
         self.ring.get(place).copied()
+    }
+
+    /// Takes the process at the front, if there is one.
+    pub fn pop(&mut self) -> Option<u32>
+        ensures some { IfSome result (λ address. self.old.addresses ≡ address ∷ self.new.addresses) }
+        ensures none { IfNone result (self.old.addresses ≡ []) }
+        ensures left { IfNone result (self.new.addresses ≡ []) }
+        ensures limit { self.new.limit ≡ self.old.limit }
+    {
+        self.ring.pop_front()
     }
 
     /// Takes the process at the front.
