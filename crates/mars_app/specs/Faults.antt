@@ -1,5 +1,5 @@
 -- Which fault ends a run, and what went out before it.
-use Rattle.std.specs.Prelude.{◌≡◌, ⊤, ◌⊎◌, ℕ, false, true, List, ◌∷◌, ◌++◌, map, Option, IfSome, Ok, Err, string_bytes}
+use Rattle.std.specs.Prelude.{◌≡◌, ⊤, ◌⊎◌, ℕ, false, true, List, ◌∷◌, ◌++◌, map, Option, Ok, Err, string_bytes}
 use Rattle.std.specs.Io.KnownBytes.{Keeps}
 use Rattle.std.specs.List.{flat_map}
 use Rattle.mars_cell.specs.Load.{load}
@@ -19,11 +19,12 @@ use Rattle.redcode_text.specs.Tokens.{Scanned}
 use Rattle.redcode_text.specs.declared.fault.ExprFault.{ExprFault}
 use Rattle.mars_app.specs.Contests.{ContestFails, contest, contest_size, listing}
 use Rattle.mars_app.specs.Debugging.{DebugsInPart, StartsNothing, first_round, session_at}
-use Rattle.mars_app.specs.Loading.{AreLoaded, is_load_file}
+use Rattle.mars_app.specs.Loading.{AreLoaded, IsRead, IsUnread, is_load_file, largest_file}
 use Rattle.mars_app.specs.Options.{AreBad, Ask, AskForHelp, parameters_of, value_of}
 use Rattle.mars_app.specs.Runs.{Asked}
 use Rattle.mars_app.specs.declared.fault.RunFault.{RunFault}
 use Rattle.mars_app.specs.declared.fault.RunFault.TheVariants as fault
+use Rattle.mars_app.specs.declared.files.FileFault.TheVariants as file
 use Rattle.mars_app.specs.declared.options.Options.{Options}
 
 -- the line of a load file's fault, or 0
@@ -40,12 +41,17 @@ IsFaultOfFile p rounds count name bytes (fault.Assembly shown line f) =
 IsFaultOfFile p rounds count name bytes fault.OutOfMemory = ⊤
 IsFaultOfFile p rounds count name bytes _ = ⊥
 
+-- the file isn't read, whose bytes these are where they are known
+abbrev pub IsUnreadFile : Option (List ℕ) → RunFault → Type 0
+IsUnreadFile known (fault.CannotRead shown) = IsUnread known largest_file file.CannotRead
+IsUnreadFile known (fault.TooLarge shown) = IsUnread known largest_file file.TooLarge
+IsUnreadFile known fault.OutOfMemory = ⊤
+IsUnreadFile known _ = ⊥
+
 -- a file that isn't read, or that has no warrior
 abbrev pub FailsToLoad : (List ℕ → Option (List ℕ)) → Parameters → ℕ → ℕ → List ℕ → RunFault → Type 0
-FailsToLoad known p rounds count name (fault.CannotRead shown) = ⊤
-FailsToLoad known p rounds count name (fault.TooLarge shown) = ⊤
-FailsToLoad known p rounds count name fault.OutOfMemory = ⊤
-FailsToLoad known p rounds count name f = (bytes : List ℕ) × IfSome (known name) (λ whole. bytes ≡ whole) × IsFaultOfFile p rounds count name bytes f
+FailsToLoad known p rounds count name f = IsUnreadFile (known name) f
+    ⊎ ((bytes : List ℕ) × IsRead known name bytes × IsFaultOfFile p rounds count name bytes f)
 
 -- the first file that fails; those before it have warriors
 pub record FirstFails (known : List ℕ → Option (List ℕ)) (p : Parameters) (rounds count : ℕ) (names : List (List ℕ)) (f : RunFault) : Type 0 where

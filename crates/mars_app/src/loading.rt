@@ -1,9 +1,9 @@
 //! Warriors from their files.
-ghost use Rattle.std.specs.Prelude.{◌≡◌, ◌≤◌, All, IfErr, IfOk, IfSome, Some, length, map, string_bytes, vec_len};
+ghost use Rattle.std.specs.Prelude.{◌≡◌, All, IfErr, IfOk, Some, length, map, string_bytes, vec_len};
 ghost use Rattle.mars_cell.specs.Cells.{FitsCore};
-ghost use Rattle.mars_app.specs.Code.Blames.{IsAssemblyFault, IsLoadFault, IsUnread};
-ghost use Rattle.mars_app.specs.Faults.{FailsToLoad, FirstFails, IsFaultOfFile};
-ghost use Rattle.mars_app.specs.Loading.{AllFit, AreLoaded, IsLoadFileOf, is_load_file, warrior_of_file};
+ghost use Rattle.mars_app.specs.Code.Blames.{IsAssemblyFault, IsLoadFault};
+ghost use Rattle.mars_app.specs.Faults.{FailsToLoad, FirstFails, IsFaultOfFile, IsUnreadFile};
+ghost use Rattle.mars_app.specs.Loading.{AllFit, AreLoaded, IsLoadFileOf, IsRead, is_load_file, warrior_of_file};
 
 use crate::fault::RunFault;
 use crate::files::{FileFault, WarriorFiles};
@@ -77,9 +77,8 @@ pub fn load_file_of<F: WarriorFiles>(
 
 /// The bytes of a file.
 fn read_file<F: WarriorFiles>(alloc: Global, files: &F, name: &str) -> Result<Vec<u8>, RunFault>
-    ensures err { IfErr result IsUnread }
-    ensures few { IfOk result (λ bytes. vec_len bytes ≤ 1048576) }
-    ensures whole { IfOk result (λ bytes. IfSome (F.known files.now name.now) (λ whole. bytes.items ≡ whole)) }
+    ensures ok { IfOk result (λ bytes. IsRead (F.known files.now) name.now bytes.items) }
+    ensures err { IfErr result (IsUnreadFile (F.known files.now name.now)) }
 {
     let fault = match files.read(alloc, name, LARGEST_FILE) {
         Ok(bytes) => return Ok(bytes),

@@ -11,6 +11,8 @@ use std::io::{ErrorKind, Read, Write};
 use std::process::Abort;
 use std::test::Fail;
 
+mod no_memory;
+
 /// A reader that gives its bytes in pieces, and then fails or ends.
 #[derive(Drop)]
 struct Pieces<'a> {

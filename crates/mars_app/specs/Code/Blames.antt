@@ -8,13 +8,6 @@ use Rattle.mars_app.specs.Faults.{line_of}
 use Rattle.mars_app.specs.declared.fault.RunFault.{RunFault}
 use Rattle.mars_app.specs.declared.fault.RunFault.TheVariants as fault
 
--- the file wasn't read
-abbrev pub IsUnread : RunFault → Type 0
-IsUnread (fault.CannotRead shown) = ⊤
-IsUnread (fault.TooLarge shown) = ⊤
-IsUnread fault.OutOfMemory = ⊤
-IsUnread _ = ⊥
-
 abbrev pub IsLoadFault : LoadFault → RunFault → Type 0
 IsLoadFault f (fault.Load shown line g) = (g ≡ f) × (f ≡ load_fault.OutOfMemory → ⊥) × (line ≡ line_of f)
 IsLoadFault f fault.OutOfMemory = ⊤
