@@ -19,7 +19,7 @@ use Rattle.redcode_text.specs.Tokens.{Scanned}
 use Rattle.redcode_text.specs.declared.fault.ExprFault.{ExprFault}
 use Rattle.mars_app.specs.Contests.{ContestFails, contest, contest_size, listing}
 use Rattle.mars_app.specs.Debugging.{DebugsInPart, StartsNothing, first_round, session_at}
-use Rattle.mars_app.specs.Loading.{AreLoaded, IsRead, IsUnread, is_load_file, largest_file}
+use Rattle.mars_app.specs.Loading.{AreLoaded, IsRead, IsUnread, is_load_file, largest_file, shown_name}
 use Rattle.mars_app.specs.Options.{AreBad, Ask, AskForHelp, parameters_of, value_of}
 use Rattle.mars_app.specs.Runs.{Asked}
 use Rattle.mars_app.specs.declared.fault.RunFault.{RunFault}
@@ -32,25 +32,25 @@ abbrev pub line_of : LoadFault → ℕ
 line_of (load_fault.Syntax line) = line
 line_of _ = 0
 
--- the fault is that of the bytes of a file: of a load file, or of a source
+-- the fault is that of the bytes of a file: of a load file, or of a source; it shows the file's name
 abbrev pub IsFaultOfFile : Parameters → ℕ → ℕ → List ℕ → List ℕ → RunFault → Type 0
 IsFaultOfFile p rounds count name bytes (fault.Load shown line f) =
-    (is_load_file name ≡ true) × (load p.core_size p.max_length bytes ≡ Err f) × (line ≡ line_of f)
+    (string_bytes shown ≡ shown_name name) × (is_load_file name ≡ true) × (load p.core_size p.max_length bytes ≡ Err f) × (line ≡ line_of f)
 IsFaultOfFile p rounds count name bytes (fault.Assembly shown line f) =
-    (is_load_file name ≡ false) × (assembly p rounds count bytes ≡ Err f) × (line ≡ f.line)
+    (string_bytes shown ≡ shown_name name) × (is_load_file name ≡ false) × (assembly p rounds count bytes ≡ Err f) × (line ≡ f.line)
 IsFaultOfFile p rounds count name bytes fault.OutOfMemory = ⊤
 IsFaultOfFile p rounds count name bytes _ = ⊥
 
--- the file isn't read, whose bytes these are where they are known
-abbrev pub IsUnreadFile : Option (List ℕ) → RunFault → Type 0
-IsUnreadFile known (fault.CannotRead shown) = IsUnread known largest_file file.CannotRead
-IsUnreadFile known (fault.TooLarge shown) = IsUnread known largest_file file.TooLarge
-IsUnreadFile known fault.OutOfMemory = ⊤
-IsUnreadFile known _ = ⊥
+-- the file isn't read; the fault shows its name
+abbrev pub IsUnreadFile : (List ℕ → Option (List ℕ)) → List ℕ → RunFault → Type 0
+IsUnreadFile known name (fault.CannotRead shown) = (string_bytes shown ≡ shown_name name) × IsUnread (known name) largest_file file.CannotRead
+IsUnreadFile known name (fault.TooLarge shown) = (string_bytes shown ≡ shown_name name) × IsUnread (known name) largest_file file.TooLarge
+IsUnreadFile known name fault.OutOfMemory = ⊤
+IsUnreadFile known name _ = ⊥
 
 -- a file that isn't read, or that has no warrior
 abbrev pub FailsToLoad : (List ℕ → Option (List ℕ)) → Parameters → ℕ → ℕ → List ℕ → RunFault → Type 0
-FailsToLoad known p rounds count name f = IsUnreadFile (known name) f
+FailsToLoad known p rounds count name f = IsUnreadFile known name f
     ⊎ ((bytes : List ℕ) × IsRead known name bytes × IsFaultOfFile p rounds count name bytes f)
 
 -- the first file that fails; those before it have warriors

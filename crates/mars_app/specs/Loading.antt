@@ -1,8 +1,9 @@
 -- Warriors as they are loaded.
-use Rattle.std.specs.Prelude.{◌≡◌, ⊤, ℕ, ◌-◌, ◌<◌, ◌≤◌, List, [], ◌∷◌, All, Bool, Option, None, Some, IfSome, IsNone, String, length, Vec, if◌then◌else◌, codes, nat_eq, string_bytes}
+use Rattle.std.specs.Prelude.{◌≡◌, ⊤, ℕ, ◌-◌, ◌<◌, ◌≤◌, List, [], ◌∷◌, All, Bool, Option, None, Some, IfSome, IsNone, String, length, Vec, if◌then◌else◌, codes, encode_utf8, nat_eq, string_bytes}
 use Rattle.std.specs.Global.{Global}
-use Rattle.std.specs.Str.{bytes_eq}
-use Rattle.std.specs.List.{ends_with}
+use Rattle.std.specs.Str.{bytes_eq, chars}
+use Rattle.std.specs.Char.{is_ascii_control}
+use Rattle.std.specs.List.{ends_with, flat_map}
 use Rattle.std.specs.Result.{result_ok}
 use Rattle.mars_cell.specs.Cells.{FitsCore}
 use Rattle.mars_cell.specs.Load.{load}
@@ -20,6 +21,13 @@ AllFit core_size warriors = All (λ (w : WarriorValue). All (FitsCore core_size)
 -- a position that is given is that of the second of two warriors, far enough from the first
 abbrev pub FitsTwo : Parameters → ℕ → Option ℕ → Type 0
 FitsTwo p warriors fixed = IfSome fixed (λ position. (warriors ≡ 2) × (p.distance ≤ position) × (position ≤ p.core_size - p.distance))
+
+-- a file's name in the line of a fault: each control character is ?, so that the fault stays one line
+abbrev pub shown_character : ℕ → ℕ
+shown_character c = if is_ascii_control c then 63 else c
+
+abbrev pub shown_name : List ℕ → List ℕ
+shown_name name = flat_map (λ c. encode_utf8 (shown_character c)) (chars name)
 
 -- a load file is told by the end of its name
 abbrev pub is_load_file : List ℕ → Bool

@@ -506,6 +506,23 @@ fn as_many_reads_as_are_allowed(rt: HostRuntime) -> Result<(), Fail> {
     Ok(())
 }
 
+/// A person or a program may give any number of lines, byte by byte.
+#[test]
+fn as_many_reads_as_there_are_bytes(rt: HostRuntime) -> Result<(), Fail> {
+    let alloc = rt.alloc();
+    let lines = vec![in alloc; b'\n'; 70_000]?;
+    let mut reader = Pieces {
+        rest: lines.as_slice(),
+        size: 1,
+        fails: false,
+    };
+    let mut output = Vec::new(alloc);
+    let mut session = imp_session(&rt, alloc)?;
+    assert_eq!(rt; debug(&mut reader, &mut output, &mut session), Ok(()));
+    assert!(rt; reader.rest.is_empty() && output.is_empty());
+    Ok(())
+}
+
 #[test]
 fn an_unfinished_long_line(rt: HostRuntime) -> Result<(), Fail> {
     let alloc = rt.alloc();
