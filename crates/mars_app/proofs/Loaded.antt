@@ -2,14 +2,12 @@
 use Rattle.std.proofs.Common.{◌≡◌, ◌∙◌, ap, sym, arith, refl, ℕ, ◌+◌, ◌<◌, List, [], ◌∷◌, ◌++◌, length, take, drop, get_or, map, Option, Some, String, Vec, true, false}
 use Rattle.std.proofs.lemmas.List.{drop_more, map-append, take-append-drop, take_more}
 use Rattle.std.specs.Global.{Global}
-use Rattle.std.specs.Prelude.{IfSome, string_bytes}
+use Rattle.std.specs.Prelude.{string_bytes}
 use Rattle.std.specs.Str.{bytes_eq}
 use Rattle.mars_cell.specs.Parameters.{Parameters}
 use Rattle.mars_cell.specs.Warriors.{WarriorValue}
-use Rattle.mars_app.specs.Code.Blames.{IsUnread}
-use Rattle.mars_app.specs.Faults.{FailsToLoad, FirstFails, IsFaultOfFile}
+use Rattle.mars_app.specs.Faults.{FailsToLoad, FirstFails}
 use Rattle.mars_app.specs.declared.fault.RunFault.{RunFault}
-use Rattle.mars_app.specs.declared.fault.RunFault.TheVariants as fault
 use Rattle.mars_app.specs.Loading.{file_named, IsLoaded, AreLoaded}
 
 module _ (files : List (String Global × Vec ℕ Global)) (name : List ℕ) (i : ℕ) (d : String Global × Vec ℕ Global) (inside : i < length files) where
@@ -41,37 +39,6 @@ module _ (known : List ℕ → Option (List ℕ)) (p : Parameters) (rounds count
   loaded_alone [] w d one h = absurd (omega arith)
   loaded_alone (name ∷ []) w d one h = (h, tt)
   loaded_alone (name ∷ other ∷ names) w d one h = absurd (omega arith)
-
-  pub unread_fails : (name : List ℕ) (f : RunFault) → IsUnread f → FailsToLoad known p rounds count name f
-  unread_fails name (fault.CannotRead shown) h = tt
-  unread_fails name (fault.TooLarge shown) h = tt
-  unread_fails name fault.OutOfMemory h = tt
-  unread_fails name fault.Words h = absurd h
-  unread_fails name (fault.Parameters _) h = absurd h
-  unread_fails name (fault.Formula _) h = absurd h
-  unread_fails name (fault.Assembly _ _ _) h = absurd h
-  unread_fails name (fault.Load _ _ _) h = absurd h
-  unread_fails name (fault.Placement _) h = absurd h
-  unread_fails name (fault.Battle _) h = absurd h
-  unread_fails name (fault.Score _) h = absurd h
-  unread_fails name fault.Output h = absurd h
-  unread_fails name fault.Commands h = absurd h
-
-  pub faulty_fails : (name bytes : List ℕ) (f : RunFault) → IfSome (known name) (λ whole. bytes ≡ whole) → IsFaultOfFile p rounds count name bytes f
-      → FailsToLoad known p rounds count name f
-  faulty_fails name bytes (fault.Load shown line f) whole h = (bytes, whole, h)
-  faulty_fails name bytes (fault.Assembly shown line f) whole h = (bytes, whole, h)
-  faulty_fails name bytes fault.OutOfMemory whole h = tt
-  faulty_fails name bytes fault.Words whole h = absurd h
-  faulty_fails name bytes (fault.Parameters _) whole h = absurd h
-  faulty_fails name bytes (fault.Formula _) whole h = absurd h
-  faulty_fails name bytes (fault.CannotRead _) whole h = absurd h
-  faulty_fails name bytes (fault.TooLarge _) whole h = absurd h
-  faulty_fails name bytes (fault.Placement _) whole h = absurd h
-  faulty_fails name bytes (fault.Battle _) whole h = absurd h
-  faulty_fails name bytes (fault.Score _) whole h = absurd h
-  faulty_fails name bytes fault.Output whole h = absurd h
-  faulty_fails name bytes fault.Commands whole h = absurd h
 
   pub first_fails : (names : List (String Global)) (i : ℕ) (d : String Global) (ws : List WarriorValue) (f : RunFault) → i < length names
       → AreLoaded known p rounds count (map (λ s. string_bytes s) (take i names)) ws → FailsToLoad known p rounds count (string_bytes (get_or names i d)) f

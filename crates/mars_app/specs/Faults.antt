@@ -1,5 +1,5 @@
 -- Which fault ends a run, and what went out before it.
-use Rattle.std.specs.Prelude.{◌≡◌, ⊤, ◌⊎◌, ℕ, false, true, List, ◌∷◌, ◌++◌, map, Option, IfSome, Ok, Err, string_bytes}
+use Rattle.std.specs.Prelude.{◌≡◌, ⊤, ◌⊎◌, ℕ, false, true, List, ◌∷◌, ◌++◌, map, Option, Ok, Err, string_bytes}
 use Rattle.std.specs.Io.KnownBytes.{Keeps}
 use Rattle.std.specs.List.{flat_map}
 use Rattle.mars_cell.specs.Load.{load}
@@ -19,11 +19,12 @@ use Rattle.redcode_text.specs.Tokens.{Scanned}
 use Rattle.redcode_text.specs.declared.fault.ExprFault.{ExprFault}
 use Rattle.mars_app.specs.Contests.{ContestFails, contest, contest_size, listing}
 use Rattle.mars_app.specs.Debugging.{DebugsInPart, StartsNothing, first_round, session_at}
-use Rattle.mars_app.specs.Loading.{AreLoaded, is_load_file}
+use Rattle.mars_app.specs.Loading.{AreLoaded, IsRead, IsUnread, is_load_file, largest_file, shown_name}
 use Rattle.mars_app.specs.Options.{AreBad, Ask, AskForHelp, parameters_of, value_of}
 use Rattle.mars_app.specs.Runs.{Asked}
 use Rattle.mars_app.specs.declared.fault.RunFault.{RunFault}
 use Rattle.mars_app.specs.declared.fault.RunFault.TheVariants as fault
+use Rattle.mars_app.specs.declared.files.FileFault.TheVariants as file
 use Rattle.mars_app.specs.declared.options.Options.{Options}
 
 -- the line of a load file's fault, or 0
@@ -31,21 +32,26 @@ abbrev pub line_of : LoadFault → ℕ
 line_of (load_fault.Syntax line) = line
 line_of _ = 0
 
--- the fault is that of the bytes of a file: of a load file, or of a source
+-- the fault is that of the bytes of a file: of a load file, or of a source; it shows the file's name
 abbrev pub IsFaultOfFile : Parameters → ℕ → ℕ → List ℕ → List ℕ → RunFault → Type 0
 IsFaultOfFile p rounds count name bytes (fault.Load shown line f) =
-    (is_load_file name ≡ true) × (load p.core_size p.max_length bytes ≡ Err f) × (line ≡ line_of f)
+    (string_bytes shown ≡ shown_name name) × (is_load_file name ≡ true) × (load p.core_size p.max_length bytes ≡ Err f) × (line ≡ line_of f)
 IsFaultOfFile p rounds count name bytes (fault.Assembly shown line f) =
-    (is_load_file name ≡ false) × (assembly p rounds count bytes ≡ Err f) × (line ≡ f.line)
+    (string_bytes shown ≡ shown_name name) × (is_load_file name ≡ false) × (assembly p rounds count bytes ≡ Err f) × (line ≡ f.line)
 IsFaultOfFile p rounds count name bytes fault.OutOfMemory = ⊤
 IsFaultOfFile p rounds count name bytes _ = ⊥
 
+-- the file isn't read; the fault shows its name
+abbrev pub IsUnreadFile : (List ℕ → Option (List ℕ)) → List ℕ → RunFault → Type 0
+IsUnreadFile known name (fault.CannotRead shown) = (string_bytes shown ≡ shown_name name) × IsUnread (known name) largest_file file.CannotRead
+IsUnreadFile known name (fault.TooLarge shown) = (string_bytes shown ≡ shown_name name) × IsUnread (known name) largest_file file.TooLarge
+IsUnreadFile known name fault.OutOfMemory = ⊤
+IsUnreadFile known name _ = ⊥
+
 -- a file that isn't read, or that has no warrior
 abbrev pub FailsToLoad : (List ℕ → Option (List ℕ)) → Parameters → ℕ → ℕ → List ℕ → RunFault → Type 0
-FailsToLoad known p rounds count name (fault.CannotRead shown) = ⊤
-FailsToLoad known p rounds count name (fault.TooLarge shown) = ⊤
-FailsToLoad known p rounds count name fault.OutOfMemory = ⊤
-FailsToLoad known p rounds count name f = (bytes : List ℕ) × IfSome (known name) (λ whole. bytes ≡ whole) × IsFaultOfFile p rounds count name bytes f
+FailsToLoad known p rounds count name f = IsUnreadFile known name f
+    ⊎ ((bytes : List ℕ) × IsRead known name bytes × IsFaultOfFile p rounds count name bytes f)
 
 -- the first file that fails; those before it have warriors
 pub record FirstFails (known : List ℕ → Option (List ℕ)) (p : Parameters) (rounds count : ℕ) (names : List (List ℕ)) (f : RunFault) : Type 0 where

@@ -1,5 +1,5 @@
 //! What ends a run, and with which status.
-ghost use Rattle.std.specs.Prelude.{◌≡◌};
+ghost use Rattle.std.specs.Prelude.{◌≡◌, ◌≤◌};
 
 use mars_cell::{LoadFault, ParamFault};
 use mars_core::BattleFault;
@@ -44,7 +44,8 @@ impl RunFault {
 
     /// The exit status: 2 for a fault of the words, 1 for one of input or files.
     pub fn status(&self) -> u8
-        ensures { result ≡ status_of self.now }
+        ensures value { result ≡ status_of self.now }
+        ensures range { (1 ≤ result) × (result ≤ 2) }
     {
         match self {
             RunFault::Words | RunFault::Parameters(_) | RunFault::Formula(_) => 2,

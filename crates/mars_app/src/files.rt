@@ -1,5 +1,6 @@
 //! Where warriors are read from.
-ghost use Rattle.std.specs.Prelude.{◌≡◌, ◌≤◌, ℕ, List, Option, None, IfOk, IfSome, vec_len};
+ghost use Rattle.std.specs.Prelude.{◌≡◌, ◌≤◌, ℕ, List, Option, None, IfErr, IfOk, IfSome, vec_len};
+ghost use Rattle.mars_app.specs.Loading.{IsUnread};
 
 use std::alloc::{AllocError, Global};
 use std::fs;
@@ -22,10 +23,12 @@ pub trait WarriorFiles {
     /// The bytes of the file of a name, where they are known.
     ghost known: { Self → List ℕ → Option (List ℕ) } = { λ _ _. None };
 
-    /// The bytes of a file of at most `limit` bytes.
+    /// The bytes of a file of at most `limit` bytes. One whose bytes are known is read, unless it has more or a growth
+    /// was refused.
     fn read(&self, alloc: Global, name: &str, limit: usize) -> Result<Vec<u8>, FileFault>
         ensures few { IfOk result (λ bytes. vec_len bytes ≤ limit) }
-        ensures whole { IfOk result (λ bytes. IfSome (known self.now name.now) (λ whole. bytes.items ≡ whole)) };
+        ensures whole { IfOk result (λ bytes. IfSome (known self.now name.now) (λ whole. bytes.items ≡ whole)) }
+        ensures unread { IfErr result (IsUnread (known self.now name.now) limit) };
 }
 
 /// Files that are held in memory, for tests.

@@ -1,9 +1,9 @@
 //! Warriors from their files.
-ghost use Rattle.std.specs.Prelude.{◌≡◌, ◌≤◌, All, IfErr, IfOk, IfSome, Some, length, map, string_bytes, vec_len};
+ghost use Rattle.std.specs.Prelude.{◌≡◌, All, IfErr, IfOk, Some, length, map, string_bytes, vec_len};
 ghost use Rattle.mars_cell.specs.Cells.{FitsCore};
-ghost use Rattle.mars_app.specs.Code.Blames.{IsAssemblyFault, IsLoadFault, IsUnread};
-ghost use Rattle.mars_app.specs.Faults.{FailsToLoad, FirstFails, IsFaultOfFile};
-ghost use Rattle.mars_app.specs.Loading.{AllFit, AreLoaded, IsLoadFileOf, is_load_file, warrior_of_file};
+ghost use Rattle.mars_app.specs.Code.Blames.{IsAssemblyFault, IsLoadFault};
+ghost use Rattle.mars_app.specs.Faults.{FailsToLoad, FirstFails, IsFaultOfFile, IsUnreadFile};
+ghost use Rattle.mars_app.specs.Loading.{AllFit, AreLoaded, IsLoadFileOf, IsRead, is_load_file, shown_name, warrior_of_file};
 
 use crate::fault::RunFault;
 use crate::files::{FileFault, WarriorFiles};
@@ -77,9 +77,8 @@ pub fn load_file_of<F: WarriorFiles>(
 
 /// The bytes of a file.
 fn read_file<F: WarriorFiles>(alloc: Global, files: &F, name: &str) -> Result<Vec<u8>, RunFault>
-    ensures err { IfErr result IsUnread }
-    ensures few { IfOk result (λ bytes. vec_len bytes ≤ 1048576) }
-    ensures whole { IfOk result (λ bytes. IfSome (F.known files.now name.now) (λ whole. bytes.items ≡ whole)) }
+    ensures ok { IfOk result (λ bytes. IsRead (F.known files.now) name.now bytes.items) }
+    ensures err { IfErr result (IsUnreadFile (F.known files.now) name.now) }
 {
     let fault = match files.read(alloc, name, LARGEST_FILE) {
         Ok(bytes) => return Ok(bytes),
@@ -96,7 +95,9 @@ fn read_file<F: WarriorFiles>(alloc: Global, files: &F, name: &str) -> Result<Ve
 }
 
 /// A file's name as a fault shows it: each control character is `?`, so that the fault stays one line.
-fn shown_name(alloc: Global, name: &str) -> Result<String, AllocError> {
+fn shown_name(alloc: Global, name: &str) -> Result<String, AllocError>
+    ensures { IfOk result (λ shown. string_bytes shown ≡ shown_name name.now) }
+{
     let mut shown = String::new(alloc);
     for character in name.chars() {
         shown.push(if character.is_ascii_control() {
@@ -144,7 +145,7 @@ fn read_warrior(
 
 /// The fault of a load file: its line is 0 where the fault has none.
 fn load_fault(alloc: Global, name: &str, fault: LoadFault) -> RunFault
-    ensures { IsLoadFault fault result }
+    ensures { IsLoadFault name.now fault result }
 {
     let line = match fault {
         LoadFault::Syntax(line) => line,
@@ -158,7 +159,7 @@ fn load_fault(alloc: Global, name: &str, fault: LoadFault) -> RunFault
 
 /// The fault of a source.
 fn assembly_fault(alloc: Global, name: &str, fault: AsmFault) -> RunFault
-    ensures { IsAssemblyFault fault result }
+    ensures { IsAssemblyFault name.now fault result }
 {
     match (fault.problem, shown_name(alloc, name)) {
         (AsmProblem::OutOfMemory, _) | (_, Err(_)) => RunFault::OutOfMemory,

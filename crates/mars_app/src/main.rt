@@ -15,32 +15,25 @@ mod readings;
 mod replies;
 mod request;
 mod run;
+mod started;
 #[cfg(test)]
 mod tests;
 mod words;
 
-use crate::fault::RunFault;
 use crate::files::SystemFiles;
 use crate::run::{run, write_fault};
-use std::alloc::Global;
-use std::env;
-use std::io::{ErrorKind, Write};
+use crate::started::words_behind_name;
 use std::process::ExitCode;
 
 fn main(rt: HostRuntime) -> ExitCode {
     let alloc = rt.alloc();
     let (mut input, mut output, mut faults) = (rt.stdin(), rt.stdout(), rt.stderr());
-    let mut words = match env::args(&rt) {
+    let words = match words_behind_name(alloc, &rt) {
         Ok(words) => words,
-        Err(error) if error.kind() == ErrorKind::OutOfMemory => {
-            return end(alloc, &mut faults, RunFault::OutOfMemory);
+        Err(fault) => {
+            write_fault(alloc, &fault, &mut faults);
+            return ExitCode::from(fault.status());
         }
-        // A word that isn't UTF-8.
-        Err(_) => return end(alloc, &mut faults, RunFault::Words),
-    };
-    let _name = words.next();
-    let Ok(words) = words.collect::<Vec<String>>(alloc) else {
-        return end(alloc, &mut faults, RunFault::OutOfMemory);
     };
     let files = SystemFiles(&rt);
     let status = run(
@@ -52,10 +45,4 @@ fn main(rt: HostRuntime) -> ExitCode {
         &mut faults,
     );
     ExitCode::from(status)
-}
-
-/// Writes the line for a fault, and gives its status.
-fn end<E: Write>(alloc: Global, faults: &mut E, fault: RunFault) -> ExitCode {
-    write_fault(alloc, &fault, faults);
-    ExitCode::from(fault.status())
 }

@@ -127,7 +127,8 @@ fn are_allowed(options: &Options) -> bool
         && has_fitting_position(options)
 }
 
-/// Whether each number is in its range. `clap` has tested that where it read the words.
+/// Whether each number is in its range. `clap` has tested that where it read the words; what it promises of it speaks of
+/// the command that it builds from ours, so the proofs take it from this test.
 fn has_numbers(options: &Options) -> bool
     ensures value { result ≡ has_numbers (value_of options.now) }
     ensures used { IsTrue result → HaveNumbers options.now }

@@ -11,6 +11,8 @@ use std::io::{ErrorKind, Read, Write};
 use std::process::Abort;
 use std::test::Fail;
 
+mod no_memory;
+
 /// A reader that gives its bytes in pieces, and then fails or ends.
 #[derive(Drop)]
 struct Pieces<'a> {
@@ -501,6 +503,23 @@ fn as_many_reads_as_are_allowed(rt: HostRuntime) -> Result<(), Fail> {
     assert!(rt; output.is_empty());
     assert_eq!(rt; reader.rest.len(), 2);
     assert_eq!(rt; session.standing().position, 0);
+    Ok(())
+}
+
+/// A person or a program may give any number of lines, byte by byte.
+#[test]
+fn as_many_reads_as_there_are_bytes(rt: HostRuntime) -> Result<(), Fail> {
+    let alloc = rt.alloc();
+    let lines = vec![in alloc; b'\n'; 70_000]?;
+    let mut reader = Pieces {
+        rest: lines.as_slice(),
+        size: 1,
+        fails: false,
+    };
+    let mut output = Vec::new(alloc);
+    let mut session = imp_session(&rt, alloc)?;
+    assert_eq!(rt; debug(&mut reader, &mut output, &mut session), Ok(()));
+    assert!(rt; reader.rest.is_empty() && output.is_empty());
     Ok(())
 }
 

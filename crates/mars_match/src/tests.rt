@@ -16,6 +16,7 @@ use std::process::Abort;
 use std::test::Fail;
 
 mod memory;
+mod no_memory;
 
 /// Parameters of a core size and a least distance.
 fn sizes(core_size: u32, distance: u32) -> Result<Params, Fail> {
