@@ -1,5 +1,8 @@
 -- The words that follow the program's name, as `clap` reads them.
 use Rattle.std.specs.Prelude.{ℕ, true, List, [], ◌∷◌, Some, codes, fold, pos}
+use Rattle.mars_app.specs.Limits.{longest_history, most_rounds}
+use Rattle.mars_match.specs.Placement.{greatest_seed}
+use Rattle.mars_cell.specs.Limits.{largest_core, most_cycles, most_processes}
 use Rattle.clap.specs.Lexer.{usize_max}
 use Rattle.clap.specs.Simple.{App, new_rule, new_shape, with_rule}
 use Rattle.clap.specs.Walk.{Rule}
@@ -34,9 +37,9 @@ or_else text rule = record rule { defaults = text ∷ [] }
 -- what is fought
 abbrev pub contest_rules : List Rule
 contest_rules =
-    short 114 (or_else (codes "1") (number_rule (codes "rounds") 100000))
-    ∷ short 70 (number_rule (codes "fixed") 1048576)
-    ∷ long (or_else (codes "1") (number_rule (codes "seed") 2147483646))
+    short 114 (or_else (codes "1") (number_rule (codes "rounds") most_rounds))
+    ∷ short 70 (number_rule (codes "fixed") largest_core)
+    ∷ long (or_else (codes "1") (number_rule (codes "seed") greatest_seed))
     ∷ long (or_else (codes "(W*W-1)/S") score_rule)
     ∷ long (flag_rule (codes "league"))
     ∷ []
@@ -44,13 +47,13 @@ contest_rules =
 -- where it is fought
 abbrev pub core_rules : List Rule
 core_rules =
-    short 115 (or_else (codes "8000") (number_rule (codes "core") 1048576))
-    ∷ short 99 (or_else (codes "80000") (number_rule (codes "cycles") 10000000))
-    ∷ short 112 (or_else (codes "8000") (number_rule (codes "processes") 65536))
-    ∷ short 108 (or_else (codes "100") (number_rule (codes "longest") 1048576))
-    ∷ short 100 (or_else (codes "100") (number_rule (codes "distance") 1048576))
-    ∷ long (number_rule (codes "read-limit") 1048576)
-    ∷ long (number_rule (codes "write-limit") 1048576)
+    short 115 (or_else (codes "8000") (number_rule (codes "core") largest_core))
+    ∷ short 99 (or_else (codes "80000") (number_rule (codes "cycles") most_cycles))
+    ∷ short 112 (or_else (codes "8000") (number_rule (codes "processes") most_processes))
+    ∷ short 108 (or_else (codes "100") (number_rule (codes "longest") largest_core))
+    ∷ short 100 (or_else (codes "100") (number_rule (codes "distance") largest_core))
+    ∷ long (number_rule (codes "read-limit") largest_core)
+    ∷ long (number_rule (codes "write-limit") largest_core)
     ∷ []
 
 -- what is written
@@ -65,7 +68,7 @@ output_rules =
 abbrev pub debugger_rules : List Rule
 debugger_rules =
     short 101 (flag_rule (codes "debugger"))
-    ∷ long (or_else (codes "200000") (number_rule (codes "history") 1000000))
+    ∷ long (or_else (codes "200000") (number_rule (codes "history") longest_history))
     ∷ []
 
 -- the names of the warriors' files

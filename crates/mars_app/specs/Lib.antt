@@ -1,4 +1,5 @@
 -- What a reader of the contracts has to believe, in this order; Examples has worked examples of it.
+pub mod Limits
 pub mod Words
 pub mod Requests
 pub mod Lines

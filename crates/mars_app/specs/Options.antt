@@ -3,6 +3,10 @@ use Rattle.std.specs.Prelude.{◌≡◌, ⊤, ◌⊎◌, ℕ, ◌+◌, ◌==◌,
 use Rattle.std.specs.Option.{option_map_or, unwrap_or}
 use Rattle.std.specs.Str.{bytes_eq}
 use Rattle.std.specs.Str.Parse.{digits_value, without_leading_plus}
+use Rattle.mars_core.specs.Limits.{most_warriors}
+use Rattle.mars_app.specs.Limits.{longest_history, most_rounds}
+use Rattle.mars_match.specs.Placement.{greatest_seed}
+use Rattle.mars_cell.specs.Limits.{largest_core, most_cycles, most_processes}
 use Rattle.clap.specs.Faults.{fault_of}
 use Rattle.clap.specs.Kinds.{IsAmong}
 use Rattle.clap.specs.Simple.{matches_of}
@@ -104,17 +108,17 @@ is_between least greatest n = nat_le least n && nat_le n greatest
 
 -- a limit that isn't given is the core size
 abbrev pub is_limit : Option ℕ → Bool
-is_limit limit = option_map_or (is_between 1 1048576) limit true
+is_limit limit = option_map_or (is_between 1 largest_core) limit true
 
 -- each number is in its range
 abbrev pub has_numbers : OptionsValue → Bool
-has_numbers o = is_between 1 100000 o.rounds && is_between 1 1048576 o.core && is_between 1 10000000 o.cycles
-    && is_between 1 65536 o.processes && is_between 1 1048576 o.longest && is_between 1 1048576 o.distance
-    && is_between 1 2147483646 o.seed && is_between 1 1000000 o.history && is_limit o.read_limit && is_limit o.write_limit
+has_numbers o = is_between 1 most_rounds o.rounds && is_between 1 largest_core o.core && is_between 1 most_cycles o.cycles
+    && is_between 1 most_processes o.processes && is_between 1 largest_core o.longest && is_between 1 largest_core o.distance
+    && is_between 1 greatest_seed o.seed && is_between 1 longest_history o.history && is_limit o.read_limit && is_limit o.write_limit
 
 -- from 1 to 16 files, one of which the load file is written, or at least two that fight a league
 abbrev pub has_files : OptionsValue → Bool
-has_files o = is_between 1 16 (length o.files) && (not o.load || length o.files == 1) && (not o.league || nat_le 2 (length o.files))
+has_files o = is_between 1 most_warriors (length o.files) && (not o.load || length o.files == 1) && (not o.league || nat_le 2 (length o.files))
 
 -- at most one of the debugger, a league and a load file is asked for
 abbrev pub has_one_mode : OptionsValue → Bool

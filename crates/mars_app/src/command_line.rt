@@ -5,7 +5,15 @@ ghost use Rattle.clap.specs.Walk.{rule_of};
 ghost use Rattle.mars_app.specs.CommandLine.{contest_rules, core_rules, debugger_rules, file_rule, flag_rule, help_rule, mars, number_rule, output_rules, score_rule, with_rules};
 
 use clap::{Arg, ArgAction, Command, value_parser};
+use mars_cell::{LARGEST_CORE, MOST_CYCLES, MOST_PROCESSES};
+use mars_match::GREATEST_SEED;
 use std::alloc::{AllocError, Global};
+
+/// How many rounds a match has at most.
+pub const MOST_ROUNDS: u32 = 100_000;
+
+/// How many places a history keeps at most beside the present one.
+pub const LONGEST_HISTORY: u32 = 1_000_000;
 
 /// What stands below the words in the help.
 const AFTER_HELP: &str = "\
@@ -44,14 +52,14 @@ fn with_contest<'a>(alloc: Global, command: Command<'a>) -> Result<Command<'a>, 
     command
         .next_help_heading("Contest")
         .arg(
-            number(alloc, "rounds", 100_000, "Rounds, 1 to 100000")
+            number(alloc, "rounds", MOST_ROUNDS, "Rounds, 1 to 100000")
                 .short('r')
                 .default_value("1"),
         )?
         .arg(number(
             alloc,
             "fixed",
-            1_048_576,
+            LARGEST_CORE,
             "Position of warrior 2, from the least distance to the core size less that",
         )
         .short('F'))?
@@ -59,7 +67,7 @@ fn with_contest<'a>(alloc: Global, command: Command<'a>) -> Result<Command<'a>, 
             number(
                 alloc,
                 "seed",
-                2_147_483_646,
+                GREATEST_SEED,
                 "Seed of the positions, 1 to 2147483646",
             )
             .long("seed")
@@ -76,25 +84,30 @@ fn with_core<'a>(alloc: Global, command: Command<'a>) -> Result<Command<'a>, All
     command
         .next_help_heading("Core")
         .arg(
-            number(alloc, "core", 1_048_576, "Core size, 1 to 1048576")
+            number(alloc, "core", LARGEST_CORE, "Core size, 1 to 1048576")
                 .short('s')
                 .default_value("8000"),
         )?
         .arg(
-            number(alloc, "cycles", 10_000_000, "Cycle limit, 1 to 10000000")
+            number(alloc, "cycles", MOST_CYCLES, "Cycle limit, 1 to 10000000")
                 .short('c')
                 .default_value("80000"),
         )?
         .arg(
-            number(alloc, "processes", 65_536, "Process limit, 1 to 65536")
-                .short('p')
-                .default_value("8000"),
+            number(
+                alloc,
+                "processes",
+                MOST_PROCESSES,
+                "Process limit, 1 to 65536",
+            )
+            .short('p')
+            .default_value("8000"),
         )?
         .arg(
             number(
                 alloc,
                 "longest",
-                1_048_576,
+                LARGEST_CORE,
                 "Longest warrior, 1 to the core size",
             )
             .short('l')
@@ -104,7 +117,7 @@ fn with_core<'a>(alloc: Global, command: Command<'a>) -> Result<Command<'a>, All
             number(
                 alloc,
                 "distance",
-                1_048_576,
+                LARGEST_CORE,
                 "Least distance, from the longest warrior to the core size",
             )
             .short('d')
@@ -113,14 +126,14 @@ fn with_core<'a>(alloc: Global, command: Command<'a>) -> Result<Command<'a>, All
         .arg(number(
             alloc,
             "read-limit",
-            1_048_576,
+            LARGEST_CORE,
             "How far is read, 1 to the core size [default: core size]",
         )
         .long("read-limit"))?
         .arg(number(
             alloc,
             "write-limit",
-            1_048_576,
+            LARGEST_CORE,
             "How far is written, 1 to the core size [default: core size]",
         )
         .long("write-limit"))
@@ -142,7 +155,7 @@ fn with_debugger<'a>(alloc: Global, command: Command<'a>) -> Result<Command<'a>,
             number(
                 alloc,
                 "history",
-                1_000_000,
+                LONGEST_HISTORY,
                 "Places that the history keeps, 1 to 1000000",
             )
             .long("history")

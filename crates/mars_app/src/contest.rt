@@ -10,6 +10,7 @@ ghost use Rattle.mars_match.specs.declared.table.Table.{Table};
 ghost use Rattle.mars_match.specs.Writing.{CutShort};
 ghost use Rattle.mars_app.specs.Contests.{BreaksOff, ContestFails, contest, fault_of, listed, listing, listing_from, listing_head};
 ghost use Rattle.mars_app.specs.Loading.{AllFit, FitsTwo};
+ghost use Rattle.mars_core.specs.Limits.{most_warriors};
 
 use crate::fault::RunFault;
 use crate::options::Options;
@@ -33,7 +34,7 @@ pub fn run_contest<W: Write>(
     output: &mut W,
 ) -> Result<(), RunFault>
     requires fit { AllFit params.now.core_size warriors.now }
-    requires few { length warriors.now ≤ 16 }
+    requires few { length warriors.now ≤ most_warriors }
     requires position { FitsTwo params.now (length warriors.now) options.now.fixed }
     ensures ok { OnOk result ((rows : List RowValue)
         × (contest options.now params.now formula warriors.now ≡ Ok rows)
@@ -59,7 +60,7 @@ fn hold_contest(
     params: &Params,
     warriors: &[Warrior],
 ) -> Result<Table, MatchFault>
-    requires few { length warriors.now ≤ 16 }
+    requires few { length warriors.now ≤ most_warriors }
     requires position { FitsTwo params.now (length warriors.now) options.now.fixed }
     ensures { IsAnswer (λ (table : Table). table.rows.items) (contest options.now params.now formula warriors.now) result }
 {

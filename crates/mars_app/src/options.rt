@@ -6,10 +6,14 @@ ghost use Rattle.clap.specs.Walk.{all_of, first_of, rows_of};
 ghost use Rattle.mars_app.specs.Options.{Reads, are_allowed, given_number, has_files, has_fitting_position, has_numbers, has_one_mode, is_between, is_given, is_limit, number, options_of, value_of};
 ghost use Rattle.mars_app.specs.Code.Allowed.{AreInRange, HaveFiles, HaveFittingPosition, HaveNumbers, IsBetween};
 ghost use Rattle.mars_app.specs.Code.Words.{IsFaultOf};
+ghost use Rattle.mars_cell.specs.Limits.{largest_core};
 
-use crate::command_line::command;
+use crate::command_line::{LONGEST_HISTORY, MOST_ROUNDS, command};
 use clap::ArgMatches;
 use clap::error::ErrorKind;
+use mars_cell::{LARGEST_CORE, MOST_CYCLES, MOST_PROCESSES};
+use mars_core::MOST_WARRIORS;
+use mars_match::GREATEST_SEED;
 use std::alloc::{AllocError, Global};
 use thiserror::Error;
 
@@ -133,14 +137,14 @@ fn has_numbers(options: &Options) -> bool
     ensures value { result ≡ has_numbers (value_of options.now) }
     ensures used { IsTrue result → HaveNumbers options.now }
 {
-    is_between(1, 100_000, options.rounds)
-        && is_between(1, 1_048_576, options.core)
-        && is_between(1, 10_000_000, options.cycles)
-        && is_between(1, 65_536, options.processes)
-        && is_between(1, 1_048_576, options.longest)
-        && is_between(1, 1_048_576, options.distance)
-        && is_between(1, 2_147_483_646, options.seed)
-        && is_between(1, 1_000_000, options.history)
+    is_between(1, MOST_ROUNDS, options.rounds)
+        && is_between(1, LARGEST_CORE, options.core)
+        && is_between(1, MOST_CYCLES, options.cycles)
+        && is_between(1, MOST_PROCESSES, options.processes)
+        && is_between(1, LARGEST_CORE, options.longest)
+        && is_between(1, LARGEST_CORE, options.distance)
+        && is_between(1, GREATEST_SEED, options.seed)
+        && is_between(1, LONGEST_HISTORY, options.history)
         && is_limit(options.read_limit)
         && is_limit(options.write_limit)
 }
@@ -155,11 +159,11 @@ fn is_between(least: u32, greatest: u32, n: u32) -> bool
 /// Whether a limit that is given is one of a core.
 fn is_limit(limit: Option<u32>) -> bool
     ensures value { result ≡ is_limit limit }
-    ensures used { IsTrue result → IfSome limit (IsBetween 1 1048576) }
+    ensures used { IsTrue result → IfSome limit (IsBetween 1 largest_core) }
 {
     match limit {
         None => true,
-        Some(limit) => is_between(1, 1_048_576, limit),
+        Some(limit) => is_between(1, LARGEST_CORE, limit),
     }
 }
 
@@ -169,7 +173,10 @@ fn has_files(options: &Options) -> bool
     ensures used { IsTrue result → HaveFiles options.now }
 {
     let count = options.files.len();
-    1 <= count && count <= 16 && (!options.load || count == 1) && (!options.league || 2 <= count)
+    1 <= count
+        && count <= MOST_WARRIORS
+        && (!options.load || count == 1)
+        && (!options.league || 2 <= count)
 }
 
 /// Whether at most one of the debugger, a league and a load file is asked for.

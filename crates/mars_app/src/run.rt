@@ -16,6 +16,8 @@ ghost use Rattle.mars_app.specs.Runs.{RunsWell};
 ghost use Rattle.mars_app.specs.Status.{status_of};
 ghost use Rattle.mars_app.specs.declared.fault.RunFault.{RunFault};
 ghost use Rattle.mars_cell.specs.ParameterFaults.{checked_parameters};
+ghost use Rattle.mars_core.specs.Limits.{most_warriors};
+ghost use Rattle.mars_app.specs.Limits.{longest_history};
 
 use crate::contest::{match_fault, run_contest, write_part};
 use crate::debugger::{DebugFault, debug};
@@ -128,7 +130,7 @@ fn parameters(options: &Options) -> Result<Params, ParamFault>
 
 /// How many warriors meet: in a league two, else all.
 fn contest_size(options: &Options) -> u32
-    requires { vec_len options.now.files ≤ 16 }
+    requires { vec_len options.now.files ≤ most_warriors }
     ensures { result ≡ contest_size options.now }
 {
     if options.league {
@@ -166,9 +168,9 @@ fn debug_round<R: Read, W: Write>(
     output: &mut W,
 ) -> Result<(), RunFault>
     requires some { 1 ≤ length warriors.now }
-    requires few { length warriors.now ≤ 16 }
+    requires few { length warriors.now ≤ most_warriors }
     requires position { FitsTwo params.now (length warriors.now) options.now.fixed }
-    requires history { IsBetween 1 1000000 options.now.history }
+    requires history { IsBetween 1 longest_history options.now.history }
     ensures ok { OnOk result ((s : State) × (first_round options.now params.now warriors.now ≡ Ok s)
         × DebugsWell (session_at options.now.history s) s.params.core_size (R.remaining input.old) (R.remaining input.new) (W.contents output.old) (W.contents output.new)) }
     ensures err { IfErr result (λ fault. StartsNothing fault (first_round options.now params.now warriors.now) (W.contents output.old) (W.contents output.new)
@@ -193,7 +195,7 @@ fn place_first(
     warriors: u32,
 ) -> Result<(Vec<u32>, u32), MatchFault>
     requires some { 1 ≤ warriors }
-    requires few { warriors ≤ 16 }
+    requires few { warriors ≤ most_warriors }
     requires position { FitsTwo params.now warriors options.now.fixed }
     ensures value { IsAnswer (λ (placed : Vec ℕ Global × ℕ). (placed.0.items, placed.1)) (placed_for params.now warriors options.now.fixed options.now.seed) result }
     ensures many { IfOk result (λ placed. vec_len placed.0 ≡ warriors) }
@@ -219,7 +221,7 @@ fn debug_battle<R: Read, W: Write>(
     input: &mut R,
     output: &mut W,
 ) -> Result<(), RunFault>
-    requires { IsBetween 1 1000000 history }
+    requires { IsBetween 1 longest_history history }
     ensures ok { OnOk result (DebugsWell (session_at history battle) battle.params.core_size (R.remaining input.old) (R.remaining input.new) (W.contents output.old) (W.contents output.new)) }
     ensures err { IfErr result (λ fault. ((fault ≡ RunFault.OutOfMemory) × Keeps (W.contents output.old) (W.contents output.new))
         ⊎ DebugsInPart fault (session_at history battle) battle.params.core_size (R.remaining input.old) (R.remaining input.new) (W.contents output.old) (W.contents output.new)) }

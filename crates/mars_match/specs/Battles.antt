@@ -1,5 +1,6 @@
 -- The battle of a round, and who survives it.
 use Rattle.std.specs.Prelude.{◌≡◌, ℕ, ◌+◌, ◌-◌, ◌*◌, ◌%◌, Bool, not, ◌==◌, nat_lt, if◌then◌else◌, List, ◌++◌, length, map, take, drop, Option, None, Some, Result, Ok, Err}
+use Rattle.mars_core.specs.Limits.{most_warriors}
 use Rattle.mars_cell.specs.Parameters.{Parameters}
 use Rattle.mars_cell.specs.Warriors.{WarriorValue}
 use Rattle.mars_core.specs.State.{State, is_empty}
@@ -45,7 +46,7 @@ round_fault p warriors starts k = let first = k % length warriors in start_fault
 
 -- too few or too many warriors
 abbrev pub count_fault : ℕ → Option BattleFault
-count_fault count = if count == 0 then Some NoWarrior else if nat_lt 16 count then Some TooMany else None
+count_fault count = if count == 0 then Some NoWarrior else if nat_lt most_warriors count then Some TooMany else None
 
 -- the value, unless there is a fault
 abbrev pub unless : {A : Type 0} → Option BattleFault → A → Result A MatchFault

@@ -4,6 +4,9 @@ use Rattle.mars_cell.specs.Parameters.{Parameters}
 use Rattle.mars_match.specs.declared.placement.PlaceFault.{PlaceFault}
 use Rattle.mars_match.specs.declared.placement.PlaceFault.TheVariants.{NoRoom, BadSeed}
 
+abbrev pub greatest_seed : ℕ
+greatest_seed = 2147483646
+
 -- one draw of the generator of Park and Miller: the new seed, which is what is drawn
 unfoldable pub drawn : ℕ → ℕ
 drawn seed = (16807 * seed) % 2147483647
@@ -58,7 +61,7 @@ next_seed w seed = seed_after ((w - 1) + (w - 2)) seed
 abbrev pub place_fault : Parameters → ℕ → ℕ → Option PlaceFault
 place_fault p w seed =
     if nat_lt p.core_size (w * p.distance) then Some NoRoom
-    else if not (nat_le 1 seed && nat_le seed 2147483646) then Some BadSeed
+    else if not (nat_le 1 seed && nat_le seed greatest_seed) then Some BadSeed
     else None
 
 -- how far it is from one address up to another, round the core

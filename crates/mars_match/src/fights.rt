@@ -5,12 +5,13 @@ ghost use Rattle.mars_core.specs.State.{State};
 ghost use Rattle.mars_match.specs.Answers.{IsAnswer};
 ghost use Rattle.mars_match.specs.Battles.{rotated, lives, end_of, in_load_order, count_fault, unless, started, fought, HasRoom};
 ghost use Rattle.mars_core.specs.Start.{start_state, start_fault};
+ghost use Rattle.mars_core.specs.Limits.{most_warriors};
 
 use crate::fault::MatchFault;
 use crate::lineup::Lineup;
 use arrayvec::ArrayVec;
 use mars_cell::{Params, Warrior};
-use mars_core::{Battle, BattleFault};
+use mars_core::{Battle, BattleFault, MOST_WARRIORS};
 use std::alloc::{AllocError, Global};
 
 /// Turns the battle until it is over.
@@ -28,15 +29,15 @@ pub fn check_count(count: usize) -> Result<(), MatchFault>
     if count == 0 {
         return Err(MatchFault::Battle(BattleFault::NoWarrior));
     }
-    if count > 16 {
+    if count > MOST_WARRIORS {
         return Err(MatchFault::Battle(BattleFault::TooMany));
     }
     Ok(())
 }
 
 /// The starts from one on, and then those before it.
-fn rotated_starts(starts: &[u32], first: usize) -> ArrayVec<u32, 16>
-    requires few { length starts.now ≤ 16 }
+fn rotated_starts(starts: &[u32], first: usize) -> ArrayVec<u32, MOST_WARRIORS>
+    requires few { length starts.now ≤ most_warriors }
     requires first { first ≤ length starts.now }
     ensures { result.items ≡ rotated first starts.now }
 {
@@ -74,7 +75,7 @@ fn start_round(
 ) -> Result<Battle, MatchFault>
     requires starts { length starts.now ≡ length lineup.now }
     requires some { 1 ≤ length lineup.now }
-    requires few { length lineup.now ≤ 16 }
+    requires few { length lineup.now ≤ most_warriors }
     requires last { IfSome last (λ battle. HasRoom params.now (length lineup.now) battle) }
     ensures state { IsAnswer (λ (battle : State). battle) (started params.now lineup.now starts.now round) result }
     ensures no_memory { IfSome last (λ _. IfErr result (λ fault. fault ≢ MatchFault.OutOfMemory)) }
@@ -113,7 +114,7 @@ pub fn fight_round(
 ) -> Result<Battle, MatchFault>
     requires starts { length starts.now ≡ length lineup.now }
     requires some { 1 ≤ length lineup.now }
-    requires few { length lineup.now ≤ 16 }
+    requires few { length lineup.now ≤ most_warriors }
     requires last { IfSome last (λ battle. HasRoom params.now (length lineup.now) battle) }
     ensures survivors { IsAnswer (λ (battle : State). in_load_order (round % length lineup.now) battle) (fought params.now lineup.now starts.now round) result }
     ensures room { IfOk result (λ battle. HasRoom params.now (length lineup.now) battle) }

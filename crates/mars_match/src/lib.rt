@@ -25,7 +25,7 @@ pub use fights::fight;
 pub use leagues::league;
 pub use matches::{Plan, rounds};
 pub use output::{WriteFault, write_text};
-pub use placement::{PlaceFault, place};
+pub use placement::{GREATEST_SEED, PlaceFault, place};
 pub use report::write_results;
 pub use table::{Row, Table};
 

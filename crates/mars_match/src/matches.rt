@@ -8,6 +8,7 @@ ghost use Rattle.mars_match.specs.declared.table.Table.{Table};
 ghost use Rattle.mars_match.specs.Tables.{RowValue};
 ghost use Rattle.mars_match.specs.Code.Tallies.{no_rounds as spec_no_rounds, outcome_by, tallied, IsOf, row_with, rows_with};
 ghost use Rattle.std.specs.Global.{Global};
+ghost use Rattle.mars_core.specs.Limits.{most_warriors};
 
 use crate::fault::MatchFault;
 use crate::fights::{check_count, fight_round};
@@ -43,7 +44,7 @@ fn place_round(
     starts: &mut [u32],
 ) -> Result<u32, MatchFault>
     requires some { 1 ≤ length starts.old }
-    requires few { length starts.old ≤ 16 }
+    requires few { length starts.old ≤ most_warriors }
     requires fixed { IfSome fixed (λ position. length starts.old ≡ 2) }
     ensures { MatchResult result (λ left. placed_for params.now (length starts.old) fixed seed ≡ Ok (starts.new, left)) (λ fault. placed_for params.now (length starts.old) fixed seed ≡ Err fault) }
 {
@@ -60,7 +61,7 @@ fn place_round(
 
 /// What each survivor of a battle gets.
 fn score_round(formula: &Formula, battle: &Battle) -> Result<i64, MatchFault>
-    requires { length battle.now.queues ≤ 16 }
+    requires { length battle.now.queues ≤ most_warriors }
     ensures value { result ≡ round_score formula.now (lives battle.now) }
     ensures no_memory { IfErr result (λ fault. fault ≢ MatchFault.OutOfMemory) }
 {
@@ -140,7 +141,7 @@ fn play_round(
 ) -> Result<(Battle, i64), MatchFault>
     requires starts { length starts.now ≡ length lineup.now }
     requires some { 1 ≤ length lineup.now }
-    requires few { length lineup.now ≤ 16 }
+    requires few { length lineup.now ≤ most_warriors }
     requires last { IfSome last (λ battle. HasRoom params.now (length lineup.now) battle) }
     ensures outcome { IsAnswer (λ (played : State × ℤ). outcome_by (round % length lineup.now) played.0 played.1) (ended params.now lineup.now formula.now starts.now round) result }
     ensures room { IfOk result (λ played. HasRoom params.now (length lineup.now) played.0) }
@@ -161,7 +162,7 @@ pub fn play_rounds(
     tallies: &mut [Tally],
 ) -> Result<(), MatchFault>
     requires some { 1 ≤ length lineup.now }
-    requires few { length lineup.now ≤ 16 }
+    requires few { length lineup.now ≤ most_warriors }
     requires fixed { IfSome plan.now.fixed (λ position. length lineup.now ≡ 2) }
     requires many { length tallies.old ≡ length lineup.now }
     requires fresh { All (IsOf 0) tallies.old }

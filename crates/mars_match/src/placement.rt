@@ -1,10 +1,14 @@
 //! Where the warriors of a battle are laid.
 ghost use Rattle.std.specs.Prelude.{◌≡◌, ℕ, ◌+◌, ◌-◌, ◌*◌, ◌%◌, ◌<◌, ◌≤◌, ◌^◌, ◌∷◌, [], All, length, IfOk, IfErr, IfSome};
 ghost use Rattle.mars_match.specs.Placement.{drawn as spec_drawn, seed_after, draws, ascending, spread, exchanged, room_for, starts_of, next_seed, place_fault, IsSpaced};
+ghost use Rattle.mars_core.specs.Limits.{most_warriors};
 
 use mars_cell::Params;
 use std::alloc::Global;
 use thiserror::Error;
+
+/// The greatest seed; the least is 1.
+pub const GREATEST_SEED: u32 = 2_147_483_646;
 
 /// Why warriors can't be placed: the first that applies. It is displayed as its number and name.
 #[derive(Clone, Copy, Debug, PartialEq, Eq, Error)]
@@ -46,7 +50,7 @@ fn draw_values(starts: &mut [u32], room: u32, seed: u32) -> u32
 
 /// Adds i times the distance to start i.
 fn spread(starts: &mut [u32], distance: u32)
-    requires few { length starts.old ≤ 16 }
+    requires few { length starts.old ≤ most_warriors }
     requires distance { length starts.old * distance ≤ 1048576 }
     requires below { All (λ s. s ≤ 1048576) starts.old }
     ensures { starts.new ≡ spread distance 0 starts.old }
@@ -73,7 +77,7 @@ fn exchange(starts: &mut [u32], seed: u32) -> u32
 /// memory.
 pub fn place_all(params: &Params, seed: u32, starts: &mut [u32]) -> u32
     requires some { 1 ≤ length starts.old }
-    requires few { length starts.old ≤ 16 }
+    requires few { length starts.old ≤ most_warriors }
     requires room { length starts.old * params.now.distance ≤ params.now.core_size }
     ensures starts { starts.new ≡ starts_of params.now (length starts.old) seed }
     ensures seed { result ≡ next_seed (length starts.old) seed }
@@ -90,14 +94,14 @@ pub fn place_all(params: &Params, seed: u32, starts: &mut [u32]) -> u32
 
 /// The first reason not to place so many warriors, but for memory.
 pub fn find_fault(params: &Params, warriors: u32, seed: u32) -> Option<PlaceFault>
-    requires { warriors ≤ 16 }
+    requires { warriors ≤ most_warriors }
     ensures { result ≡ place_fault params.now warriors seed }
 {
     let core_size = params.core_size();
     if warriors * params.distance() > core_size {
         return Some(PlaceFault::NoRoom);
     }
-    if seed < 1 || seed > 2_147_483_646 {
+    if seed < 1 || seed > GREATEST_SEED {
         return Some(PlaceFault::BadSeed);
     }
     None
@@ -111,7 +115,7 @@ pub fn place(
     seed: u32,
 ) -> Result<(Vec<u32>, u32), PlaceFault>
     requires some { 1 ≤ warriors }
-    requires few { warriors ≤ 16 }
+    requires few { warriors ≤ most_warriors }
     ensures fault { IfSome (place_fault params.now warriors seed) (λ fault. result ≡ Err fault) }
     ensures only_memory { place_fault params.now warriors seed ≡ None → IfErr result (λ fault. fault ≡ PlaceFault.OutOfMemory) }
     ensures starts { IfOk result (λ placed. placed.0.items ≡ starts_of params.now warriors seed) }
