@@ -2,6 +2,7 @@
 ghost use Rattle.std.specs.Prelude.{◌≡◌, ℕ, ◌+◌, ◌-◌, ◌*◌, ◌%◌, ◌<◌, ◌≤◌, ◌^◌, ◌∷◌, [], All, length, IfOk, IfErr, IfSome};
 ghost use Rattle.mars_match.specs.Placement.{drawn as spec_drawn, seed_after, draws, ascending, spread, exchanged, room_for, starts_of, next_seed, place_fault, IsSpaced};
 ghost use Rattle.mars_core.specs.Limits.{most_warriors};
+ghost use Rattle.mars_cell.specs.Limits.{largest_core};
 
 use mars_cell::Params;
 use std::alloc::Global;
@@ -51,8 +52,8 @@ fn draw_values(starts: &mut [u32], room: u32, seed: u32) -> u32
 /// Adds i times the distance to start i.
 fn spread(starts: &mut [u32], distance: u32)
     requires few { length starts.old ≤ most_warriors }
-    requires distance { length starts.old * distance ≤ 1048576 }
-    requires below { All (λ s. s ≤ 1048576) starts.old }
+    requires distance { length starts.old * distance ≤ largest_core }
+    requires below { All (λ s. s ≤ largest_core) starts.old }
     ensures { starts.new ≡ spread distance 0 starts.old }
 {
     for i in 0..starts.len() {

@@ -7,6 +7,7 @@ ghost use Rattle.mars_core.specs.Validity.{IsValid};
 ghost use Rattle.mars_core.specs.Leads.{Leads};
 ghost use Rattle.mars_core.specs.Edit.{address_fault as spec_address_fault, cell_fault as spec_cell_fault, warrior_fault, process_fault, life_fault, room_fault, edit_fault as spec_edit_fault, edited, edit_record, IsProcess, CanSpawn};
 ghost use Rattle.mars_cell.specs.Cells.{FitsCore};
+ghost use Rattle.mars_cell.specs.Limits.{most_cycles};
 
 use crate::battle::Battle;
 use crate::deaths::note_death;
@@ -245,7 +246,7 @@ fn cell_fault(core_size: u32, cell: Cell) -> Option<EditFault>
 /// The clock after a process was taken out of a queue: it advances where its warrior died.
 fn clock_after_kill(queues: &[ProcessQueue], clock: Clock, died: bool) -> Clock
     requires few { length queues.now ≤ most_warriors }
-    requires cycle { clock.cycle ≤ 10000000 }
+    requires cycle { clock.cycle ≤ most_cycles }
     ensures { result ≡ (if died then spec_advanced (addresses_of queues.now) clock clock.next else clock) }
 {
     if died {

@@ -1,7 +1,7 @@
 //! Addresses, and the core as it is written.
 ghost use Rattle.std.specs.Prelude.{◌≡◌, ℕ, ◌+◌, ◌%◌, ◌<◌, ◌≤◌, length, false, Some};
 ghost use Rattle.mars_cell.specs.Cells.{FitsCore, field_of};
-ghost use Rattle.mars_core.specs.Limits.{largest_core};
+ghost use Rattle.mars_cell.specs.Limits.{largest_core};
 ghost use Rattle.mars_core.specs.State.{cell_at as spec_cell_at};
 ghost use Rattle.mars_core.specs.Addresses.{address_after as spec_address_after, fold, raised as spec_raised, lowered as spec_lowered};
 ghost use Rattle.mars_core.specs.Writes.{write_cell, write_field};

@@ -3,6 +3,7 @@ ghost use Rattle.std.specs.Prelude.{◌≡◌, ℕ, ◌+◌, ◌<◌, ◌≤◌,
 ghost use Rattle.mars_core.specs.Limits.{most_warriors};
 ghost use Rattle.mars_core.specs.State.{live_from, survivors_of, ends, advanced as spec_advanced};
 ghost use Rattle.mars_core.specs.Queue.{addresses_of};
+ghost use Rattle.mars_cell.specs.Limits.{most_cycles};
 
 use crate::queue::ProcessQueue;
 
@@ -19,7 +20,7 @@ pub struct Clock {
 pub fn clock_after_turn(queues: &[ProcessQueue], clock: Clock) -> Clock
     requires few { length queues.now ≤ most_warriors }
     requires next { clock.next < length queues.now }
-    requires cycle { clock.cycle ≤ 10000000 }
+    requires cycle { clock.cycle ≤ most_cycles }
     ensures { result ≡ spec_advanced (addresses_of queues.now) clock (clock.next + 1) }
 {
     let next = clock.next as usize + 1;
@@ -43,7 +44,7 @@ pub fn clock_after_turn(queues: &[ProcessQueue], clock: Clock) -> Clock
 #[tactic(auto, unfolding(crate::specs::State::advanced))]
 pub fn advanced(queues: &[ProcessQueue], clock: Clock, from: usize) -> Clock
     requires few { length queues.now ≤ most_warriors }
-    requires cycle { clock.cycle ≤ 10000000 }
+    requires cycle { clock.cycle ≤ most_cycles }
     ensures { result ≡ spec_advanced (addresses_of queues.now) clock from }
 {
     if let Some(next) = least_live(queues, from) {

@@ -1,6 +1,6 @@
 //! The evaluation of operands.
 ghost use Rattle.std.specs.Prelude.{◌≡◌, ◌<◌, ◌≤◌, false, None};
-ghost use Rattle.mars_core.specs.Limits.{largest_core};
+ghost use Rattle.mars_cell.specs.Limits.{largest_core};
 ghost use Rattle.mars_core.specs.State.{cell_at as spec_cell_at};
 ghost use Rattle.mars_core.specs.Addresses.{address_after as spec_address_after};
 ghost use Rattle.mars_core.specs.Validity.{IsCore};

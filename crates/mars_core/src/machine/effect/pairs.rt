@@ -1,7 +1,7 @@
 //! Numbers that belong together by the modifier: what an opcode makes of them, and how it tests them.
 ghost use Rattle.std.specs.Prelude.{◌≡◌, ◌<◌, ◌≤◌};
 ghost use Rattle.mars_cell.specs.Cells.{FitsCore};
-ghost use Rattle.mars_core.specs.Limits.{largest_core};
+ghost use Rattle.mars_cell.specs.Limits.{largest_core};
 ghost use Rattle.mars_core.specs.Effect.{pairs_of, takes_whole_cells as spec_takes_whole_cells, with_pairs as spec_with_pairs, all_pairs_pass as spec_all_pairs_pass, are_equal_cells as spec_are_equal_cells, are_equal as spec_are_equal};
 ghost use Rattle.mars_core.specs.Code.Opcodes.{new_number as spec_new_number, passes_test as spec_passes_test};
 
