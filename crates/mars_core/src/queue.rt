@@ -44,6 +44,13 @@ impl ProcessQueue {
         len
     }
 
+    /// How many processes there is room for.
+    pub fn limit(&self) -> usize
+        ensures { result ≡ self.now.limit }
+    {
+        self.ring.capacity()
+    }
+
     /// Whether there is no process.
     #[tactic(auto, using(crate::proofs::Live::length_is_empty))]
     pub fn is_empty(&self) -> bool
