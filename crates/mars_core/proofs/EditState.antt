@@ -17,7 +17,7 @@ use Rattle.mars_core.specs.declared.deaths.Death.{Death}
 use Rattle.mars_core.specs.declared.record.Work.{Work}
 use Rattle.mars_core.specs.declared.record.Work.TheVariants as work
 use Rattle.mars_core.specs.declared.battle.edit.Edit.TheVariants as edit
-use Rattle.mars_core.specs.declared.machine.clock.Clock.{Clock}
+use Rattle.mars_core.specs.declared.machine.Clock.{Clock}
 use Rattle.mars_core.proofs.EditClocks.{live_survives, survivors_kept}
 use Rattle.mars_core.proofs.Edits.{place_filled}
 use Rattle.mars_core.proofs.Live.{addresses_at}

@@ -19,7 +19,7 @@ use Rattle.mars_core.specs.Validity.{IsValid}
 use Rattle.mars_core.specs.Record.{restored, without_last, cycles_of, reverted}
 use Rattle.mars_core.specs.declared.record.CellChange.{CellChange}
 use Rattle.mars_core.specs.declared.deaths.Death.{Death}
-use Rattle.mars_core.specs.declared.machine.clock.Clock.{Clock}
+use Rattle.mars_core.specs.declared.machine.Clock.{Clock}
 use Rattle.mars_core.specs.Edit.{left_of, killed, edit_fault, edited, edit_record, IsProcess, CanSpawn}
 use Rattle.mars_core.specs.Leads.{Leads}
 use Rattle.mars_core.specs.declared.record.Atom.{Atom}

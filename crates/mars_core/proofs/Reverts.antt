@@ -20,7 +20,7 @@ use Rattle.mars_core.specs.declared.record.CellChange.{CellChange}
 use Rattle.mars_core.specs.declared.deaths.Death.{Death}
 use Rattle.mars_core.specs.declared.battle.edit.Edit.{Edit}
 use Rattle.mars_core.specs.declared.battle.edit.Edit.TheVariants as edit
-use Rattle.mars_core.specs.declared.machine.clock.Clock.{Clock}
+use Rattle.mars_core.specs.declared.machine.Clock.{Clock}
 use Rattle.mars_core.proofs.Accepted.{accepted_set_cell, accepted_move, accepted_kill, accepted_spawn}
 use Rattle.mars_core.proofs.Fits.{execution_keeps}
 use Rattle.mars_core.proofs.Inside.{AreInside, execution_inside}

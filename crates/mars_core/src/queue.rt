@@ -1,9 +1,11 @@
-//! The queues of processes.
-ghost use Rattle.std.specs.Prelude.{◌≡◌, ℕ, ◌+◌, ◌-◌, ◌<◌, ◌≤◌, ◌∷◌, [], ◌++◌, length, drop, take, All, IfOk, IfSome, IfNone, slice_get, slice_set, slice_index, remove, insert, ◌==◌, nat_lt, if◌then◌else◌};
+//! The queues of processes: where a process goes on, and how its queue takes that.
+ghost use Rattle.std.specs.Prelude.{◌≡◌, ℕ, ◌+◌, ◌-◌, ◌<◌, ◌≤◌, ◌∷◌, [], ◌++◌, length, drop, take, All, IfOk, IfSome, IfNone, slice_get, slice_set, slice_index, remove, insert, ◌==◌, nat_lt, if◌then◌else◌, false};
 ghost use Rattle.mars_core.specs.State.{is_empty as spec_is_empty};
 ghost use Rattle.mars_core.specs.Queue.{Queue as Contents};
 ghost use Rattle.mars_core.specs.Record.{without_last};
+ghost use Rattle.mars_core.specs.Code.Turns.{addresses_to};
 
+use arrayvec::ArrayVec;
 use circular_buffer::HeapCircularBuffer;
 use std::alloc::{AllocError, Global};
 use std::marker::Model;
@@ -21,6 +23,42 @@ impl Model for ProcessQueue {
     ghost Value = { Queue };
 
     ghost view = { λ q. record { addresses = q.ring.items; limit = q.ring.capacity } };
+}
+
+/// Where a process goes on.
+#[derive(Clone, Copy, Debug)]
+pub enum Continuation {
+    /// The process ends.
+    Ends,
+    /// It goes on at an address.
+    Goes(u32),
+    /// It goes on at the first address, and a further process at the second.
+    Splits(u32, u32),
+}
+
+impl Continuation {
+    /// The addresses, in order.
+    pub fn list(&self) -> ArrayVec<u32, 2>
+        ensures { result.items ≡ addresses_to self.now }
+    {
+        let mut list = ArrayVec::new();
+        match *self {
+            Continuation::Ends => {}
+            Continuation::Goes(address) => list.push(address),
+            Continuation::Splits(first, second) => {
+                list.push(first);
+                list.push(second);
+            }
+        }
+        list
+    }
+}
+
+/// Where a process was really queued, and whether its queue is empty.
+#[derive(Clone, Copy, Debug)]
+pub struct Accepted {
+    pub queued: Continuation,
+    pub is_empty: bool,
 }
 
 impl ProcessQueue {
@@ -103,6 +141,69 @@ impl ProcessQueue {
         ensures queue { self.new ≡ (if result then record { addresses = self.old.addresses ++ address ∷ []; limit = self.old.limit } else self.old) }
     {
         self.ring.try_push_back(address).is_ok()
+    }
+
+    /// Puts a process at the end again where it goes on, and says whether the queue is empty. There must be room for one.
+    #[inline(always)]
+    #[tactic(auto, using(crate::proofs::Live::filled_by_one, crate::proofs::Live::filled_by_two))]
+    pub fn requeue(&mut self, continuation: Continuation) -> bool
+        requires { length self.old.addresses < self.old.limit }
+        ensures queue { self.new ≡ record { addresses = self.old.addresses ++ take (self.old.limit - length self.old.addresses) (addresses_to continuation); limit = self.old.limit } }
+        ensures empty { result ≡ spec_is_empty self.new.addresses }
+    {
+        match continuation {
+            Continuation::Ends => self.is_empty(),
+            Continuation::Goes(address) => {
+                self.push(address);
+                false
+            }
+            Continuation::Splits(first, second) => {
+                self.push(first);
+                let _ = self.try_push(second);
+                false
+            }
+        }
+    }
+
+    /// Puts those addresses at the end for which there is room.
+    #[inline(always)]
+    #[tactic(auto, using(crate::proofs::Live::filled_by_one, crate::proofs::Live::filled_by_two))]
+    pub fn accept(&mut self, continuation: Continuation) -> Accepted
+        ensures accepted { addresses_to result.queued ≡ take (self.old.limit - length self.old.addresses) (addresses_to continuation) }
+        ensures queue { self.new ≡ record { addresses = self.old.addresses ++ addresses_to result.queued; limit = self.old.limit } }
+        ensures empty { result.is_empty ≡ spec_is_empty self.new.addresses }
+    {
+        match continuation {
+            Continuation::Ends => self.accepted(Continuation::Ends),
+            Continuation::Goes(address) => {
+                if self.try_push(address) {
+                    filled(Continuation::Goes(address))
+                } else {
+                    self.accepted(Continuation::Ends)
+                }
+            }
+            Continuation::Splits(first, second) => {
+                if !self.try_push(first) {
+                    self.accepted(Continuation::Ends)
+                } else if self.try_push(second) {
+                    filled(Continuation::Splits(first, second))
+                } else {
+                    filled(Continuation::Goes(first))
+                }
+            }
+        }
+    }
+
+    /// What was accepted, and whether the queue is empty.
+    #[inline(always)]
+    fn accepted(&self, queued: Continuation) -> Accepted
+        ensures queued { result.queued ≡ queued }
+        ensures empty { result.is_empty ≡ spec_is_empty self.now.addresses }
+    {
+        Accepted {
+            queued,
+            is_empty: self.is_empty(),
+        }
     }
 
     /// Leaves one process alone.
@@ -272,6 +373,18 @@ impl ProcessQueue {
         target.ring.clear();
         target.ring.fill_from_slice(front);
         target.ring.fill_from_slice(back);
+    }
+}
+
+/// Something was accepted.
+#[inline(always)]
+fn filled(queued: Continuation) -> Accepted
+    ensures queued { result.queued ≡ queued }
+    ensures empty { result.is_empty ≡ false }
+{
+    Accepted {
+        queued,
+        is_empty: false,
     }
 }
 

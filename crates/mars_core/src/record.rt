@@ -1,11 +1,12 @@
 //! What a turn or an edit did to a battle: enough to go back and forth over it.
-ghost use Rattle.std.specs.Prelude.{◌≡◌};
+ghost use Rattle.std.specs.Prelude.{◌≡◌, [], false};
 ghost use Rattle.mars_core.specs.Record.{warrior_of as spec_warrior_of, turns_of as spec_turns_of, cycles_of as spec_cycles_of};
+ghost use Rattle.mars_core.specs.Code.Turns.{made_atom};
 
-pub mod make;
 pub mod redo;
 pub mod undo;
 
+use crate::machine::{Clock, MadeTurn};
 use arrayvec::ArrayVec;
 use mars_cell::{Cell, Mode, Modifier, Op};
 
@@ -96,4 +97,43 @@ pub fn cycles_of(added: bool) -> u32
     ensures { result ≡ spec_cycles_of added }
 {
     if added { 1 } else { 0 }
+}
+
+/// The record of a turn.
+#[inline(always)]
+pub fn atom_of(before: Clock, made: MadeTurn, changes: ArrayVec<CellChange, 3>) -> Atom
+    ensures { result ≡ made_atom before made changes }
+{
+    Atom {
+        work: Work::Turn(before.next, made.taken),
+        cells: changes,
+        queued: made.queued.list(),
+        next_before: before.next,
+        next_after: made.clock.next,
+        cycle_added: made.clock.cycle != before.cycle,
+        died: made.died,
+    }
+}
+
+/// The record of an edit that kills nobody, and so leaves the clock.
+pub fn quiet_atom(work: Work, cells: ArrayVec<CellChange, 3>, next: u32) -> Atom
+    ensures { result ≡ record {
+      work = work;
+      cells = cells;
+      queued = record { items = [] };
+      next_before = next;
+      next_after = next;
+      cycle_added = false;
+      died = false;
+    } }
+{
+    Atom {
+        work,
+        cells,
+        queued: ArrayVec::new(),
+        next_before: next,
+        next_after: next,
+        cycle_added: false,
+        died: false,
+    }
 }

@@ -1,15 +1,14 @@
-//! The evaluation of operands.
-ghost use Rattle.std.specs.Prelude.{◌≡◌, ◌<◌, ◌≤◌, false, None};
+//! The evaluation of operands: addresses, and the core as it is read and written.
+ghost use Rattle.std.specs.Prelude.{◌≡◌, ◌<◌, ◌≤◌, false, None, ℕ, ◌+◌, ◌%◌, length, Some};
 ghost use Rattle.mars_cell.specs.Limits.{largest_core};
 ghost use Rattle.mars_core.specs.State.{cell_at as spec_cell_at};
-ghost use Rattle.mars_core.specs.Addresses.{address_after as spec_address_after};
+ghost use Rattle.mars_core.specs.Addresses.{address_after as spec_address_after, fold, raised as spec_raised, lowered as spec_lowered};
 ghost use Rattle.mars_core.specs.Validity.{IsCore};
 ghost use Rattle.mars_core.specs.Operand.{direct_operand, indirect_operand, evaluated, pointed_address, predecremented, postincremented};
 ghost use Rattle.mars_core.specs.Code.Operands.{IsUnlimited, IsAddressed, addressed, unwritten, noted};
+ghost use Rattle.mars_cell.specs.Cells.{FitsCore, field_of};
+ghost use Rattle.mars_core.specs.Writes.{write_cell, write_field};
 
-use crate::machine::address::{
-    address_after, cell_at, folded, folded_number, lower_field, number_at, raise_field,
-};
 use crate::record::CellChange;
 use mars_cell::{Cell, Field, Mode, Params};
 
@@ -264,4 +263,205 @@ fn operand_at(
         write,
         copy: cell_at(core, read),
     }
+}
+
+/// The remainder of a number below twice the size of the core: no division is needed.
+#[inline(always)]
+pub fn remainder(core_size: u32, number: u32) -> u32
+    requires size { core_size ≤ largest_core }
+    requires number { number < core_size + core_size }
+    ensures value { result ≡ number % core_size }
+    ensures inside { result < core_size }
+{
+    if number < core_size {
+        number
+    } else {
+        number - core_size
+    }
+}
+
+/// The address `distance` cells after another one.
+#[inline(always)]
+#[tactic(auto, unfolding(crate::specs::Addresses::address_after))]
+fn address_after(core_size: u32, address: u32, distance: u32) -> u32
+    requires size { core_size ≤ largest_core }
+    requires address { address < core_size }
+    requires distance { distance < core_size }
+    ensures value { result ≡ spec_address_after core_size address distance }
+    ensures inside { result < core_size }
+{
+    remainder(core_size, address + distance)
+}
+
+/// The next address.
+#[inline(always)]
+#[tactic(auto, unfolding(crate::specs::Addresses::address_after, crate::specs::Addresses::raised))]
+pub fn next_address(core_size: u32, address: u32) -> u32
+    requires size { core_size ≤ largest_core }
+    requires address { address < core_size }
+    ensures value { result ≡ spec_address_after core_size address 1 }
+    ensures inside { result < core_size }
+{
+    raised(core_size, address)
+}
+
+/// The address after the next one.
+#[inline(always)]
+#[tactic(auto, using(crate::proofs::Folding::after_next))]
+pub fn skip_address(core_size: u32, address: u32) -> u32
+    requires size { core_size ≤ largest_core }
+    requires address { address < core_size }
+    ensures value { result ≡ spec_address_after core_size address 2 }
+    ensures inside { result < core_size }
+{
+    next_address(core_size, next_address(core_size, address))
+}
+
+/// The pointer under a limit, which is the size of the core where the battle isn't limited.
+#[inline(always)]
+#[tactic(auto, using(crate::proofs::Folding::fold_whole), unfolding(crate::specs::Addresses::fold))]
+fn folded<const LIMITED: bool>(core_size: u32, limit: u32, pointer: u32) -> u32
+    requires size { core_size ≤ largest_core }
+    requires limit_least { 1 ≤ limit }
+    requires limit_most { limit ≤ core_size }
+    requires pointer { pointer < core_size + core_size }
+    requires unlimited { LIMITED ≡ false → limit ≡ core_size }
+    ensures value { result ≡ fold core_size limit pointer }
+    ensures inside { result < core_size }
+{
+    if LIMITED {
+        folded_at(core_size, limit, pointer)
+    } else {
+        remainder(core_size, pointer)
+    }
+}
+
+/// The number of an instruction as a pointer under a limit.
+#[inline(always)]
+#[tactic(auto, using(crate::proofs::Folding::fold_inside))]
+fn folded_number<const LIMITED: bool>(core_size: u32, limit: u32, number: u32) -> u32
+    requires limit_least { 1 ≤ limit }
+    requires limit_most { limit ≤ core_size }
+    requires number { number < core_size }
+    requires unlimited { LIMITED ≡ false → limit ≡ core_size }
+    ensures value { result ≡ fold core_size limit number }
+    ensures inside { result < core_size }
+{
+    if LIMITED {
+        folded_at(core_size, limit, number)
+    } else {
+        number
+    }
+}
+
+/// The pointer under any limit.
+#[tactic(auto, unfolding(crate::specs::Addresses::fold))]
+fn folded_at(core_size: u32, limit: u32, pointer: u32) -> u32
+    requires limit_least { 1 ≤ limit }
+    requires limit_most { limit ≤ core_size }
+    ensures value { result ≡ fold core_size limit pointer }
+    ensures inside { result < core_size }
+{
+    let remainder = pointer % limit;
+    if remainder > limit / 2 {
+        remainder + (core_size - limit)
+    } else {
+        remainder
+    }
+}
+
+/// One more, modulo the size of the core.
+#[inline(always)]
+#[tactic(auto, unfolding(crate::specs::Addresses::raised))]
+fn raised(core_size: u32, number: u32) -> u32
+    requires size { core_size ≤ largest_core }
+    requires number { number < core_size }
+    ensures value { result ≡ spec_raised core_size number }
+    ensures inside { result < core_size }
+{
+    let next = number + 1;
+    if next == core_size { 0 } else { next }
+}
+
+/// One less, modulo the size of the core.
+#[inline(always)]
+#[tactic(auto, unfolding(crate::specs::Addresses::lowered))]
+pub fn lowered(core_size: u32, number: u32) -> u32
+    requires size { core_size ≤ largest_core }
+    requires number { number < core_size }
+    ensures value { result ≡ spec_lowered core_size number }
+    ensures inside { result < core_size }
+{
+    if number == 0 {
+        core_size - 1
+    } else {
+        number - 1
+    }
+}
+
+/// The cell at an address.
+#[inline(always)]
+pub fn cell_at(core: &[Cell], address: u32) -> Cell
+    requires { address < length core.now }
+    ensures { result ≡ spec_cell_at core.now address }
+{
+    core[address as usize]
+}
+
+/// The number in a field of the cell at an address.
+#[inline(always)]
+fn number_at(core_size: u32, core: &[Cell], field: Field, address: u32) -> u32
+    requires core { IsCore core_size core.now }
+    requires inside { address < core_size }
+    ensures value { result ≡ field_of field (spec_cell_at core.now address) }
+    ensures inside { result < core_size }
+{
+    core[address as usize].field(field)
+}
+
+/// Writes a cell, and gives the note of it.
+#[inline(always)]
+#[tactic(auto, unfolding(crate::specs::Writes::write_cell))]
+pub fn write(core: &mut [Cell], address: u32, cell: Cell) -> CellChange
+    requires inside { address < length core.old }
+    ensures noted { noted core.new (Some result) ≡ write_cell (unwritten core.old) address cell }
+    ensures core { (m : ℕ) → IsCore m core.old → FitsCore m cell → IsCore m core.new }
+{
+    let before = cell_at(core, address);
+    core[address as usize] = cell;
+    CellChange {
+        address,
+        before,
+        after: cell,
+    }
+}
+
+/// Raises a field of the cell at an address by one.
+#[inline(always)]
+#[tactic(auto, unfolding(crate::specs::Writes::write_field, crate::specs::Writes::write_cell))]
+fn raise_field(core_size: u32, core: &mut [Cell], field: Field, address: u32) -> CellChange
+    requires core { IsCore core_size core.old }
+    requires size { core_size ≤ largest_core }
+    requires inside { address < core_size }
+    ensures noted { noted core.new (Some result) ≡ write_field (spec_raised core_size) field (unwritten core.old) address }
+    ensures core { IsCore core_size core.new }
+{
+    let cell = cell_at(core, address);
+    let number = raised(core_size, cell.field(field));
+    write(core, address, cell.with_field(field, number))
+}
+
+/// Lowers a field of the cell at an address by one.
+#[inline(always)]
+#[tactic(auto, unfolding(crate::specs::Writes::write_field, crate::specs::Writes::write_cell))]
+fn lower_field(core_size: u32, core: &mut [Cell], field: Field, address: u32) -> CellChange
+    requires core { IsCore core_size core.old }
+    requires size { core_size ≤ largest_core }
+    requires inside { address < core_size }
+    ensures noted { noted core.new (Some result) ≡ write_field (spec_lowered core_size) field (unwritten core.old) address }
+    ensures core { IsCore core_size core.new }
+{
+    let cell = cell_at(core, address);
+    let number = lowered(core_size, cell.field(field));
+    write(core, address, cell.with_field(field, number))
 }

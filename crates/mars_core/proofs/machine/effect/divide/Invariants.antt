@@ -2,7 +2,7 @@ use Rattle.std.proofs.Common.{◌≡◌, ◌+◌, ◌≤◌, drop, length}
 use Rattle.mars_cell.specs.Cells.{FitsCore}
 use Rattle.mars_core.specs.Effect.{with_pairs, divided_pairs}
 use Rattle.mars_core.specs.Code.Opcodes.{new_number}
-use Rattle.mars_core.proofs.machine.effect.division.divide.Given as goal
+use Rattle.mars_core.proofs.machine.effect.divide.Given as goal
 
 abbrev pub invariant-loop-from : goal.invariant-loop-from
 invariant-loop-from l = record {

@@ -3,8 +3,8 @@ use Rattle.mars_cell.specs.declared.instruction.Field.TheVariants.{ANumber}
 use Rattle.mars_core.specs.Effect.{Pair}
 use Rattle.mars_core.proofs.Pairs.{divided_pairs_drop_zero, divided_pairs_drop_some, FitsCore-with_field}
 use Rattle.std.proofs.lemmas.Grind.{common_steps}
-use Rattle.mars_core.proofs.machine.effect.division.divide.Goals as goal
-use Rattle.mars_core.proofs.machine.effect.division.divide.Goals.{then-divisor-ne0, else-divisor-ne0}
+use Rattle.mars_core.proofs.machine.effect.divide.Goals as goal
+use Rattle.mars_core.proofs.machine.effect.divide.Goals.{then-divisor-ne0, else-divisor-ne0}
 
 pub loop-from-preserved : goal.loop-from-preserved
 loop-from-preserved c =
