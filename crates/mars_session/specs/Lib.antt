@@ -1,4 +1,5 @@
 -- What a reader of the contracts has to believe, in this order; Laws follow from it, and Examples has worked examples of it.
+pub mod Limits
 pub mod History
 pub mod Memory
 pub mod Commands

@@ -1,6 +1,7 @@
 //! The records between the places of a tape that forgets.
 ghost use Rattle.std.specs.Prelude.{◌≡◌, ◌+◌, ◌-◌, ◌<◌, ◌≤◌, ◌||◌, ◌++◌, [], ◌∷◌, IfOk, length, take, slice_set, nat_lt, true, false, if◌then◌else◌};
 ghost use Rattle.circular_buffer.specs.Buffer.{buffer, keep_last};
+ghost use Rattle.mars_session.specs.Limits.{longest_history};
 ghost use Rattle.mars_session.specs.Code.Journals.{entry_at, mark_at};
 
 use circular_buffer::HeapCircularBuffer;
@@ -94,7 +95,7 @@ impl Records {
     pub fn push(&mut self, atom: Atom)
         requires last { self.old.at ≡ length self.old.ring.items }
         requires some { 1 ≤ self.old.ring.capacity }
-        requires few { self.old.ring.capacity ≤ 1000000 }
+        requires few { self.old.ring.capacity ≤ longest_history }
         requires within { length self.old.ring.items ≤ self.old.ring.capacity }
         ensures ring { self.new.ring ≡ buffer (keep_last self.old.ring.capacity (self.old.ring.items ++ (atom, false) ∷ [])) self.old.ring.capacity }
         ensures at { self.new.at ≡ (if nat_lt self.old.at self.old.ring.capacity then self.old.at + 1 else self.old.at) }

@@ -4,6 +4,7 @@ ghost use Rattle.std.specs.Prelude.{◌≡◌, ℕ, ◌+◌, ◌-◌, ◌<◌, �
 ghost use Rattle.mars_core.specs.State.{is_over_of};
 ghost use Rattle.mars_core.specs.Turn.{turn_of};
 ghost use Rattle.mars_core.specs.Edit.{edit_fault, edited};
+ghost use Rattle.mars_session.specs.Limits.{longest_history};
 ghost use Rattle.mars_session.specs.History.{beginning, position_of, last_of, following, marked, cut, append, back, forward};
 ghost use Rattle.mars_session.specs.Memory.{Memory, kept, noted};
 ghost use Rattle.mars_session.specs.Tapes.{TurnsNeverFell};
@@ -38,7 +39,7 @@ impl RingTape {
     /// is refused, the battle comes back.
     pub fn new(alloc: Global, battle: Battle, most: usize) -> Result<Self, Battle>
         requires some { 1 ≤ most }
-        requires few { most ≤ 1000000 }
+        requires few { most ≤ longest_history }
         ensures { MatchResult result (λ t. t ≡ record { history = beginning battle; most = most; forgotten = false }) (λ b. b ≡ battle) }
     {
         match Records::with_room(alloc, most) {

@@ -5,6 +5,7 @@ use Rattle.mars_core.specs.Leads.{Leads}
 use Rattle.mars_core.specs.Record.{reverted, applied}
 use Rattle.mars_core.specs.declared.record.Atom.{Atom}
 use Rattle.mars_core.specs.declared.record.Work.TheVariants as work
+use Rattle.mars_session.specs.Limits.{longest_history}
 use Rattle.mars_session.specs.History.{Place, History}
 
 -- what a list of records and marks has past its end
@@ -72,5 +73,5 @@ pub record IsJournal (es : List (Atom × Bool)) (at : ℕ) (s : State) : Type 0 
 pub record IsRing (es : List (Atom × Bool)) (most at : ℕ) (s : State) : Type 0 where
   pub journal : IsJournal es at s
   pub some : 1 ≤ most
-  pub few : most ≤ 1000000
+  pub few : most ≤ longest_history
   pub within : length es ≤ most
