@@ -17,6 +17,11 @@ digit_fits v i d below few small =
     let most : 10 ^ (i + 1) ≤ 10 ^ 18 = let positive : 0 < 10 = omega arith in let few' : i + 1 ≤ 18 = omega arith in pow-le-pow_right positive few' in
     omega (arith, next, most)
 
+pub few_below : (v i : ℕ) → v < 10 ^ i → i ≤ 18 → v < 10 ^ 18
+few_below v i below few =
+    let most : 10 ^ i ≤ 10 ^ 18 = let positive : 0 < 10 = omega arith in pow-le-pow_right positive few in
+    omega (arith, below, most)
+
 digit_range : (b : ℕ) → is_ascii_digit b ≡ true → IsInRange 48 57 b
 digit_range b e = (grind arith, grind arith)
 

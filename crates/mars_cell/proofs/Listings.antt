@@ -1,10 +1,10 @@
 -- What is read line after line is what the statements of the lines say.
-use Rattle.std.proofs.Common.{◌≡◌, refl, ℕ, ◌+◌, ◌==◌, false, nat_lt, List, [], ◌∷◌, ◌++◌, length, Option, None, Some, Result, Ok, Err, sym, ap, ◌∙◌, append_assoc, append-nil}
-use Rattle.std.specs.Prelude.{if◌then◌else◌, unwrap_or}
+use Rattle.std.proofs.Common.{◌≡◌, refl, ℕ, ◌+◌, ◌==◌, nat_lt, List, [], ◌∷◌, ◌++◌, length, Option, None, Some, Result, Ok, Err, sym, ap, ◌∙◌, append_assoc, append-nil}
+use Rattle.std.specs.Prelude.{ℤ, pos, if◌then◌else◌, unwrap_or}
+use Rattle.std.specs.Int.RustNames.{unsigned_abs}
 use Rattle.std.specs.List.{flat_map, last_or}
 use Rattle.std.specs.Option.{option_or}
 use Rattle.mars_cell.specs.declared.instruction.Cell.{Cell}
-use Rattle.mars_cell.specs.declared.numbers.Number.{Number}
 use Rattle.mars_cell.specs.declared.statements.Statement.{Statement}
 use Rattle.mars_cell.specs.declared.statements.Statement.TheVariants as statement
 use Rattle.mars_cell.specs.declared.fault.LoadFault.{LoadFault}
@@ -26,7 +26,7 @@ read_after-nothing : (s : Listing) (r : Result (List Statement) ℕ) → read_af
 read_after-nothing s (Ok ss) = refl
 read_after-nothing s (Err k) = refl
 
-read_after-origin : (s : Listing) (n : Number) (r : Result (List Statement) ℕ) → read_after s (with_rest (statement.Origin n) r) ≡ read_after (record s { origin = Some n }) r
+read_after-origin : (s : Listing) (n : ℤ) (r : Result (List Statement) ℕ) → read_after s (with_rest (statement.Origin n) r) ≡ read_after (record s { origin = Some n }) r
 read_after-origin s n (Ok ss) = refl
 read_after-origin s n (Err k) = refl
 
@@ -34,7 +34,7 @@ read_after-instruction : (s : Listing) (c : Cell) (r : Result (List Statement) �
 read_after-instruction s c (Ok ss) = rw (append_assoc s.cells (c ∷ []) (cells_of ss)) refl
 read_after-instruction s c (Err k) = refl
 
-after-end : (s : Listing) (n : Option Number) → s.end ≡ None → after s (statement.End n ∷ []) ≡ record s { end = n }
+after-end : (s : Listing) (n : Option ℤ) → s.end ≡ None → after s (statement.End n ∷ []) ≡ record s { end = n }
 after-end s (Some n) e = rw append-nil refl
 after-end s None e = rw (append-nil, e) refl
 
@@ -62,14 +62,14 @@ load_from-statements written m k s (l ∷ ls) open_end =
 
 -- ---- the warrior of a listing
 
-abbrev pub start_in : Listing → Number
-start_in s = unwrap_or (option_or s.origin s.end) (record { is_negative = false; magnitude = 0 })
+abbrev pub start_in : Listing → ℤ
+start_in s = unwrap_or (option_or s.origin s.end) (pos 0)
 
 abbrev pub warrior_in : HeaderValue → ℕ → Listing → Result WarriorValue LoadFault
 warrior_in h longest s =
     if nat_lt longest (length s.cells) then Err fault.TooLong
     else if length s.cells == 0 then Err fault.Empty
-    else if is_index (start_in s) (length s.cells) then Ok (record { name = h.name; author = h.author; cells = s.cells; start = (start_in s).magnitude })
+    else if is_index (start_in s) (length s.cells) then Ok (record { name = h.name; author = h.author; cells = s.cells; start = unsigned_abs (start_in s) })
     else Err fault.BadOrigin
 
 abbrev body_with : HeaderValue → ℕ → Result (List Statement) ℕ → Result WarriorValue LoadFault

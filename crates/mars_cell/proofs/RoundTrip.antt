@@ -1,13 +1,14 @@
 -- The text of a cell is read again as the cell, by value.
-use Rattle.std.proofs.Common.{◌≡◌, refl, ℕ, ◌-◌, ◌/◌, ◌^◌, ◌<◌, ◌≤◌, Bool, true, false, ◌&&◌, List, [], ◌∷◌, ◌++◌, Some, length, sym, ap, ◌∙◌, nat_eq, nat_le, rules, arith, decimal, append_assoc, append-nil}
+use Rattle.std.proofs.Common.{◌≡◌, refl, ℕ, ℤ, pos, ◌-◌, ◌/◌, ◌^◌, ◌<◌, ◌≤◌, Bool, true, false, ◌&&◌, List, [], ◌∷◌, ◌++◌, Some, length, sym, ap, ◌∙◌, nat_eq, nat_le, rules, arith, decimal, append_assoc, append-nil}
 use Rattle.std.specs.List.{list_all}
 use Rattle.std.proofs.lemmas.Fmt.{decimal_nonempty, digits_decimal, digits_value-decimal, length-decimal-le}
+use Rattle.std.proofs.lemmas.Int.{ints}
 use Rattle.std.proofs.lemmas.Str.Parse.{IsNumeralModel, numerals_by_value}
 use Rattle.std.specs.Char.{is_ascii_alphanumeric, is_ascii_digit}
 use Rattle.std.specs.Str.Parse.{digits_value}
 use Rattle.std.specs.Prelude.{codes}
 use Rattle.mars_cell.specs.Parts.{begins_word, is_blank, joins, onto_first, parts}
-use Rattle.std.proofs.lemmas.Bool.{lt-ltb, le-leb, leb-false}
+use Rattle.std.proofs.lemmas.Bool.{lt-ltb, le-leb}
 use Rattle.mars_cell.specs.declared.instruction.Op.{Op}
 use Rattle.mars_cell.specs.declared.instruction.Op.TheVariants as op
 use Rattle.mars_cell.specs.declared.instruction.Modifier.{Modifier}
@@ -16,14 +17,13 @@ use Rattle.mars_cell.specs.declared.instruction.Mode.{Mode}
 use Rattle.mars_cell.specs.declared.instruction.Mode.TheVariants as mode
 use Rattle.mars_cell.specs.declared.instruction.Cell.{Cell}
 use Rattle.mars_cell.specs.Words.{op_name, op_of, modifier_name, modifier_of, mode_name, mode_of}
-use Rattle.mars_cell.specs.declared.numbers.Number.{Number}
 use Rattle.mars_cell.specs.Laws.{carried, carried_number}
-use Rattle.mars_cell.specs.Numbers.{parse_number, residue, split_sign}
+use Rattle.mars_cell.specs.Numbers.{parse_digits, parse_number, residue, signed, split_sign}
 use Rattle.mars_cell.specs.Cells.{FitsCore}
 use Rattle.mars_cell.specs.Text.{cell_text}
 use Rattle.mars_cell.specs.Grammar.{cell_of, comma_at, mode_at, modifier_at, number_at, op_at, operand_at, suffix_at}
 use Rattle.mars_cell.specs.Text.{number_text}
-use Rattle.mars_cell.proofs.Values.{by_value-residue, residue-negative, residue-plain, signed_number}
+use Rattle.mars_cell.proofs.Values.{by_value-residue, residue-less, residue-plain}
 
 and_both : (a b : Bool) → (a && b) ≡ true → (a ≡ true) × (b ≡ true)
 and_both true true e = (refl, refl)
@@ -77,37 +77,36 @@ split_sign-digits (b ∷ bs) all =
     let both = and_both (is_ascii_digit b) (list_all is_ascii_digit bs) all in
     rw (no_minus b both.0, no_plus b both.0) refl
 
-parse_number_digits : (minus : Bool) (p ds : List ℕ) → split_sign p ≡ (minus, ds) → 0 < length ds → length ds ≤ 18 → list_all is_ascii_digit ds ≡ true → parse_number p ≡ Some (signed_number minus (digits_value 10 ds))
-unfolding parse_number
+parse_number_digits : (minus : Bool) (p ds : List ℕ) → split_sign p ≡ (minus, ds) → 0 < length ds → length ds ≤ 18 → list_all is_ascii_digit ds ≡ true → parse_number p ≡ Some (signed minus (digits_value 10 ds))
+unfolding parse_number parse_digits
 parse_number_digits minus p ds e some few all = rw (e, lt-ltb 0 (length ds) some, le-leb (length ds) 18 few, all) refl
 
 few_digits : (n : ℕ) → n < 2 ^ 32 → length (decimal n) ≤ 18
 few_digits n h = length-decimal-le 18 n (omega arith) (omega arith) (omega arith)
 
 -- a decimal is read as its number
-pub decimal_read : (n : ℕ) → n < 2 ^ 32 → parse_number (decimal n) ≡ Some (signed_number false n)
+pub decimal_read : (n : ℕ) → n < 2 ^ 32 → parse_number (decimal n) ≡ Some (signed false n)
 decimal_read n small =
     let d = numeral n (omega arith) in
-    parse_number_digits false (decimal n) (decimal n) (split_sign-digits (decimal n) d.digits) (decimal_nonempty n (omega arith)) (few_digits n small) d.digits ∙ ap (λ v. Some (signed_number false v)) d.value
+    parse_number_digits false (decimal n) (decimal n) (split_sign-digits (decimal n) d.digits) (decimal_nonempty n (omega arith)) (few_digits n small) d.digits ∙ ap (λ v. Some (signed false v)) d.value
 
-minus_read : (n : ℕ) → n < 2 ^ 32 → parse_number (codes "-" ++ decimal n) ≡ Some (signed_number true n)
+minus_read : (n : ℕ) → n < 2 ^ 32 → parse_number (codes "-" ++ decimal n) ≡ Some (signed true n)
 unfolding split_sign
 minus_read n small =
     let d = numeral n (omega arith) in
-    parse_number_digits true (codes "-" ++ decimal n) (decimal n) refl (decimal_nonempty n (omega arith)) (few_digits n small) d.digits ∙ ap (λ v. Some (signed_number true v)) d.value
+    parse_number_digits true (codes "-" ++ decimal n) (decimal n) refl (decimal_nonempty n (omega arith)) (few_digits n small) d.digits ∙ ap (λ v. Some (signed true v)) d.value
 
 -- what is printed of a number is read as a number whose residue it is
 record ReadsBack (m n : ℕ) : Type 0 where
-  number : Number
+  number : ℤ
   is_read : parse_number (number_text m n) ≡ Some number
   same : residue m number ≡ n
 
 number_read : (m n : ℕ) → n < m → m < 2 ^ 32 → ReadsBack m n
 number_read m n below small =
     elim (nat_le n (m / 2)) as (λ t. nat_le n (m / 2) ≡ t → ReadsBack m n) [
-      | true ↦ λ e. record { number = signed_number false n; is_read = rw e (decimal_read n (omega arith)); same = residue-plain m n below }
-      | false ↦ λ e. let above : m / 2 < n = leb-false n (m / 2) e in
-          record { number = signed_number true (m - n); is_read = rw e (minus_read (m - n) (omega arith)); same = residue-negative m n below above }
+      | true ↦ λ e. record { number = signed false n; is_read = rw e (decimal_read n (omega arith)); same = residue-plain m n below }
+      | false ↦ λ e. record { number = signed true (m - n); is_read = rw e (minus_read (m - n) (omega arith)); same = residue-less m n (signed true (m - n)) below (omega (arith, ints)) }
     ] refl
 
 -- ---- parts
@@ -247,7 +246,7 @@ mode_taken mode.BPredecrement rest = refl
 mode_taken mode.APostincrement rest = refl
 mode_taken mode.BPostincrement rest = refl
 
-number_taken : (p : List ℕ) (rest : List (List ℕ)) (r : Number) → parse_number p ≡ Some r → number_at (p ∷ rest) ≡ Some (r, rest)
+number_taken : (p : List ℕ) (rest : List (List ℕ)) (r : ℤ) → parse_number p ≡ Some r → number_at (p ∷ rest) ≡ Some (r, rest)
 unfolding number_at
 number_taken p rest r e = rw e refl
 
@@ -255,7 +254,7 @@ operand_read : (m size : ℕ) (o : Mode) (n : ℕ) (rest : List (List ℕ)) → 
 unfolding operand_at
 operand_read m size o n rest below small =
     let r = number_read m n below small in
-    let value = by_value-residue m size r.number (signed_number false n) (r.same ∙ sym (residue-plain m n below)) in
+    let value = by_value-residue m size r.number (pos n) (r.same ∙ sym (residue-plain m n below)) in
     rw (mode_taken o (number_text m n ∷ rest), number_taken (number_text m n) rest r.number r.is_read, value) refl
 
 -- the text of a cell of m cells is read, for a core of another size, as the cell by value

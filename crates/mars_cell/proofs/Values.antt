@@ -1,52 +1,42 @@
 -- Numbers by value.
-use Rattle.std.proofs.Common.{◌≡◌, refl, ℕ, ◌-◌, ◌/◌, ◌%◌, ◌<◌, ◌≤◌, Bool, true, false, ◌∙◌, nat_le, arith}
-use Rattle.std.proofs.lemmas.Bool.{leb-false}
+use Rattle.std.proofs.Common.{◌≡◌, refl, ℕ, ℤ, pos, negsuc, ◌/◌, ◌<◌, ◌≤◌, true, false, ◌∙◌, ap, nat_le, arith}
+use Rattle.std.proofs.lemmas.Int.{int_rem_euclid_is, ints}
+use Rattle.std.specs.Prelude.{◌+ℤ◌, ◌-ℤ◌, ◌*◌}
+use Rattle.std.specs.Int.RustNames.{unsigned_abs}
 use Rattle.std.proofs.Math.Nat.{mod-eq_of_lt}
 use Rattle.mars_cell.specs.declared.instruction.Cell.{Cell}
-use Rattle.mars_cell.specs.declared.numbers.Number.{Number}
 use Rattle.mars_cell.specs.Cells.{FitsCore}
 use Rattle.mars_cell.specs.Laws.{carried, carried_number}
 use Rattle.mars_cell.specs.Numbers.{by_value, nearest, residue}
 
-abbrev pub signed_number : Bool → ℕ → Number
-signed_number is_negative n = record { is_negative = is_negative; magnitude = n }
-
-residue-below : (m : ℕ) (n : Number) → 1 ≤ m → residue m n < m
-unfolding residue
-residue-below m n some = elim n.is_negative as (λ t. n.is_negative ≡ t → residue m n < m) [
-  | true ↦ λ e. rw e (omega arith)
-  | false ↦ λ e. rw e (omega arith)
-] refl
+residue-below : (m : ℕ) (z : ℤ) → 1 ≤ m → residue m z < m
+residue-below m (pos n) some = omega arith
+residue-below m (negsuc n) some = omega arith
 
 -- a number of the core is its own residue, and so is the negative number that leads to the same cell
-pub residue-plain : (m n : ℕ) → n < m → residue m (signed_number false n) ≡ n
-unfolding residue
+pub residue-plain : (m n : ℕ) → n < m → residue m (pos n) ≡ n
 residue-plain m n below = mod-eq_of_lt below
 
-pub residue-negative : (m n : ℕ) → n < m → m / 2 < n → residue m (signed_number true (m - n)) ≡ n
-unfolding residue
-residue-negative m n below above =
-    let less : m - n < m = omega arith in
-    let inner : (m - n) % m ≡ m - n = mod-eq_of_lt less in
-    let outer : m - (m - n) ≡ n = omega arith in
-    rw (inner, outer) (mod-eq_of_lt below)
+pub residue-less : (m n : ℕ) (z : ℤ) → n < m → z +ℤ pos (1 * m) ≡ pos n → residue m z ≡ n
+residue-less m n z below e = ap unsigned_abs (int_rem_euclid_is z (pos m) m 1 n (omega arith) refl e) ∙ mod-eq_of_lt below
 
 -- in a core of the size that a number was written for it is taken modulo that size
-pub by_value-same : (m : ℕ) (n : Number) → 1 ≤ m → by_value m m n ≡ residue m n
+pub by_value-same : (m : ℕ) (z : ℤ) → 1 ≤ m → by_value m m z ≡ residue m z
 unfolding nearest
-by_value-same m n some =
-    elim (nat_le (residue m n) (m / 2)) as (λ t. nat_le (residue m n) (m / 2) ≡ t → by_value m m n ≡ residue m n) [
-      | true ↦ λ e. rw e (residue-plain m (residue m n) (residue-below m n some))
-      | false ↦ λ e. rw e (residue-negative m (residue m n) (residue-below m n some) (leb-false (residue m n) (m / 2) e))
+by_value-same m z some =
+    let below : residue m z < m = residue-below m z some in
+    elim (nat_le (residue m z) (m / 2)) as (λ t. nat_le (residue m z) (m / 2) ≡ t → by_value m m z ≡ residue m z) [
+      | true ↦ λ e. rw e (residue-plain m (residue m z) below)
+      | false ↦ λ e. rw e (residue-less m (residue m z) (pos (residue m z) -ℤ pos m) below (omega (arith, ints)))
     ] refl
 
 -- numbers with one residue have one value
-pub by_value-residue : (m size : ℕ) (k n : Number) → residue m k ≡ residue m n → by_value m size k ≡ by_value m size n
+pub by_value-residue : (m size : ℕ) (y z : ℤ) → residue m y ≡ residue m z → by_value m size y ≡ by_value m size z
 unfolding nearest
-by_value-residue m size k n same = rw same refl
+by_value-residue m size y z same = rw same refl
 
 carried_number-same : (m n : ℕ) → n < m → carried_number m m n ≡ n
-carried_number-same m n below = by_value-same m (signed_number false n) (omega arith) ∙ residue-plain m n below
+carried_number-same m n below = by_value-same m (pos n) (omega arith) ∙ residue-plain m n below
 
 -- in a core of the same size a cell stays as it is
 pub carried-same : (m : ℕ) (c : Cell) → FitsCore m c → carried m m c ≡ c

@@ -1,5 +1,5 @@
 -- A written load file is read as its warrior, by value.
-use Rattle.std.proofs.Common.{◌≡◌, refl, ℕ, suc, ◌+◌, ◌-◌, ◌/◌, ◌<◌, ◌≤◌, ◌^◌, Bool, true, false, ◌&&◌, not, List, [], ◌∷◌, ◌++◌, Some, Ok, length, map, sym, ap, ◌∙◌, nat_eq, nat_le, rules, arith, get_or, one-add, decimal, append_assoc, append-nil}
+use Rattle.std.proofs.Common.{◌≡◌, pos, refl, ℕ, suc, ◌+◌, ◌-◌, ◌/◌, ◌<◌, ◌≤◌, ◌^◌, Bool, true, false, ◌&&◌, not, List, [], ◌∷◌, ◌++◌, Some, Ok, length, map, sym, ap, ◌∙◌, nat_eq, nat_le, rules, arith, get_or, one-add, decimal, append_assoc, append-nil}
 use Rattle.std.specs.Prelude.{codes, All, option_map}
 use Rattle.std.specs.List.{list_all, flat_map, starts_with, AllByRecursion}
 use Rattle.std.specs.Char.{is_ascii_digit}
@@ -32,7 +32,7 @@ use Rattle.mars_cell.specs.Words.{op_name, modifier_name, mode_name}
 use Rattle.mars_cell.specs.Written.{with_newline, load_lines, load_text, statement_lines}
 use Rattle.mars_cell.proofs.FirstLine.{goes_on}
 use Rattle.mars_cell.proofs.RoundTrip.{cell_parts, cell_read, decimal_read, digits_part, numeral, parts_nil}
-use Rattle.mars_cell.proofs.Values.{carried-same, signed_number}
+use Rattle.mars_cell.proofs.Values.{carried-same}
 
 -- ---- lines
 
@@ -221,7 +221,7 @@ statement_of-org : (m size : ℕ) (p : List ℕ) → statement_of m size (codes 
 unfolding statement_of lone_number
 statement_of-org m size p = refl
 
-statement_of-origin : (m size n : ℕ) → n < 2 ^ 32 → line_statement m size (codes "ORG " ++ decimal n) ≡ Some (statement.Origin (signed_number false n))
+statement_of-origin : (m size n : ℕ) → n < 2 ^ 32 → line_statement m size (codes "ORG " ++ decimal n) ≡ Some (statement.Origin (pos n))
 statement_of-origin m size n small =
     let wide : n < 2 ^ 64 = omega arith in
     ap (λ l. statement_of m size (parts l)) (before_comment-plain (codes "ORG " ++ decimal n) (origin_is_plain n wide).each)
@@ -311,7 +311,7 @@ by_recursion m [] all = tt
 by_recursion m (c ∷ cells) all = (all 0 c (omega arith), by_recursion m cells (λ k d inside. all (suc k) d (omega arith)))
 
 abbrev written : ℕ → List Cell → List Statement
-written start cells = statement.Origin (signed_number false start) ∷ map statement.Instruction cells
+written start cells = statement.Origin (pos start) ∷ map statement.Instruction cells
 
 statements-written : (m size k : ℕ) (w : WarriorValue) → m < 2 ^ 32 → w.start < 2 ^ 32 → AllByRecursion (FitsCore m) w.cells
     → statements m size k (statement_lines m w) ≡ Ok (written w.start (map (carried m size) w.cells))

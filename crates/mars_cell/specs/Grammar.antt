@@ -1,5 +1,5 @@
 -- The line of a cell: `OP[.MODIFIER] [mode]number , [mode]number`.
-use Rattle.std.specs.Prelude.{ℕ, ◌==◌, List, [], ◌∷◌, length, Option, None, Some, option_map, unwrap_or, if◌then◌else◌, codes}
+use Rattle.std.specs.Prelude.{ℕ, ℤ, ◌==◌, List, [], ◌∷◌, length, Option, None, Some, option_map, unwrap_or, if◌then◌else◌, codes}
 use Rattle.std.specs.Str.{bytes_eq}
 use Rattle.mars_cell.specs.declared.instruction.Op.{Op}
 use Rattle.mars_cell.specs.declared.instruction.Op.TheVariants as op
@@ -8,7 +8,6 @@ use Rattle.mars_cell.specs.declared.instruction.Modifier.TheVariants as modifier
 use Rattle.mars_cell.specs.declared.instruction.Mode.{Mode}
 use Rattle.mars_cell.specs.declared.instruction.Mode.TheVariants as mode
 use Rattle.mars_cell.specs.declared.instruction.Cell.{Cell}
-use Rattle.mars_cell.specs.declared.numbers.Number.{Number}
 use Rattle.mars_cell.specs.Words.{op_of, modifier_of, mode_of}
 use Rattle.mars_cell.specs.Numbers.{parse_number, by_value}
 use Rattle.mars_cell.specs.Parts.{parts}
@@ -38,7 +37,7 @@ unfoldable pub mode_at : List (List ℕ) → Mode × List (List ℕ)
 mode_at [] = (mode.Direct, [])
 mode_at (p ∷ ps) = elim (mode_of p) [ Some o ↦ (o, ps) | None ↦ (mode.Direct, p ∷ ps) ]
 
-unfoldable pub number_at : List (List ℕ) → Option (Number × List (List ℕ))
+unfoldable pub number_at : List (List ℕ) → Option (ℤ × List (List ℕ))
 number_at [] = None
 number_at (p ∷ ps) = option_map (λ n. (n, ps)) (parse_number p)
 

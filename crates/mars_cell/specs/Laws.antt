@@ -1,7 +1,6 @@
 -- What is written is read again.
-use Rattle.std.specs.Prelude.{◌≡◌, ℕ, ◌<◌, ◌≤◌, ◌^◌, false, length, map, All, Some, Ok}
+use Rattle.std.specs.Prelude.{◌≡◌, ℕ, ◌<◌, ◌≤◌, ◌^◌, ℤ, pos, length, map, All, Some, Ok}
 use Rattle.mars_cell.specs.declared.instruction.Cell.{Cell}
-use Rattle.mars_cell.specs.declared.numbers.Number.{Number}
 use Rattle.mars_cell.specs.Limits.{largest_core}
 use Rattle.mars_cell.specs.Cells.{FitsCore}
 use Rattle.mars_cell.specs.Grammar.{read_cell}
@@ -14,7 +13,7 @@ use Rattle.mars_cell.specs.Written.{load_text}
 
 -- a number that was written for a core of the same size is taken modulo that size
 abbrev pub ValueIsResidue : Type 0
-ValueIsResidue = (m : ℕ) (n : Number) → 1 ≤ m → by_value m m n ≡ residue m n
+ValueIsResidue = (m : ℕ) (z : ℤ) → 1 ≤ m → by_value m m z ≡ residue m z
 
 -- the text of a cell is read as the cell, in every core that a u32 can size
 abbrev pub TextIsRead : Type 0
@@ -27,7 +26,7 @@ LoadFileIsRead = (p : Parameters) (w : WarriorValue) → AreInRange p → IsWarr
 
 -- a number of a core of m cells, by value in a core of another size
 abbrev pub carried_number : ℕ → ℕ → ℕ → ℕ
-carried_number m size n = by_value m size (record { is_negative = false; magnitude = n })
+carried_number m size n = by_value m size (pos n)
 
 -- a cell with both numbers by value
 abbrev pub carried : ℕ → ℕ → Cell → Cell

@@ -1,10 +1,10 @@
 -- Load files, of version 1 and of version 2.
-use Rattle.std.specs.Prelude.{◌≡◌, ⊤, ℕ, ◌+◌, Bool, false, not, ◌==◌, ◌&&◌, ◌||◌, nat_lt, List, [], ◌∷◌, length, drop, Option, None, Some, option_map, unwrap_or, Result, Ok, Err, if◌then◌else◌, codes}
+use Rattle.std.specs.Prelude.{◌≡◌, ⊤, ℕ, ◌+◌, ℤ, pos, negsuc, Bool, false, not, ◌==◌, nat_lt, List, [], ◌∷◌, length, drop, Option, None, Some, option_map, unwrap_or, Result, Ok, Err, if◌then◌else◌, codes}
+use Rattle.std.specs.Int.RustNames.{unsigned_abs}
 use Rattle.std.specs.List.{take_while, flat_map, last_or}
 use Rattle.std.specs.Option.{option_or, option_to_list}
 use Rattle.std.specs.Str.{str_eq_ignore_ascii_case}
 use Rattle.mars_cell.specs.declared.instruction.Cell.{Cell}
-use Rattle.mars_cell.specs.declared.numbers.Number.{Number}
 use Rattle.mars_cell.specs.declared.statements.Statement.{Statement}
 use Rattle.mars_cell.specs.declared.statements.Statement.TheVariants as statement
 use Rattle.mars_cell.specs.declared.fault.LoadFault.{LoadFault}
@@ -25,13 +25,13 @@ abbrev pub before_comment : List ℕ → List ℕ
 before_comment l = take_while (λ b. not (b == 59)) l
 
 -- a number, and no more
-unfoldable pub lone_number : List (List ℕ) → Option Number
+unfoldable pub lone_number : List (List ℕ) → Option ℤ
 lone_number [] = None
 lone_number (p ∷ []) = parse_number p
 lone_number (p ∷ q ∷ ps) = None
 
 -- what stands after END: nothing, or a number
-unfoldable pub end_of : List (List ℕ) → Option (Option Number)
+unfoldable pub end_of : List (List ℕ) → Option (Option ℤ)
 end_of [] = Some None
 end_of (p ∷ ps) = option_map (λ n. Some n) (lone_number (p ∷ ps))
 
@@ -74,13 +74,13 @@ cell_in (statement.Origin n) = []
 cell_in (statement.End n) = []
 cell_in (statement.Instruction c) = c ∷ []
 
-abbrev pub origin_in : Statement → List Number
+abbrev pub origin_in : Statement → List ℤ
 origin_in statement.Nothing = []
 origin_in (statement.Origin n) = n ∷ []
 origin_in (statement.End n) = []
 origin_in (statement.Instruction c) = []
 
-abbrev pub end_in : Statement → List Number
+abbrev pub end_in : Statement → List ℤ
 end_in statement.Nothing = []
 end_in (statement.Origin n) = []
 end_in (statement.End n) = option_to_list n
@@ -91,19 +91,20 @@ abbrev pub cells_of : List Statement → List Cell
 cells_of ss = flat_map cell_in ss
 
 -- the number of the last ORG, or else that of END, or else 0
-abbrev pub start_of : List Statement → Number
-start_of ss = unwrap_or (option_or (last_or None (flat_map origin_in ss)) (last_or None (flat_map end_in ss))) (record { is_negative = false; magnitude = 0 })
+abbrev pub start_of : List Statement → ℤ
+start_of ss = unwrap_or (option_or (last_or None (flat_map origin_in ss)) (last_or None (flat_map end_in ss))) (pos 0)
 
--- an index below the length; a minus may stand before 0 alone
-abbrev pub is_index : Number → ℕ → Bool
-is_index n len = nat_lt n.magnitude len && (not n.is_negative || n.magnitude == 0)
+-- an index below the length
+abbrev pub is_index : ℤ → ℕ → Bool
+is_index (pos n) len = nat_lt n len
+is_index (negsuc n) len = false
 
 -- the warrior of a head and of some statements, or the first fault, where a warrior has at most `longest` cells
 abbrev pub warrior_of : HeaderValue → ℕ → List Statement → Result WarriorValue LoadFault
 warrior_of h longest ss =
     if nat_lt longest (length (cells_of ss)) then Err fault.TooLong
     else if length (cells_of ss) == 0 then Err fault.Empty
-    else if is_index (start_of ss) (length (cells_of ss)) then Ok (record { name = h.name; author = h.author; cells = cells_of ss; start = (start_of ss).magnitude })
+    else if is_index (start_of ss) (length (cells_of ss)) then Ok (record { name = h.name; author = h.author; cells = cells_of ss; start = unsigned_abs (start_of ss) })
     else Err fault.BadOrigin
 
 -- the warrior of a head and of the lines behind it, of which the first has number k; a bad line comes before all other faults

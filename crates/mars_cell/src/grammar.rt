@@ -5,7 +5,7 @@ ghost use Rattle.mars_cell.specs.Parts.{parts};
 ghost use Rattle.mars_cell.specs.Grammar.{op_at, modifier_at, suffix_at, number_at, mode_at, operand_at, comma_at, default_modifier, cell_of, read_cell};
 
 use crate::instruction::{Cell, Mode, Modifier, Op};
-use crate::numbers::{Number, Sizes, by_value, read_number};
+use crate::numbers::{Sizes, by_value, read_number};
 use crate::parts::Parts;
 use crate::words::{read_mode, read_modifier, read_op};
 
@@ -60,7 +60,7 @@ fn take_suffix<'a>(line: Parts<'a>) -> Option<(Option<Modifier>, Parts<'a>)>
 }
 
 #[tactic(auto, unfolding(crate::specs::Grammar::number_at))]
-fn take_number<'a>(line: Parts<'a>) -> Option<(Number, Parts<'a>)>
+fn take_number<'a>(line: Parts<'a>) -> Option<(i64, Parts<'a>)>
     ensures { option_map (λ r. (r.0, parts r.1.rest.now)) result ≡ number_at (parts line.entry.rest.now) }
 {
     let mut line = line;

@@ -8,7 +8,7 @@ use crate::fault::LoadFault;
 use crate::header::{Header, read_header, tells_version};
 use crate::instruction::Cell;
 use crate::lines::Lines;
-use crate::numbers::{Number, Sizes};
+use crate::numbers::Sizes;
 use crate::parameters::Params;
 use crate::statements::{Statement, read_line};
 use crate::warriors::{Warrior, WarriorFault};
@@ -18,8 +18,8 @@ use std::alloc::Global;
 #[derive(Drop)]
 struct Reading {
     cells: Vec<Cell>,
-    origin: Option<Number>,
-    end: Option<Number>,
+    origin: Option<i64>,
+    end: Option<i64>,
 }
 
 /// Reads the lines up to END.
@@ -57,10 +57,10 @@ fn read_listing(alloc: Global, lines: Lines<'_>, sizes: Sizes) -> Result<Reading
 }
 
 /// Whether a number is the index of one of so many cells.
-fn is_start(number: Number, length: usize) -> bool
+fn is_start(number: i64, length: usize) -> bool
     ensures { result ≡ is_index number length }
 {
-    number.magnitude < length as u64 && (!number.is_negative || number.magnitude == 0)
+    0 <= number && number.unsigned_abs() < length as u64
 }
 
 /// The warrior of a head and of these cells.
@@ -112,16 +112,12 @@ fn read_body(
     if length == 0 {
         return Err(LoadFault::Empty);
     }
-    let zero = Number {
-        is_negative: false,
-        magnitude: 0,
-    };
-    let start = reading.origin.or(reading.end).unwrap_or(zero);
+    let start = reading.origin.or(reading.end).unwrap_or(0);
     if !is_start(start, length) {
         return Err(LoadFault::BadOrigin);
     }
     let Reading { cells, .. } = reading;
-    named_warrior(alloc, header, cells, start.magnitude as u32)
+    named_warrior(alloc, header, cells, start as u32)
 }
 
 /// Reads a load file of version 1 or 2, for a core and a longest warrior of these parameters.

@@ -1,16 +1,9 @@
 //! Numbers as they are written.
-ghost use Rattle.std.specs.Prelude.{◌≡◌, ◌≤◌, ◌<◌, length, true};
+ghost use Rattle.std.specs.Prelude.{◌≡◌, ◌≤◌, ◌<◌, ◌^◌, IfSome, length, true};
 ghost use Rattle.std.specs.Char.{is_ascii_digit};
 ghost use Rattle.std.specs.List.{list_all};
 ghost use Rattle.std.specs.Str.Parse.{digits_value};
 ghost use Rattle.mars_cell.specs.Numbers.{by_value, nearest, parse_digits, parse_number, split_sign, residue};
-
-/// A number with its sign. A minus may stand before 0, too.
-#[derive(Clone, Copy)]
-pub struct Number {
-    pub is_negative: bool,
-    pub magnitude: u64,
-}
 
 /// The size of the core that a text was written for, and of the core that reads it.
 #[derive(Clone, Copy)]
@@ -39,7 +32,8 @@ impl Sizes {
 fn value(digits: &[u8]) -> u64
     requires digits { list_all is_ascii_digit digits.now ≡ true }
     requires few { length digits.now ≤ 18 }
-    ensures { result ≡ digits_value 10 digits.now }
+    ensures value { result ≡ digits_value 10 digits.now }
+    ensures below { result < 10 ^ 18 }
 {
     let mut value = 0;
     for digit in digits {
@@ -69,7 +63,8 @@ fn are_digits(bytes: &[u8]) -> bool
 /// The number that 1 to 18 digits spell.
 #[tactic(auto, unfolding(crate::specs::Numbers::parse_digits))]
 pub fn read_digits(word: &[u8]) -> Option<u64>
-    ensures { result ≡ parse_digits word.now }
+    ensures value { result ≡ parse_digits word.now }
+    ensures below { IfSome result (λ n. n < 10 ^ 18) }
 {
     if word.is_empty() || word.len() > 18 {
         return None;
@@ -81,58 +76,43 @@ pub fn read_digits(word: &[u8]) -> Option<u64>
     }
 }
 
-/// The number that a word spells: an optional sign, and 1 to 18 digits.
-#[tactic(auto, unfolding(crate::specs::Numbers::parse_number, crate::specs::Numbers::parse_digits))]
-pub fn read_number(word: &[u8]) -> Option<Number>
+/// The integer that a word spells: an optional sign, and 1 to 18 digits.
+#[tactic(auto, unfolding(crate::specs::Numbers::parse_number))]
+pub fn read_number(word: &[u8]) -> Option<i64>
     ensures { result ≡ parse_number word.now }
 {
     let (is_negative, digits) = split_sign(word);
-    let magnitude = read_digits(digits)?;
-    Some(Number {
-        is_negative,
-        magnitude,
-    })
+    let magnitude = read_digits(digits)? as i64;
+    Some(if is_negative { -magnitude } else { magnitude })
 }
 
-/// The number from 0 to `core_size - 1` that differs from it by a multiple of `core_size`.
-#[tactic(auto, unfolding(crate::specs::Numbers::residue))]
-fn residue(number: Number, core_size: u32) -> u32
+/// The number from 0 to `core_size - 1` that differs from a value by a multiple of `core_size`.
+pub fn residue(value: i64, core_size: u32) -> u32
     requires { 0 < core_size }
-    ensures value { result ≡ residue core_size number }
+    ensures value { result ≡ residue core_size value }
     ensures below { result < core_size }
 {
-    let rest = (number.magnitude % u64::from(core_size)) as u32;
-    if number.is_negative {
-        (core_size - rest) % core_size
-    } else {
-        rest
-    }
+    value.rem_euclid(i64::from(core_size)) as u32
 }
 
-/// The number nearest to 0 that differs from it by a multiple of `core_size`; of two as near, the positive one.
+/// The integer nearest to 0 that differs from a value by a multiple of `core_size`; of two as near, the positive one.
 #[tactic(auto, unfolding(crate::specs::Numbers::nearest))]
-fn nearest(number: Number, core_size: u32) -> Number
+fn nearest(value: i64, core_size: u32) -> i64
     requires { 0 < core_size }
-    ensures { result ≡ nearest core_size number }
+    ensures { result ≡ nearest core_size value }
 {
-    let rest = residue(number, core_size);
+    let rest = residue(value, core_size);
     if rest <= core_size / 2 {
-        Number {
-            is_negative: false,
-            magnitude: u64::from(rest),
-        }
+        i64::from(rest)
     } else {
-        Number {
-            is_negative: true,
-            magnitude: u64::from(core_size - rest),
-        }
+        i64::from(rest) - i64::from(core_size)
     }
 }
 
 /// The number for the core that reads it: from the value that it had in the core that it was written for.
-pub fn by_value(number: Number, sizes: Sizes) -> u32
-    ensures value { result ≡ by_value sizes.written sizes.core_size number }
+pub fn by_value(value: i64, sizes: Sizes) -> u32
+    ensures value { result ≡ by_value sizes.written sizes.core_size value }
     ensures below { result < sizes.core_size }
 {
-    residue(nearest(number, sizes.written), sizes.core_size)
+    residue(nearest(value, sizes.written), sizes.core_size)
 }

@@ -6,7 +6,7 @@ ghost use Rattle.mars_cell.specs.Load.{line_statement, lone_number, end_of, stat
 
 use crate::grammar::take_cell;
 use crate::instruction::Cell;
-use crate::numbers::{Number, Sizes, read_number};
+use crate::numbers::{Sizes, read_number};
 use crate::parts::Parts;
 use crate::words::is_word;
 
@@ -16,16 +16,16 @@ pub enum Statement {
     /// The line has no part.
     Nothing,
     /// `ORG` and the start.
-    Origin(Number),
+    Origin(i64),
     /// `END`, and the start where ORG gives none.
-    End(Option<Number>),
+    End(Option<i64>),
     /// The line of a cell.
     Instruction(Cell),
 }
 
 /// A number, and no more.
 #[tactic(auto, unfolding(crate::specs::Load::lone_number))]
-fn read_lone_number(line: Parts<'_>) -> Option<Number>
+fn read_lone_number(line: Parts<'_>) -> Option<i64>
     ensures { result ≡ lone_number (parts line.entry.rest.now) }
 {
     let mut line = line;
@@ -38,7 +38,7 @@ fn read_lone_number(line: Parts<'_>) -> Option<Number>
 
 /// What follows `END`.
 #[tactic(auto, unfolding(crate::specs::Load::end_of, crate::specs::Load::lone_number))]
-fn read_end(line: Parts<'_>) -> Option<Option<Number>>
+fn read_end(line: Parts<'_>) -> Option<Option<i64>>
     ensures { result ≡ end_of (parts line.entry.rest.now) }
 {
     let mut after = line;

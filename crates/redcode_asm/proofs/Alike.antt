@@ -3,6 +3,7 @@ use Rattle.std.specs.Bool.{⊤}
 use Rattle.std.proofs.Common.{◌≡◌, ◌∙◌, ℕ, ℤ, ◌==◌, ◌||◌, Bool, true, false, List, [], ◌∷◌, length, map, if◌then◌else◌, Option, Some, None, Result, Ok, Err, refl, ap, sym, subst, arith}
 use Rattle.std.proofs.lemmas.List.{length-map}
 use Rattle.std.specs.List.{list_any, onto_first}
+use Rattle.mars_cell.specs.Numbers.{residue}
 use Rattle.mars_cell.specs.declared.instruction.Cell.{Cell}
 use Rattle.mars_cell.specs.declared.instruction.Mode.{Mode}
 use Rattle.mars_cell.specs.declared.instruction.Mode.TheVariants as mode
@@ -17,7 +18,7 @@ use Rattle.redcode_text.specs.Expression.{kinds, value_of}
 use Rattle.redcode_text.specs.Equates.{substitution}
 use Rattle.redcode_text.specs.Tokens.{without_line}
 use Rattle.redcode_text.proofs.CallerLemmas.{LikeTokens, replaced-like}
-use Rattle.redcode_asm.specs.Assembly.{◌>>=◌, Operands, cell_from, cell_with, expressed, full_operands, given_operands, is_comma, is_dot, mode_of, modifier_first, modifier_in, no_operand, one_operand, operand_value, operands_of, parts_at_commas, reduced, replaced, split_mode, split_modifier, texted}
+use Rattle.redcode_asm.specs.Assembly.{◌>>=◌, Operands, cell_from, cell_with, expressed, full_operands, given_operands, is_comma, is_dot, mode_of, modifier_first, modifier_in, no_operand, one_operand, operand_value, operands_of, parts_at_commas, replaced, split_mode, split_modifier, texted}
 use Rattle.redcode_asm.specs.declared.fault.AsmProblem.{AsmProblem}
 use Rattle.redcode_asm.specs.declared.fault.AsmProblem.TheVariants.{Operand}
 
@@ -137,7 +138,7 @@ mode-like (t ∷ ts) (u ∷ us) e =
     go None h = (refl, e)
 
 operand-like : (m : ℕ) (names : ℕ → Option ℤ) (a b : Option (List Token)) → LikeOption a b → operand_value m names a ≡ operand_value m names b
-operand-like m names (Some ts) (Some us) h = let l = mode-like ts us h in λ i. expressed (value_of names (l.1 i)) >>= λ v. Ok (l.0 i, reduced m v)
+operand-like m names (Some ts) (Some us) h = let l = mode-like ts us h in λ i. expressed (value_of names (l.1 i)) >>= λ v. Ok (l.0 i, residue m v)
 operand-like m names (Some ts) None h = absurd h
 operand-like m names None (Some us) h = absurd h
 operand-like m names None None h = refl

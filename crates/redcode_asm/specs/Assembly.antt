@@ -1,5 +1,5 @@
 -- What a source is assembled to.
-use Rattle.std.specs.Prelude.{ℕ, zero, ◌+◌, ◌-◌, ◌%◌, List, [], ◌∷◌, length, drop, filter, Bool, true, false, ◌==◌, ℤ, pos, negsuc, ◌-ℤ◌, Option, Some, None, unwrap_or, option_map, Result, Ok, Err, if◌then◌else◌, nat_lt, codes}
+use Rattle.std.specs.Prelude.{ℕ, zero, ◌+◌, List, [], ◌∷◌, length, drop, filter, Bool, true, false, ◌==◌, ℤ, pos, negsuc, ◌-ℤ◌, Option, Some, None, unwrap_or, option_map, Result, Ok, Err, if◌then◌else◌, nat_lt, codes}
 use Rattle.std.specs.List.{list_any, onto_first, last_or}
 use Rattle.mars_cell.specs.declared.instruction.Cell.{Cell}
 use Rattle.mars_cell.specs.declared.instruction.Mode.{Mode}
@@ -8,6 +8,7 @@ use Rattle.mars_cell.specs.declared.instruction.Modifier.{Modifier}
 use Rattle.mars_cell.specs.declared.instruction.Op.{Op}
 use Rattle.mars_cell.specs.declared.instruction.Op.TheVariants as op
 use Rattle.mars_cell.specs.Grammar.{default_modifier}
+use Rattle.mars_cell.specs.Numbers.{residue}
 use Rattle.mars_cell.specs.Parameters.{Parameters}
 use Rattle.mars_cell.specs.Warriors.{WarriorValue}
 use Rattle.mars_cell.specs.Words.{op_of, modifier_of}
@@ -103,11 +104,6 @@ replaced source ts = texted (without_line (substitution source.equates ts))
 
 -- ---- an instruction
 
--- the number from 0 to m-1 that differs from a value by a multiple of m
-abbrev pub reduced : ℕ → ℤ → ℕ
-reduced m (pos n) = n % m
-reduced m (negsuc n) = (m - (n + 1) % m) % m
-
 abbrev pub mode_sign : Sign → Option Mode
 mode_sign sign.Hash = Some mode.Immediate
 mode_sign sign.Dollar = Some mode.Direct
@@ -169,7 +165,7 @@ given_operands o (t ∷ ts) = full_operands o (parts_at_commas (t ∷ ts))
 -- the mode and the number of an operand in a core of m cells: `$0` where it isn't given
 abbrev pub operand_value : ℕ → (ℕ → Option ℤ) → Option (List Token) → Result (Mode × ℕ) AsmProblem
 operand_value m names None = Ok (mode.Direct, 0)
-operand_value m names (Some ts) = value_in names (split_mode ts).1 >>= λ v. Ok ((split_mode ts).0, reduced m v)
+operand_value m names (Some ts) = value_in names (split_mode ts).1 >>= λ v. Ok ((split_mode ts).0, residue m v)
 
 abbrev pub opcode_of : List (List ℕ) → Option ℕ → Result Op AsmProblem
 opcode_of names None = Err Operation

@@ -1,27 +1,11 @@
 //! The operands of an instruction.
 ghost use Rattle.std.specs.Prelude.{◌≡◌, ◌<◌, ◌∷◌, [], Ok, Err, None, Some, MatchOption, MatchResult, IfOk, option_map};
-ghost use Rattle.redcode_asm.specs.Assembly.{reduced, mode_sign, mode_of, split_mode, is_comma, parts_at_commas, given_operands, operand_value as spec_operand_value};
+ghost use Rattle.redcode_asm.specs.Assembly.{mode_sign, mode_of, split_mode, is_comma, parts_at_commas, given_operands, operand_value as spec_operand_value};
 ghost use Rattle.redcode_asm.specs.Code.Sources.{operands_in};
 
 use crate::fault::AsmProblem;
-use mars_cell::{Mode, Op};
+use mars_cell::{Mode, Op, residue};
 use redcode_text::{Env, Sign, Token, TokenKind, eval};
-
-/// The number from 0 to the size of the core, less one, that differs from a value by a multiple of that size.
-pub fn reduce(value: i64, core_size: u32) -> u32
-    requires { 0 < core_size }
-    ensures value { result ≡ reduced core_size value }
-    ensures below { result < core_size }
-{
-    let core_size = u64::from(core_size);
-    let rest = value.unsigned_abs() % core_size;
-    let number = if value < 0 {
-        (core_size - rest) % core_size
-    } else {
-        rest
-    };
-    number as u32
-}
 
 fn mode_sign(sign: Sign) -> Option<Mode>
     ensures { result ≡ mode_sign sign }
@@ -139,7 +123,7 @@ pub fn operand_value<E: Env>(
     };
     let (mode, expression) = split_mode(tokens);
     match eval(expression, names) {
-        Ok(value) => Ok((mode, reduce(value, core_size))),
+        Ok(value) => Ok((mode, residue(value, core_size))),
         Err(fault) => Err(AsmProblem::Expression(fault)),
     }
 }

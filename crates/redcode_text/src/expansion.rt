@@ -1,16 +1,19 @@
 //! The program of a source.
-ghost use Rattle.std.specs.Prelude.{◌≡◌};
+ghost use Rattle.std.specs.Prelude.{◌≡◌, map};
 ghost use Rattle.redcode_text.specs.Expansion.{expansion, flat, nothing_read, program_of};
 ghost use Rattle.redcode_text.specs.Views.{predefined_of};
 ghost use Rattle.redcode_text.specs.Code.Readings.{reading_of};
+ghost use Rattle.redcode_text.specs.Code.Loops.{RowsFit};
+ghost use Rattle.redcode_text.specs.Code.Rows.{row_of};
 ghost use Rattle.redcode_text.specs.Outcomes.{Answers};
-ghost use Rattle.redcode_text.specs.Source.{tree_of};
+ghost use Rattle.redcode_text.specs.Source.{tree_of, tree_of_rows};
 
 use crate::fault::{TextFault, TextProblem};
 use crate::names::predefined::Names;
 use crate::program::Program;
 use crate::reader::Reading;
 use crate::reader::repeat::read_all;
+use crate::source::row::Row;
 use crate::source::runs::long_runs;
 use crate::source::{read_rows, rows_of};
 use std::alloc::Global;
@@ -38,6 +41,23 @@ fn program_of(reading: Reading) -> Program
     }
 }
 
+/// Reads rows of a source, up to END.
+fn read_from_rows(
+    alloc: Global,
+    source: &[u8],
+    rows: &[Row<'_>],
+    names: &Names,
+) -> Result<Reading, TextFault>
+    requires { RowsFit rows.now }
+    ensures { Answers (λ reading. reading_of reading) result (flat (predefined_of names.now) (tree_of_rows (map row_of rows.now)) nothing_read) }
+{
+    let Ok(mut reading) = Reading::new(alloc, source) else {
+        return Err(TextProblem::OutOfMemory.at_line(0));
+    };
+    read_all(alloc, names, rows, &mut reading)?;
+    Ok(reading)
+}
+
 /// Reads a source.
 #[tactic(auto, using(crate::proofs::SourceRows::rows_fit))]
 fn read_source(alloc: Global, bytes: &[u8], names: &Names) -> Result<Reading, TextFault>
@@ -49,11 +69,7 @@ fn read_source(alloc: Global, bytes: &[u8], names: &Names) -> Result<Reading, Te
     let Ok(rows) = rows_of(alloc, bytes, &runs) else {
         return Err(TextProblem::OutOfMemory.at_line(0));
     };
-    let Ok(mut reading) = Reading::new(alloc, bytes) else {
-        return Err(TextProblem::OutOfMemory.at_line(0));
-    };
-    read_all(alloc, names, read_rows(&rows), &mut reading)?;
-    Ok(reading)
+    read_from_rows(alloc, bytes, read_rows(&rows), names)
 }
 
 /// Reads a source, with what FOR and EQU mean done: from its first `;redcode` line on, if it has one, up to END.

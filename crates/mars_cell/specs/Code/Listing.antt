@@ -1,8 +1,7 @@
 -- What the reader of load files holds, line after line.
-use Rattle.std.specs.Prelude.{◌≡◌, ⊤, ℕ, ◌+◌, List, [], ◌∷◌, ◌++◌, Option, None, Some, Result, Ok, Err}
+use Rattle.std.specs.Prelude.{◌≡◌, ⊤, ℕ, ℤ, ◌+◌, List, [], ◌∷◌, ◌++◌, Option, None, Some, Result, Ok, Err}
 use Rattle.mars_cell.specs.declared.header.Header.{Header}
 use Rattle.mars_cell.specs.declared.instruction.Cell.{Cell}
-use Rattle.mars_cell.specs.declared.numbers.Number.{Number}
 use Rattle.mars_cell.specs.declared.statements.Statement.{Statement}
 use Rattle.mars_cell.specs.declared.statements.Statement.TheVariants as statement
 use Rattle.mars_cell.specs.declared.load.Reading.{Reading}
@@ -26,8 +25,8 @@ StatementFits m (statement.Instruction c) = FitsCore m c
 -- what was read: the cells, the last ORG's number, and END's
 pub record Listing : Type 0 where
   pub cells : List Cell
-  pub origin : Option Number
-  pub end : Option Number
+  pub origin : Option ℤ
+  pub end : Option ℤ
 
 abbrev pub nothing_read : Listing
 nothing_read = record { cells = []; origin = None; end = None }

@@ -1,5 +1,5 @@
 -- Worked examples: the text of a cell, and what is read as one.
-use Rattle.std.specs.Prelude.{◌≡◌, ℕ, false, true, None, Some, codes, refl}
+use Rattle.std.specs.Prelude.{◌≡◌, ℕ, pos, neg_ℤ, None, Some, codes, refl}
 use Rattle.std.specs.Fmt.{digits}
 use Rattle.mars_cell.specs.declared.instruction.Cell.{Cell}
 use Rattle.mars_cell.specs.declared.instruction.Op.{Op}
@@ -9,7 +9,7 @@ use Rattle.mars_cell.specs.declared.instruction.Modifier.TheVariants as modifier
 use Rattle.mars_cell.specs.declared.instruction.Mode.{Mode}
 use Rattle.mars_cell.specs.declared.instruction.Mode.TheVariants.{Immediate, Direct, AIndirect, BIndirect, APredecrement, BPredecrement, APostincrement, BPostincrement}
 use Rattle.mars_cell.specs.Grammar.{cell_of, comma_at, default_modifier, mode_at, modifier_at, number_at, op_at, operand_at, read_cell, suffix_at}
-use Rattle.mars_cell.specs.Numbers.{by_value, nearest, parse_number, residue, split_sign}
+use Rattle.mars_cell.specs.Numbers.{by_value, nearest, parse_digits, parse_number, split_sign}
 use Rattle.mars_cell.specs.Parts.{begins_word, joins, parts}
 use Rattle.mars_cell.specs.Text.{cell_text, number_text}
 use Rattle.mars_cell.specs.Words.{mode_of, modifier_of, op_of}
@@ -35,19 +35,19 @@ numbers_are_written = (refl, refl, refl, refl, refl, refl, refl)
 
 -- a number that was written for a core of 8 or 7 cells is from -3 to 4, or from -3 to 3; its value is taken modulo the size of the core that reads it
 pub numbers_by_value :
-    (by_value 8 8000 (record { is_negative = false; magnitude = 7 }) ≡ 7999)
-    × (by_value 8 8000 (record { is_negative = true; magnitude = 9 }) ≡ 7999)
-    × (by_value 8 8000 (record { is_negative = false; magnitude = 4 }) ≡ 4)
-    × (by_value 8 8000 (record { is_negative = true; magnitude = 4 }) ≡ 4)
-    × (by_value 8 8000 (record { is_negative = false; magnitude = 13 }) ≡ 7997)
-    × (by_value 7 8000 (record { is_negative = false; magnitude = 3 }) ≡ 3)
-    × (by_value 7 8000 (record { is_negative = false; magnitude = 4 }) ≡ 7997)
-    × (by_value 8000 8 (record { is_negative = true; magnitude = 1 }) ≡ 7)
-    × (by_value 8000 8 (record { is_negative = false; magnitude = 4001 }) ≡ 1)
-    × (by_value 8000 8 (record { is_negative = true; magnitude = 0 }) ≡ 0)
-    × (by_value 1 8000 (record { is_negative = true; magnitude = 5 }) ≡ 0)
-    × (by_value 8 8 (record { is_negative = true; magnitude = 9 }) ≡ 7)
-unfolding residue nearest
+    (by_value 8 8000 (pos 7) ≡ 7999)
+    × (by_value 8 8000 (neg_ℤ (pos 9)) ≡ 7999)
+    × (by_value 8 8000 (pos 4) ≡ 4)
+    × (by_value 8 8000 (neg_ℤ (pos 4)) ≡ 4)
+    × (by_value 8 8000 (pos 13) ≡ 7997)
+    × (by_value 7 8000 (pos 3) ≡ 3)
+    × (by_value 7 8000 (pos 4) ≡ 7997)
+    × (by_value 8000 8 (neg_ℤ (pos 1)) ≡ 7)
+    × (by_value 8000 8 (pos 4001) ≡ 1)
+    × (by_value 8000 8 (pos 0) ≡ 0)
+    × (by_value 1 8000 (neg_ℤ (pos 5)) ≡ 0)
+    × (by_value 8 8 (neg_ℤ (pos 9)) ≡ 7)
+unfolding nearest
 numbers_by_value = (refl, refl, refl, refl, refl, refl, refl, refl, refl, refl, refl, refl)
 
 -- cells are printed with their modifier and modes; CMP is printed SEQ
@@ -127,7 +127,7 @@ pub cells_are_read :
     × (read_cell 8 (codes "ADD #4, 3") ≡ Some (cell op.Add modifier.Ab Immediate 4 Direct 3))
     × (read_cell 8 (codes "JMP.F *1, >2") ≡ Some (cell op.Jmp modifier.F AIndirect 1 BPostincrement 2))
     × (read_cell 10 (codes "NOP 123456789012345678, -123456789012345678") ≡ Some (cell op.Nop modifier.F Direct 8 Direct 2))
-unfolding parts joins begins_word cell_of op_at suffix_at modifier_at mode_at number_at operand_at comma_at op_of modifier_of mode_of parse_number split_sign residue nearest default_modifier
+unfolding parts joins begins_word cell_of op_at suffix_at modifier_at mode_at number_at operand_at comma_at op_of modifier_of mode_of parse_number parse_digits split_sign nearest default_modifier
 cells_are_read = (refl, refl, refl, refl, refl, refl, refl, refl, refl, refl)
 
 -- a number is one part, a word ends before a digit, and nothing may follow
@@ -150,5 +150,5 @@ pub no_cells :
     × (read_cell 8 (codes "MOV.I $$1, 1") ≡ None)
     × (read_cell 8 (codes "STP 1, 2") ≡ None)
     × (read_cell 8 (codes "NOP 1234567890123456789, 0") ≡ None)
-unfolding parts joins begins_word cell_of op_at suffix_at modifier_at mode_at number_at operand_at comma_at op_of modifier_of mode_of parse_number split_sign residue nearest default_modifier
+unfolding parts joins begins_word cell_of op_at suffix_at modifier_at mode_at number_at operand_at comma_at op_of modifier_of mode_of parse_number parse_digits split_sign nearest default_modifier
 no_cells = (refl, refl, refl, refl, refl, refl, refl, refl, refl, refl, refl, refl, refl, refl, refl, refl, refl, refl)

@@ -7,7 +7,7 @@ ghost use Rattle.mars_cell.specs.Warriors.{IsName};
 use super::{cell, sizes};
 use crate::{
     Cell, Mode, Modifier, Op, ParamFault, Params, Warrior, WarriorFault, default_modifier,
-    read_cell, read_modifier, read_op,
+    read_cell, read_modifier, read_op, residue,
 };
 use std::alloc::Global;
 use std::test::Fail;
@@ -24,6 +24,7 @@ fn words_and_cells(rt: HostRuntime) {
     assert!(rt; add.text(8).as_str() == "ADD.AB #4, $3");
     assert!(rt; read_cell(b"ADD.AB #4, $3", 8) == Some(add));
     assert!(rt; read_cell(b"ADD.AB #4", 8).is_none());
+    assert_eq!(rt; (residue(-9, 8), residue(17, 8)), (7, 1));
     assert!(rt; read_op(b"Add") == Some(Op::Add));
     assert!(rt; read_modifier(b"aB") == Some(Modifier::Ab));
     assert_eq!(rt;

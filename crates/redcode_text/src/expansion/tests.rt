@@ -5,6 +5,7 @@ use crate::{
 use std::test::Fail;
 
 mod memory;
+mod no_memory;
 
 const NAMES: Names = Names {
     core_size: 8000,

@@ -1,5 +1,5 @@
 //! EQU names, and tokens with EQU names replaced.
-ghost use Rattle.std.specs.Prelude.{◌≡◌, [], ◌∷◌, ◌++◌, map, Some, None, Ok, Err, MatchResult, option_map, ◌≤◌, vec_len, IfOk, IfSome};
+ghost use Rattle.std.specs.Prelude.{◌≡◌, [], ◌∷◌, ◌++◌, map, Some, None, Ok, Err, MatchResult, option_map, ◌≤◌, vec_len, IfOk, IfSome, OnOk, slice_get};
 ghost use Rattle.redcode_text.specs.declared.limits.TheConstants.{MAX_REPLACED};
 ghost use Rattle.redcode_text.specs.Equates.{Replaced, equate_lines, token_lines, one_line, one_more, kept, replaced_name, replaced_token, each_replaced, replacing, depth_limit, each_replaced_at_line, substitution};
 ghost use Rattle.redcode_text.specs.Lines.{with_line};
@@ -19,13 +19,16 @@ use std::alloc::{AllocError, Global};
 use std::marker::Model;
 
 /// Notes the place of a name.
-fn note_place(places: &mut Vec<usize>, name: usize, place: usize) -> Result<(), AllocError> {
+fn note_place(places: &mut Vec<usize>, name: usize, place: usize) -> Result<(), AllocError>
+    ensures { OnOk result (slice_get places.new.items name ≡ Some place) }
+{
     if places.len() <= name {
         places.resize(name.saturating_add(1), 0)?;
     }
-    if let Some(noted) = places.get_mut(name) {
-        *noted = place;
-    }
+    let Some(noted) = places.get_mut(name) else {
+        return Err(AllocError);
+    };
+    *noted = place;
     Ok(())
 }
 
