@@ -1,36 +1,41 @@
 -- What is asked for, put together.
-use Rattle.std.proofs.Common.{◌≡◌, ◌∙◌, ℕ, List, [], ◌∷◌, map, Option, Result, String, Ok, Err, subst, sym}
+use Rattle.std.proofs.Common.{◌≡◌, ◌∙◌, ℕ, List, [], ◌∷◌, map, Option, Result, String, Ok, Err, inl, inr, false, subst, sym}
+use Rattle.std.proofs.KnownBytes.{Keeps-refl}
 use Rattle.std.proofs.lemmas.List.{append-nil}
 use Rattle.std.specs.Io.KnownBytes.{Appends}
 use Rattle.std.specs.List.{flat_map}
 use Rattle.std.specs.Global.{Global}
 use Rattle.std.specs.Prelude.{string_bytes}
-use Rattle.mars_cell.specs.ParameterFaults.{checked_parameters}
-use Rattle.mars_cell.specs.Parameters.{Parameters}
 use Rattle.mars_cell.specs.Warriors.{WarriorValue}
 use Rattle.mars_match.specs.Writing.{CutShort}
-use Rattle.redcode_asm.specs.Formula.{Checks, formula_of}
+use Rattle.redcode_asm.specs.Formula.{Checks}
 use Rattle.redcode_asm.specs.declared.fault.FormulaFault.{FormulaFault}
 use Rattle.redcode_asm.specs.declared.fault.FormulaFault.TheVariants.{Expression}
 use Rattle.redcode_text.specs.declared.fault.ExprFault.{ExprFault}
 use Rattle.redcode_text.specs.Tokens.{Scanned}
 use Rattle.mars_app.specs.Contests.{contest_size}
+use Rattle.mars_app.specs.Faults.{RunFails}
+use Rattle.mars_app.specs.Faults.RunFails.{not_allowed, not_contested, not_debugged, not_scored, starved}
 use Rattle.mars_app.specs.Loading.{AreLoaded}
-use Rattle.mars_app.specs.Options.{Ask, parameters_of, value_of}
-use Rattle.mars_app.specs.Runs.{Asked}
+use Rattle.mars_app.specs.Options.{Ask, value_of}
+use Rattle.mars_app.specs.Runs.{Asked, RunsWell}
+use Rattle.mars_app.specs.Runs.RunsWell.{contested, debugged}
+use Rattle.mars_app.specs.Code.Settings.{AreSettingsOf, IsRefused, PlaysInPart, PlaysWell}
+use Rattle.mars_app.specs.declared.fault.RunFault.{RunFault}
 use Rattle.mars_app.specs.declared.options.Options.{Options}
+use Rattle.mars_app.specs.declared.run.Settings.{Settings}
 
-abbrev pub asked_for : (words : List (List ℕ)) (known : List ℕ → Option (List ℕ)) (o : Options) (p : Parameters) (f : Scanned) (ws : List WarriorValue) (score : List ℕ) (files : List (String Global)) (count : ℕ)
-    → Ask words (value_of o) → Ok p ≡ checked_parameters (parameters_of o) → score ≡ string_bytes o.score → formula_of score ≡ Ok f
-    → files ≡ o.files.items → count ≡ contest_size o → AreLoaded known p o.rounds count (map (λ s. string_bytes s) files) ws → Asked words known
-asked_for words known o p f ws score files count said allowed score_is scored files_are count_is loaded = record {
+abbrev pub asked_for : (words : List (List ℕ)) (known : List ℕ → Option (List ℕ)) (o : Options) (settings : Settings) (ws : List WarriorValue) (files : List (String Global)) (count : ℕ)
+    → Ask words (value_of o) → AreSettingsOf o settings → files ≡ o.files.items → count ≡ contest_size o
+    → AreLoaded known settings.params o.rounds count (map (λ s. string_bytes s) files) ws → Asked words known
+asked_for words known o settings ws files count said are files_are count_is loaded = record {
   options = o;
-  parameters = p;
-  formula = f;
+  parameters = settings.params;
+  formula = settings.formula;
   warriors = ws;
   said = said;
-  allowed = sym allowed;
-  scored = rw score_is at scored;
+  allowed = are.allowed;
+  scored = are.scored;
   loaded = rw (files_are, count_is) at loaded;
 }
 
@@ -39,11 +44,26 @@ pub appended_alone : {X : Type 0} (old new : Option (List ℕ)) (f : X → List 
     → Appends old new (flat_map f (x ∷ []))
 appended_alone old new f x text a is = subst (λ (t : List ℕ). Appends old new t) (is ∙ sym (append-nil (f x))) a
 
--- a formula's fault, unless memory ran out
-pub formula_fails : (f : FormulaFault) (e : ExprFault) (defined : Result Scanned ExprFault) → Checks (Err f) defined → f ≡ Expression e → defined ≡ Err e
-formula_fails f e defined checks is = subst (λ (g : FormulaFault). Checks (Err g) defined) is checks
-
 -- the same of a text that was cut short
 pub cut_alone : {X : Type 0} (old new : Option (List ℕ)) (f : X → List ℕ) (x : X) (text : List ℕ) → CutShort old new text → text ≡ f x
     → CutShort old new (flat_map f (x ∷ []))
 cut_alone old new f x text cut is = subst (λ (t : List ℕ). CutShort old new t) (is ∙ sym (append-nil (f x))) cut
+
+-- a formula's fault, unless memory ran out
+pub formula_fails : (f : FormulaFault) (e : ExprFault) (defined : Result Scanned ExprFault) → Checks (Err f) defined → f ≡ Expression e → defined ≡ Err e
+formula_fails f e defined checks is = subst (λ (g : FormulaFault). Checks (Err g) defined) is checks
+
+module _ (words : List (List ℕ)) (known : List ℕ → Option (List ℕ)) (input left v : Option (List ℕ)) where
+  pub settings_refused : (o : Options) (f : RunFault) → IsRefused o f → Ask words (value_of o) → RunFails words known input left v v f
+  settings_refused o f (inl memory) said = starved memory (Keeps-refl v)
+  settings_refused o f (inr (inl (e, is, told))) said = not_allowed o said e is told (Keeps-refl v)
+  settings_refused o f (inr (inr (p, allowed, e, is, told))) said = not_scored o said p allowed e is told (Keeps-refl v)
+
+  module _ (w : Option (List ℕ)) (asked : Asked words known) (load : asked.options.load ≡ false) where
+    pub plays_well : PlaysWell asked.options asked.parameters asked.formula asked.warriors input left v w → RunsWell words known input left v w
+    plays_well (inl (debugger, s, starts, well)) = debugged asked load debugger s starts well
+    plays_well (inr (debugger, rows, held, writes)) = contested asked load debugger rows held writes
+
+    pub plays_in_part : (f : RunFault) → PlaysInPart asked.options asked.parameters asked.formula asked.warriors input left v w f → RunFails words known input left v w f
+    plays_in_part f (inl (debugger, part)) = not_debugged asked load debugger part
+    plays_in_part f (inr (debugger, part)) = not_contested asked load debugger part

@@ -1,9 +1,12 @@
 //! The words that follow the program's name, as `clap` reads them.
-ghost use Rattle.std.specs.Prelude.{◌≡◌, ◌≤◌, false, IfOk};
+ghost use Rattle.std.specs.Prelude.{◌≡◌, false, IfOk, map, pos};
 ghost use Rattle.clap.specs.Simple.{app_of};
 ghost use Rattle.clap.specs.Walk.{rule_of};
-ghost use Rattle.mars_app.specs.CommandLine.{contest_rules, core_rules, debugger_rules, file_rule, flag_rule, help_rule, mars, number_rule, output_rules, score_rule, with_rules};
+ghost use Rattle.clap.specs.declared.builder.value_parser.ValueParser.TheVariants.{Signed};
+ghost use Rattle.mars_app.specs.CommandLine.{file_rule, mars, with_rules};
+ghost use Rattle.mars_app.specs.Code.WordTables.{reached, rule_of_word, valued};
 
+use clap::builder::ValueParser;
 use clap::{Arg, ArgAction, Command, value_parser};
 use mars_cell::{LARGEST_CORE, MOST_CYCLES, MOST_PROCESSES};
 use mars_match::GREATEST_SEED;
@@ -29,6 +32,221 @@ Status: 0 done, 1 a fault of input or files, 2 a fault of the words.
 Example: mars -r 100 -b -o imp.red dwarf.red
 More in README.md and docs/USING.md.";
 
+/// What follows a word.
+#[derive(Clone, Copy)]
+enum Value {
+    Nothing,
+    /// Nothing: the word asks for the help.
+    Help,
+    /// A number from 1 to a greatest one.
+    Number(u32),
+    /// A formula of points.
+    Formula,
+}
+
+impl Value {
+    /// Gives an argument the value that follows its word.
+    fn take(self, arg: Arg<'_>) -> Arg<'_>
+        ensures rule { rule_of result ≡ valued self (rule_of arg.entry) }
+        ensures local { result.global ≡ arg.entry.global }
+    {
+        match self {
+            Value::Nothing => arg.action(ArgAction::SetTrue),
+            Value::Help => arg.action(ArgAction::Help),
+            Value::Formula => arg.value_name("FORMULA"),
+            Value::Number(greatest) => arg.value_name("N").value_parser(number_parser(greatest)),
+        }
+    }
+}
+
+/// Takes the numbers from 1 to a greatest one.
+fn number_parser<'a>(greatest: u32) -> ValueParser<'a>
+    ensures { result ≡ Signed (pos 1) (pos greatest) }
+{
+    value_parser!(u32).range(1..=i64::from(greatest))
+}
+
+/// A word, with its line in the help.
+#[derive(Clone, Copy)]
+struct Word {
+    /// It stands behind two minus where the word has no letter.
+    name: &'static str,
+    /// It stands behind one minus.
+    letter: Option<char>,
+    value: Value,
+    /// The value where the word isn't given.
+    default: Option<&'static str>,
+    help: &'static str,
+}
+
+impl Word {
+    /// The word as `clap` takes it.
+    fn arg<'a>(&self, alloc: Global) -> Arg<'a>
+        ensures rule { rule_of result ≡ rule_of_word self.now }
+        ensures local { result.global ≡ false }
+    {
+        let arg = self.reach(self.value.take(Arg::new(alloc, self.name)));
+        let arg = arg.help(self.help);
+        match self.default {
+            None => arg,
+            Some(text) => arg.default_value(text),
+        }
+    }
+
+    /// Gives an argument the letter or the name of the word.
+    fn reach<'a>(&self, arg: Arg<'a>) -> Arg<'a>
+        ensures rule { rule_of result ≡ reached self.now.letter self.now.name.now (rule_of arg.entry) }
+        ensures local { result.global ≡ arg.entry.global }
+    {
+        match self.letter {
+            None => arg.long(self.name),
+            Some(letter) => arg.short(letter),
+        }
+    }
+}
+
+/// The words on what is fought.
+const CONTEST: [Word; 5] = [
+    Word {
+        name: "rounds",
+        letter: Some('r'),
+        value: Value::Number(MOST_ROUNDS),
+        default: Some("1"),
+        help: "Rounds, 1 to 100000",
+    },
+    Word {
+        name: "fixed",
+        letter: Some('F'),
+        value: Value::Number(LARGEST_CORE),
+        default: None,
+        help: "Position of warrior 2, from the least distance to the core size less that",
+    },
+    Word {
+        name: "seed",
+        letter: None,
+        value: Value::Number(GREATEST_SEED),
+        default: Some("1"),
+        help: "Seed of the positions, 1 to 2147483646",
+    },
+    Word {
+        name: "score",
+        letter: None,
+        value: Value::Formula,
+        default: Some("(W*W-1)/S"),
+        help: "What a survivor gets, W being the warriors and S the survivors",
+    },
+    Word {
+        name: "league",
+        letter: None,
+        value: Value::Nothing,
+        default: None,
+        help: "Every pair of warriors fights",
+    },
+];
+
+/// The words on the core and its limits.
+const CORE: [Word; 7] = [
+    Word {
+        name: "core",
+        letter: Some('s'),
+        value: Value::Number(LARGEST_CORE),
+        default: Some("8000"),
+        help: "Core size, 1 to 1048576",
+    },
+    Word {
+        name: "cycles",
+        letter: Some('c'),
+        value: Value::Number(MOST_CYCLES),
+        default: Some("80000"),
+        help: "Cycle limit, 1 to 10000000",
+    },
+    Word {
+        name: "processes",
+        letter: Some('p'),
+        value: Value::Number(MOST_PROCESSES),
+        default: Some("8000"),
+        help: "Process limit, 1 to 65536",
+    },
+    Word {
+        name: "longest",
+        letter: Some('l'),
+        value: Value::Number(LARGEST_CORE),
+        default: Some("100"),
+        help: "Longest warrior, 1 to the core size",
+    },
+    Word {
+        name: "distance",
+        letter: Some('d'),
+        value: Value::Number(LARGEST_CORE),
+        default: Some("100"),
+        help: "Least distance, from the longest warrior to the core size",
+    },
+    Word {
+        name: "read-limit",
+        letter: None,
+        value: Value::Number(LARGEST_CORE),
+        default: None,
+        help: "How far is read, 1 to the core size [default: core size]",
+    },
+    Word {
+        name: "write-limit",
+        letter: None,
+        value: Value::Number(LARGEST_CORE),
+        default: None,
+        help: "How far is written, 1 to the core size [default: core size]",
+    },
+];
+
+/// The words on the debugger.
+const DEBUGGER: [Word; 2] = [
+    Word {
+        name: "debugger",
+        letter: Some('e'),
+        value: Value::Nothing,
+        default: None,
+        help: "Debugs the battle of the first round by the commands of standard input",
+    },
+    Word {
+        name: "history",
+        letter: None,
+        value: Value::Number(LONGEST_HISTORY),
+        default: Some("200000"),
+        help: "Places that the history keeps, 1 to 1000000",
+    },
+];
+
+/// The words on what is written.
+const OUTPUT: [Word; 4] = [
+    Word {
+        name: "brief",
+        letter: Some('b'),
+        value: Value::Nothing,
+        default: None,
+        help: "No listing of the warriors",
+    },
+    Word {
+        name: "sorted",
+        letter: Some('o'),
+        value: Value::Nothing,
+        default: None,
+        help: "Results sorted by points",
+    },
+    Word {
+        name: "load",
+        letter: None,
+        value: Value::Nothing,
+        default: None,
+        help: "Writes the load file of the one warrior",
+    },
+    Word {
+        name: "help",
+        letter: None,
+        value: Value::Help,
+        default: None,
+        help: "Prints this help",
+    },
+];
+
 /// The command; its help has no short word.
 pub fn command<'a>(alloc: Global) -> Result<Command<'a>, AllocError>
     ensures { IfOk result (λ command. app_of command ≡ mars) }
@@ -41,138 +259,26 @@ pub fn command<'a>(alloc: Global) -> Result<Command<'a>, AllocError>
         .no_binary_name(true)
         .disable_help_flag(true)
         .arg(files(alloc))?;
-    let command = with_core(alloc, with_contest(alloc, command)?)?;
-    with_output(alloc, with_debugger(alloc, command)?)
+    let command = with_words(alloc, command, "Contest", &CONTEST)?;
+    let command = with_words(alloc, command, "Core", &CORE)?;
+    let command = with_words(alloc, command, "Debugger", &DEBUGGER)?;
+    with_words(alloc, command, "Output", &OUTPUT)
 }
 
-/// Adds the words on what is fought.
-fn with_contest<'a>(alloc: Global, command: Command<'a>) -> Result<Command<'a>, AllocError>
-    ensures { IfOk result (λ made. app_of made ≡ with_rules (app_of command.entry) contest_rules) }
+/// Adds words, which stand under a heading in the help.
+fn with_words<'a>(
+    alloc: Global,
+    command: Command<'a>,
+    heading: &'a str,
+    words: &[Word],
+) -> Result<Command<'a>, AllocError>
+    ensures { IfOk result (λ made. app_of made ≡ with_rules (app_of command.entry) (map rule_of_word words.now)) }
 {
-    command
-        .next_help_heading("Contest")
-        .arg(
-            number(alloc, "rounds", MOST_ROUNDS, "Rounds, 1 to 100000")
-                .short('r')
-                .default_value("1"),
-        )?
-        .arg(number(
-            alloc,
-            "fixed",
-            LARGEST_CORE,
-            "Position of warrior 2, from the least distance to the core size less that",
-        )
-        .short('F'))?
-        .arg(
-            number(
-                alloc,
-                "seed",
-                GREATEST_SEED,
-                "Seed of the positions, 1 to 2147483646",
-            )
-            .long("seed")
-            .default_value("1"),
-        )?
-        .arg(score(alloc).long("score").default_value("(W*W-1)/S"))?
-        .arg(flag(alloc, "league", "Every pair of warriors fights").long("league"))
-}
-
-/// Adds the words on the core and its limits.
-fn with_core<'a>(alloc: Global, command: Command<'a>) -> Result<Command<'a>, AllocError>
-    ensures { IfOk result (λ made. app_of made ≡ with_rules (app_of command.entry) core_rules) }
-{
-    command
-        .next_help_heading("Core")
-        .arg(
-            number(alloc, "core", LARGEST_CORE, "Core size, 1 to 1048576")
-                .short('s')
-                .default_value("8000"),
-        )?
-        .arg(
-            number(alloc, "cycles", MOST_CYCLES, "Cycle limit, 1 to 10000000")
-                .short('c')
-                .default_value("80000"),
-        )?
-        .arg(
-            number(
-                alloc,
-                "processes",
-                MOST_PROCESSES,
-                "Process limit, 1 to 65536",
-            )
-            .short('p')
-            .default_value("8000"),
-        )?
-        .arg(
-            number(
-                alloc,
-                "longest",
-                LARGEST_CORE,
-                "Longest warrior, 1 to the core size",
-            )
-            .short('l')
-            .default_value("100"),
-        )?
-        .arg(
-            number(
-                alloc,
-                "distance",
-                LARGEST_CORE,
-                "Least distance, from the longest warrior to the core size",
-            )
-            .short('d')
-            .default_value("100"),
-        )?
-        .arg(number(
-            alloc,
-            "read-limit",
-            LARGEST_CORE,
-            "How far is read, 1 to the core size [default: core size]",
-        )
-        .long("read-limit"))?
-        .arg(number(
-            alloc,
-            "write-limit",
-            LARGEST_CORE,
-            "How far is written, 1 to the core size [default: core size]",
-        )
-        .long("write-limit"))
-}
-
-/// Adds the words on the debugger.
-fn with_debugger<'a>(alloc: Global, command: Command<'a>) -> Result<Command<'a>, AllocError>
-    ensures { IfOk result (λ made. app_of made ≡ with_rules (app_of command.entry) debugger_rules) }
-{
-    command
-        .next_help_heading("Debugger")
-        .arg(flag(
-            alloc,
-            "debugger",
-            "Debugs the battle of the first round by the commands of standard input",
-        )
-        .short('e'))?
-        .arg(
-            number(
-                alloc,
-                "history",
-                LONGEST_HISTORY,
-                "Places that the history keeps, 1 to 1000000",
-            )
-            .long("history")
-            .default_value("200000"),
-        )
-}
-
-/// Adds the words on what is written.
-fn with_output<'a>(alloc: Global, command: Command<'a>) -> Result<Command<'a>, AllocError>
-    ensures { IfOk result (λ made. app_of made ≡ with_rules (app_of command.entry) output_rules) }
-{
-    command
-        .next_help_heading("Output")
-        .arg(flag(alloc, "brief", "No listing of the warriors").short('b'))?
-        .arg(flag(alloc, "sorted", "Results sorted by points").short('o'))?
-        .arg(flag(alloc, "load", "Writes the load file of the one warrior").long("load"))?
-        .arg(help(alloc).long("help"))
+    let mut command = command.next_help_heading(heading);
+    for word in words {
+        command = command.arg(word.arg(alloc))?;
+    }
+    Ok(command)
 }
 
 /// The names of the warriors' files.
@@ -183,44 +289,4 @@ fn files<'a>(alloc: Global) -> Arg<'a>
     Arg::new(alloc, "FILE").required(true).num_args(1..).help(
         "1 to 16 warriors: sources of Redcode, and load files, whose names end in .load",
     )
-}
-
-/// The word with the formula of points.
-fn score<'a>(alloc: Global) -> Arg<'a>
-    ensures rule { rule_of result ≡ score_rule }
-    ensures local { result.global ≡ false }
-{
-    Arg::new(alloc, "score").value_name("FORMULA").help(
-        "What a survivor gets, W being the warriors and S the survivors",
-    )
-}
-
-/// The word for the help.
-fn help<'a>(alloc: Global) -> Arg<'a>
-    ensures rule { rule_of result ≡ help_rule }
-    ensures local { result.global ≡ false }
-{
-    Arg::new(alloc, "help")
-        .action(ArgAction::Help)
-        .help("Prints this help")
-}
-
-/// A word without a value.
-fn flag<'a>(alloc: Global, id: &'a str, help: &'a str) -> Arg<'a>
-    ensures rule { rule_of result ≡ flag_rule id.entry.now }
-    ensures local { result.global ≡ false }
-{
-    Arg::new(alloc, id).action(ArgAction::SetTrue).help(help)
-}
-
-/// A word with a number from 1 to a greatest one.
-fn number<'a>(alloc: Global, id: &'a str, greatest: u32, help: &'a str) -> Arg<'a>
-    requires { 1 ≤ greatest }
-    ensures rule { rule_of result ≡ number_rule id.entry.now greatest }
-    ensures local { result.global ≡ false }
-{
-    Arg::new(alloc, id)
-        .value_name("N")
-        .value_parser(value_parser!(u32).range(1..=i64::from(greatest)))
-        .help(help)
 }

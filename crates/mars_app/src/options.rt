@@ -1,8 +1,11 @@
 //! The words of the program.
-ghost use Rattle.std.specs.Prelude.{◌≡◌, [], IfOk, IfSome, IsTrue, codes, map, string_bytes, unwrap_or};
+ghost use Rattle.std.specs.Prelude.{◌≡◌, [], Err, IfErr, IfOk, IfSome, IsTrue, codes, map, string_bytes, unwrap_or};
+ghost use Rattle.clap.specs.Faults.{fault_of};
 ghost use Rattle.clap.specs.Matches.{found_of};
+ghost use Rattle.clap.specs.Simple.{matches_of};
 ghost use Rattle.clap.specs.Values.{kind_of};
 ghost use Rattle.clap.specs.Walk.{all_of, first_of, rows_of};
+ghost use Rattle.mars_app.specs.CommandLine.{mars};
 ghost use Rattle.mars_app.specs.Options.{Reads, are_allowed, given_number, has_files, has_fitting_position, has_numbers, has_one_mode, is_between, is_given, is_limit, number, options_of, value_of};
 ghost use Rattle.mars_app.specs.Code.Allowed.{AreInRange, HaveFiles, HaveFittingPosition, HaveNumbers, IsBetween};
 ghost use Rattle.mars_app.specs.Code.Words.{IsFaultOf};
@@ -15,19 +18,15 @@ use mars_cell::{LARGEST_CORE, MOST_CYCLES, MOST_PROCESSES};
 use mars_core::MOST_WARRIORS;
 use mars_match::GREATEST_SEED;
 use std::alloc::{AllocError, Global};
-use thiserror::Error;
 
 /// Why the words aren't taken.
-#[derive(Debug, Drop, Error)]
+#[derive(Debug, Drop)]
 pub enum WordsFault {
     /// The words aren't those of the program.
-    #[error("1 BadWords")]
     BadWords,
     /// The help was asked for: this is its text.
-    #[error("2 Help")]
     Help(String),
     /// A growth was refused.
-    #[error("3 OutOfMemory")]
     OutOfMemory,
 }
 
@@ -82,15 +81,24 @@ pub fn read_options(alloc: Global, words: &[String]) -> Result<Options, WordsFau
     ensures value { Reads (map (λ word. string_bytes word) words.now) result }
     ensures range { IfOk result AreInRange }
 {
-    let matches = match command(alloc)?.try_get_matches_from(words) {
-        Ok(matches) => matches,
-        Err(error) => return Err(fault_of(alloc, &error)),
-    };
+    let matches = matches_of(alloc, words)?;
     let options = options_of(alloc, &matches)?;
     if are_allowed(&options) {
         Ok(options)
     } else {
         Err(WordsFault::BadWords)
+    }
+}
+
+/// What `clap` makes of the words, before it is asked whether that is allowed.
+fn matches_of<'a>(alloc: Global, words: &'a [String]) -> Result<ArgMatches<'a>, WordsFault>
+    ensures ok { IfOk result (λ matches. (fault_of mars (map (λ word. string_bytes word) words.now) ≡ [])
+        × (rows_of (found_of matches) ≡ matches_of mars (map (λ word. string_bytes word) words.now))) }
+    ensures err { IfErr result (λ fault. Reads (map (λ word. string_bytes word) words.now) (Err fault)) }
+{
+    match command(alloc)?.try_get_matches_from(words) {
+        Ok(matches) => Ok(matches),
+        Err(error) => Err(fault_of(alloc, &error)),
     }
 }
 

@@ -8,9 +8,10 @@ ghost use Rattle.mars_match.specs.Rounds.{placed_for};
 ghost use Rattle.mars_match.specs.Writing.{CutShort};
 ghost use Rattle.mars_app.specs.Contests.{contest_size};
 ghost use Rattle.mars_app.specs.Debugging.{DebugsInPart, DebugsWell, StartsNothing, first_round, session_at};
-ghost use Rattle.mars_app.specs.Loading.{FitsTwo, IsLoadFileOf};
-ghost use Rattle.mars_app.specs.Code.Allowed.{IsBetween};
-ghost use Rattle.mars_app.specs.Options.{parameters_of};
+ghost use Rattle.mars_app.specs.Loading.{AllFit, FitsTwo, IsLoadFileOf};
+ghost use Rattle.mars_app.specs.Code.Allowed.{AreInRange, IsBetween};
+ghost use Rattle.mars_app.specs.Code.Settings.{AreSettingsOf, IsRefused, PlaysInPart, PlaysWell};
+ghost use Rattle.mars_app.specs.Options.{Ask, parameters_of, value_of};
 ghost use Rattle.mars_app.specs.Faults.{FailsToLoad, RunFails};
 ghost use Rattle.mars_app.specs.Runs.{RunsWell};
 ghost use Rattle.mars_app.specs.Status.{status_of};
@@ -68,7 +69,6 @@ pub fn write_fault<E: Write>(alloc: Global, fault: &RunFault, faults: &mut E) {
     };
 }
 
-#[tactic(auto, using(crate::proofs::Positions::position_fits))]
 fn run_words<F: WarriorFiles, R: Read, W: Write>(
     alloc: Global,
     words: &[String],
@@ -79,36 +79,91 @@ fn run_words<F: WarriorFiles, R: Read, W: Write>(
     ensures ok { OnOk result (RunsWell (map (λ word. string_bytes word) words.now) (F.known files.now) (R.remaining input.old) (R.remaining input.new) (W.contents output.old) (W.contents output.new)) }
     ensures err { IfErr result (RunFails (map (λ word. string_bytes word) words.now) (F.known files.now) (R.remaining input.old) (R.remaining input.new) (W.contents output.old) (W.contents output.new)) }
 {
-    let options = match read_options(alloc, words) {
-        Ok(options) => options,
-        Err(WordsFault::BadWords) => return Err(RunFault::Words),
-        Err(WordsFault::OutOfMemory) => return Err(RunFault::OutOfMemory),
-        Err(WordsFault::Help(text)) => return write_part(output, text.as_str().as_bytes()),
-    };
-    let params = match parameters(&options) {
-        Ok(params) => params,
-        Err(fault) => return Err(RunFault::Parameters(fault)),
-    };
-    let formula = match Formula::new(alloc, options.score.as_bytes()) {
-        Ok(formula) => formula,
-        Err(FormulaFault::OutOfMemory) => return Err(RunFault::OutOfMemory),
-        Err(FormulaFault::Expression(fault)) => {
-            return Err(RunFault::Formula(FormulaFault::Expression(fault)));
-        }
-    };
+    match read_options(alloc, words) {
+        Ok(options) => run_options(alloc, &options, files, input, output),
+        Err(WordsFault::BadWords) => Err(RunFault::Words),
+        Err(WordsFault::OutOfMemory) => Err(RunFault::OutOfMemory),
+        Err(WordsFault::Help(text)) => write_part(output, text.as_str().as_bytes()),
+    }
+}
+
+/// Does what the options ask for, whatever the words that said them.
+#[tactic(auto, using(crate::proofs::Positions::position_fits))]
+fn run_options<F: WarriorFiles, R: Read, W: Write>(
+    alloc: Global,
+    options: &Options,
+    files: &F,
+    input: &mut R,
+    output: &mut W,
+) -> Result<(), RunFault>
+    requires { AreInRange options.now }
+    ensures ok { OnOk result ((words : List (List ℕ)) → Ask words (value_of options.now)
+        → RunsWell words (F.known files.now) (R.remaining input.old) (R.remaining input.new) (W.contents output.old) (W.contents output.new)) }
+    ensures err { IfErr result (λ fault. (words : List (List ℕ)) → Ask words (value_of options.now)
+        → RunFails words (F.known files.now) (R.remaining input.old) (R.remaining input.new) (W.contents output.old) (W.contents output.new) fault) }
+{
+    let settings = Settings::new(alloc, options)?;
     let contest = Contest {
-        params: &params,
+        params: &settings.params,
         rounds: options.rounds,
-        warriors: contest_size(&options),
+        warriors: contest_size(options),
     };
     if options.load {
         return write_load_file_of(alloc, files, options.files[0].as_str(), contest, output);
     }
     let warriors = load_warriors(alloc, files, options.files.as_slice(), contest)?;
-    if options.debugger {
-        return debug_round(alloc, &options, &params, &warriors, input, output);
+    settings.play(alloc, options, &warriors, input, output)
+}
+
+/// What options come to before any file is read.
+#[derive(Drop)]
+struct Settings {
+    params: Params,
+    formula: Formula,
+}
+
+impl Settings {
+    /// Judges the parameters, and then the formula.
+    fn new(alloc: Global, options: &Options) -> Result<Settings, RunFault>
+        ensures ok { IfOk result (AreSettingsOf options.now) }
+        ensures err { IfErr result (IsRefused options.now) }
+    {
+        let params = match parameters(options) {
+            Ok(params) => params,
+            Err(fault) => return Err(RunFault::Parameters(fault)),
+        };
+        match Formula::new(alloc, options.score.as_bytes()) {
+            Ok(formula) => Ok(Settings { params, formula }),
+            Err(FormulaFault::OutOfMemory) => Err(RunFault::OutOfMemory),
+            Err(FormulaFault::Expression(fault)) => {
+                Err(RunFault::Formula(FormulaFault::Expression(fault)))
+            }
+        }
     }
-    run_contest(alloc, &options, formula, &params, &warriors, output)
+
+    /// Debugs the battle of the warriors, or holds their contest.
+    fn play<R: Read, W: Write>(
+        self,
+        alloc: Global,
+        options: &Options,
+        warriors: &[Warrior],
+        input: &mut R,
+        output: &mut W,
+    ) -> Result<(), RunFault>
+        requires fit { AllFit self.params.core_size warriors.now }
+        requires some { 1 ≤ length warriors.now }
+        requires few { length warriors.now ≤ most_warriors }
+        requires position { FitsTwo self.params (length warriors.now) options.now.fixed }
+        requires history { IsBetween 1 longest_history options.now.history }
+        ensures ok { OnOk result (PlaysWell options.now self.params self.formula warriors.now (R.remaining input.old) (R.remaining input.new) (W.contents output.old) (W.contents output.new)) }
+        ensures err { IfErr result (PlaysInPart options.now self.params self.formula warriors.now (R.remaining input.old) (R.remaining input.new) (W.contents output.old) (W.contents output.new)) }
+    {
+        let Settings { params, formula } = self;
+        if options.debugger {
+            return debug_round(alloc, options, &params, warriors, input, output);
+        }
+        run_contest(alloc, options, formula, &params, warriors, output)
+    }
 }
 
 /// The parameters that the words ask for: a limit that isn't given is the core size.
