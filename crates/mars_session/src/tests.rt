@@ -1,6 +1,7 @@
 //! The worked cases, over each kind of tape, each call by itself and as one list of calls.
 
 ghost use Rattle.std.specs.Prelude.{◌≡◌, ◌≤◌, false};
+ghost use Rattle.mars_session.specs.Limits.{longest_history};
 
 mod memory;
 mod no_memory;
@@ -772,7 +773,7 @@ fn records_between_places(rt: HostRuntime) -> Result<(), Fail> {
 /// The imp, over a tape that keeps so many places beside the last one.
 fn forgetful_imp(alloc: Global, most: usize) -> Result<Session<RingTape>, Fail>
     requires some { 1 ≤ most }
-    requires few { most ≤ 1000000 }
+    requires few { most ≤ longest_history }
 {
     let battle = imp_battle(alloc)?;
     let tape = RingTape::new(alloc, battle, most).ok().ok_or("tape")?;

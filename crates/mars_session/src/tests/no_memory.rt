@@ -141,6 +141,25 @@ fn room_after_a_refused_run(rt: HostRuntime) -> Result<(), Fail> {
     Ok(())
 }
 
+/// A session begins at its tape's one place.
+fn check_beginning<T: Begin>(rt: &impl Abort, alloc: Global) {
+    let Some(tape) = tape::<T>(alloc) else {
+        return;
+    };
+    ask(alloc);
+    let session = Session::new(tape, 100);
+    assert_eq!(rt; Ok(session.standing()), imp_at(0, 0, 0));
+    assert_eq!(rt; session.battle().process(0, 0), Some(0));
+}
+
+#[test]
+fn a_session_begins(rt: HostRuntime) -> Result<(), Fail> {
+    check_beginning::<WholeTape>(&rt, rt.alloc());
+    check_beginning::<DeltaTape>(&rt, rt.alloc());
+    check_beginning::<RingTape>(&rt, rt.alloc());
+    Ok(())
+}
+
 #[test]
 fn a_session_over_records(rt: HostRuntime) -> Result<(), Fail> {
     let Some(battle) = battle(rt.alloc()) else {
