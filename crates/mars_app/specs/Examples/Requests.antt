@@ -4,7 +4,7 @@ use Rattle.mars_cell.specs.declared.instruction.Op.TheVariants as op
 use Rattle.mars_cell.specs.declared.instruction.Modifier.TheVariants as modifier
 use Rattle.mars_cell.specs.declared.instruction.Mode.TheVariants.{Direct, Immediate}
 use Rattle.mars_cell.specs.Grammar.{cell_of, comma_at, default_modifier, mode_at, modifier_at, number_at, op_at, operand_at, suffix_at}
-use Rattle.mars_cell.specs.Numbers.{nearest, parse_number, parse_digits, residue, split_sign}
+use Rattle.mars_cell.specs.Numbers.{nearest, parse_number, parse_digits, split_sign}
 use Rattle.mars_cell.specs.Parts.{begins_word, joins, parts}
 use Rattle.mars_cell.specs.Words.{mode_of, modifier_of, op_of}
 use Rattle.mars_session.specs.declared.calls.Call.TheVariants as call
@@ -33,7 +33,7 @@ commands_are_known = (refl, refl, refl, refl, refl, refl, refl, refl, refl, refl
 pub cells_are_read :
     (line_asks 8 (codes "edit 7 NOP.F $0, $0") ≡ request.Call (call.SetCell 7 record { op = op.Nop; modifier = modifier.F; a_mode = Direct; a = 0; b_mode = Direct; b = 0 }))
     × (line_asks 8 (codes "fill 10 2 add #-1, 9") ≡ request.Call (call.Fill 10 2 record { op = op.Add; modifier = modifier.Ab; a_mode = Immediate; a = 7; b_mode = Direct; b = 1 }))
-unfolding request_of asked with_arguments first_word after_word number_in parse_digits parts joins begins_word cell_of op_at suffix_at modifier_at mode_at number_at operand_at comma_at op_of modifier_of mode_of parse_number split_sign residue nearest default_modifier
+unfolding request_of asked with_arguments first_word after_word number_in parse_digits parts joins begins_word cell_of op_at suffix_at modifier_at mode_at number_at operand_at comma_at op_of modifier_of mode_of parse_number split_sign nearest default_modifier
 cells_are_read = (refl, refl)
 
 -- Blanks alone ask for nothing. A word too few or too many, another spelling, a sign, a number of 19 digits, half a cell, and
@@ -50,7 +50,7 @@ pub lines_that_are_no_commands :
     × (line_asks 8 (codes "run +1") ≡ request.Unknown)
     × (line_asks 8 (codes "goto 1000000000000000000") ≡ request.Unknown)
     × (line_asks 8 (codes "edit 7 NOP.F $0,") ≡ request.Unknown)
-unfolding request_of asked with_arguments alone one_number first_word after_word number_in parse_digits parts joins begins_word cell_of op_at suffix_at modifier_at mode_at number_at operand_at comma_at op_of modifier_of mode_of parse_number split_sign residue nearest default_modifier
+unfolding request_of asked with_arguments alone one_number first_word after_word number_in parse_digits parts joins begins_word cell_of op_at suffix_at modifier_at mode_at number_at operand_at comma_at op_of modifier_of mode_of parse_number split_sign nearest default_modifier
 lines_that_are_no_commands = (refl, refl, refl, refl, refl, refl, refl, refl, refl, refl, refl)
 
 -- the last line may have no LF; an LF at the end begins no other line

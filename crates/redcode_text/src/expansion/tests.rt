@@ -1,7 +1,8 @@
 use crate::{
-    Env, ExprFault, Line, NameTable, Names, Program, Sign, TextFault, TextProblem, Token,
+    Assert, Env, ExprFault, Line, NameTable, Names, Program, Sign, TextFault, TextProblem, Token,
     TokenKind, eval, expand,
 };
+use std::process::Abort;
 use std::test::Fail;
 
 mod memory;
@@ -251,25 +252,42 @@ fn end_stops_the_reading(rt: HostRuntime) -> Result<(), Fail> {
     Ok(())
 }
 
+/// Directives among prose, before the mark and behind it, and an instruction between two asserts.
+const DIRECTIVES: &[u8] =
+    b"prose \xC8\n;name first\n ;RedCode-94 ?\n;name  An \xC8imp \n;AUTHOR\n;assert CORESIZE ;comment\nMOV 0\n;assert x\n;name\n";
+
 #[test]
 fn what_directives_say(rt: HostRuntime) -> Result<(), Fail> {
-    let program = expand(
-        rt.alloc(),
-        b"prose \xC8\n;name first\n ;RedCode-94 ?\n;name  An \xC8imp \n;AUTHOR\n;assert CORESIZE ;comment\nMOV 0\n;assert x\n;name\n",
-        &NAMES,
-    )?;
-    assert_eq!(rt; program.name(), "An ?imp");
-    assert_eq!(rt; program.author(), "Anonymous");
-    assert_eq!(rt; program.lines().len(), 1);
-    assert_eq!(rt; program.lines()[0].number, 7);
-    assert_eq!(rt; program.asserts().len(), 2);
-    assert_eq!(rt; program.asserts()[0].number, 6);
-    assert_eq!(rt; program.asserts()[0].current_line, 0);
-    assert_eq!(rt; program.asserts()[0].tokens.len(), 1);
-    assert_eq!(rt; program.asserts()[1].current_line, 1);
+    let cases = [(DIRECTIVES, "An ?imp"), (b"".as_slice(), "Unknown")];
+    for (source, name) in cases {
+        let program = expand(rt.alloc(), source, &NAMES)?;
+        assert_eq!(rt; program.name(), name);
+        assert_eq!(rt; program.author(), "Anonymous");
+    }
+    Ok(())
+}
+
+#[test]
+fn lines_among_directives(rt: HostRuntime) -> Result<(), Fail> {
+    assert_eq!(rt; lines_of(rt, DIRECTIVES)?.as_str(), "7 MOV | 0 \n");
     let none = expand(rt.alloc(), b"", &NAMES)?;
-    assert_eq!(rt; none.name(), "Unknown");
     assert_eq!(rt; none.names().len(), 0);
+    Ok(())
+}
+
+/// An assert stands on this line, behind so many instructions, and has so many tokens.
+fn check_assert(rt: &impl Abort, assert: &Assert, number: usize, before: u32, tokens: usize) {
+    assert_eq!(rt; assert.number, number);
+    assert_eq!(rt; assert.current_line, before);
+    assert_eq!(rt; assert.tokens.len(), tokens);
+}
+
+#[test]
+fn what_is_asserted(rt: HostRuntime) -> Result<(), Fail> {
+    let program = expand(rt.alloc(), DIRECTIVES, &NAMES)?;
+    assert_eq!(rt; program.asserts().len(), 2);
+    check_assert(&rt, program.asserts().first().ok_or("assert")?, 6, 0, 1);
+    check_assert(&rt, program.asserts().last().ok_or("assert")?, 8, 1, 1);
     Ok(())
 }
 
