@@ -12,7 +12,7 @@ use Rattle.mars_match.specs.Code.Tallies.{no_rounds, row_with, rows_with}
 use Rattle.mars_match.specs.Leagues.{Pair, PlacedRow, placed_rows, rows_of_pairs, all_pairs, own_rows, all_points, sum_of_rows, sums_from, league_of}
 use Rattle.mars_match.specs.Code.LeagueSteps.{joined, sums, joined_at, with_rows, after_matches}
 use Rattle.mars_match.specs.declared.fault.MatchFault.{MatchFault}
-use Rattle.mars_match.specs.declared.tallies.Tally.{Tally}
+use Rattle.mars_match.specs.declared.table.Tally.{Tally}
 use Rattle.mars_match.proofs.Totals.{same_tally}
 
 -- ---- the matches one after the other

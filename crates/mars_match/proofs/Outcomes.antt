@@ -17,7 +17,7 @@ use Rattle.mars_match.specs.Rounds.{Outcome, placed_for, round_score, ended, as_
 use Rattle.mars_match.specs.Code.Tallies.{tallied, all_added, row_with, rows_with}
 use Rattle.mars_match.specs.declared.fault.MatchFault.{MatchFault}
 use Rattle.mars_match.specs.declared.fault.MatchFault.TheVariants.{OutOfMemory, Score}
-use Rattle.mars_match.specs.declared.tallies.Tally.{Tally}
+use Rattle.mars_match.specs.declared.table.Tally.{Tally}
 use Rattle.mars_match.proofs.Rotations.{length-rotated}
 use Rattle.mars_match.proofs.Sums.{how_many-rotated, how_many-lives}
 

@@ -14,7 +14,7 @@ use Rattle.mars_match.specs.Leagues.{Pair, pairs_with, all_pairs, placed_rows}
 use Rattle.mars_match.specs.Code.LeagueSteps.{pairs_of_first, joined, joined_at, with_rows, after_matches}
 use Rattle.mars_match.specs.declared.fault.MatchFault.{MatchFault}
 use Rattle.mars_match.specs.declared.fault.MatchFault.TheVariants.{Score}
-use Rattle.mars_match.specs.declared.tallies.Tally.{Tally}
+use Rattle.mars_match.specs.declared.table.Tally.{Tally}
 use Rattle.mars_match.proofs.Totals.{table_err, table_with}
 use Rattle.mars_match.proofs.Outcomes.{unfit, fit}
 

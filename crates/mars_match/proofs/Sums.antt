@@ -8,7 +8,7 @@ use Rattle.mars_core.specs.State.{State, is_empty, survivors_of}
 use Rattle.mars_match.specs.Battles.{rotated, lives, in_load_order}
 use Rattle.mars_match.specs.Rounds.{Outcome, how_many}
 use Rattle.mars_match.specs.Code.Tallies.{added, all_added}
-use Rattle.mars_match.specs.declared.tallies.Tally.{Tally}
+use Rattle.mars_match.specs.declared.table.Tally.{Tally}
 
 -- one more tally has the round
 pub added_more : (o : Outcome) (xs : List Tally) (i : ℕ) (t d : Tally) → i < length xs → t ≡ added o i (get_or xs i d) →

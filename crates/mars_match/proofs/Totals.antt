@@ -12,7 +12,7 @@ use Rattle.mars_core.specs.declared.battle.start.BattleFault.{BattleFault}
 use Rattle.mars_match.specs.Battles.{count_fault}
 use Rattle.mars_match.specs.declared.fault.MatchFault.{MatchFault}
 use Rattle.mars_match.specs.declared.fault.MatchFault.TheVariants as fault
-use Rattle.mars_match.specs.declared.tallies.Tally.{Tally}
+use Rattle.mars_match.specs.declared.table.Tally.{Tally}
 
 -- ---- the rounds one after the other
 

@@ -6,13 +6,12 @@ ghost use Rattle.mars_match.specs.Code.Tallies.{IsOf, row_with};
 ghost use Rattle.mars_match.specs.Leagues.{all_pairs, league_of};
 ghost use Rattle.mars_match.specs.Code.LeagueSteps.{joined as spec_joined, pairs_of_first, after_matches};
 ghost use Rattle.mars_match.specs.declared.table.Table.{Table};
-ghost use Rattle.mars_match.specs.declared.tallies.Tally.{Tally};
+ghost use Rattle.mars_match.specs.declared.table.Tally.{Tally};
 
 use crate::fault::MatchFault;
-use crate::lineup::Lineup;
+use crate::fights::Lineup;
 use crate::matches::{Plan, first_tallies, play_rounds, rows_of};
-use crate::table::Table;
-use crate::tallies::{Tally, no_rounds};
+use crate::table::{Table, Tally, no_rounds};
 use mars_cell::{Params, Warrior};
 use redcode_text::ExprFault;
 use std::alloc::Global;

@@ -12,21 +12,17 @@ mod fault;
 mod fights;
 pub mod laws;
 mod leagues;
-mod lineup;
 mod matches;
-mod output;
 mod placement;
 mod report;
 mod table;
-mod tallies;
 
 pub use fault::MatchFault;
 pub use fights::fight;
 pub use leagues::league;
 pub use matches::{Plan, rounds};
-pub use output::{WriteFault, write_text};
 pub use placement::{GREATEST_SEED, PlaceFault, place};
-pub use report::write_results;
+pub use report::{WriteFault, write_results, write_text};
 pub use table::{Row, Table};
 
 #[cfg(test)]

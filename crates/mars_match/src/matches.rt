@@ -11,11 +11,9 @@ ghost use Rattle.std.specs.Global.{Global};
 ghost use Rattle.mars_core.specs.Limits.{most_warriors};
 
 use crate::fault::MatchFault;
-use crate::fights::{check_count, fight_round};
-use crate::lineup::Lineup;
+use crate::fights::{Lineup, check_count, fight_round};
 use crate::placement::{find_fault, place_all};
-use crate::table::{Row, Table};
-use crate::tallies::{Tally, add_round, no_rounds};
+use crate::table::{Row, Table, Tally, add_round, no_rounds};
 use mars_cell::{Params, Warrior};
 use mars_core::Battle;
 use redcode_asm::Formula;

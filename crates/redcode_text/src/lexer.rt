@@ -9,17 +9,15 @@ ghost use Rattle.redcode_text.specs.Code.Scanning.{one_token};
 ghost use Rattle.redcode_text.specs.Tokens.{begins_word, is_blank, scan_from, scanned, sign_token, token_at, word_len};
 
 pub mod open_loops;
-mod signs;
 mod words;
 
 use crate::characters::{begins_word, is_blank, word_len};
 use crate::fault::{TextFault, TextProblem};
 use crate::lexer::open_loops::OpenLoops;
-use crate::lexer::signs::{one_byte_sign, two_byte_sign};
 use crate::lexer::words::{Front, Spelled, Word, read_word};
 use crate::names::NameTable;
 use crate::source::runs::{LongRun, RunKind};
-use crate::token::{Token, TokenKind};
+use crate::token::{Token, TokenKind, one_byte_sign, two_byte_sign};
 use std::alloc::Global;
 
 /// The part of a line that is read as tokens.

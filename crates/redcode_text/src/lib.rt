@@ -6,14 +6,13 @@
 //!
 //! ```text
 //! source             bytes -> rows from the first `;redcode` on, each with its kind, its comment and its long runs (runs);
-//!                    the ROF of each FOR (blocks)
+//!                    the ROF of each FOR
 //! reader/repeat      rows one after another, those of a loop once for each round; its head (repeat/head)
-//!   reader/line        a row that is neither FOR nor ROF
+//!   reader/line        a row that is neither FOR nor ROF; EQU: a name for its tokens
 //!     reader/comment     `;name`, `;author`, `;assert`
 //!     lexer              bytes -> tokens, with joins and counters
-//!     reader/equ         EQU: a name for these tokens
 //!     reader/ordinary    labels, operation, rest; where the operation is an EQU name, its lines in its place
-//! reader             all that has been read so far, within `limits`
+//! reader             all that has been read so far, within `limits`; what a name is
 //! expansion          what is kept of it: a `program`
 //! names/equates      later, for each operand: EQU names -> their tokens; values that are kept (names/values)
 //! expression         tokens -> a value
@@ -67,5 +66,4 @@ pub use lexer::{LineTokens, scan};
 pub use names::NameTable;
 pub use names::predefined::Names;
 pub use program::{Assert, Line, Program, is_instruction, is_spelled};
-pub use token::alike::{are_alike, key_of};
-pub use token::{Sign, Token, TokenKind};
+pub use token::{Sign, Token, TokenKind, are_alike, key_of};

@@ -5,14 +5,39 @@ ghost use Rattle.redcode_text.specs.Tokens.{name_index, with_name};
 
 pub mod equates;
 pub mod predefined;
-mod seed;
 pub mod set;
 pub mod values;
 
-use crate::names::seed::Seed;
 use indexmap::{IndexMap, IndexSet};
 use std::alloc::{AllocError, Global};
+use std::hash::{BuildHasher, DefaultHasher, Hasher};
 use std::marker::Model;
+
+/// A hash that begins with the text itself, so that whoever writes the names of a text can't choose them to collide: each
+/// change of a name changes the hashes of all. The same text is read in the same way each time.
+#[derive(Clone, Copy)]
+pub struct Seed {
+    begun: DefaultHasher,
+}
+
+impl Seed {
+    /// The seed of a text.
+    pub fn new(text: &[u8]) -> Self {
+        let mut begun = DefaultHasher::new();
+        begun.write(text);
+        Seed { begun }
+    }
+}
+
+impl BuildHasher for Seed {
+    type Hasher = DefaultHasher;
+
+    ghost build_hasher = { λ s. s.begun };
+
+    fn build_hasher(&self) -> DefaultHasher {
+        self.begun
+    }
+}
 
 /// How long a name is for which the place in the text is kept where it stands.
 const LONG: usize = 256;

@@ -1,23 +1,26 @@
-//! All that has been read of a source, and what a line adds to it.
+//! All that has been read of a source: what a line adds to it, and what a name is to it.
 ghost use Rattle.std.specs.Prelude.{◌≡◌, ◌≤◌, ◌<◌, ◌+◌, ◌^◌, length, string_bytes, vec_len, [], false, IfOk, OnOk};
 ghost use Rattle.redcode_text.specs.Code.Labels.{AreLabels};
 ghost use Rattle.redcode_text.specs.Programs.{IsPrinted};
 ghost use Rattle.redcode_text.specs.declared.limits.TheConstants.{MAX_LINES, MAX_TOKENS};
+ghost use Rattle.std.specs.List.{list_any};
+ghost use Rattle.std.specs.Str.{str_eq_ignore_ascii_case};
+ghost use Rattle.redcode_text.specs.Lines.{operations};
 
 mod comment;
-mod equ;
 mod line;
 mod ordinary;
 pub mod repeat;
 mod sides;
-mod symbols;
 
+use crate::characters::is_word;
 use crate::fault::TextProblem;
 use crate::lexer::open_loops::OpenLoops;
 use crate::lexer::{Text, read_tokens};
 use crate::limits::{MAX_LINES, MAX_TOKENS};
 use crate::names::NameTable;
 use crate::names::equates::Equates;
+use crate::names::predefined::Names;
 use crate::names::set::NameSet;
 use crate::program::{Assert, Line};
 use crate::source::row::Row;
@@ -53,12 +56,33 @@ pub struct Reading {
     ghost printed_author: { IsPrinted (string_bytes author) },
 }
 
+/// The words that are operations by themselves, in either case.
+const OPERATIONS: [&str; 25] = [
+    "dat", "mov", "add", "sub", "mul", "div", "mod", "jmp", "jmz", "jmn", "djn", "seq", "sne",
+    "slt", "spl", "nop", "cmp", "org", "end", "equ", "for", "rof", "ldp", "stp", "pin",
+];
+
+/// Whether a word is one of these, in either case.
+fn is_among(word: &[u8], words: &[&str]) -> bool
+    ensures { result ≡ list_any (λ other. str_eq_ignore_ascii_case word.now other.now) words.now }
+{
+    words.iter().any(|other| is_word(word, other.as_bytes()))
+}
+
+/// Whether a word is an operation by itself, in either case.
+fn is_operation_word(name: &[u8]) -> bool
+    ensures { result ≡ list_any (str_eq_ignore_ascii_case name.now) operations }
+{
+    is_among(name, &OPERATIONS)
+}
+
 impl Reading {
     ghost use Rattle.redcode_text.specs.Code.Readings.{reading_of};
     ghost use Rattle.redcode_text.specs.Expansion.{nothing_read};
-    ghost use Rattle.redcode_text.specs.Lines.{line_read, row_tokens, tokens_counted};
+    ghost use Rattle.redcode_text.specs.Lines.{is_equate, is_label, is_operation, is_predefined, line_read, row_tokens, tokens_counted};
     ghost use Rattle.redcode_text.specs.Code.Problems.{Gives};
     ghost use Rattle.redcode_text.specs.Code.Rows.{row_of};
+    ghost use Rattle.redcode_text.specs.Views.{predefined_of};
 
     /// Nothing, before a source is read.
     pub fn new(alloc: Global, source: &[u8]) -> Result<Reading, AllocError>
@@ -138,5 +162,34 @@ impl Reading {
             }
             Err(problem) => Err(problem),
         }
+    }
+
+    /// Whether a name is an EQU name.
+    pub fn is_equate(&self, name: usize) -> bool
+        ensures { result ≡ is_equate (reading_of self.now) name }
+    {
+        self.equates.lines_of(name).is_some()
+    }
+
+    /// Whether a name is a label.
+    #[tactic(auto, using(crate::proofs::NameSets::label_known))]
+    pub fn is_label(&self, name: usize) -> bool
+        ensures { result ≡ is_label (reading_of self.now) name }
+    {
+        self.labels.contains(name)
+    }
+
+    /// Whether a name is predefined.
+    pub fn is_predefined(&self, names: &Names, name: usize) -> bool
+        ensures { result ≡ is_predefined (predefined_of names.now) (reading_of self.now) name }
+    {
+        names.value_at(0, self.names.bytes_of(name)).is_some()
+    }
+
+    /// Whether a name is an operation.
+    pub fn is_operation(&self, name: usize) -> bool
+        ensures { result ≡ is_operation (reading_of self.now) name }
+    {
+        self.is_equate(name) || is_operation_word(self.names.bytes_of(name))
     }
 }

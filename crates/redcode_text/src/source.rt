@@ -1,17 +1,17 @@
-//! The lines of a source.
-ghost use Rattle.std.specs.Prelude.{◌≡◌, ◌≤◌, ◌==◌, length, map, not, IfOk};
+//! The lines of a source, and which ROF closes which FOR.
+ghost use Rattle.std.specs.Prelude.{◌≡◌, ◌≤◌, ◌==◌, length, map, not, IfOk, ℕ, ◌+◌, ◌<◌, slice_index, vec_len};
 ghost use Rattle.std.specs.List.{prefix_len};
 ghost use Rattle.redcode_text.specs.Code.Runs.{AreRuns};
 ghost use Rattle.redcode_text.specs.Code.Rows.{row_of};
 ghost use Rattle.redcode_text.specs.Source.{read_rows, rows_of};
+ghost use Rattle.redcode_text.specs.Code.Pairs.{AreEnds, EndsAt};
 
-pub mod blocks;
 pub mod directives;
 pub mod row;
 pub mod runs;
 
 use crate::source::directives::has_directive;
-use crate::source::row::Row;
+use crate::source::row::{LineKind, Row};
 use crate::source::runs::{LongRun, runs_before};
 use std::alloc::{AllocError, Global};
 
@@ -60,4 +60,43 @@ pub fn read_rows<'r, 'a>(rows: &'r [Row<'a>]) -> &'r [Row<'a>]
         }
     }
     rows
+}
+
+/// Where the items that begin at a place end, where that is known for each later place.
+pub fn end_from(rows: &[Row<'_>], ends: &[usize], first: usize) -> usize
+    requires within { first ≤ length rows.now }
+    requires same_length { length ends.now ≡ length rows.now }
+    requires known { (i : ℕ) → first ≤ i → i < length rows.now → EndsAt rows.now (i + 1) (slice_index ends.now i) }
+
+    ensures { EndsAt rows.now first result }
+{
+    if first >= rows.len() {
+        return first;
+    }
+    match rows[first].kind() {
+        LineKind::Rof => first,
+        LineKind::Equ(_) | LineKind::Other => ends[first],
+        LineKind::For(_) => {
+            let last = ends[first];
+            if last >= rows.len() {
+                return last;
+            }
+            ends[last]
+        }
+    }
+}
+
+/// For each row the place where the items behind it end: that of a ROF, or the number of the rows.
+pub fn ends_of(alloc: Global, rows: &[Row<'_>]) -> Result<Vec<usize>, AllocError>
+    ensures ends { IfOk result (λ ends. AreEnds rows.now ends.items) }
+    ensures len { IfOk result (λ ends. vec_len ends ≡ length rows.now) }
+{
+    let mut ends = vec![in alloc; 0; rows.len()]?;
+    let mut first = rows.len();
+    while first > 0 {
+        let end = end_from(rows, &ends, first);
+        first -= 1;
+        ends[first] = end;
+    }
+    Ok(ends)
 }

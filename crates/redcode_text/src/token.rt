@@ -1,6 +1,9 @@
-//! The tokens of a line.
+//! The tokens of a line, and the signs that bytes spell.
+ghost use Rattle.std.specs.Prelude.{◌≡◌, true, [], ◌∷◌};
+ghost use Rattle.redcode_text.specs.Expression.{kinds};
+ghost use Rattle.redcode_text.specs.Tokens.{look_up, one_byte_signs, two_byte_signs};
 
-pub mod alike;
+use std::hash::{DefaultHasher, Hasher};
 
 /// A sign of one or two bytes.
 #[derive(Clone, Copy, Debug, PartialEq, Eq)]
@@ -76,4 +79,85 @@ pub struct Token {
     /// Its spelling are the bytes of the source from `from` up to, but not with, `to`.
     pub from: usize,
     pub to: usize,
+}
+
+fn is_same_kind(kind: TokenKind, other: TokenKind) -> bool
+    ensures { result ≡ true → kind ≡ other }
+{
+    match (kind, other) {
+        (TokenKind::Number(value), TokenKind::Number(other)) => value == other,
+        (TokenKind::Name(name), TokenKind::Name(other)) => name == other,
+        (TokenKind::Sign(sign), TokenKind::Sign(other)) => sign == other,
+        _ => false,
+    }
+}
+
+/// Whether tokens are of the same kinds, wherever they stand.
+pub fn are_alike(tokens: &[Token], others: &[Token]) -> bool
+    ensures { result ≡ true → kinds tokens.now ≡ kinds others.now }
+{
+    if tokens.len() != others.len() {
+        return false;
+    }
+    for at in 0..tokens.len() {
+        if !is_same_kind(tokens[at].kind, others[at].kind) {
+            return false;
+        }
+    }
+    true
+}
+
+/// A number for tokens, by which those of the same kinds are found again.
+pub fn key_of(tokens: &[Token]) -> u64 {
+    let mut hasher = DefaultHasher::new();
+    for token in tokens {
+        match token.kind {
+            TokenKind::Number(value) => hasher.write_i64(value),
+            TokenKind::Name(name) => hasher.write_usize(name),
+            TokenKind::Sign(sign) => hasher.write_u8(sign as u8),
+        }
+    }
+    hasher.finish()
+}
+
+/// The sign that two bytes spell.
+pub fn two_byte_sign(first: u8, second: u8) -> Option<Sign>
+    ensures { result ≡ look_up two_byte_signs (first ∷ second ∷ []) }
+{
+    match (first, second) {
+        (b'=', b'=') => Some(Sign::Equal),
+        (b'!', b'=') => Some(Sign::NotEqual),
+        (b'<', b'=') => Some(Sign::LessEqual),
+        (b'>', b'=') => Some(Sign::GreaterEqual),
+        (b'&', b'&') => Some(Sign::And),
+        (b'|', b'|') => Some(Sign::Or),
+        _ => None,
+    }
+}
+
+/// The sign that one byte spells.
+pub fn one_byte_sign(byte: u8) -> Option<Sign>
+    ensures { result ≡ look_up one_byte_signs (byte ∷ []) }
+{
+    match byte {
+        b'+' => Some(Sign::Plus),
+        b'-' => Some(Sign::Minus),
+        b'*' => Some(Sign::Star),
+        b'/' => Some(Sign::Slash),
+        b'%' => Some(Sign::Percent),
+        b'!' => Some(Sign::Bang),
+        b'<' => Some(Sign::Less),
+        b'>' => Some(Sign::Greater),
+        b'(' => Some(Sign::OpenParen),
+        b')' => Some(Sign::CloseParen),
+        b',' => Some(Sign::Comma),
+        b'.' => Some(Sign::Dot),
+        b':' => Some(Sign::Colon),
+        b'#' => Some(Sign::Hash),
+        b'$' => Some(Sign::Dollar),
+        b'@' => Some(Sign::At),
+        b'{' => Some(Sign::OpenBrace),
+        b'}' => Some(Sign::CloseBrace),
+        _ => None,
+    }
 }

@@ -5,11 +5,9 @@ ghost use Rattle.std.specs.List.{list_all};
 ghost use Rattle.mars_cell.specs.Parameters.{AreInRange};
 
 mod layout;
-mod overlap;
 
 use crate::battle::Battle;
-use crate::battle::start::layout::{first_queues, lay_all, lay_anew, refill_queues};
-use crate::battle::start::overlap::has_overlap;
+use crate::battle::start::layout::{first_queues, has_overlap, lay_all, lay_anew, refill_queues};
 use crate::deaths::MOST_WARRIORS;
 use arrayvec::ArrayVec;
 use mars_cell::{Cell, Params, Warrior};

@@ -7,7 +7,7 @@ use Rattle.mars_match.specs.Rounds.{◌>>=◌, table_of}
 use Rattle.mars_match.specs.Tables.{RowValue}
 use Rattle.mars_match.specs.Leagues.{Pair, pairs_with, PlacedRow, placed_rows}
 use Rattle.mars_match.specs.declared.fault.MatchFault.{MatchFault}
-use Rattle.mars_match.specs.declared.tallies.Tally.{Tally}
+use Rattle.mars_match.specs.declared.table.Tally.{Tally}
 
 -- the first of the warriors, which is warrior i, with each after it
 abbrev pub pairs_of_first : ℕ → List WarriorValue → List Pair

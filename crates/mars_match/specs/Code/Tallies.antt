@@ -8,7 +8,7 @@ use Rattle.redcode_text.specs.Tokens.{Scanned}
 use Rattle.mars_match.specs.Rounds.{Outcome, ◌>>=◌, placed_for, ended, has_lived, how_many}
 use Rattle.mars_match.specs.Tables.{RowValue}
 use Rattle.mars_match.specs.declared.fault.MatchFault.{MatchFault}
-use Rattle.mars_match.specs.declared.tallies.Tally.{Tally}
+use Rattle.mars_match.specs.declared.table.Tally.{Tally}
 
 abbrev pub no_rounds : Tally
 no_rounds = record { points = pos 0; wins = 0; ties = 0; losses = 0 }

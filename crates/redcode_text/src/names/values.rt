@@ -3,8 +3,7 @@ ghost use Rattle.std.specs.Prelude.{◌≡◌, ◌∷◌, ◌++◌, [], ℕ, ℤ
 ghost use Rattle.redcode_text.specs.Code.Values.{value_among};
 
 use crate::expression::Env;
-use crate::token::alike::key_of;
-use crate::token::{Token, TokenKind};
+use crate::token::{Token, TokenKind, key_of};
 use indexmap::IndexMap;
 use std::alloc::{AllocError, Global};
 

@@ -20,8 +20,8 @@ use crate::lexer::open_loops::OpenLoop;
 use crate::names::predefined::Names;
 use crate::reader::Reading;
 use crate::reader::repeat::head::Head;
-use crate::source::blocks::{end_from, ends_of};
 use crate::source::row::{LineKind, Row};
+use crate::source::{end_from, ends_of};
 use std::alloc::Global;
 
 impl Reading {

@@ -1,4 +1,4 @@
-use Rattle.std.proofs.Common.{◌≡◌, ◌∙◌, ℕ, ℤ, Ok, Option, ap, rules, subst, w64}
+use Rattle.std.proofs.Common.{◌∙◌, ℕ, ℤ, Ok, Option, ap, rules, subst, w64}
 use Rattle.std.proofs.lemmas.Int.{to_z-of_z}
 use Rattle.redcode_text.specs.Code.Values.{IsValued}
 use Rattle.redcode_text.specs.Expansion.{as_count}
