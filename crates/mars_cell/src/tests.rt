@@ -210,33 +210,46 @@ fn warriors(rt: HostRuntime) -> Result<(), Fail> {
     Ok(())
 }
 
+const PARAM_FAULTS: [(ParamFault, &str); 6] = [
+    (ParamFault::CoreSize, "1 CoreSize"),
+    (ParamFault::Processes, "2 Processes"),
+    (ParamFault::Cycles, "3 Cycles"),
+    (ParamFault::Limit, "4 Limit"),
+    (ParamFault::Length, "5 Length"),
+    (ParamFault::Distance, "6 Distance"),
+];
+
+const LOAD_FAULTS: [(LoadFault, &str); 6] = [
+    (LoadFault::Syntax(7), "1 Syntax"),
+    (LoadFault::TooLong, "2 TooLong"),
+    (LoadFault::Empty, "3 Empty"),
+    (LoadFault::BadOrigin, "4 BadOrigin"),
+    (LoadFault::OutOfMemory, "5 OutOfMemory"),
+    (LoadFault::Version, "6 Version"),
+];
+
 #[test]
-fn faults_displayed(rt: HostRuntime) -> Result<(), Fail> {
-    let alloc = rt.alloc();
-    assert_eq!(rt;
-        format!(in alloc; "{}", ParamFault::CoreSize)?.as_str(),
-        "1 CoreSize"
-    );
-    assert_eq!(rt;
-        format!(in alloc; "{}", ParamFault::Distance)?.as_str(),
-        "6 Distance"
-    );
-    assert_eq!(rt;
-        format!(in alloc; "{}", WarriorFault::BadOrigin)?.as_str(),
-        "2 BadOrigin"
-    );
-    assert_eq!(rt;
-        format!(in alloc; "{}", LoadFault::Syntax(7))?.as_str(),
-        "1 Syntax"
-    );
-    assert_eq!(rt;
-        format!(in alloc; "{}", LoadFault::OutOfMemory)?.as_str(),
-        "5 OutOfMemory"
-    );
-    assert_eq!(rt;
-        format!(in alloc; "{}", LoadFault::Version)?.as_str(),
-        "6 Version"
-    );
+fn parameter_faults_displayed(rt: HostRuntime) -> Result<(), Fail> {
+    for (fault, text) in PARAM_FAULTS {
+        assert_eq!(rt; format!(in rt.alloc(); "{fault}")?.as_str(), text);
+    }
+    Ok(())
+}
+
+#[test]
+fn load_faults_displayed(rt: HostRuntime) -> Result<(), Fail> {
+    for (fault, text) in LOAD_FAULTS {
+        assert_eq!(rt; format!(in rt.alloc(); "{fault}")?.as_str(), text);
+    }
+    Ok(())
+}
+
+#[test]
+fn warrior_faults_displayed(rt: HostRuntime) -> Result<(), Fail> {
+    let empty = format!(in rt.alloc(); "{}", WarriorFault::Empty)?;
+    let outside = format!(in rt.alloc(); "{}", WarriorFault::BadOrigin)?;
+    assert_eq!(rt; empty.as_str(), "1 Empty");
+    assert_eq!(rt; outside.as_str(), "2 BadOrigin");
     Ok(())
 }
 

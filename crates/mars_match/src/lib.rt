@@ -11,7 +11,6 @@
 mod fault;
 mod fights;
 pub mod laws;
-mod leagues;
 mod matches;
 mod placement;
 mod report;
@@ -19,8 +18,7 @@ mod table;
 
 pub use fault::MatchFault;
 pub use fights::fight;
-pub use leagues::league;
-pub use matches::{Plan, rounds};
+pub use matches::{Plan, league, rounds};
 pub use placement::{GREATEST_SEED, PlaceFault, place};
 pub use report::{WriteFault, write_results, write_text};
 pub use table::{Row, Table};

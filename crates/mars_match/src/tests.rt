@@ -69,6 +69,29 @@ fn refused_placements(rt: HostRuntime) -> Result<(), Fail> {
     Ok(())
 }
 
+const FAULTS: [(MatchFault, &str); 6] = [
+    (MatchFault::Place(PlaceFault::NoRoom), "1 Place 1 NoRoom"),
+    (MatchFault::Place(PlaceFault::BadSeed), "1 Place 2 BadSeed"),
+    (
+        MatchFault::Place(PlaceFault::OutOfMemory),
+        "1 Place 3 OutOfMemory",
+    ),
+    (
+        MatchFault::Battle(BattleFault::Overlap),
+        "2 Battle 3 Overlap",
+    ),
+    (MatchFault::Score(ExprFault::Range), "3 Score 4 Range"),
+    (MatchFault::OutOfMemory, "4 OutOfMemory"),
+];
+
+#[test]
+fn faults_are_displayed(rt: HostRuntime) -> Result<(), Fail> {
+    for (fault, text) in FAULTS {
+        assert_eq!(rt; format!(in rt.alloc(); "{fault}")?.as_str(), text);
+    }
+    Ok(())
+}
+
 /// A writer that takes a few bytes at a time, and fails when it is full.
 #[derive(Drop)]
 struct Narrow {

@@ -13,7 +13,6 @@ mod cells;
 mod fault;
 mod formula;
 mod instruction;
-mod labels;
 pub mod laws;
 mod load;
 mod operands;

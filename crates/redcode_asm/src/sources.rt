@@ -9,8 +9,7 @@ ghost use Rattle.redcode_asm.specs.Code.Problems.{Gives};
 ghost use Rattle.redcode_asm.specs.Code.Sources.{placed_of};
 
 use crate::fault::AsmProblem;
-use crate::labels::Labels;
-use crate::places::{Place, last_line};
+use crate::places::{Labels, Place, last_line};
 use redcode_text::{Env, NameTable, Names, Program, Token};
 use std::alloc::Global;
 

@@ -7,8 +7,7 @@ ghost use Rattle.redcode_asm.specs.Outcomes.{Answers};
 ghost use Rattle.redcode_asm.specs.Code.Sources.{warrior_from};
 
 use crate::fault::{AsmFault, AsmProblem};
-use crate::labels::Labels;
-use crate::places::check_length;
+use crate::places::{Labels, check_length};
 use crate::sources::Source;
 use mars_cell::{Cell, Params, Warrior};
 use redcode_text::{Names, Program};

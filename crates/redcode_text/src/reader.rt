@@ -1,17 +1,17 @@
 //! All that has been read of a source: what a line adds to it, and what a name is to it.
-ghost use Rattle.std.specs.Prelude.{◌≡◌, ◌≤◌, ◌<◌, ◌+◌, ◌^◌, length, string_bytes, vec_len, [], false, IfOk, OnOk};
+ghost use Rattle.std.specs.Prelude.{◌≡◌, ◌≤◌, ◌<◌, ◌+◌, ◌^◌, length, string_bytes, vec_len, [], false, IfOk, OnOk, ◌∷◌, MatchOption};
 ghost use Rattle.redcode_text.specs.Code.Labels.{AreLabels};
 ghost use Rattle.redcode_text.specs.Programs.{IsPrinted};
 ghost use Rattle.redcode_text.specs.declared.limits.TheConstants.{MAX_LINES, MAX_TOKENS};
 ghost use Rattle.std.specs.List.{list_any};
 ghost use Rattle.std.specs.Str.{str_eq_ignore_ascii_case};
-ghost use Rattle.redcode_text.specs.Lines.{operations};
+ghost use Rattle.redcode_text.specs.Lines.{operations, name_in_front, tokens_after, tokens_before};
+ghost use Rattle.redcode_text.specs.Expression.{kinds};
 
 mod comment;
 mod line;
 mod ordinary;
 pub mod repeat;
-mod sides;
 
 use crate::characters::is_word;
 use crate::fault::TextProblem;
@@ -24,7 +24,7 @@ use crate::names::predefined::Names;
 use crate::names::set::NameSet;
 use crate::program::{Assert, Line};
 use crate::source::row::Row;
-use crate::token::Token;
+use crate::token::{Sign, Token, TokenKind};
 use std::alloc::{AllocError, Global};
 
 /// All that has been read.
@@ -192,4 +192,46 @@ impl Reading {
     {
         self.is_equate(name) || is_operation_word(self.names.bytes_of(name))
     }
+}
+
+/// The first token that begins before a place of the source, and the tokens behind it.
+fn next_before(tokens: &[Token], at: usize) -> Option<(TokenKind, &[Token])>
+    ensures { MatchOption result (kinds (tokens_before at tokens.now) ≡ [])
+        (λ r. kinds (tokens_before at tokens.now) ≡ r.0 ∷ kinds (tokens_before at r.1.now)) }
+{
+    for index in 0..tokens.len() {
+        if tokens[index].from < at {
+            return Some((tokens[index].kind, &tokens[index + 1..]));
+        }
+    }
+    None
+}
+
+/// The name before a place of the source: nothing, or one name and perhaps a colon, may stand there.
+pub fn name_in_front(tokens: &[Token], at: usize) -> Result<Option<usize>, TextProblem>
+    ensures { result ≡ name_in_front (kinds (tokens_before at tokens.now)) }
+{
+    let Some((first, rest)) = next_before(tokens, at) else {
+        return Ok(None);
+    };
+    let TokenKind::Name(name) = first else {
+        return Err(TextProblem::BadToken);
+    };
+    let Some((second, rest)) = next_before(rest, at) else {
+        return Ok(Some(name));
+    };
+    if second != TokenKind::Sign(Sign::Colon) {
+        return Err(TextProblem::BadToken);
+    }
+    match next_before(rest, at) {
+        None => Ok(Some(name)),
+        Some(_) => Err(TextProblem::BadToken),
+    }
+}
+
+/// Keeps the tokens that begin behind a place of the source.
+pub fn keep_after(tokens: &mut Vec<Token>, at: usize)
+    ensures { tokens.new.items ≡ tokens_after at tokens.old.items }
+{
+    tokens.retain(|token| at < token.from);
 }

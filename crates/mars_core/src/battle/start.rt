@@ -1,17 +1,20 @@
-//! How a battle starts.
-ghost use Rattle.std.specs.Prelude.{◌≡◌, length, IfOk, IsOk, IfSome, IfErr, MatchOption, nat_lt};
-ghost use Rattle.mars_core.specs.Start.{start_fault, start_state, is_inside as spec_is_inside, fields_inside as spec_fields_inside};
+//! How a battle starts: what refuses it, warriors in the core, and their first processes.
+ghost use Rattle.std.specs.Prelude.{◌≡◌, length, IfOk, IsOk, IfSome, IfErr, MatchOption, nat_lt, ◌+◌, ◌%◌, ◌≤◌, ◌∷◌, [], map, All, true, ◌||◌};
+ghost use Rattle.mars_core.specs.Start.{start_fault, start_state, is_inside as spec_is_inside, fields_inside as spec_fields_inside, laid, all_laid, first_processes, addresses_from, loaded_addresses, has_duplicate, overlap};
 ghost use Rattle.std.specs.List.{list_all};
 ghost use Rattle.mars_cell.specs.Parameters.{AreInRange};
-
-mod layout;
+ghost use Rattle.std.proofs.Common.{replicate};
+ghost use Rattle.mars_cell.specs.Cells.{empty_cell, FitsCore};
+ghost use Rattle.mars_core.specs.Validity.{IsCore};
+ghost use Rattle.mars_core.specs.Queue.{addresses_of, Queue};
+ghost use Rattle.mars_core.specs.Code.Distances.{distance as spec_distance, share};
 
 use crate::battle::Battle;
-use crate::battle::start::layout::{first_queues, has_overlap, lay_all, lay_anew, refill_queues};
 use crate::deaths::MOST_WARRIORS;
+use crate::queue::ProcessQueue;
 use arrayvec::ArrayVec;
 use mars_cell::{Cell, Params, Warrior};
-use std::alloc::Global;
+use std::alloc::{AllocError, Global};
 use thiserror::Error;
 
 /// Why a battle can't start: the first that applies, in the order of their numbers. It is displayed as its number and name.
@@ -145,4 +148,193 @@ fn cells_inside(core_size: u32, cells: &[Cell]) -> bool
     cells
         .iter()
         .all(|cell| cell.a < core_size && cell.b < core_size)
+}
+
+/// An empty core, with each warrior laid from its start on.
+pub fn lay_all(
+    alloc: Global,
+    params: &Params,
+    warriors: &[Warrior],
+    starts: &[u32],
+) -> Result<Vec<Cell>, AllocError>
+    requires starts { length starts.now ≡ length warriors.now }
+    requires inside { spec_fields_inside params.now.core_size warriors.now ≡ true }
+    ensures laid { IfOk result (λ core. core.items ≡ all_laid params.now.core_size warriors.now starts.now (replicate params.now.core_size empty_cell)) }
+    ensures core { IfOk result (λ core. IsCore params.now.core_size core.items) }
+{
+    let core_size = params.core_size();
+    let mut core = vec![in alloc; Cell::empty(); core_size as usize]?;
+    lay_each(core.as_mut_slice(), core_size, warriors, starts);
+    Ok(core)
+}
+
+/// Empties a core, and lays each warrior from its start on.
+pub fn lay_anew(core: &mut [Cell], params: &Params, warriors: &[Warrior], starts: &[u32])
+    requires core { length core.old ≡ params.now.core_size }
+    requires starts { length starts.now ≡ length warriors.now }
+    requires inside { spec_fields_inside params.now.core_size warriors.now ≡ true }
+    ensures laid { core.new ≡ all_laid params.now.core_size warriors.now starts.now (replicate params.now.core_size empty_cell) }
+    ensures core { IsCore params.now.core_size core.new }
+{
+    core.fill(Cell::empty());
+    lay_each(core, params.core_size(), warriors, starts);
+}
+
+/// Lays each warrior from its start on.
+#[tactic(auto, using(crate::proofs::StartState::inside_at))]
+fn lay_each(core: &mut [Cell], core_size: u32, warriors: &[Warrior], starts: &[u32])
+    requires core { IsCore core_size core.old }
+    requires positive { 1 ≤ core_size }
+    requires starts { length starts.now ≡ length warriors.now }
+    requires inside { spec_fields_inside core_size warriors.now ≡ true }
+    ensures laid { core.new ≡ all_laid core_size warriors.now starts.now core.old }
+    ensures core { IsCore core_size core.new }
+{
+    for i in 0..warriors.len() {
+        lay(core, core_size, starts[i], warriors[i].cells());
+    }
+}
+
+/// Lays cells from a start on.
+fn lay(core: &mut [Cell], core_size: u32, start: u32, cells: &[Cell])
+    requires core { IsCore core_size core.old }
+    requires positive { 1 ≤ core_size }
+    requires cells { All (FitsCore core_size) cells.now }
+    ensures laid { core.new ≡ laid core_size start cells.now core.old }
+    ensures core { IsCore core_size core.new }
+{
+    for (i, cell) in cells.iter().enumerate() {
+        let address = (start as usize + i) % core_size as usize;
+        core[address] = *cell;
+    }
+}
+
+/// The queues of the first processes.
+pub fn first_queues(
+    alloc: Global,
+    params: &Params,
+    warriors: &[Warrior],
+    starts: &[u32],
+) -> Result<Vec<ProcessQueue>, AllocError>
+    requires starts { length starts.now ≡ length warriors.now }
+    ensures addresses { IfOk result (λ queues. addresses_of queues.items ≡ map (λ address. address ∷ []) (first_processes params.now.core_size warriors.now starts.now)) }
+    ensures limits { IfOk result (λ queues. All (λ (q : Queue). q.limit ≡ params.now.processes) queues.items) }
+{
+    let mut queues = Vec::with_capacity(alloc, warriors.len())?;
+    for i in 0..warriors.len() {
+        let mut queue = ProcessQueue::with_limit(alloc, params.processes() as usize)?;
+        queue.push(first_process(params.core_size(), &warriors[i], starts[i]));
+        queues.push_reserved(queue);
+    }
+    Ok(queues)
+}
+
+/// Leaves in each queue the first process alone.
+pub fn refill_queues(
+    params: &Params,
+    queues: &mut [ProcessQueue],
+    warriors: &[Warrior],
+    starts: &[u32],
+)
+    requires starts { length starts.now ≡ length warriors.now }
+    requires queues { length queues.old ≡ length warriors.now }
+    requires limits { All (λ (q : Queue). q.limit ≡ params.now.processes) queues.old }
+    requires some { 1 ≤ params.now.processes }
+    ensures addresses { addresses_of queues.new ≡ map (λ address. address ∷ []) (first_processes params.now.core_size warriors.now starts.now) }
+    ensures limits { All (λ (q : Queue). q.limit ≡ params.now.processes) queues.new }
+{
+    for i in 0..warriors.len() {
+        let address = first_process(params.core_size(), &warriors[i], starts[i]);
+        queues[i].restart(address);
+    }
+}
+
+/// Where a warrior's first process stands.
+fn first_process(core_size: u32, warrior: &Warrior, start: u32) -> u32
+    requires { 1 ≤ core_size }
+    ensures { result ≡ (start + warrior.now.start) % core_size }
+{
+    ((u64::from(start) + u64::from(warrior.start())) % u64::from(core_size)) as u32
+}
+
+/// Whether two loaded cells share an address.
+pub fn has_overlap(core_size: u32, warriors: &[Warrior], starts: &[u32]) -> bool
+    requires core_size { 1 ≤ core_size }
+    requires starts { length starts.now ≡ length warriors.now }
+    ensures { result ≡ overlap core_size warriors.now starts.now }
+{
+    for i in 0..warriors.len() {
+        if clashes(
+            core_size,
+            &warriors[i],
+            starts[i],
+            &warriors[i + 1..],
+            &starts[i + 1..],
+        ) {
+            return true;
+        }
+    }
+    false
+}
+
+/// Whether two of a warrior's cells share an address, or one shares one with the others'.
+#[tactic(auto, using(crate::proofs::Overlaps::row_has_duplicate))]
+fn clashes(
+    core_size: u32,
+    warrior: &Warrior,
+    start: u32,
+    others: &[Warrior],
+    starts: &[u32],
+) -> bool
+    requires core_size { 1 ≤ core_size }
+    requires starts { length starts.now ≡ length others.now }
+    ensures { let row = addresses_from core_size start (length warrior.now.cells) in
+        result ≡ (has_duplicate row || share row (loaded_addresses core_size others.now starts.now)) }
+{
+    warrior.cells().len() > core_size as usize
+        || meets_others(core_size, warrior, start, others, starts)
+}
+
+/// Whether a warrior's cells share an address with those of the others.
+fn meets_others(
+    core_size: u32,
+    warrior: &Warrior,
+    start: u32,
+    others: &[Warrior],
+    starts: &[u32],
+) -> bool
+    requires core_size { 1 ≤ core_size }
+    requires starts { length starts.now ≡ length others.now }
+    ensures { result ≡ share (addresses_from core_size start (length warrior.now.cells)) (loaded_addresses core_size others.now starts.now) }
+{
+    let len = warrior.cells().len();
+    for i in 0..others.len() {
+        let other = &others[i];
+        if rows_share(core_size, start, len, starts[i], other.cells().len()) {
+            return true;
+        }
+    }
+    false
+}
+
+/// Whether two rows of cells have an address in common: one of them starts within the other.
+#[tactic(auto, using(crate::proofs::Overlaps::rows_share))]
+fn rows_share(core_size: u32, start: u32, len: usize, other_start: u32, other_len: usize) -> bool
+    requires core_size { 1 ≤ core_size }
+    requires len { 1 ≤ len }
+    requires other_len { 1 ≤ other_len }
+    ensures { result ≡ share (addresses_from core_size start len) (addresses_from core_size other_start other_len) }
+{
+    (distance(core_size, start, other_start) as usize) < len
+        || (distance(core_size, other_start, start) as usize) < other_len
+}
+
+/// How far it is from one address up to another.
+#[tactic(auto, unfolding(crate::specs::Code::Distances::distance))]
+fn distance(core_size: u32, from: u32, to: u32) -> u32
+    requires { 1 ≤ core_size }
+    ensures { result ≡ spec_distance core_size from to }
+{
+    let size = u64::from(core_size);
+    ((u64::from(to) + (size - u64::from(from) % size)) % size) as u32
 }
