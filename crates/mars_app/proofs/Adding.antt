@@ -1,6 +1,6 @@
 -- What the words become that are added to a command: a rule each, one behind the other.
-use Rattle.std.specs.Prelude.{◌≡◌, ℕ, ◌+◌, ◌<◌, false, List, [], ◌∷◌, fold, get_or, length, map, take}
-use Rattle.std.proofs.Common.{◌∙◌, ap, ap₂, refl}
+use Rattle.std.specs.Prelude.{◌≡◌, ℕ, ◌+◌, ◌<◌, false, List, [], ◌∷◌, get_or, length, map, take}
+use Rattle.std.proofs.Common.{◌∙◌, ap₂, refl}
 use Rattle.std.proofs.lemmas.List.{map-append, take_more}
 use Rattle.std.proofs.lemmas.List.Sums.{fold-append}
 use Rattle.clap.specs.Built.{AddsArg}

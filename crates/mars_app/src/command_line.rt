@@ -3,7 +3,7 @@ ghost use Rattle.std.specs.Prelude.{◌≡◌, false, IfOk, map, pos};
 ghost use Rattle.clap.specs.Simple.{app_of};
 ghost use Rattle.clap.specs.Walk.{rule_of};
 ghost use Rattle.clap.specs.declared.builder.value_parser.ValueParser.TheVariants.{Signed};
-ghost use Rattle.mars_app.specs.CommandLine.{file_rule, mars, with_rules};
+ghost use Rattle.mars_app.specs.CommandLine.{contest_rules, core_rules, debugger_rules, file_rule, mars, output_rules, with_rules};
 ghost use Rattle.mars_app.specs.Code.WordTables.{reached, rule_of_word, valued};
 
 use clap::builder::ValueParser;
@@ -105,7 +105,7 @@ impl Word {
     }
 }
 
-/// The words on what is fought.
+/// A row for each word on what is fought.
 const CONTEST: [Word; 5] = [
     Word {
         name: "rounds",
@@ -144,7 +144,14 @@ const CONTEST: [Word; 5] = [
     },
 ];
 
-/// The words on the core and its limits.
+/// The words on what is fought.
+fn contest_words() -> [Word; 5]
+    ensures { map rule_of_word result ≡ contest_rules }
+{
+    CONTEST
+}
+
+/// A row for each word on the core and its limits.
 const CORE: [Word; 7] = [
     Word {
         name: "core",
@@ -197,7 +204,14 @@ const CORE: [Word; 7] = [
     },
 ];
 
-/// The words on the debugger.
+/// The words on the core and its limits.
+fn core_words() -> [Word; 7]
+    ensures { map rule_of_word result ≡ core_rules }
+{
+    CORE
+}
+
+/// A row for each word on the debugger.
 const DEBUGGER: [Word; 2] = [
     Word {
         name: "debugger",
@@ -215,7 +229,14 @@ const DEBUGGER: [Word; 2] = [
     },
 ];
 
-/// The words on what is written.
+/// The words on the debugger.
+fn debugger_words() -> [Word; 2]
+    ensures { map rule_of_word result ≡ debugger_rules }
+{
+    DEBUGGER
+}
+
+/// A row for each word on what is written.
 const OUTPUT: [Word; 4] = [
     Word {
         name: "brief",
@@ -247,6 +268,13 @@ const OUTPUT: [Word; 4] = [
     },
 ];
 
+/// The words on what is written.
+fn output_words() -> [Word; 4]
+    ensures { map rule_of_word result ≡ output_rules }
+{
+    OUTPUT
+}
+
 /// The command; its help has no short word.
 pub fn command<'a>(alloc: Global) -> Result<Command<'a>, AllocError>
     ensures { IfOk result (λ command. app_of command ≡ mars) }
@@ -259,10 +287,10 @@ pub fn command<'a>(alloc: Global) -> Result<Command<'a>, AllocError>
         .no_binary_name(true)
         .disable_help_flag(true)
         .arg(files(alloc))?;
-    let command = with_words(alloc, command, "Contest", &CONTEST)?;
-    let command = with_words(alloc, command, "Core", &CORE)?;
-    let command = with_words(alloc, command, "Debugger", &DEBUGGER)?;
-    with_words(alloc, command, "Output", &OUTPUT)
+    let command = with_words(alloc, command, "Contest", &contest_words())?;
+    let command = with_words(alloc, command, "Core", &core_words())?;
+    let command = with_words(alloc, command, "Debugger", &debugger_words())?;
+    with_words(alloc, command, "Output", &output_words())
 }
 
 /// Adds words, which stand under a heading in the help.

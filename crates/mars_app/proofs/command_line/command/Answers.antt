@@ -1,7 +1,7 @@
 use Rattle.std.proofs.Common.{◌∙◌, ◌≡◌, ap, true}
 use Rattle.std.proofs.lemmas.Result.{IfOk-weaker}
 use Rattle.clap.specs.Simple.{Shape, app_of, app_of_fields, on_top}
-use Rattle.mars_app.specs.CommandLine.{contest_rules, core_rules, debugger_rules, file_rule, output_rules, plain_mars, with_rules}
+use Rattle.mars_app.specs.CommandLine.{contest_rules, core_rules, debugger_rules, output_rules, plain_mars, with_rules}
 use Rattle.mars_app.proofs.Adding.{added}
 use Rattle.mars_app.proofs.command_line.command.Goals as goal
 
@@ -12,10 +12,13 @@ returns c =
     (ap app_of_fields c.no_binary_name.ensures ∙ ap (on_top (λ (shape : Shape). record shape { no_binary_name = true }))
     (ap app_of_fields c.after_help.ensures ∙ ap app_of_fields c.about.ensures ∙ c.new.ensures.app)) in
     let files = added _ c.files.result _ _ _ c.in_ok-command.ensures c.files.ensures.rule c.files.ensures.local plain in
-    let contest_is : app_of c.in_ok-command-2.command ≡ with_rules (app_of c.in_ok-command.command) contest_rules = c.in_ok-command-2.ensures in
-    let core_is : app_of c.in_ok-command-3.command ≡ with_rules (app_of c.in_ok-command-2.command) core_rules = c.in_ok-command-3.ensures in
-    let debugger_is : app_of c.in_ok-command-4.command ≡ with_rules (app_of c.in_ok-command-3.command) debugger_rules = c.in_ok-command-4.ensures in
+    let contest_is : app_of c.in_ok-command-2.command ≡ with_rules (app_of c.in_ok-command.command) contest_rules =
+    c.in_ok-command-2.ensures ∙ ap (with_rules (app_of c.in_ok-command.command)) c.contest_words.ensures in
+    let core_is : app_of c.in_ok-command-3.command ≡ with_rules (app_of c.in_ok-command-2.command) core_rules =
+    c.in_ok-command-3.ensures ∙ ap (with_rules (app_of c.in_ok-command-2.command)) c.core_words.ensures in
+    let debugger_is : app_of c.in_ok-command-4.command ≡ with_rules (app_of c.in_ok-command-3.command) debugger_rules =
+    c.in_ok-command-4.ensures ∙ ap (with_rules (app_of c.in_ok-command-3.command)) c.debugger_words.ensures in
     let contest = contest_is ∙ ap (λ app. with_rules app contest_rules) files in
     let core = core_is ∙ ap (λ app. with_rules app core_rules) contest in
     let debugger = debugger_is ∙ ap (λ app. with_rules app debugger_rules) core in
-    IfOk-weaker c.with_words-4.result _ _ (λ made is. is ∙ ap (λ app. with_rules app output_rules) debugger) c.with_words-4.ensures
+    IfOk-weaker c.with_words-4.result _ _ (λ made is. is ∙ ap (with_rules _) c.output_words.ensures ∙ ap (λ app. with_rules app output_rules) debugger) c.with_words-4.ensures
