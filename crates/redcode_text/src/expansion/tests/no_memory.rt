@@ -1,8 +1,13 @@
 //! Calls that take no memory. Each test asks for memory once, and holds whether that and all that comes after it is refused
-//! or not: scripts/refuse-memory refuses all requests from each on.
-use super::NoNames;
-use crate::{ExprFault, Sign, Token, TokenKind, check_shape, eval};
+//! or not: scripts/refuse-memory refuses all requests from each on. Where its program is refused, there is nothing to show.
+use super::{NAMES, NoNames};
+use crate::{
+    ExprFault, Line, Program, Sign, Token, TokenKind, are_alike, check_shape, eval, expand,
+    is_instruction, is_spelled,
+};
 use std::alloc::Global;
+use std::process::Abort;
+use std::test::Fail;
 
 /// Asks for memory, which is the first request of all that are refused.
 fn ask(alloc: Global) {
@@ -31,4 +36,37 @@ fn values(rt: HostRuntime) {
     assert_eq!(rt; eval(&tokens[..3], &NoNames), Ok(2));
     assert_eq!(rt; eval(&tokens, &NoNames), Err(ExprFault::DivideByZero));
     assert_eq!(rt; check_shape(&tokens[..2]), Err(ExprFault::Syntax));
+}
+
+const SOURCE: &[u8] =
+    b";name Loops\n;author Somebody\n;assert 1\nstep EQU 4\nfirst DAT step\n      DAT step\nEND first\n";
+
+fn check_texts(rt: &impl Abort, program: &Program) {
+    assert_eq!(rt; program.name(), "Loops");
+    assert_eq!(rt; program.author(), "Somebody");
+    assert_eq!(rt; program.asserts().len(), 1);
+    assert_eq!(rt; program.names().len(), 5);
+    assert!(rt; program.equate_lines(0).is_some());
+}
+
+/// An instruction.
+fn check_line(rt: &impl Abort, program: &Program, line: &Line) {
+    assert!(rt; is_spelled(program.names(), b"dat", line.operation));
+    assert!(rt; is_instruction(program.names(), line.operation, &line.rest));
+}
+
+#[test]
+fn readers_of_a_program(rt: HostRuntime) -> Result<(), Fail> {
+    let Ok(program) = expand(rt.alloc(), SOURCE, &NAMES) else {
+        return Ok(());
+    };
+    ask(rt.alloc());
+    check_texts(&rt, &program);
+    let [first, second, _] = program.lines() else {
+        return Err("lines".into());
+    };
+    check_line(&rt, &program, first);
+    check_line(&rt, &program, second);
+    assert!(rt; are_alike(&first.rest, &second.rest));
+    Ok(())
 }
