@@ -5,10 +5,11 @@ ghost use Rattle.std.specs.Prelude.{◌≡◌, IfSome};
 ghost use Rattle.mars_core.specs.Leads.{Leads};
 
 use super::memory::{one_cells, start};
-use super::{cell, check_same, go_back, go_forth, params, restarted};
+use super::{STAY, check_restart, check_same, go_back, go_forth, params};
 use crate::{Atom, Battle, BattleFault, Edit, EditFault, Over};
-use mars_cell::Params;
+use mars_cell::{Params, Warrior};
 use std::alloc::Global;
+use std::process::Abort;
 use std::test::Fail;
 
 /// Asks for memory, which is the first request of all that are refused.
@@ -59,34 +60,47 @@ fn turns_back_and_forth(rt: HostRuntime) -> Result<(), Fail> {
     made.battle.copy_into(&mut made.after);
     check_same(&rt, &made.after, &made.battle);
     assert!(rt; made.battle.turn().is_ok());
-    assert_eq!(rt; (made.battle.turns(), made.battle.cycle()), (2, 1));
+    assert_eq!(rt; made.battle.turns(), 2);
+    assert_eq!(rt; made.battle.cycle(), 1);
     Ok(())
 }
+
+const EDITS: &[(Edit, Option<EditFault>)] = &[
+    (Edit::SetCell(2, STAY), None),
+    (Edit::Spawn(0, 2), None),
+    (Edit::Spawn(0, 2), Some(EditFault::QueueFull)),
+    (Edit::MoveProcess(0, 1, 3), None),
+    (Edit::KillProcess(0, 0), None),
+    (Edit::KillProcess(1, 0), None),
+];
 
 #[test]
 fn edits_of_a_battle(rt: HostRuntime) -> Result<(), Fail> {
     let params = params(8, 2, 8, 8)?;
-    let stay = cell(8, "JMP.B $0, $0")?;
     let Ok(mut battle) = start(rt.alloc(), &params) else {
         return Ok(());
     };
     ask(rt.alloc());
-    let edits = [
-        (Edit::SetCell(2, stay), None),
-        (Edit::Spawn(0, 2), None),
-        (Edit::Spawn(0, 2), Some(EditFault::QueueFull)),
-        (Edit::MoveProcess(0, 1, 3), None),
-        (Edit::KillProcess(0, 0), None),
-        (Edit::KillProcess(1, 0), None),
-    ];
-    for (edit, fault) in edits {
-        assert_eq!(rt; battle.edit(edit).err(), fault);
+    for (edit, fault) in EDITS {
+        assert_eq!(rt; battle.edit(*edit).err(), *fault);
     }
-    assert_eq!(rt;
-        (battle.cell(2), battle.process(0, 0)),
-        (Some(stay), Some(3))
-    );
+    assert_eq!(rt; battle.cell(2), Some(STAY));
+    assert_eq!(rt; battle.process(0, 0), Some(3));
     assert_eq!(rt; battle.turn().err(), Some(Over));
+    Ok(())
+}
+
+/// A run to the last cycle, a restart that is refused, and another round.
+fn check_rounds(rt: &impl Abort, battle: &mut Battle, warriors: &[Warrior]) -> Result<(), Fail> {
+    battle.run_to_end();
+    assert_eq!(rt; battle.turns(), 20);
+    assert_eq!(rt; battle.cycle(), 10);
+    let outside = Err(BattleFault::StartOutside);
+    check_restart(rt, battle, warriors, [0, 9], outside)?;
+    check_restart(rt, battle, warriors, [0, 4], Ok(()))?;
+    battle.run_to_end();
+    assert_eq!(rt; battle.turns(), 3);
+    assert!(rt; !battle.alive(0));
     Ok(())
 }
 
@@ -101,12 +115,5 @@ fn a_run_and_another_round(rt: HostRuntime) -> Result<(), Fail> {
         return Ok(());
     };
     ask(rt.alloc());
-    battle.run_to_end();
-    assert_eq!(rt; (battle.turns(), battle.cycle()), (20, 10));
-    let outside = restarted(&mut battle, &warriors, [0, 9])?;
-    assert_eq!(rt; outside, Err(BattleFault::StartOutside));
-    assert_eq!(rt; restarted(&mut battle, &warriors, [0, 4])?, Ok(()));
-    battle.run_to_end();
-    assert_eq!(rt; (battle.turns(), battle.alive(0)), (3, false));
-    Ok(())
+    check_rounds(&rt, &mut battle, &warriors)
 }
