@@ -1,8 +1,8 @@
 //! Calls that are refused memory, over each kind of tape. Each test holds whichever one of its requests is refused, since a
 //! second try has memory: scripts/refuse-memory refuses each in turn.
-use super::{at, blank, check_same, direct, idle, imp_at};
-use crate::{Call, DeltaTape, Refusal, Reply, RingTape, Session, Tape, WholeTape};
-use mars_cell::{Modifier, Op, Params, Warrior};
+use super::{BLANK, COPIER, IDLE, check_call, check_same};
+use crate::{Call, DeltaTape, Refusal, Reply, RingTape, Session, Standing, Tape, WholeTape};
+use mars_cell::{Params, Warrior};
 use mars_core::Battle;
 use std::alloc::Global;
 use std::process::Abort;
@@ -35,7 +35,7 @@ impl Begin for RingTape {
 pub fn battle(alloc: Global) -> Option<Battle> {
     let params = Params::new(8, 8, 80000, 8, 8, 1, 1).ok()?;
     let mut cells = Vec::new(alloc);
-    cells.push(direct(Op::Mov, Modifier::I, 0, 1)).ok()?;
+    cells.push(COPIER).ok()?;
     let warrior = Warrior::new(String::new(alloc), String::new(alloc), cells, 0).ok()?;
     Battle::new(alloc, &params, &[warrior], &[0]).ok()
 }
@@ -80,14 +80,23 @@ pub fn with_future<T: Begin>(alloc: Global) -> Option<Session<T>> {
     Some(session)
 }
 
+/// A call to two sessions gives the same reply.
+fn check_same_reply<T: Tape>(
+    rt: &impl Abort,
+    one: &mut Session<T>,
+    other: &mut Session<T>,
+    call: Call,
+) {
+    assert_eq!(rt; one.call(call), other.call(call));
+}
+
 /// Two sessions stand at the same place, of the same cells, queues and counters, between the same marked places.
 fn check_same_place<T: Tape>(rt: &impl Abort, one: &mut Session<T>, other: &mut Session<T>) {
     assert_eq!(rt; one.standing(), other.standing());
     check_same(rt, one.battle(), other.battle());
-    let turns = one.standing().turns;
-    for call in [Call::Undo, Call::Redo] {
-        assert_eq!(rt; one.call(call), other.call(call));
-        assert_eq!(rt; one.goto(turns), other.goto(turns));
+    let here = Call::Goto(one.standing().turns);
+    for call in [Call::Undo, here, Call::Redo, here] {
+        check_same_reply(rt, one, other, call);
     }
 }
 
@@ -96,11 +105,11 @@ pub fn check_same_sessions<T: Tape>(rt: &impl Abort, one: &mut Session<T>, other
     let start = one.standing();
     check_same_place(rt, one, other);
     for turns in 0..20 {
-        assert_eq!(rt; one.goto(turns), other.goto(turns));
+        check_same_reply(rt, one, other, Call::Goto(turns));
         check_same_place(rt, one, other);
     }
-    assert_eq!(rt; one.goto(start.turns), Ok(start));
-    assert_eq!(rt; other.goto(start.turns), Ok(start));
+    check_call(rt, one, Call::Goto(start.turns), Ok(start));
+    check_call(rt, other, Call::Goto(start.turns), Ok(start));
 }
 
 /// A call's reply, once it has memory. Refused it, the session is as its twin, which the call wasn't made to.
@@ -136,25 +145,33 @@ fn a_tape_begins(rt: HostRuntime) -> Result<(), Fail> {
 }
 
 /// The commands in the midst of a history of five turns, each with its reply.
-pub fn all_commands() -> [(Call, Reply); 8] {
-    [
-        (Call::Step, imp_at(3, 3, 3)),
-        (Call::Run(9), imp_at(11, 11, 11)),
-        (Call::Until(9), imp_at(9, 9, 9)),
-        (Call::SetCell(7, idle()), imp_at(2, 3, 3)),
-        (Call::Fill(3, 7, blank()), imp_at(2, 7, 7)),
-        (Call::MoveProcess(0, 0, 6), imp_at(2, 3, 3)),
-        (Call::Kill(0, 0), at(2, 2, 0, 0, 3, 3)),
-        (Call::Spawn(0, 6), imp_at(2, 3, 3)),
-    ]
+pub const ALL_COMMANDS: &[(Call, Reply)] = &[
+    (Call::Step, imp_at!(3, 3, 3)),
+    (Call::Run(9), imp_at!(11, 11, 11)),
+    (Call::Until(9), imp_at!(9, 9, 9)),
+    (Call::SetCell(7, IDLE), imp_at!(2, 3, 3)),
+    (Call::Fill(3, 7, BLANK), imp_at!(2, 7, 7)),
+    (Call::MoveProcess(0, 0, 6), imp_at!(2, 3, 3)),
+    (Call::Kill(0, 0), at!(2, 2, 0, 0, 3, 3)),
+    (Call::Spawn(0, 6), imp_at!(2, 3, 3)),
+];
+
+/// A command in the midst of a history: refused, it changes nothing, and keeps the future.
+fn check_command<T: Begin>(
+    rt: &impl Abort,
+    alloc: Global,
+    call: Call,
+    reply: Reply,
+) -> Result<(), Fail> {
+    let mut session: Session<T> = with_future(alloc).ok_or("session")?;
+    let mut twin: Session<T> = with_future(alloc).ok_or("twin")?;
+    assert_eq!(rt; reply_of(rt, &mut session, &mut twin, call), reply);
+    Ok(())
 }
 
-/// Each command in the midst of a history: refused, it changes nothing, and keeps the future.
 fn check_commands<T: Begin>(rt: &impl Abort, alloc: Global) -> Result<(), Fail> {
-    for (call, reply) in all_commands() {
-        let mut session: Session<T> = with_future(alloc).ok_or("session")?;
-        let mut twin: Session<T> = with_future(alloc).ok_or("twin")?;
-        assert_eq!(rt; reply_of(rt, &mut session, &mut twin, call), reply);
+    for (call, reply) in ALL_COMMANDS {
+        check_command::<T>(rt, alloc, *call, *reply)?;
     }
     Ok(())
 }
@@ -180,7 +197,7 @@ fn check_first_run<T: Begin>(rt: &impl Abort, alloc: Global) -> Result<(), Fail>
     let mut twin: Session<T> = self::session(alloc).ok_or("twin")?;
     assert_eq!(rt;
         reply_of(rt, &mut session, &mut twin, Call::Run(5)),
-        imp_at(5, 5, 5)
+        imp_at!(5, 5, 5)
     );
     Ok(())
 }
@@ -192,33 +209,56 @@ fn a_first_run(rt: HostRuntime) -> Result<(), Fail> {
     check_first_run::<RingTape>(&rt, rt.alloc())
 }
 
-/// A list of calls: no memory for the replies leaves all as it was, and a call without memory is as if it weren't there.
-fn check_list<T: Begin>(rt: &impl Abort, alloc: Global) -> Result<(), Fail> {
-    let calls = [
-        Call::Run(5),
-        Call::Goto(3),
-        Call::Run(4),
-        Call::Undo,
-        Call::Step,
-    ];
-    let mut session: Session<T> = with_future(alloc).ok_or("session")?;
-    let mut twin: Session<T> = with_future(alloc).ok_or("twin")?;
+const CALLS: &[Call] = &[
+    Call::Run(5),
+    Call::Goto(3),
+    Call::Run(4),
+    Call::Undo,
+    Call::Step,
+];
+
+/// A list of one reply, for which memory is refused at most once.
+fn second_list(alloc: Global) -> Result<Vec<Reply>, Fail> {
     let mut out = Vec::new(alloc);
-    if out.push(imp_at(2, 2, 5)).is_err() {
-        out.push(imp_at(2, 2, 5))?;
+    if out.push(imp_at!(2, 2, 5)).is_err() {
+        out.push(imp_at!(2, 2, 5))?;
     }
-    if session.apply_all(&calls, &mut out).is_err() {
-        check_same_sessions(rt, &mut session, &mut twin);
+    Ok(out)
+}
+
+/// The replies to the calls, once they have memory. Refused it, the session is as its twin, and nothing is replied.
+fn call_all<T: Tape>(
+    rt: &impl Abort,
+    session: &mut Session<T>,
+    twin: &mut Session<T>,
+    out: &mut Vec<Reply>,
+) -> Result<(), Fail> {
+    if session.apply_all(CALLS, out).is_err() {
+        check_same_sessions(rt, session, twin);
         assert_eq!(rt; out.len(), 1);
-        session.apply_all(&calls, &mut out)?;
+        session.apply_all(CALLS, out)?;
     }
-    assert_eq!(rt; out.len(), calls.len() + 1);
-    assert_eq!(rt; out[0], imp_at(2, 2, 5));
-    for (call, reply) in calls.iter().zip(out[1..].iter()) {
+    Ok(())
+}
+
+/// The twin gives the replies that stand after the first, but for want of memory.
+fn check_replies<T: Tape>(rt: &impl Abort, twin: &mut Session<T>, out: &[Reply]) {
+    assert_eq!(rt; out.len(), CALLS.len() + 1);
+    assert_eq!(rt; out[0], imp_at!(2, 2, 5));
+    for (call, reply) in CALLS.iter().zip(out[1..].iter()) {
         if !is_refused::<T>(*reply) {
-            assert_eq!(rt; second_reply(&mut twin, *call), *reply);
+            assert_eq!(rt; second_reply(twin, *call), *reply);
         }
     }
+}
+
+/// A list of calls: no memory for the replies leaves all as it was, and a call without memory is as if it weren't there.
+fn check_list<T: Begin>(rt: &impl Abort, alloc: Global) -> Result<(), Fail> {
+    let mut session: Session<T> = with_future(alloc).ok_or("session")?;
+    let mut twin: Session<T> = with_future(alloc).ok_or("twin")?;
+    let mut out = second_list(alloc)?;
+    call_all(rt, &mut session, &mut twin, &mut out)?;
+    check_replies(rt, &mut twin, &out);
     check_same_sessions(rt, &mut session, &mut twin);
     Ok(())
 }

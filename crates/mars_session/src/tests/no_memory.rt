@@ -2,10 +2,12 @@
 //! comes after it is refused or not: scripts/refuse-memory refuses all requests from each on. Where the objects themselves
 //! are refused, there is nothing to show.
 use super::memory::{
-    Begin, all_commands, battle, check_same_sessions, is_refused, tape, with_future,
+    ALL_COMMANDS, Begin, battle, check_same_sessions, is_refused, tape, with_future,
 };
-use super::{at, blank, idle, imp_at};
-use crate::{Call, DeltaTape, Refusal, RingTape, Session, Tape, WholeTape, commands, moves};
+use super::{BLANK, IDLE, check_call, check_each, check_standing};
+use crate::{
+    Call, DeltaTape, Refusal, Reply, RingTape, Session, Standing, Tape, WholeTape, commands, moves,
+};
 use std::alloc::Global;
 use std::process::Abort;
 use std::test::Fail;
@@ -15,63 +17,60 @@ fn ask(alloc: Global) {
     let _asked: Result<Vec<u64>, _> = Vec::with_capacity(alloc, 1);
 }
 
-/// Each command in the midst of a history that needs no more places than follow.
-fn check_places_that_are_there<T: Begin>(rt: &impl Abort, alloc: Global) {
-    for (call, reply) in [
-        (Call::Step, imp_at(3, 3, 3)),
-        (Call::Run(3), imp_at(5, 5, 5)),
-        (Call::Until(5), imp_at(5, 5, 5)),
-        (Call::SetCell(7, idle()), imp_at(2, 3, 3)),
-        (Call::Fill(3, 5, blank()), imp_at(2, 5, 5)),
-        (Call::MoveProcess(0, 0, 6), imp_at(2, 3, 3)),
-        (Call::Kill(0, 0), at(2, 2, 0, 0, 3, 3)),
-        (Call::Spawn(0, 6), imp_at(2, 3, 3)),
-    ] {
+/// Commands in the midst of a history that need no more places than follow.
+const COVERED: &[(Call, Reply)] = &[
+    (Call::Step, imp_at!(3, 3, 3)),
+    (Call::Run(3), imp_at!(5, 5, 5)),
+    (Call::Until(5), imp_at!(5, 5, 5)),
+    (Call::SetCell(7, IDLE), imp_at!(2, 3, 3)),
+    (Call::Fill(3, 5, BLANK), imp_at!(2, 5, 5)),
+    (Call::MoveProcess(0, 0, 6), imp_at!(2, 3, 3)),
+    (Call::Kill(0, 0), at!(2, 2, 0, 0, 3, 3)),
+    (Call::Spawn(0, 6), imp_at!(2, 3, 3)),
+];
+
+/// Each command in the midst of a history takes no memory.
+fn check_covered<T: Begin>(rt: &impl Abort, alloc: Global, commands: &[(Call, Reply)]) {
+    for (call, reply) in commands {
         let Some(mut session) = with_future::<T>(alloc) else {
             return;
         };
         ask(alloc);
-        assert_eq!(rt; session.call(call), reply);
+        check_call(rt, &mut session, *call, *reply);
     }
 }
 
 #[test]
 fn places_that_are_there(rt: HostRuntime) -> Result<(), Fail> {
-    check_places_that_are_there::<WholeTape>(&rt, rt.alloc());
-    check_places_that_are_there::<DeltaTape>(&rt, rt.alloc());
-    check_places_that_are_there::<RingTape>(&rt, rt.alloc());
+    check_covered::<WholeTape>(&rt, rt.alloc(), COVERED);
+    check_covered::<DeltaTape>(&rt, rt.alloc(), COVERED);
+    check_covered::<RingTape>(&rt, rt.alloc(), COVERED);
     Ok(())
 }
 
 #[test]
 fn each_command_over_a_ring(rt: HostRuntime) -> Result<(), Fail> {
-    for (call, reply) in all_commands() {
-        let Some(mut session) = with_future::<RingTape>(rt.alloc()) else {
-            return Ok(());
-        };
-        ask(rt.alloc());
-        assert_eq!(rt; session.call(call), reply);
-    }
+    check_covered::<RingTape>(&rt, rt.alloc(), ALL_COMMANDS);
     Ok(())
 }
 
 /// Moves to places, and to none.
+const MOVES: &[(Call, Reply)] = &[
+    (Call::Undo, imp_at!(0, 0, 5)),
+    (Call::Undo, Err(Refusal::NothingToUndo)),
+    (Call::Goto(4), imp_at!(4, 4, 5)),
+    (Call::Goto(6), Err(Refusal::NotInHistory(0, 5))),
+    (Call::Redo, imp_at!(5, 5, 5)),
+    (Call::Redo, Err(Refusal::NothingToRedo)),
+];
+
 fn check_moves<T: Begin>(rt: &impl Abort, alloc: Global) {
     let Some(mut session) = with_future::<T>(alloc) else {
         return;
     };
     ask(alloc);
-    for (call, reply) in [
-        (Call::Undo, imp_at(0, 0, 5)),
-        (Call::Undo, Err(Refusal::NothingToUndo)),
-        (Call::Goto(4), imp_at(4, 4, 5)),
-        (Call::Goto(6), Err(Refusal::NotInHistory(0, 5))),
-        (Call::Redo, imp_at(5, 5, 5)),
-        (Call::Redo, Err(Refusal::NothingToRedo)),
-    ] {
-        assert_eq!(rt; session.call(call), reply);
-    }
-    assert_eq!(rt; Ok(session.standing()), imp_at(5, 5, 5));
+    check_each(rt, &mut session, MOVES);
+    check_standing(rt, &session, imp_at!(5, 5, 5));
     assert_eq!(rt; session.battle().process(0, 0), Some(5));
 }
 
@@ -94,7 +93,7 @@ fn check_refused_run<T: Begin>(rt: &impl Abort, alloc: Global) {
     if is_refused::<T>(reply) {
         check_same_sessions(rt, &mut session, &mut twin);
     } else {
-        assert_eq!(rt; reply, imp_at(92, 92, 92));
+        assert_eq!(rt; reply, imp_at!(92, 92, 92));
     }
 }
 
@@ -148,7 +147,7 @@ fn check_beginning<T: Begin>(rt: &impl Abort, alloc: Global) {
     };
     ask(alloc);
     let session = Session::new(tape, 100);
-    assert_eq!(rt; Ok(session.standing()), imp_at(0, 0, 0));
+    check_standing(rt, &session, imp_at!(0, 0, 0));
     assert_eq!(rt; session.battle().process(0, 0), Some(0));
 }
 
