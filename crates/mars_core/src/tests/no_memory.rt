@@ -5,7 +5,7 @@ ghost use Rattle.std.specs.Prelude.{◌≡◌, IfSome};
 ghost use Rattle.mars_core.specs.Leads.{Leads};
 
 use super::memory::{one_cells, start};
-use super::{STAY, check_restart, check_same, go_back, go_forth, params};
+use super::{STAY, check_clock, check_restart, check_same, go_back, go_forth, params};
 use crate::{Atom, Battle, BattleFault, Edit, EditFault, Over};
 use mars_cell::{Params, Warrior};
 use std::alloc::Global;
@@ -60,8 +60,7 @@ fn turns_back_and_forth(rt: HostRuntime) -> Result<(), Fail> {
     made.battle.copy_into(&mut made.after);
     check_same(&rt, &made.after, &made.battle);
     assert!(rt; made.battle.turn().is_ok());
-    assert_eq!(rt; made.battle.turns(), 2);
-    assert_eq!(rt; made.battle.cycle(), 1);
+    check_clock(&rt, &made.battle, 0, 1, 2);
     Ok(())
 }
 
@@ -74,6 +73,16 @@ const EDITS: &[(Edit, Option<EditFault>)] = &[
     (Edit::KillProcess(1, 0), None),
 ];
 
+/// The edits lead to the end of the battle.
+fn check_edits(rt: &impl Abort, battle: &mut Battle) {
+    for (edit, fault) in EDITS {
+        assert_eq!(rt; battle.edit(*edit).err(), *fault);
+    }
+    assert_eq!(rt; battle.cell(2), Some(STAY));
+    assert_eq!(rt; battle.process(0, 0), Some(3));
+    assert_eq!(rt; battle.turn().err(), Some(Over));
+}
+
 #[test]
 fn edits_of_a_battle(rt: HostRuntime) -> Result<(), Fail> {
     let params = params(8, 2, 8, 8)?;
@@ -81,12 +90,7 @@ fn edits_of_a_battle(rt: HostRuntime) -> Result<(), Fail> {
         return Ok(());
     };
     ask(rt.alloc());
-    for (edit, fault) in EDITS {
-        assert_eq!(rt; battle.edit(*edit).err(), *fault);
-    }
-    assert_eq!(rt; battle.cell(2), Some(STAY));
-    assert_eq!(rt; battle.process(0, 0), Some(3));
-    assert_eq!(rt; battle.turn().err(), Some(Over));
+    check_edits(&rt, &mut battle);
     Ok(())
 }
 
