@@ -154,9 +154,13 @@ fn stayers<T: Start>(alloc: Global, processes: u32, starts: &[u32]) -> Result<Se
     Ok(Session::new(T::start(alloc, battle)?, 100))
 }
 
+fn check_reply(rt: &impl Abort, made: Reply, reply: Reply) {
+    assert_eq!(rt; made, reply);
+}
+
 /// A call gives its reply.
 fn check_call<T: Tape>(rt: &impl Abort, session: &mut Session<T>, call: Call, reply: Reply) {
-    assert_eq!(rt; session.call(call), reply);
+    check_reply(rt, session.call(call), reply);
 }
 
 /// Each call by itself gives its reply.
@@ -167,7 +171,7 @@ fn check_each<T: Tape>(rt: &impl Abort, session: &mut Session<T>, calls: &[(Call
 }
 
 fn check_standing<T: Tape>(rt: &impl Abort, session: &Session<T>, reply: Reply) {
-    assert_eq!(rt; Ok(session.standing()), reply);
+    check_reply(rt, Ok(session.standing()), reply);
 }
 
 /// A call with its reply, or what the battle holds: a cell, or the first warrior's queue.
@@ -191,9 +195,9 @@ fn check_script<T: Tape>(rt: &impl Abort, session: &mut Session<T>, script: &[Ch
 /// The replies to calls stand after a refusal.
 fn check_replies(rt: &impl Abort, out: &[Reply], calls: &[(Call, Reply)]) {
     assert_eq!(rt; out.len(), calls.len() + 1);
-    assert_eq!(rt; out[0], Err(Refusal::Count));
+    check_reply(rt, out[0], Err(Refusal::Count));
     for (made, (_call, reply)) in out[1..].iter().zip(calls) {
-        assert_eq!(rt; *made, *reply);
+        check_reply(rt, *made, *reply);
     }
 }
 
@@ -407,7 +411,7 @@ fn check_refused_run<T: Start + Drop>(rt: &impl Abort, alloc: Global) -> Result<
     check_each(rt, &mut before, &REFUSED_RUN[..4]);
     let mut session = poor_imp::<T>(alloc, 2)?;
     check_list(rt, alloc, &mut session, &REFUSED_RUN)?;
-    assert_eq!(rt; session.standing(), before.standing());
+    check_standing(rt, &session, Ok(before.standing()));
     check_same(rt, session.battle(), before.battle());
     check_list(rt, alloc, &mut session, TWO_REDOS)
 }
@@ -561,7 +565,7 @@ fn check_way<T: Start + Drop>(rt: &impl Abort, alloc: Global) -> Result<(), Fail
     requires { T.FORGETS ≡ false }
 {
     let mut tape = PoorTape::new(imp_tape::<T>(alloc)?, 1);
-    assert_eq!(rt; commands::run(&mut tape, 100, 50), imp_at!(50, 50, 50));
+    check_reply(rt, commands::run(&mut tape, 100, 50), imp_at!(50, 50, 50));
     for (turns, way) in WAYS {
         check_goto(rt, &mut tape, *turns, *way);
     }

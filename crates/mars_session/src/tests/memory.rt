@@ -1,6 +1,6 @@
 //! Calls that are refused memory, over each kind of tape. Each test holds whichever one of its requests is refused, since a
 //! second try has memory: scripts/refuse-memory refuses each in turn.
-use super::{BLANK, COPIER, IDLE, check_call, check_same};
+use super::{BLANK, COPIER, IDLE, check_call, check_reply, check_same, check_standing};
 use crate::{Call, DeltaTape, Refusal, Reply, RingTape, Session, Standing, Tape, WholeTape};
 use mars_cell::{Params, Warrior};
 use mars_core::Battle;
@@ -87,12 +87,12 @@ fn check_same_reply<T: Tape>(
     other: &mut Session<T>,
     call: Call,
 ) {
-    assert_eq!(rt; one.call(call), other.call(call));
+    check_reply(rt, one.call(call), other.call(call));
 }
 
 /// Two sessions stand at the same place, of the same cells, queues and counters, between the same marked places.
 fn check_same_place<T: Tape>(rt: &impl Abort, one: &mut Session<T>, other: &mut Session<T>) {
-    assert_eq!(rt; one.standing(), other.standing());
+    check_standing(rt, one, Ok(other.standing()));
     check_same(rt, one.battle(), other.battle());
     let here = Call::Goto(one.standing().turns);
     for call in [Call::Undo, here, Call::Redo, here] {
@@ -165,7 +165,8 @@ fn check_command<T: Begin>(
 ) -> Result<(), Fail> {
     let mut session: Session<T> = with_future(alloc).ok_or("session")?;
     let mut twin: Session<T> = with_future(alloc).ok_or("twin")?;
-    assert_eq!(rt; reply_of(rt, &mut session, &mut twin, call), reply);
+    let made = reply_of(rt, &mut session, &mut twin, call);
+    check_reply(rt, made, reply);
     Ok(())
 }
 
@@ -195,10 +196,8 @@ fn commands_over_a_ring(rt: HostRuntime) -> Result<(), Fail> {
 fn check_first_run<T: Begin>(rt: &impl Abort, alloc: Global) -> Result<(), Fail> {
     let mut session: Session<T> = session(alloc).ok_or("session")?;
     let mut twin: Session<T> = self::session(alloc).ok_or("twin")?;
-    assert_eq!(rt;
-        reply_of(rt, &mut session, &mut twin, Call::Run(5)),
-        imp_at!(5, 5, 5)
-    );
+    let made = reply_of(rt, &mut session, &mut twin, Call::Run(5));
+    check_reply(rt, made, imp_at!(5, 5, 5));
     Ok(())
 }
 
@@ -244,10 +243,10 @@ fn call_all<T: Tape>(
 /// The twin gives the replies that stand after the first, but for want of memory.
 fn check_replies<T: Tape>(rt: &impl Abort, twin: &mut Session<T>, out: &[Reply]) {
     assert_eq!(rt; out.len(), CALLS.len() + 1);
-    assert_eq!(rt; out[0], imp_at!(2, 2, 5));
+    check_reply(rt, out[0], imp_at!(2, 2, 5));
     for (call, reply) in CALLS.iter().zip(out[1..].iter()) {
         if !is_refused::<T>(*reply) {
-            assert_eq!(rt; second_reply(twin, *call), *reply);
+            check_reply(rt, second_reply(twin, *call), *reply);
         }
     }
 }

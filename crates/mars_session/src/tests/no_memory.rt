@@ -4,7 +4,7 @@
 use super::memory::{
     ALL_COMMANDS, Begin, battle, check_same_sessions, is_refused, tape, with_future,
 };
-use super::{BLANK, IDLE, check_call, check_each, check_standing};
+use super::{BLANK, IDLE, check_call, check_each, check_process, check_reply, check_standing};
 use crate::{
     Call, DeltaTape, Refusal, Reply, RingTape, Session, Standing, Tape, WholeTape, commands, moves,
 };
@@ -71,7 +71,7 @@ fn check_moves<T: Begin>(rt: &impl Abort, alloc: Global) {
     ask(alloc);
     check_each(rt, &mut session, MOVES);
     check_standing(rt, &session, imp_at!(5, 5, 5));
-    assert_eq!(rt; session.battle().process(0, 0), Some(5));
+    check_process(rt, &session, 0, 5);
 }
 
 #[test]
@@ -93,7 +93,7 @@ fn check_refused_run<T: Begin>(rt: &impl Abort, alloc: Global) {
     if is_refused::<T>(reply) {
         check_same_sessions(rt, &mut session, &mut twin);
     } else {
-        assert_eq!(rt; reply, imp_at!(92, 92, 92));
+        check_reply(rt, reply, imp_at!(92, 92, 92));
     }
 }
 
@@ -148,7 +148,7 @@ fn check_beginning<T: Begin>(rt: &impl Abort, alloc: Global) {
     ask(alloc);
     let session = Session::new(tape, 100);
     check_standing(rt, &session, imp_at!(0, 0, 0));
-    assert_eq!(rt; session.battle().process(0, 0), Some(0));
+    check_process(rt, &session, 0, 0);
 }
 
 #[test]
@@ -167,7 +167,7 @@ fn a_session_over_records(rt: HostRuntime) -> Result<(), Fail> {
     ask(rt.alloc());
     let tape = DeltaTape::new(rt.alloc(), battle).ok().ok_or("tape")?;
     let mut session = Session::new(tape, 100);
-    assert_eq!(rt; session.call(Call::Undo), Err(Refusal::NothingToUndo));
+    check_call(&rt, &mut session, Call::Undo, Err(Refusal::NothingToUndo));
     Ok(())
 }
 
