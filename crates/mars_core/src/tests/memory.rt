@@ -1,9 +1,10 @@
 //! Calls that are refused memory. Each test holds whichever one of its requests is refused, since a second try has memory:
 //! scripts/refuse-memory refuses each in turn.
-use super::{check_same, params};
+use super::{check_clock, check_same, params};
 use crate::{Battle, BattleFault};
 use mars_cell::{Params, Warrior, read_cell};
 use std::alloc::Global;
+use std::process::Abort;
 use std::test::Fail;
 
 /// Warriors of one cell each in a core of 8 cells.
@@ -27,19 +28,14 @@ pub fn start(alloc: Global, params: &Params) -> Result<Battle, BattleFault> {
     }
 }
 
-/// The state of a battle that has gone on for three turns.
-fn end_of(battle: &mut Battle) -> (u32, u32, bool, bool) {
+/// The battle goes on for three turns, and both live then.
+fn check_goes_on(rt: &impl Abort, battle: &mut Battle) {
     for _turn in 0..3 {
-        if battle.turn().is_err() {
-            break;
-        }
+        assert!(rt; battle.turn().is_ok());
     }
-    (
-        battle.turns(),
-        battle.cycle(),
-        battle.alive(0),
-        battle.alive(1),
-    )
+    check_clock(rt, battle, 1, 1, 3);
+    assert!(rt; battle.alive(0));
+    assert!(rt; battle.alive(1));
 }
 
 #[test]
@@ -52,7 +48,7 @@ fn a_battle_starts(rt: HostRuntime) -> Result<(), Fail> {
         }
         Ok(battle) => battle,
     };
-    assert_eq!(rt; end_of(&mut battle), (3, 1, true, true));
+    check_goes_on(&rt, &mut battle);
     Ok(())
 }
 
@@ -74,7 +70,7 @@ fn a_battle_is_copied(rt: HostRuntime) -> Result<(), Fail> {
         Ok(copy) => copy,
     };
     check_same(&rt, &copy, &battle);
-    assert_eq!(rt; end_of(&mut copy), (3, 1, true, true));
+    check_goes_on(&rt, &mut copy);
     check_same(&rt, &battle, &twin);
     Ok(())
 }

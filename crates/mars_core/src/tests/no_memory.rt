@@ -5,8 +5,8 @@ ghost use Rattle.std.specs.Prelude.{◌≡◌, IfSome};
 ghost use Rattle.mars_core.specs.Leads.{Leads};
 
 use super::memory::{one_cells, start};
-use super::{STAY, check_clock, check_restart, check_same, go_back, go_forth, params};
-use crate::{Atom, Battle, BattleFault, Edit, EditFault, Over};
+use super::{STAY, check_clock, check_queue, check_restart, check_same, go_back, go_forth, params};
+use crate::{Atom, Battle, BattleFault, Edit, EditFault};
 use mars_cell::{Params, Warrior};
 use std::alloc::Global;
 use std::process::Abort;
@@ -79,8 +79,8 @@ fn check_edits(rt: &impl Abort, battle: &mut Battle) {
         assert_eq!(rt; battle.edit(*edit).err(), *fault);
     }
     assert_eq!(rt; battle.cell(2), Some(STAY));
-    assert_eq!(rt; battle.process(0, 0), Some(3));
-    assert_eq!(rt; battle.turn().err(), Some(Over));
+    check_queue(rt, battle, 0, &[3]);
+    assert!(rt; battle.turn().is_err());
 }
 
 #[test]
