@@ -160,7 +160,7 @@ fn check_reply(rt: &impl Abort, made: Reply, reply: Reply) {
 
 /// A call gives its reply.
 fn check_call<T: Tape>(rt: &impl Abort, session: &mut Session<T>, call: Call, reply: Reply) {
-    check_reply(rt, session.call(call), reply);
+    assert_eq!(rt; session.call(call), reply, "{call:?}");
 }
 
 /// Each call by itself gives its reply.
