@@ -1,7 +1,9 @@
 //! Calls that are refused memory. Each test holds whichever one of its requests is refused, since a second try has memory:
 //! scripts/refuse-memory refuses each in turn.
 use super::NAMES;
-use crate::{LineTokens, Program, TextFault, TextProblem, TokenKind, expand, scan};
+use crate::{Line, LineTokens, Program, TextFault, TextProblem, Token, TokenKind, expand, scan};
+use std::alloc::Global;
+use std::process::Abort;
 use std::test::Fail;
 
 /// Names, labels, loops in loops, joins, EQU lines, an operation that is an EQU name, directives and an assert.
@@ -27,35 +29,50 @@ fn sizes(program: &Program) -> [usize; 4] {
     [lines.len(), program.asserts().len(), labels, tokens]
 }
 
-#[test]
-fn a_source_is_expanded(rt: HostRuntime) -> Result<(), Fail> {
-    let program = match expand(rt.alloc(), SOURCE, &NAMES) {
+/// The program, by a second try where the first was refused memory.
+fn program_of(rt: &impl Abort, alloc: Global) -> Result<Program, Fail> {
+    match expand(alloc, SOURCE, &NAMES) {
         Err(fault) => {
             assert_eq!(rt; fault, OF_MEMORY);
-            expand(rt.alloc(), SOURCE, &NAMES)?
+            Ok(expand(alloc, SOURCE, &NAMES)?)
         }
-        Ok(program) => program,
-    };
+        Ok(program) => Ok(program),
+    }
+}
+
+fn check_program(rt: &impl Abort, program: &Program) {
     assert_eq!(rt; program.name(), "Loops");
     assert_eq!(rt; program.author(), "Somebody");
-    assert_eq!(rt; sizes(&program), [5, 1, 3, 19]);
-    Ok(())
+    assert_eq!(rt; sizes(program), [5, 1, 3, 19]);
 }
 
 #[test]
-fn tokens_are_substituted(rt: HostRuntime) -> Result<(), Fail> {
-    let program = match expand(rt.alloc(), SOURCE, &NAMES) {
-        Err(_) => expand(rt.alloc(), SOURCE, &NAMES)?,
-        Ok(program) => program,
-    };
-    let line = program.lines().get(2).ok_or("line")?;
-    let tokens = match program.substitute(rt.alloc(), &line.rest) {
+fn a_source_is_expanded(rt: HostRuntime) -> Result<(), Fail> {
+    let program = program_of(&rt, rt.alloc())?;
+    check_program(&rt, &program);
+    drop(program);
+    Ok(())
+}
+
+/// The tokens of a line with its EQU names replaced, by a second try where the first was refused memory.
+fn substituted(
+    rt: &impl Abort,
+    alloc: Global,
+    program: &Program,
+    line: &Line,
+) -> Result<Vec<Token>, Fail> {
+    match program.substitute(alloc, &line.rest) {
         Err(fault) => {
             assert_eq!(rt; fault, OF_MEMORY);
-            program.substitute(rt.alloc(), &line.rest)?
+            Ok(program.substitute(alloc, &line.rest)?)
         }
-        Ok(tokens) => tokens,
-    };
+        Ok(tokens) => Ok(tokens),
+    }
+}
+
+fn check_substituted(rt: &impl Abort, alloc: Global, program: &Program) -> Result<(), Fail> {
+    let line = program.lines().get(2).ok_or("line")?;
+    let tokens = substituted(rt, alloc, program, line)?;
     assert!(rt;
         tokens
             .iter()
@@ -66,16 +83,29 @@ fn tokens_are_substituted(rt: HostRuntime) -> Result<(), Fail> {
 }
 
 #[test]
-fn a_text_is_scanned(rt: HostRuntime) -> Result<(), Fail> {
-    let text = b"one + two + one + 300";
-    let scanned: LineTokens = match scan(rt.alloc(), text) {
+fn tokens_are_substituted(rt: HostRuntime) -> Result<(), Fail> {
+    let program = program_of(&rt, rt.alloc())?;
+    let checked = check_substituted(&rt, rt.alloc(), &program);
+    drop(program);
+    checked
+}
+
+/// The tokens of a text, by a second try where the first was refused memory.
+fn scanned(rt: &impl Abort, alloc: Global, text: &[u8]) -> Result<LineTokens, Fail> {
+    match scan(alloc, text) {
         Err(fault) => {
             assert_eq!(rt; fault, OF_MEMORY);
-            scan(rt.alloc(), text)?
+            Ok(scan(alloc, text)?)
         }
-        Ok(scanned) => scanned,
-    };
+        Ok(scanned) => Ok(scanned),
+    }
+}
+
+#[test]
+fn a_text_is_scanned(rt: HostRuntime) -> Result<(), Fail> {
+    let scanned = scanned(&rt, rt.alloc(), b"one + two + one + 300")?;
     assert_eq!(rt; scanned.tokens.len(), 7);
     assert_eq!(rt; scanned.names.len(), 2);
+    drop(scanned);
     Ok(())
 }
