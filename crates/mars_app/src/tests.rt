@@ -1,8 +1,11 @@
 //! Transcripts of the debugger over real sessions, and readers and writers that fail or take little.
+//!
+//! What owns a session hands it to functions that borrow it, and then to `drop`: where it goes out of scope by itself, each
+//! such body proves anew how a session is dropped.
 ghost use Rattle.std.specs.Prelude.{Some, ◌<◌};
 
 use crate::debugger::{DebugFault, debug, debug_within};
-use mars_cell::{Params, read_load};
+use mars_cell::{Params, Warrior, read_load};
 use mars_core::Battle;
 use mars_session::{DeltaTape, RingTape, Session, Tape, WholeTape};
 use std::alloc::Global;
@@ -99,6 +102,14 @@ impl Start for RingTape {
     }
 }
 
+fn warriors_of(alloc: Global, params: &Params, sources: &[&[u8]]) -> Result<Vec<Warrior>, Fail> {
+    let mut warriors = Vec::new(alloc);
+    for source in sources {
+        warriors.push(read_load(alloc, source, params)?)?;
+    }
+    Ok(warriors)
+}
+
 /// The battle of these load files in a core of 8 cells.
 fn battle_of(
     rt: &impl Abort,
@@ -107,12 +118,11 @@ fn battle_of(
     starts: &[u32],
 ) -> Result<Battle, Fail> {
     let params = Params::new(8, 8000, 80000, 8, 8, 1, 1)?;
-    let mut warriors = Vec::new(alloc);
-    for source in sources {
-        warriors.push(read_load(alloc, source, &params)?)?;
-    }
+    let warriors = warriors_of(alloc, &params, sources)?;
     assert_eq!(rt; warriors.len(), starts.len());
-    Ok(Battle::new(alloc, &params, warriors.as_slice(), starts)?)
+    let battle = Battle::new(alloc, &params, warriors.as_slice(), starts);
+    drop(warriors);
+    Ok(battle?)
 }
 
 /// The battle of one imp.
@@ -148,11 +158,7 @@ fn gives(
     expected: &str,
 ) -> Result<(), Fail> {
     gives_within(rt, alloc, sources, starts, AMPLE, input, expected)?;
-    for size in [1usize, 2, 3, 256, 5000] {
-        let mut session: Session<RingTape> = session_of(rt, alloc, sources, starts, 0)?;
-        answers(rt, alloc, &mut session, size, input, expected)?;
-    }
-    Ok(())
+    gives_over::<RingTape>(rt, alloc, sources, starts, 0, input, expected)
 }
 
 /// So it is over each kind of tape that keeps all places, with a limit.
@@ -165,11 +171,25 @@ fn gives_within(
     input: &[u8],
     expected: &str,
 ) -> Result<(), Fail> {
+    gives_over::<WholeTape>(rt, alloc, sources, starts, limit, input, expected)?;
+    gives_over::<DeltaTape>(rt, alloc, sources, starts, limit, input, expected)
+}
+
+/// So it is over one kind of tape.
+fn gives_over<T: Start + Drop>(
+    rt: &impl Abort,
+    alloc: Global,
+    sources: &[&[u8]],
+    starts: &[u32],
+    limit: u64,
+    input: &[u8],
+    expected: &str,
+) -> Result<(), Fail> {
     for size in [1usize, 2, 3, 256, 5000] {
-        let mut session: Session<WholeTape> = session_of(rt, alloc, sources, starts, limit)?;
-        answers(rt, alloc, &mut session, size, input, expected)?;
-        let mut session: Session<DeltaTape> = session_of(rt, alloc, sources, starts, limit)?;
-        answers(rt, alloc, &mut session, size, input, expected)?;
+        let mut session: Session<T> = session_of(rt, alloc, sources, starts, limit)?;
+        let answered = answers(rt, alloc, &mut session, size, input, expected);
+        drop(session);
+        answered?;
     }
     Ok(())
 }
@@ -303,7 +323,9 @@ fn a_history_that_forgets(rt: HostRuntime) -> Result<(), Fail> {
         turn 2 cycle 2 next 0 alive 1 at 1/1\n";
     let alloc = rt.alloc();
     let mut session = Session::new(RingTape::new(alloc, imp_battle(&rt, alloc)?, 2)?, 0);
-    answers(&rt, alloc, &mut session, 3, input, expected)
+    let answered = answers(&rt, alloc, &mut session, 3, input, expected);
+    drop(session);
+    answered
 }
 
 #[test]
@@ -423,6 +445,7 @@ fn lines_that_ask_for_nothing_known(rt: HostRuntime) -> Result<(), Fail> {
     assert_eq!(rt; debug(&mut rest, &mut output, &mut session), Ok(()));
     assert!(rt; output.as_slice() == expected.as_slice());
     assert_eq!(rt; session.standing().position, 0);
+    drop(session);
     Ok(())
 }
 
@@ -460,6 +483,7 @@ fn a_read_that_fails(rt: HostRuntime) -> Result<(), Fail> {
         );
         assert!(rt; output.as_slice() == b"turn 1 cycle 1 next 0 alive 1 at 1/1\n".as_slice());
         assert_eq!(rt; session.standing().position, 1);
+        drop(session);
     }
     Ok(())
 }
@@ -482,6 +506,7 @@ fn a_write_that_fails(rt: HostRuntime) -> Result<(), Fail> {
         let expected = b"turn 1 cycle 1 next 0 alive 1 at 1/1\ntur";
         assert!(rt; writer.bytes.as_slice() == expected.as_slice());
         assert_eq!(rt; session.standing().position, 2);
+        drop(session);
     }
     Ok(())
 }
@@ -503,6 +528,7 @@ fn as_many_reads_as_are_allowed(rt: HostRuntime) -> Result<(), Fail> {
     assert!(rt; output.is_empty());
     assert_eq!(rt; reader.rest.len(), 2);
     assert_eq!(rt; session.standing().position, 0);
+    drop(session);
     Ok(())
 }
 
@@ -520,6 +546,7 @@ fn as_many_reads_as_there_are_bytes(rt: HostRuntime) -> Result<(), Fail> {
     let mut session = imp_session(&rt, alloc)?;
     assert_eq!(rt; debug(&mut reader, &mut output, &mut session), Ok(()));
     assert!(rt; reader.rest.is_empty() && output.is_empty());
+    drop(session);
     Ok(())
 }
 
@@ -538,7 +565,42 @@ fn an_unfinished_long_line(rt: HostRuntime) -> Result<(), Fail> {
         assert_eq!(rt; result.is_err(), fails);
         assert_eq!(rt; output.is_empty(), fails);
     }
+    drop(session);
     Ok(())
+}
+
+/// The replies to the lines that came whole.
+fn replies_to(alloc: Global, came: &[u8], replies: &[&str]) -> Result<Vec<u8>, Fail> {
+    let mut expected = Vec::new(alloc);
+    let mut line = 0usize;
+    for byte in came {
+        if *byte == b'\n' {
+            if let Some(reply) = replies.get(line) {
+                expected.extend_from_slice(reply.as_bytes())?;
+            }
+            line = line.saturating_add(1);
+        }
+    }
+    Ok(expected)
+}
+
+/// After what came the read fails, and this was written.
+fn check_cut_off(
+    rt: &impl Abort,
+    alloc: Global,
+    session: &mut Session<DeltaTape>,
+    came: &[u8],
+    expected: &[u8],
+) {
+    let mut reader = Pieces {
+        rest: came,
+        size: 3,
+        fails: true,
+    };
+    let mut output = Vec::new(alloc);
+    let answer = debug(&mut reader, &mut output, session);
+    assert_eq!(rt; answer, Err(DebugFault::Read));
+    assert!(rt; output.as_slice() == expected, "{}", came.len());
 }
 
 /// The input is cut off after each number of bytes, and then the read fails: the lines that came are answered.
@@ -552,28 +614,10 @@ fn answers_what_came(
 ) -> Result<(), Fail> {
     for (end, _) in input.iter().enumerate() {
         let (came, _) = input.split_at(end);
-        let mut expected = Vec::new(alloc);
-        let mut line = 0usize;
-        for byte in came {
-            if *byte == b'\n' {
-                if let Some(reply) = replies.get(line) {
-                    expected.extend_from_slice(reply.as_bytes())?;
-                }
-                line = line.saturating_add(1);
-            }
-        }
-        let mut reader = Pieces {
-            rest: came,
-            size: 3,
-            fails: true,
-        };
-        let mut output = Vec::new(alloc);
+        let expected = replies_to(alloc, came, replies)?;
         let mut session: Session<DeltaTape> = session_of(rt, alloc, sources, starts, AMPLE)?;
-        assert_eq!(rt;
-            debug(&mut reader, &mut output, &mut session),
-            Err(DebugFault::Read)
-        );
-        assert!(rt; output.as_slice() == expected.as_slice(), "{end}");
+        check_cut_off(rt, alloc, &mut session, came, expected.as_slice());
+        drop(session);
     }
     Ok(())
 }
@@ -672,6 +716,7 @@ fn a_writer_that_is_full_anywhere(rt: HostRuntime) -> Result<(), Fail> {
         let (written, _) = expected.split_at(room);
         assert!(rt; writer.bytes.as_slice() == written, "{room}");
         assert_eq!(rt; session.standing().position, 1);
+        drop(session);
     }
     Ok(())
 }

@@ -1,4 +1,7 @@
 //! Runs over files in memory.
+//!
+//! Files are handed to functions that borrow them, and then to `drop`: where they go out of scope by themselves, each such
+//! body proves anew how they are dropped.
 
 use crate::fault::RunFault;
 use crate::files::{FileFault, MemoryFiles, SystemFiles, WarriorFiles};
@@ -30,55 +33,58 @@ fn words_of(alloc: Global, words: &[&str]) -> Result<Vec<String>, Fail> {
     Ok(all)
 }
 
-fn files(alloc: Global) -> Result<MemoryFiles, Fail> {
-    let mut files = MemoryFiles::new(alloc);
-    files.add(alloc, "imp.load", IMP)?;
-    files.add(alloc, "stay.load", b"JMP 0, 0")?;
-    files.add(alloc, "dead.load", b"DAT 0, 0")?;
-    files.add(alloc, "half.load", b"MOV 0")?;
-    files.add(alloc, "two.load", b"NOP 0, 0\nNOP 0, 0")?;
-    files.add(alloc, "empty.load", b"")?;
-    files.add(alloc, "far.load", b"ORG 1\nNOP 0, 0")?;
-    files.add(alloc, "future.load", b";load 3 8000\nNOP 0, 0\n")?;
-    files.add(
-        alloc,
+const FILES: &[(&str, &[u8])] = &[
+    ("imp.load", IMP),
+    ("stay.load", b"JMP 0, 0"),
+    ("dead.load", b"DAT 0, 0"),
+    ("half.load", b"MOV 0"),
+    ("two.load", b"NOP 0, 0\nNOP 0, 0"),
+    ("empty.load", b""),
+    ("far.load", b"ORG 1\nNOP 0, 0"),
+    ("future.load", b";load 3 8000\nNOP 0, 0\n"),
+    (
         "headless.load",
         b";load 2 8\n;author Dewdney\nORG 0\nMOV.I $0, $7\n",
-    )?;
-    files.add(alloc, "named.load", NAMED)?;
-    add_sources(alloc, &mut files)?;
-    Ok(files)
+    ),
+    ("named.load", NAMED),
+    ("imp.red", b";name Imp\n;author Dewdney\nMOV 0, 1\n"),
+    ("stay.red", b";name Stay\nJMP 0\n"),
+    ("dead.red", b";name Dead\nDAT 0, 0\n"),
+    ("dwarf.red", DWARF),
+    ("sized.red", b";assert CORESIZE==8000\nADD.F }0, {0\n"),
+    ("pair.red", b";assert WARRIORS == 2 && ROUNDS == 3\nNOP\n"),
+    ("open.red", b"NOP\nFOR 2\nNOP\n"),
+    ("zero.red", b"FOR 1/0\nROF\n"),
+    ("far.red", b"ORG 4\nNOP\n"),
+    ("words.red", b"NOP\nNOP\nHOP 1\n"),
+    ("bare.red", b"JMP"),
+    ("sum.red", b"JMP 1+"),
+    ("none.red", b"; nothing"),
+    ("two.red", b"NOP\nNOP"),
+    ("given.red", GIVEN),
+    ("least.red", LEAST),
+    ("greatest.red", GREATEST),
+    ("limited.load", LIMITED),
+];
+
+fn add_files(alloc: Global, files: &mut MemoryFiles) -> Result<(), Fail> {
+    for (name, bytes) in FILES {
+        files.add(alloc, name, bytes)?;
+    }
+    Ok(())
 }
 
-fn add_sources(alloc: Global, files: &mut MemoryFiles) -> Result<(), Fail> {
-    let imp = b";name Imp\n;author Dewdney\nMOV 0, 1\n";
-    files.add(alloc, "imp.red", imp)?;
-    files.add(alloc, "stay.red", b";name Stay\nJMP 0\n")?;
-    files.add(alloc, "dead.red", b";name Dead\nDAT 0, 0\n")?;
-    files.add(alloc, "dwarf.red", DWARF)?;
-    let sized = b";assert CORESIZE==8000\nADD.F }0, {0\n";
-    files.add(alloc, "sized.red", sized)?;
-    let pair = b";assert WARRIORS == 2 && ROUNDS == 3\nNOP\n";
-    files.add(alloc, "pair.red", pair)?;
-    files.add(alloc, "open.red", b"NOP\nFOR 2\nNOP\n")?;
-    files.add(alloc, "zero.red", b"FOR 1/0\nROF\n")?;
-    files.add(alloc, "far.red", b"ORG 4\nNOP\n")?;
-    files.add(alloc, "words.red", b"NOP\nNOP\nHOP 1\n")?;
-    files.add(alloc, "bare.red", b"JMP")?;
-    files.add(alloc, "sum.red", b"JMP 1+")?;
-    files.add(alloc, "none.red", b"; nothing")?;
-    files.add(alloc, "two.red", b"NOP\nNOP")?;
-    files.add(alloc, "given.red", GIVEN)?;
-    files.add(alloc, "least.red", LEAST)?;
-    files.add(alloc, "greatest.red", GREATEST)?;
-    // The read limit of 4 reaches back where the write limit of 8 reaches on.
-    let limited = b"MOV.A {3, $1\nDAT 0, 0\nDAT 0, 0\nDAT.F $2, $0\n";
-    files.add(alloc, "limited.load", limited)?;
-    Ok(())
+fn files(alloc: Global) -> Result<MemoryFiles, Fail> {
+    let mut files = MemoryFiles::new(alloc);
+    add_files(alloc, &mut files)?;
+    Ok(files)
 }
 
 /// A load file that was written for a core of 8 cells: its 7 is the cell before.
 const NAMED: &[u8] = b";load 2 8\n;name Imp\n;author Dewdney\nORG 0\nMOV.I $0, $7\n";
+
+/// The read limit of 4 reaches back where the write limit of 8 reaches on.
+const LIMITED: &[u8] = b"MOV.A {3, $1\nDAT 0, 0\nDAT 0, 0\nDAT.F $2, $0\n";
 
 /// Asks for the parameters that hold where no word gives another.
 const GIVEN: &[u8] = b";assert CORESIZE==8000 && MAXPROCESSES==8000 && MAXCYCLES==80000
@@ -98,8 +104,40 @@ const GREATEST: &[u8] = b";assert CORESIZE==1048576 && MAXPROCESSES==65536 && MA
 NOP
 ";
 
+/// The status of a run over the files of the tests.
+fn run_over<R: Read, W: Write, E: Write>(
+    alloc: Global,
+    words: &[&str],
+    input: &mut R,
+    output: &mut W,
+    faults: &mut E,
+) -> Result<u8, Fail> {
+    let files = files(alloc)?;
+    let status = run_words(alloc, &files, words, input, output, faults);
+    drop(files);
+    status
+}
+
+/// The status of a run over these files.
+fn run_words<R: Read, W: Write, E: Write>(
+    alloc: Global,
+    files: &MemoryFiles,
+    words: &[&str],
+    input: &mut R,
+    output: &mut W,
+    faults: &mut E,
+) -> Result<u8, Fail> {
+    let words = words_of(alloc, words)?;
+    let status = run(alloc, words.as_slice(), files, input, output, faults);
+    drop(words);
+    Ok(status)
+}
+
 fn answer(alloc: Global, words: &[&str], input: &[u8]) -> Result<Outcome, Fail> {
-    answer_over(alloc, &files(alloc)?, words, input)
+    let files = files(alloc)?;
+    let answer = answer_over(alloc, &files, words, input);
+    drop(files);
+    answer
 }
 
 fn answer_over(
@@ -108,17 +146,9 @@ fn answer_over(
     words: &[&str],
     input: &[u8],
 ) -> Result<Outcome, Fail> {
-    let words = words_of(alloc, words)?;
     let (mut output, mut faults) = (Vec::new(alloc), Vec::new(alloc));
     let mut rest = input;
-    let status = run(
-        alloc,
-        words.as_slice(),
-        files,
-        &mut rest,
-        &mut output,
-        &mut faults,
-    );
+    let status = run_words(alloc, files, words, &mut rest, &mut output, &mut faults)?;
     Ok(Outcome {
         status,
         output,
@@ -153,53 +183,56 @@ fn check_fault(
     Ok(())
 }
 
+const BAD_WORDS: &[&[&str]] = &[
+    &[],
+    &["-e"],
+    &["-e", "-e", "imp.load"],
+    &["-e", "-s", "0", "imp.load"],
+    &["-e", "-s", "1048577", "imp.load"],
+    &["-e", "-s", "x", "imp.load"],
+    &["-e", "-s", "8", "-s", "8", "imp.load"],
+    &["-e", "--read-limit", "0", "imp.load"],
+    &["-e", "--write-limit", "4294967297", "imp.load"],
+    &["-e", "-h", "imp.load"],
+    &["-e", "-q", "imp.load"],
+    &["-e", "--load", "imp.load"],
+    &["--league", "imp.load"],
+    &["-e", "--league", "imp.load", "stay.load"],
+    &["--league", "--load", "imp.load"],
+    &["-F", "200", "--league", "imp.load", "stay.load"],
+    &["--load", "imp.load", "stay.load"],
+    &["-F", "99", "imp.load", "stay.load"],
+    &["-F", "7901", "imp.load", "stay.load"],
+    &["-F", "200", "imp.load"],
+    &["-r", "100001", "imp.load"],
+    &["--seed", "2147483647", "imp.load"],
+];
+
 #[test]
 fn bad_words(rt: HostRuntime) -> Result<(), Fail> {
-    let rows: [&[&str]; 22] = [
-        &[],
-        &["-e"],
-        &["-e", "-e", "imp.load"],
-        &["-e", "-s", "0", "imp.load"],
-        &["-e", "-s", "1048577", "imp.load"],
-        &["-e", "-s", "x", "imp.load"],
-        &["-e", "-s", "8", "-s", "8", "imp.load"],
-        &["-e", "--read-limit", "0", "imp.load"],
-        &["-e", "--write-limit", "4294967297", "imp.load"],
-        &["-e", "-h", "imp.load"],
-        &["-e", "-q", "imp.load"],
-        &["-e", "--load", "imp.load"],
-        &["--league", "imp.load"],
-        &["-e", "--league", "imp.load", "stay.load"],
-        &["--league", "--load", "imp.load"],
-        &["-F", "200", "--league", "imp.load", "stay.load"],
-        &["--load", "imp.load", "stay.load"],
-        &["-F", "99", "imp.load", "stay.load"],
-        &["-F", "7901", "imp.load", "stay.load"],
-        &["-F", "200", "imp.load"],
-        &["-r", "100001", "imp.load"],
-        &["--seed", "2147483647", "imp.load"],
-    ];
-    for row in rows {
+    for row in BAD_WORDS {
         check_fault(&rt, rt.alloc(), row, 2, b"mars: bad words\n")?;
     }
     Ok(())
 }
 
+/// Words, each with a number below its range and one above it.
+const OUT_OF_RANGE: &[(&str, &str, &str)] = &[
+    ("-r", "0", "100001"),
+    ("-s", "0", "1048577"),
+    ("-c", "0", "10000001"),
+    ("-p", "0", "65537"),
+    ("-l", "0", "1048577"),
+    ("-d", "0", "1048577"),
+    ("--seed", "0", "2147483647"),
+    ("--read-limit", "0", "1048577"),
+    ("--write-limit", "0", "1048577"),
+    ("--history", "0", "1000001"),
+];
+
 #[test]
 fn numbers_out_of_their_ranges(rt: HostRuntime) -> Result<(), Fail> {
-    let rows = [
-        ("-r", "0", "100001"),
-        ("-s", "0", "1048577"),
-        ("-c", "0", "10000001"),
-        ("-p", "0", "65537"),
-        ("-l", "0", "1048577"),
-        ("-d", "0", "1048577"),
-        ("--seed", "0", "2147483647"),
-        ("--read-limit", "0", "1048577"),
-        ("--write-limit", "0", "1048577"),
-        ("--history", "0", "1000001"),
-    ];
-    for (word, below, above) in rows {
+    for (word, below, above) in OUT_OF_RANGE {
         for number in [below, above] {
             let words = ["-e", word, number, "imp.load"];
             check_fault(&rt, rt.alloc(), &words, 2, b"mars: bad words\n")?;
@@ -242,58 +275,60 @@ refused 12 NotInHistory 1 200001
     check_output(&rt, rt.alloc(), &words, b"run 200001\ngoto 0\n", kept)
 }
 
+const LEAST_WORDS: &[&str] = &[
+    "--load",
+    "-r",
+    "1",
+    "-s",
+    "1",
+    "-c",
+    "1",
+    "-p",
+    "1",
+    "-l",
+    "1",
+    "-d",
+    "1",
+    "--seed",
+    "1",
+    "--read-limit",
+    "1",
+    "--write-limit",
+    "1",
+    "--history",
+    "1",
+    "least.red",
+];
+
+const GREATEST_WORDS: &[&str] = &[
+    "--load",
+    "-r",
+    "100000",
+    "-s",
+    "1048576",
+    "-c",
+    "10000000",
+    "-p",
+    "65536",
+    "-l",
+    "1048576",
+    "-d",
+    "1048576",
+    "--seed",
+    "2147483646",
+    "--read-limit",
+    "1048576",
+    "--write-limit",
+    "1048576",
+    "--history",
+    "1000000",
+    "greatest.red",
+];
+
 #[test]
 fn least_and_greatest_numbers(rt: HostRuntime) -> Result<(), Fail> {
-    let least = [
-        "--load",
-        "-r",
-        "1",
-        "-s",
-        "1",
-        "-c",
-        "1",
-        "-p",
-        "1",
-        "-l",
-        "1",
-        "-d",
-        "1",
-        "--seed",
-        "1",
-        "--read-limit",
-        "1",
-        "--write-limit",
-        "1",
-        "--history",
-        "1",
-        "least.red",
-    ];
-    check_taken(&rt, rt.alloc(), &least)?;
-    let greatest = [
-        "--load",
-        "-r",
-        "100000",
-        "-s",
-        "1048576",
-        "-c",
-        "10000000",
-        "-p",
-        "65536",
-        "-l",
-        "1048576",
-        "-d",
-        "1048576",
-        "--seed",
-        "2147483646",
-        "--read-limit",
-        "1048576",
-        "--write-limit",
-        "1048576",
-        "--history",
-        "1000000",
-        "greatest.red",
-    ];
-    check_taken(&rt, rt.alloc(), &greatest)?;
+    check_taken(&rt, rt.alloc(), LEAST_WORDS)?;
+    check_taken(&rt, rt.alloc(), GREATEST_WORDS)?;
     let history = [
         "-e",
         "--history",
@@ -355,20 +390,24 @@ battle over
     check_output(&rt, rt.alloc(), &words, input, output)
 }
 
+/// A file of so many blanks is refused with this line.
+fn check_blanks(rt: &impl Abort, alloc: Global, count: usize, line: &[u8]) -> Result<(), Fail> {
+    let blanks = vec![in alloc; b' '; count]?;
+    let mut files = MemoryFiles::new(alloc);
+    files.add(alloc, "blank.red", &blanks)?;
+    let answer = answer_over(alloc, &files, &["blank.red"], b"");
+    drop(files);
+    let answer = answer?;
+    assert_eq!(rt; answer.status, 1);
+    assert!(rt; answer.faults.as_slice() == line);
+    Ok(())
+}
+
 #[test]
 fn files_of_as_many_bytes_as_are_allowed(rt: HostRuntime) -> Result<(), Fail> {
     let alloc = rt.alloc();
-    let mut files = MemoryFiles::new(alloc);
-    let mut blanks = vec![in alloc; b' '; 1_048_576]?;
-    files.add(alloc, "blank.red", &blanks)?;
-    blanks.push(b' ')?;
-    files.add(alloc, "large.red", &blanks)?;
-    let taken = answer_over(alloc, &files, &["blank.red"], b"")?;
-    assert!(rt; taken.faults.as_slice() == b"mars: blank.red: line 0: 7 Empty\n".as_slice());
-    let refused = answer_over(alloc, &files, &["large.red"], b"")?;
-    assert_eq!(rt; refused.status, 1);
-    assert!(rt; refused.faults.as_slice() == b"mars: large.red: too large\n".as_slice());
-    Ok(())
+    check_blanks(&rt, alloc, 1_048_576, b"mars: blank.red: line 0: 7 Empty\n")?;
+    check_blanks(&rt, alloc, 1_048_577, b"mars: blank.red: too large\n")
 }
 
 /// The bytes of a file of the system, which is made for the test and removed after it.
@@ -580,153 +619,156 @@ refused 12 NotInHistory 4 6
     )
 }
 
+const FAULTS: &[(&[&str], u8, &[u8])] = &[
+    (
+        &["-e", "-s", "50", "--score", "1+", "imp.load"],
+        2,
+        b"mars: parameters 5 Length\n",
+    ),
+    (
+        &["-e", "-s", "50", "imp.load"],
+        2,
+        b"mars: parameters 5 Length\n",
+    ),
+    (
+        &["-e", "-l", "200", "imp.load"],
+        2,
+        b"mars: parameters 6 Distance\n",
+    ),
+    (
+        &["-e", "--read-limit", "8001", "imp.load"],
+        2,
+        b"mars: parameters 4 Limit\n",
+    ),
+    (
+        &["--score", "1+", "imp.load"],
+        2,
+        b"mars: formula 1 Expression 1 Syntax\n",
+    ),
+    (
+        &["-e", "--score", "Q", "no.load"],
+        2,
+        b"mars: formula 1 Expression 2 Unknown\n",
+    ),
+    (
+        &["-b", "-s", "199", "imp.load", "stay.load"],
+        1,
+        b"mars: placement 1 NoRoom\n",
+    ),
+    (
+        &[
+            "-b",
+            "--score",
+            "1/(S-2)",
+            "-c",
+            "10",
+            "imp.load",
+            "stay.load",
+        ],
+        1,
+        b"mars: score 3 DivideByZero\n",
+    ),
+    (
+        &["-e", "-s", "199", "imp.load", "stay.load"],
+        1,
+        b"mars: placement 1 NoRoom\n",
+    ),
+    (&["-e", "no.load"], 1, b"mars: no.load: cannot read\n"),
+    (
+        &["-e", "half.load"],
+        1,
+        b"mars: half.load: line 1: load 1 Syntax\n",
+    ),
+    (
+        &["-e", "-l", "1", "two.load"],
+        1,
+        b"mars: two.load: line 0: load 2 TooLong\n",
+    ),
+    (
+        &["-e", "empty.load"],
+        1,
+        b"mars: empty.load: line 0: load 3 Empty\n",
+    ),
+    (
+        &["-e", "far.load"],
+        1,
+        b"mars: far.load: line 0: load 4 BadOrigin\n",
+    ),
+    (
+        &["--load", "future.load"],
+        1,
+        b"mars: future.load: line 0: load 6 Version\n",
+    ),
+    (
+        &["-b", "headless.load"],
+        1,
+        b"mars: headless.load: line 2: load 1 Syntax\n",
+    ),
+];
+
 #[test]
 fn faults(rt: HostRuntime) -> Result<(), Fail> {
-    let rows: [(&[&str], u8, &[u8]); 16] = [
-        (
-            &["-e", "-s", "50", "--score", "1+", "imp.load"],
-            2,
-            b"mars: parameters 5 Length\n",
-        ),
-        (
-            &["-e", "-s", "50", "imp.load"],
-            2,
-            b"mars: parameters 5 Length\n",
-        ),
-        (
-            &["-e", "-l", "200", "imp.load"],
-            2,
-            b"mars: parameters 6 Distance\n",
-        ),
-        (
-            &["-e", "--read-limit", "8001", "imp.load"],
-            2,
-            b"mars: parameters 4 Limit\n",
-        ),
-        (
-            &["--score", "1+", "imp.load"],
-            2,
-            b"mars: formula 1 Expression 1 Syntax\n",
-        ),
-        (
-            &["-e", "--score", "Q", "no.load"],
-            2,
-            b"mars: formula 1 Expression 2 Unknown\n",
-        ),
-        (
-            &["-b", "-s", "199", "imp.load", "stay.load"],
-            1,
-            b"mars: placement 1 NoRoom\n",
-        ),
-        (
-            &[
-                "-b",
-                "--score",
-                "1/(S-2)",
-                "-c",
-                "10",
-                "imp.load",
-                "stay.load",
-            ],
-            1,
-            b"mars: score 3 DivideByZero\n",
-        ),
-        (
-            &["-e", "-s", "199", "imp.load", "stay.load"],
-            1,
-            b"mars: placement 1 NoRoom\n",
-        ),
-        (&["-e", "no.load"], 1, b"mars: no.load: cannot read\n"),
-        (
-            &["-e", "half.load"],
-            1,
-            b"mars: half.load: line 1: load 1 Syntax\n",
-        ),
-        (
-            &["-e", "-l", "1", "two.load"],
-            1,
-            b"mars: two.load: line 0: load 2 TooLong\n",
-        ),
-        (
-            &["-e", "empty.load"],
-            1,
-            b"mars: empty.load: line 0: load 3 Empty\n",
-        ),
-        (
-            &["-e", "far.load"],
-            1,
-            b"mars: far.load: line 0: load 4 BadOrigin\n",
-        ),
-        (
-            &["--load", "future.load"],
-            1,
-            b"mars: future.load: line 0: load 6 Version\n",
-        ),
-        (
-            &["-b", "headless.load"],
-            1,
-            b"mars: headless.load: line 2: load 1 Syntax\n",
-        ),
-    ];
-    for (words, status, line) in rows {
-        check_fault(&rt, rt.alloc(), words, status, line)?;
+    for (words, status, line) in FAULTS {
+        check_fault(&rt, rt.alloc(), words, *status, line)?;
     }
     Ok(())
 }
 
+const FAULTS_OF_SOURCES: &[(&[&str], &[u8])] = &[
+    (
+        &["open.red"],
+        b"mars: open.red: line 2: 1 Text 3 UnclosedFor\n",
+    ),
+    (
+        &["zero.red"],
+        b"mars: zero.red: line 1: 1 Text 10 Expression 3 DivideByZero\n",
+    ),
+    (&["words.red"], b"mars: words.red: line 3: 2 Operation\n"),
+    (&["bare.red"], b"mars: bare.red: line 1: 3 Operand\n"),
+    (
+        &["sum.red"],
+        b"mars: sum.red: line 1: 4 Expression 1 Syntax\n",
+    ),
+    (
+        &["-s", "1", "-l", "1", "-d", "1", "sized.red"],
+        b"mars: sized.red: line 1: 5 AssertFailed\n",
+    ),
+    (&["far.red"], b"mars: far.red: line 1: 6 BadOrigin\n"),
+    (&["none.red"], b"mars: none.red: line 0: 7 Empty\n"),
+    (
+        &["-l", "1", "two.red"],
+        b"mars: two.red: line 2: 8 TooLong\n",
+    ),
+    (
+        &["-r", "3", "pair.red"],
+        b"mars: pair.red: line 1: 5 AssertFailed\n",
+    ),
+    (
+        &["-r", "2", "pair.red", "pair.red"],
+        b"mars: pair.red: line 1: 5 AssertFailed\n",
+    ),
+];
+
 #[test]
 fn faults_of_sources(rt: HostRuntime) -> Result<(), Fail> {
-    let rows: [(&[&str], &[u8]); 11] = [
-        (
-            &["open.red"],
-            b"mars: open.red: line 2: 1 Text 3 UnclosedFor\n",
-        ),
-        (
-            &["zero.red"],
-            b"mars: zero.red: line 1: 1 Text 10 Expression 3 DivideByZero\n",
-        ),
-        (&["words.red"], b"mars: words.red: line 3: 2 Operation\n"),
-        (&["bare.red"], b"mars: bare.red: line 1: 3 Operand\n"),
-        (
-            &["sum.red"],
-            b"mars: sum.red: line 1: 4 Expression 1 Syntax\n",
-        ),
-        (
-            &["-s", "1", "-l", "1", "-d", "1", "sized.red"],
-            b"mars: sized.red: line 1: 5 AssertFailed\n",
-        ),
-        (&["far.red"], b"mars: far.red: line 1: 6 BadOrigin\n"),
-        (&["none.red"], b"mars: none.red: line 0: 7 Empty\n"),
-        (
-            &["-l", "1", "two.red"],
-            b"mars: two.red: line 2: 8 TooLong\n",
-        ),
-        (
-            &["-r", "3", "pair.red"],
-            b"mars: pair.red: line 1: 5 AssertFailed\n",
-        ),
-        (
-            &["-r", "2", "pair.red", "pair.red"],
-            b"mars: pair.red: line 1: 5 AssertFailed\n",
-        ),
-    ];
-    for (words, line) in rows {
+    for (words, line) in FAULTS_OF_SOURCES {
         check_fault(&rt, rt.alloc(), words, 1, line)?;
     }
     Ok(())
 }
 
+const FIRST_FAULTS: &[(&[&str], &[u8])] = &[
+    (&["imp.red", "no.red"], b"mars: no.red: cannot read\n"),
+    (
+        &["bare.red", "no.red"],
+        b"mars: bare.red: line 1: 3 Operand\n",
+    ),
+    (&["no.red", "bare.red"], b"mars: no.red: cannot read\n"),
+];
+
 #[test]
 fn the_first_fault_of_several_files(rt: HostRuntime) -> Result<(), Fail> {
-    let rows: [(&[&str], &[u8]); 3] = [
-        (&["imp.red", "no.red"], b"mars: no.red: cannot read\n"),
-        (
-            &["bare.red", "no.red"],
-            b"mars: bare.red: line 1: 3 Operand\n",
-        ),
-        (&["no.red", "bare.red"], b"mars: no.red: cannot read\n"),
-    ];
-    for (words, line) in rows {
+    for (words, line) in FIRST_FAULTS {
         check_fault(&rt, rt.alloc(), words, 1, line)?;
     }
     Ok(())
@@ -867,16 +909,15 @@ impl Write for Counted {
 #[test]
 fn a_fault_is_one_line_and_one_write(rt: HostRuntime) -> Result<(), Fail> {
     let alloc = rt.alloc();
-    let words = words_of(alloc, &["-b", "no\nsuch\x1b[1m file\x7f.red"])?;
-    let files = files(alloc)?;
-    let mut input = b"".as_slice();
+    let words = ["-b", "no\nsuch\x1b[1m file\x7f.red"];
     let mut output = Vec::new(alloc);
     let mut faults = Counted {
         bytes: Vec::new(alloc),
         writes: 0,
     };
-    let status = run(alloc, &words, &files, &mut input, &mut output, &mut faults);
-    assert_eq!(rt; (status, faults.writes), (1, 1));
+    let status = run_over(alloc, &words, &mut b"".as_slice(), &mut output, &mut faults)?;
+    assert_eq!(rt; status, 1);
+    assert_eq!(rt; faults.writes, 1);
     let line = b"mars: no?such?[1m file?.red: cannot read\n".as_slice();
     assert!(rt; faults.bytes.as_slice() == line);
     Ok(())
@@ -902,23 +943,22 @@ impl Write for Broken {
     }
 }
 
+const IMP_DEBUGGED: [&str; 8] = ["-e", "-s", "8", "-l", "1", "-d", "1", "imp.load"];
+
 #[test]
 fn broken_streams(rt: HostRuntime) -> Result<(), Fail> {
     let alloc = rt.alloc();
-    let words = words_of(alloc, &["-e", "-s", "8", "-l", "1", "-d", "1", "imp.load"])?;
-    let files = files(alloc)?;
     let (mut output, mut faults) = (Vec::new(alloc), Vec::new(alloc));
-    let status = run(alloc, &words, &files, &mut Broken, &mut output, &mut faults);
+    let status = run_over(alloc, &IMP_DEBUGGED, &mut Broken, &mut output, &mut faults)?;
     assert_eq!(rt; status, 1);
     assert!(rt; faults.as_slice() == b"mars: cannot read the commands\n".as_slice());
-    let mut faults = Vec::new(alloc);
+    faults.clear();
     let mut input = b"step\n".as_slice();
-    let status = run(alloc, &words, &files, &mut input, &mut Broken, &mut faults);
+    let status = run_over(alloc, &IMP_DEBUGGED, &mut input, &mut Broken, &mut faults)?;
     assert_eq!(rt; status, 1);
     assert!(rt; faults.as_slice() == b"mars: cannot write\n".as_slice());
-    let bad = words_of(alloc, &["-e"])?;
     let mut input = b"".as_slice();
-    let status = run(alloc, &bad, &files, &mut input, &mut output, &mut Broken);
+    let status = run_over(alloc, &["-e"], &mut input, &mut output, &mut Broken)?;
     assert_eq!(rt; status, 2);
     Ok(())
 }
@@ -948,22 +988,47 @@ impl Write for Full {
     }
 }
 
+/// Into a writer with so much room these words write the beginning of the whole, and the fault is told.
+fn check_room(
+    rt: &impl Abort,
+    alloc: Global,
+    words: &[&str],
+    whole: &[u8],
+    room: usize,
+    idles: bool,
+) -> Result<(), Fail> {
+    let mut faults = Vec::new(alloc);
+    let mut output = Full {
+        bytes: Vec::new(alloc),
+        room,
+        idles,
+    };
+    let mut input = b"step\n".as_slice();
+    let status = run_over(alloc, words, &mut input, &mut output, &mut faults)?;
+    assert_eq!(rt; status, 1, "{words:?}");
+    let line = b"mars: cannot write\n".as_slice();
+    assert!(rt; faults.as_slice() == line, "{words:?}");
+    assert_eq!(rt; output.bytes.len(), room);
+    assert!(rt; whole.starts_with(&output.bytes), "{words:?}");
+    Ok(())
+}
+
+/// Words of which each has the program write.
+const WRITING: &[&[&str]] = &[
+    &["--help"],
+    &["--load", "two.load"],
+    &["-c", "10", "imp.load", "stay.load"],
+    &["-b", "-c", "10", "imp.load", "stay.load"],
+    &["-b", "-c", "10", "--league", "imp.load", "stay.load"],
+    &["-e", "imp.load"],
+];
+
 #[test]
 fn output_that_breaks_off(rt: HostRuntime) -> Result<(), Fail> {
     let alloc = rt.alloc();
-    let files = files(alloc)?;
-    let rows: [&[&str]; 6] = [
-        &["--help"],
-        &["--load", "two.load"],
-        &["-c", "10", "imp.load", "stay.load"],
-        &["-b", "-c", "10", "imp.load", "stay.load"],
-        &["-b", "-c", "10", "--league", "imp.load", "stay.load"],
-        &["-e", "imp.load"],
-    ];
-    for row in rows {
-        let whole = answer_over(alloc, &files, row, b"step\n")?;
+    for row in WRITING {
+        let whole = answer(alloc, row, b"step\n")?;
         assert_eq!(rt; whole.status, 0);
-        let words = words_of(alloc, row)?;
         let last = whole.output.len().saturating_sub(1);
         for (room, idles) in [
             (0, false),
@@ -972,24 +1037,7 @@ fn output_that_breaks_off(rt: HostRuntime) -> Result<(), Fail> {
             (last, true),
             (last, false),
         ] {
-            let mut input = b"step\n".as_slice();
-            let mut faults = Vec::new(alloc);
-            let mut output = Full {
-                bytes: Vec::new(alloc),
-                room,
-                idles,
-            };
-            let status = run(alloc, &words, &files, &mut input, &mut output, &mut faults);
-            assert_eq!(rt; status, 1, "{row:?}");
-            assert!(rt;
-                faults.as_slice() == b"mars: cannot write\n".as_slice(),
-                "{row:?}"
-            );
-            assert_eq!(rt; output.bytes.len(), room);
-            assert!(rt;
-                whole.output.as_slice().starts_with(&output.bytes),
-                "{row:?}"
-            );
+            check_room(&rt, alloc, row, &whole.output, room, idles)?;
         }
     }
     Ok(())
@@ -1014,30 +1062,34 @@ impl Read for CutOff<'_> {
     }
 }
 
+/// The lines of an input that came whole, without the last LF.
+fn whole_lines(came: &[u8]) -> &[u8] {
+    match came.iter().rposition(|byte| *byte == b'\n') {
+        Some(last) => &came[..last],
+        None => &came[..0],
+    }
+}
+
+/// Where the read fails behind what came, the lines that came whole are answered.
+fn check_came(rt: &impl Abort, alloc: Global, came: &[u8]) -> Result<(), Fail> {
+    let expected = answer(alloc, &IMP_DEBUGGED, whole_lines(came))?;
+    let (mut output, mut faults) = (Vec::new(alloc), Vec::new(alloc));
+    let mut reader = CutOff { rest: came };
+    let status = run_over(alloc, &IMP_DEBUGGED, &mut reader, &mut output, &mut faults)?;
+    let end = came.len();
+    assert_eq!(rt; status, 1, "{end}");
+    let line = b"mars: cannot read the commands\n".as_slice();
+    assert!(rt; faults.as_slice() == line, "{end}");
+    assert!(rt; output.as_slice() == expected.output.as_slice(), "{end}");
+    Ok(())
+}
+
 #[test]
 fn input_that_breaks_off(rt: HostRuntime) -> Result<(), Fail> {
-    let alloc = rt.alloc();
-    let files = files(alloc)?;
-    let row = ["-e", "-s", "8", "-l", "1", "-d", "1", "imp.load"];
-    let words = words_of(alloc, &row)?;
     let input = b"step\nundo\nstep";
     for (end, _) in input.iter().enumerate() {
         let (came, _) = input.split_at(end);
-        // the lines that came whole are answered
-        let whole = match came.iter().rposition(|byte| *byte == b'\n') {
-            Some(last) => &came[..last],
-            None => &came[..0],
-        };
-        let expected = answer_over(alloc, &files, &row, whole)?;
-        let (mut output, mut faults) = (Vec::new(alloc), Vec::new(alloc));
-        let mut reader = CutOff { rest: came };
-        let status = run(alloc, &words, &files, &mut reader, &mut output, &mut faults);
-        assert_eq!(rt; status, 1, "{end}");
-        assert!(rt;
-            faults.as_slice() == b"mars: cannot read the commands\n".as_slice(),
-            "{end}"
-        );
-        assert!(rt; output.as_slice() == expected.output.as_slice(), "{end}");
+        check_came(&rt, rt.alloc(), came)?;
     }
     Ok(())
 }

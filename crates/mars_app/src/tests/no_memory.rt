@@ -7,6 +7,7 @@ use mars_cell::{Params, read_load};
 use mars_core::Battle;
 use mars_session::{RingTape, Session};
 use std::alloc::Global;
+use std::process::Abort;
 use std::test::Fail;
 
 /// Every kind of line.
@@ -22,8 +23,9 @@ fn ask(alloc: Global) {
 fn imp_session(alloc: Global, params: &Params) -> Option<Session<RingTape>> {
     let mut warriors = Vec::new(alloc);
     warriors.push(read_load(alloc, IMP, params).ok()?).ok()?;
-    let battle = Battle::new(alloc, params, warriors.as_slice(), &[0]).ok()?;
-    let tape = RingTape::new(alloc, battle, 100).ok()?;
+    let battle = Battle::new(alloc, params, warriors.as_slice(), &[0]).ok();
+    drop(warriors);
+    let tape = RingTape::new(alloc, battle?, 100).ok()?;
     Some(Session::new(tape, AMPLE))
 }
 
@@ -36,19 +38,63 @@ fn writer(alloc: Global, room: usize) -> Option<Narrow> {
     })
 }
 
-/// What the debugger writes to a writer and answers, where the reader fails at its end or not, in at most so many reads.
-fn debugged(
-    session: &mut Session<RingTape>,
-    writer: &mut Narrow,
+/// How the debugger is run: whether the reader fails at its end, the writer's room, and at most so many reads.
+#[derive(Clone, Copy)]
+struct Case {
     fails: bool,
+    room: usize,
     reads: u64,
-) -> Result<(), DebugFault> {
-    let mut reader = Pieces {
-        rest: INPUT,
-        size: 3,
-        fails,
+}
+
+impl Case {
+    /// What the debugger writes to a writer and answers.
+    fn debugged(
+        self,
+        session: &mut Session<RingTape>,
+        writer: &mut Narrow,
+    ) -> Result<(), DebugFault> {
+        let mut reader = Pieces {
+            rest: INPUT,
+            size: 3,
+            fails: self.fails,
+        };
+        debug_within(&mut reader, writer, session, self.reads)
+    }
+}
+
+/// A session answers this, and another one over which no memory is left does and writes the same.
+fn check_sessions(
+    rt: &impl Abort,
+    alloc: Global,
+    ample: &mut Session<RingTape>,
+    poor: &mut Session<RingTape>,
+    case: Case,
+    done: Result<(), DebugFault>,
+) {
+    let (Some(mut text), Some(mut poor_text)) = (writer(alloc, case.room), writer(alloc, case.room))
+    else {
+        return;
     };
-    debug_within(&mut reader, writer, session, reads)
+    assert_eq!(rt; case.debugged(ample, &mut text), done);
+    ask(alloc);
+    assert_eq!(rt; case.debugged(poor, &mut poor_text), done);
+    assert!(rt; poor_text.bytes.as_slice() == text.bytes.as_slice());
+    assert_eq!(rt; poor.standing(), ample.standing());
+}
+
+/// So it is with this session and a new one.
+fn check_session(
+    rt: &impl Abort,
+    alloc: Global,
+    params: &Params,
+    ample: &mut Session<RingTape>,
+    case: Case,
+    done: Result<(), DebugFault>,
+) {
+    if let Some(mut poor) = imp_session(alloc, params) {
+        check_sessions(rt, alloc, ample, &mut poor, case, done);
+        drop(poor);
+    }
 }
 
 #[test]
@@ -61,21 +107,11 @@ fn commands_over_a_ring(rt: HostRuntime) -> Result<(), Fail> {
         (false, 2000, 20, Err(DebugFault::Read)),
         (false, 100, 1000, Err(DebugFault::Write)),
     ] {
-        let (Some(mut ample), Some(mut poor)) = (
-            imp_session(alloc, &params),
-            imp_session(alloc, &params),
-        ) else {
-            return Ok(());
-        };
-        let (Some(mut text), Some(mut poor_text)) = (writer(alloc, room), writer(alloc, room))
-        else {
-            return Ok(());
-        };
-        assert_eq!(rt; debugged(&mut ample, &mut text, fails, reads), done);
-        ask(alloc);
-        assert_eq!(rt; debugged(&mut poor, &mut poor_text, fails, reads), done);
-        assert!(rt; poor_text.bytes.as_slice() == text.bytes.as_slice());
-        assert_eq!(rt; poor.standing(), ample.standing());
+        let case = Case { fails, room, reads };
+        if let Some(mut ample) = imp_session(alloc, &params) {
+            check_session(&rt, alloc, &params, &mut ample, case, done);
+            drop(ample);
+        }
     }
     Ok(())
 }
