@@ -55,6 +55,16 @@ fn check_line(rt: &impl Abort, program: &Program, line: &Line) {
     assert!(rt; is_instruction(program.names(), line.operation, &line.rest));
 }
 
+fn check_lines(rt: &impl Abort, program: &Program) -> Result<(), Fail> {
+    let [first, second, _] = program.lines() else {
+        return Err("lines".into());
+    };
+    check_line(rt, program, first);
+    check_line(rt, program, second);
+    assert!(rt; are_alike(&first.rest, &second.rest));
+    Ok(())
+}
+
 #[test]
 fn readers_of_a_program(rt: HostRuntime) -> Result<(), Fail> {
     let Ok(program) = expand(rt.alloc(), SOURCE, &NAMES) else {
@@ -62,11 +72,7 @@ fn readers_of_a_program(rt: HostRuntime) -> Result<(), Fail> {
     };
     ask(rt.alloc());
     check_texts(&rt, &program);
-    let [first, second, _] = program.lines() else {
-        return Err("lines".into());
-    };
-    check_line(&rt, &program, first);
-    check_line(&rt, &program, second);
-    assert!(rt; are_alike(&first.rest, &second.rest));
-    Ok(())
+    let lines = check_lines(&rt, &program);
+    drop(program);
+    lines
 }
