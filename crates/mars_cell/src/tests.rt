@@ -1,6 +1,7 @@
-ghost use Rattle.std.specs.Prelude.{◌≡◌, IfOk};
+ghost use Rattle.std.specs.Prelude.{◌≡◌, ◌≤◌, IfOk};
 
 use super::*;
+use std::alloc::Global;
 use std::test::Fail;
 
 mod memory;
@@ -184,29 +185,40 @@ fn parameters(rt: HostRuntime) -> Result<(), Fail> {
     Ok(())
 }
 
-#[test]
-fn warriors(rt: HostRuntime) -> Result<(), Fail> {
-    let alloc = rt.alloc();
+/// A warrior of these jumps without names.
+fn nameless(alloc: Global, cells: &[Cell], start: u32) -> Result<Option<WarriorFault>, Fail> {
+    let cells = Vec::from_slice(alloc, cells)?;
+    let warrior = Warrior::new(String::new(alloc), String::new(alloc), cells, start);
+    Ok(warrior.err())
+}
+
+fn two_jumps(alloc: Global) -> Result<Warrior, Fail> {
     let jmp = cell(Op::Jmp, Modifier::B, Mode::Direct, 0, Mode::Direct, 0);
     let name = String::from_str(alloc, "Two Jumps ~")?;
     let author = String::from_str(alloc, "")?;
-    let warrior = Warrior::new(name, author, vec![in alloc; jmp, jmp]?, 1)?;
+    let cells = Vec::from_slice(alloc, &[jmp, jmp])?;
+    Ok(Warrior::new(name, author, cells, 1)?)
+}
+
+fn are_two_jumps(warrior: &Warrior) -> bool {
+    let jmp = cell(Op::Jmp, Modifier::B, Mode::Direct, 0, Mode::Direct, 0);
+    (warrior.name(), warrior.author()) == ("Two Jumps ~", "")
+        && warrior.cells() == [jmp, jmp].as_slice()
+        && warrior.start() == 1
+}
+
+#[test]
+fn warriors(rt: HostRuntime) -> Result<(), Fail> {
+    let alloc = rt.alloc();
+    let warrior = two_jumps(alloc)?;
     let copy = warrior.copy()?;
-    for warrior in [&warrior, &copy] {
-        assert_eq!(rt; warrior.name(), "Two Jumps ~");
-        assert_eq!(rt; warrior.author(), "");
-        assert_eq!(rt; warrior.cells(), [jmp, jmp].as_slice());
-        assert_eq!(rt; warrior.start(), 1);
-    }
-    let empty = Warrior::new(String::new(alloc), String::new(alloc), Vec::new(alloc), 0);
-    assert_eq!(rt; empty.err(), Some(WarriorFault::Empty));
-    let outside = Warrior::new(
-        String::new(alloc),
-        String::new(alloc),
-        vec![in alloc; jmp]?,
-        1,
-    );
-    assert_eq!(rt; outside.err(), Some(WarriorFault::BadOrigin));
+    assert!(rt; are_two_jumps(&warrior));
+    assert!(rt; are_two_jumps(&copy));
+    drop(warrior);
+    drop(copy);
+    let jmp = cell(Op::Jmp, Modifier::B, Mode::Direct, 0, Mode::Direct, 0);
+    assert_eq!(rt; nameless(alloc, &[], 0)?, Some(WarriorFault::Empty));
+    assert_eq!(rt; nameless(alloc, &[jmp], 1)?, Some(WarriorFault::BadOrigin));
     Ok(())
 }
 
@@ -329,12 +341,10 @@ fn load_faults(rt: HostRuntime) -> Result<(), Fail> {
     Ok(())
 }
 
-/// The only cell of a warrior.
-fn only_cell(warrior: &Warrior) -> Option<Cell> {
-    match warrior.cells() {
-        [cell] => Some(*cell),
-        _ => None,
-    }
+/// Whether a warrior has these texts, and one cell: MOV.I to this number.
+fn is_mover(warrior: &Warrior, name: &str, author: &str, number: u32) -> bool {
+    let mov = cell(Op::Mov, Modifier::I, Mode::Direct, 0, Mode::Direct, number);
+    (warrior.name(), warrior.author()) == (name, author) && warrior.cells() == [mov].as_slice()
 }
 
 #[test]
@@ -374,10 +384,8 @@ fn named_load_files(rt: HostRuntime) -> Result<(), Fail> {
     ];
     for (text, name, author, number) in rows {
         let warrior = read_load(alloc, text, &params)?;
-        assert_eq!(rt; warrior.name(), name);
-        assert_eq!(rt; warrior.author(), author);
-        let imp = cell(Op::Mov, Modifier::I, Mode::Direct, 0, Mode::Direct, number);
-        assert_eq!(rt; only_cell(&warrior), Some(imp));
+        assert!(rt; is_mover(&warrior, name, author, number));
+        drop(warrior);
     }
     Ok(())
 }
@@ -469,9 +477,11 @@ fn beginnings_of_a_load_file(rt: HostRuntime) -> Result<(), Fail> {
     Ok(())
 }
 
-#[test]
-fn written_load_file(rt: HostRuntime) -> Result<(), Fail> {
-    let alloc = rt.alloc();
+const DWARF: &[u8] =
+    b";load 2 8000\n;name Dwarf; \n;author A. K. Dewdney\nORG 1\nADD.AB #4, $3\nMOV.I $2, @2\nJMP.B $-2, $0\nDAT.F #0, #0\n";
+
+/// The load file of a dwarf.
+fn written(alloc: Global) -> Result<Vec<u8>, Fail> {
     let cells = vec![in alloc;
         cell(Op::Add, Modifier::Ab, Mode::Immediate, 4, Mode::Direct, 3),
         cell(Op::Mov, Modifier::I, Mode::Direct, 2, Mode::BIndirect, 2),
@@ -481,26 +491,32 @@ fn written_load_file(rt: HostRuntime) -> Result<(), Fail> {
     let name = String::from_str(alloc, "Dwarf; ")?;
     let author = String::from_str(alloc, "A. K. Dewdney")?;
     let warrior = Warrior::new(name, author, cells, 1)?;
-    let text = write_load(alloc, &warrior, 8000)?;
-    assert!(rt;
-        text.as_slice()
-            == b";load 2 8000\n;name Dwarf; \n;author A. K. Dewdney\nORG 1\nADD.AB #4, $3\nMOV.I $2, @2\nJMP.B $-2, $0\nDAT.F #0, #0\n".as_slice()
-    );
+    let text = write_load(alloc, &warrior, 8000);
+    drop(warrior);
+    Ok(text?)
+}
+
+/// Whether a warrior is the dwarf in a core of this size.
+fn is_dwarf(warrior: &Warrior, core_size: u32) -> bool
+    requires { 2 ≤ core_size }
+{
+    let back = core_size - 2;
+    let jump = cell(Op::Jmp, Modifier::B, Mode::Direct, back, Mode::Direct, 0);
+    (warrior.name(), warrior.author()) == ("Dwarf; ", "A. K. Dewdney")
+        && (warrior.cells().len(), warrior.start()) == (4, 1)
+        && warrior.cells().get(2) == Some(&jump)
+}
+
+#[test]
+fn written_load_file(rt: HostRuntime) -> Result<(), Fail> {
+    let alloc = rt.alloc();
+    let text = written(alloc)?;
+    assert!(rt; text.as_slice() == DWARF);
+    drop(text);
     for core_size in [8000, 800, 4] {
-        let again = read_load(alloc, text.as_slice(), &sizes(core_size, 4)?)?;
-        assert_eq!(rt; again.name(), "Dwarf; ");
-        assert_eq!(rt; again.author(), "A. K. Dewdney");
-        assert_eq!(rt; again.start(), 1);
-        assert_eq!(rt; again.cells().len(), 4);
-        let jump = cell(
-            Op::Jmp,
-            Modifier::B,
-            Mode::Direct,
-            core_size - 2,
-            Mode::Direct,
-            0,
-        );
-        assert_eq!(rt; again.cells().get(2), Some(&jump));
+        let again = read_load(alloc, DWARF, &sizes(core_size, 4)?)?;
+        assert!(rt; is_dwarf(&again, core_size));
+        drop(again);
     }
     Ok(())
 }
