@@ -60,7 +60,9 @@ pub fn assemble(
         Ok(program) => program,
         Err(fault) => return Err(AsmFault::of_text(fault)),
     };
-    program_warrior(alloc, &program, &predefined, params)
+    let warrior = program_warrior(alloc, &program, &predefined, params);
+    drop(program);
+    warrior
 }
 
 #[cfg(test)]

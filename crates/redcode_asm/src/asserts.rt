@@ -156,13 +156,18 @@ impl<'a> Source<'a> {
         }
     }
 
-    /// Whether asserts hold, in their order.
-    fn check_each(&self, alloc: Global, asserts: &[Assert]) -> Result<(), AsmFault>
-        ensures { Answers (λ done. done) result (asserts_hold (predefined_of self.now.predefined.now) self.now.program.now (map assert_of asserts.now)) }
+    /// Whether asserts hold, in their order, each looked for among those that are known to hold first.
+    fn check_each<'l>(
+        &self,
+        alloc: Global,
+        asserts: &'l [Assert],
+        held: &mut HeldAsserts<'l>,
+    ) -> Result<(), AsmFault>
+        requires { AreHeld (predefined_of self.now.predefined.now) self.now.program.now held.old.asserts.items }
+        ensures { Answers (λ done. done) result (asserts_hold (predefined_of self.now.predefined.now) self.now.program.now (map assert_of asserts.entry.now)) }
     {
-        let mut held = HeldAsserts::new(alloc);
         for assert in asserts {
-            self.check_assert_at(alloc, assert, &mut held)?;
+            self.check_assert_at(alloc, assert, held)?;
         }
         Ok(())
     }
@@ -171,6 +176,7 @@ impl<'a> Source<'a> {
     pub fn check_asserts(&self, alloc: Global) -> Result<(), AsmFault>
         ensures { Answers (λ done. done) result (asserts_hold (predefined_of self.now.predefined.now) self.now.program.now self.now.program.now.asserts) }
     {
-        self.check_each(alloc, self.program.asserts())
+        let mut held = HeldAsserts::new(alloc);
+        self.check_each(alloc, self.program.asserts(), &mut held)
     }
 }

@@ -202,20 +202,26 @@ impl<'a> Source<'a> {
         }
     }
 
-    /// The cells of the instructions among lines, or the first fault.
-    fn cells_of(&self, alloc: Global, core_size: u32, lines: &[Line]) -> Result<Vec<Cell>, AsmFault>
+    /// The cells of the instructions among lines, each looked for among those that are known first, or the first fault.
+    fn cells_among<'l>(
+        &self,
+        alloc: Global,
+        core_size: u32,
+        lines: &'l [Line],
+        known: &mut FixedCells<'l>,
+    ) -> Result<Vec<Cell>, AsmFault>
         requires core { 0 < core_size }
         requires few { length lines.now ≤ limit }
-        ensures value { Answers (λ cells. cells.items) result (cells_among (predefined_of self.now.predefined.now) core_size self.now.program.now 0 (map line_of lines.now)) }
+        requires known { AreFixed (predefined_of self.now.predefined.now) core_size self.now.program.now known.old.cells.items }
+        ensures value { Answers (λ cells. cells.items) result (cells_among (predefined_of self.now.predefined.now) core_size self.now.program.now 0 (map line_of lines.entry.now)) }
         ensures fits { IfOk result (λ cells. All (FitsCore core_size) cells.items) }
         ensures few { IfOk result (λ cells. vec_len cells ≤ limit) }
     {
         let mut cells = Vec::new(alloc);
-        let mut known = FixedCells::new(alloc);
         let mut index = 0;
         for line in lines {
             if self.is_instruction(line) {
-                let cell = self.cell_at(alloc, core_size, Place { index, line }, &mut known)?;
+                let cell = self.cell_at(alloc, core_size, Place { index, line }, known)?;
                 let Ok(()) = cells.push(cell) else {
                     return Err(AsmFault::out_of_memory());
                 };
@@ -233,6 +239,7 @@ impl<'a> Source<'a> {
         ensures few { IfOk result (λ cells. vec_len cells ≤ limit) }
         ensures each { IfOk result (λ cells. vec_len cells ≡ length (instructions self.now.program.now)) }
     {
-        self.cells_of(alloc, core_size, self.program.lines())
+        let mut known = FixedCells::new(alloc);
+        self.cells_among(alloc, core_size, self.program.lines(), &mut known)
     }
 }

@@ -1,8 +1,9 @@
 //! Score formulas.
-ghost use Rattle.std.specs.Prelude.{◌≡◌};
+ghost use Rattle.std.specs.Prelude.{◌≡◌, Ok, Err, MatchResult};
 ghost use Rattle.redcode_text.specs.Expression.{kinds};
+ghost use Rattle.redcode_text.specs.Views.{scan_of};
 ghost use Rattle.std.specs.List.{list_all};
-ghost use Rattle.redcode_asm.specs.Formula.{Checks, formula_of, is_variable, may_occur, score_of, variable_value};
+ghost use Rattle.redcode_asm.specs.Formula.{Checks, checked_formula, formula_of, is_variable, may_occur, score_of, variable_value};
 
 use crate::fault::FormulaFault;
 use redcode_text::{
@@ -84,6 +85,18 @@ fn are_variables(names: &NameTable, tokens: &[Token]) -> bool
     true
 }
 
+/// Whether tokens are an expression in W and S, or the first fault: the shape before a name that is neither.
+fn check_formula(line: &LineTokens) -> Result<(), ExprFault>
+    ensures { let f = scan_of line.now.tokens line.now.names in
+        MatchResult result (λ _. checked_formula f ≡ Ok f) (λ fault. checked_formula f ≡ Err fault) }
+{
+    check_shape(&line.tokens)?;
+    if !are_variables(&line.names, &line.tokens) {
+        return Err(ExprFault::Unknown);
+    }
+    Ok(())
+}
+
 impl Formula {
     /// The formula of a text of at most 256 bytes, or its first fault: a text that is too long, or isn't tokens alone, is
     /// no expression (Syntax); then comes the fault of the shape, then a name other than W and S (Unknown).
@@ -102,13 +115,10 @@ impl Formula {
                 });
             }
         };
-        if let Err(fault) = check_shape(&line.tokens) {
-            return Err(FormulaFault::Expression(fault));
+        match check_formula(&line) {
+            Ok(()) => Ok(Formula { line }),
+            Err(fault) => Err(FormulaFault::Expression(fault)),
         }
-        if !are_variables(&line.names, &line.tokens) {
-            return Err(FormulaFault::Expression(ExprFault::Unknown));
-        }
-        Ok(Formula { line })
     }
 
     /// The value for so many warriors and survivors, or DivideByZero or Range. It takes no memory.

@@ -4,7 +4,7 @@ use Rattle.mars_cell.specs.Cells.{FitsCore}
 use Rattle.redcode_text.specs.Views.{line_of, predefined_of}
 use Rattle.redcode_asm.specs.Code.Fixed.{AreFixed}
 use Rattle.redcode_asm.specs.Code.Sources.{behind_cells, cells_among}
-use Rattle.redcode_asm.proofs.sources.Source.cells_of.Given as goal
+use Rattle.redcode_asm.proofs.sources.Source.cells_among.Given as goal
 
 abbrev pub invariant-loop-line : goal.invariant-loop-line
 invariant-loop-line l = record {

@@ -1,8 +1,8 @@
 use Rattle.std.proofs.Common.{◌∙◌, rules, sym}
 use Rattle.redcode_text.specs.Views.{predefined_of}
 use Rattle.redcode_asm.proofs.Everywhere.{cell-more, cell-other, fit-more}
-use Rattle.redcode_asm.proofs.sources.Source.cells_of.Goals as goal
-use Rattle.redcode_asm.proofs.sources.Source.cells_of.Goals.{then-is_instruction+in_ok-cell+in-Ok, else-is_instruction}
+use Rattle.redcode_asm.proofs.sources.Source.cells_among.Goals as goal
+use Rattle.redcode_asm.proofs.sources.Source.cells_among.Goals.{then-is_instruction+in_ok-cell+in-Ok, else-is_instruction}
 
 pub loop-line-preserved : goal.loop-line-preserved
 loop-line-preserved c =
