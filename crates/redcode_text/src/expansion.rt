@@ -54,8 +54,13 @@ fn read_from_rows(
     let Ok(mut reading) = Reading::new(alloc, source) else {
         return Err(TextProblem::OutOfMemory.at_line(0));
     };
-    read_all(alloc, names, rows, &mut reading)?;
-    Ok(reading)
+    match read_all(alloc, names, rows, &mut reading) {
+        Ok(()) => Ok(reading),
+        Err(fault) => {
+            drop(reading);
+            Err(fault)
+        }
+    }
 }
 
 /// Reads a source.

@@ -47,18 +47,19 @@ impl Reading {
         !(self.is_label(name) || self.is_predefined(names, name) || labels.contains(name))
     }
 
-    /// The parts of a line.
-    pub fn parts_of(
+    /// The parts of a line, whose labels are put into this empty set too.
+    fn parts_with(
         &self,
         alloc: Global,
         names: &Names,
         tokens: &[Token],
+        known: &mut NameSet,
     ) -> Result<Parts, TextProblem>
+        requires { known.old ≡ [] }
         ensures value { Gives (parts_at tokens.now) result (parts_of (predefined_of names.now) (reading_of self.now) tokens.now) }
         ensures within { IfOk result (λ parts. (parts.labels_end ≤ length tokens.now) × (parts.rest_at ≤ length tokens.now)) }
     {
         let mut labels = Vec::new(alloc);
-        let mut known = NameSet::new(alloc);
         let mut at = 0;
         while at < tokens.len() {
             let TokenKind::Name(name) = tokens[at].kind else {
@@ -77,7 +78,7 @@ impl Reading {
                     rest_at: at + 1,
                 });
             }
-            if !self.may_label(names, &known, name) {
+            if !self.may_label(names, known, name) {
                 return Err(TextProblem::Duplicate);
             }
             let Ok(()) = labels.push(name) else {
@@ -94,6 +95,20 @@ impl Reading {
             operation: None,
             rest_at: at,
         })
+    }
+
+    /// The parts of a line.
+    pub fn parts_of(
+        &self,
+        alloc: Global,
+        names: &Names,
+        tokens: &[Token],
+    ) -> Result<Parts, TextProblem>
+        ensures value { Gives (parts_at tokens.now) result (parts_of (predefined_of names.now) (reading_of self.now) tokens.now) }
+        ensures within { IfOk result (λ parts. (parts.labels_end ≤ length tokens.now) × (parts.rest_at ≤ length tokens.now)) }
+    {
+        let mut known = NameSet::new(alloc);
+        self.parts_with(alloc, names, tokens, &mut known)
     }
 }
 

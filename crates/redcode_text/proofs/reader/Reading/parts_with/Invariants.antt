@@ -3,7 +3,7 @@ use Rattle.redcode_text.specs.Views.{predefined_of}
 use Rattle.redcode_text.specs.Code.Readings.{reading_of}
 use Rattle.redcode_text.specs.Code.Labels.{HasSame}
 use Rattle.redcode_text.specs.Lines.{parts_of, parts_within}
-use Rattle.redcode_text.proofs.reader.Reading.parts_of.Given as goal
+use Rattle.redcode_text.proofs.reader.Reading.parts_with.Given as goal
 
 abbrev pub invariant-loop-at : goal.invariant-loop-at
 invariant-loop-at l = record {

@@ -4,7 +4,7 @@ use Rattle.redcode_text.specs.Views.{predefined_of}
 use Rattle.redcode_text.specs.Code.Readings.{reading_of}
 use Rattle.redcode_text.proofs.NameSets.{may-label, name-more}
 use Rattle.redcode_text.proofs.PartSteps.{operation-at, duplicate-at, other-at, end-at, label-at}
-use Rattle.redcode_text.proofs.reader.Reading.parts_of.Goals as goal
+use Rattle.redcode_text.proofs.reader.Reading.parts_with.Goals as goal
 
 pub returns-in_default : goal.returns-in_default
 returns-in_default c =
