@@ -7,3 +7,4 @@ pub mod Allowed
 pub mod Blames
 pub mod Words
 pub mod WordTables
+pub mod Plans

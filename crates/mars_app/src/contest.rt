@@ -8,6 +8,7 @@ ghost use Rattle.mars_match.specs.Results.{results_text};
 ghost use Rattle.mars_match.specs.Tables.{RowValue};
 ghost use Rattle.mars_match.specs.declared.table.Table.{Table};
 ghost use Rattle.mars_match.specs.Writing.{CutShort};
+ghost use Rattle.mars_app.specs.Code.Plans.{planned};
 ghost use Rattle.mars_app.specs.Contests.{BreaksOff, ContestFails, contest, fault_of, listed, listing, listing_from, listing_head};
 ghost use Rattle.mars_app.specs.Loading.{AllFit, FitsTwo};
 ghost use Rattle.mars_core.specs.Limits.{most_warriors};
@@ -41,39 +42,66 @@ pub fn run_contest<W: Write>(
         × Appends (W.contents output.old) (W.contents output.new) (listing params.now.core_size options.now.brief warriors.now ++ results_text rows options.now.sorted)) }
     ensures err { IfErr result (λ fault. ContestFails fault (contest options.now params.now formula warriors.now) options.now.sorted (W.contents output.old) (W.contents output.new) (listing params.now.core_size options.now.brief warriors.now)) }
 {
-    write_listing(alloc, options.brief, warriors, params.core_size(), output)?;
-    let table = match hold_contest(alloc, options, formula, params, warriors) {
-        Ok(table) => table,
-        Err(fault) => return Err(match_fault(fault)),
-    };
-    match write_results(&table, options.sorted, output) {
-        Ok(()) => Ok(()),
-        Err(_) => Err(RunFault::Output),
-    }
-}
-
-/// Fights the match or the league.
-fn hold_contest(
-    alloc: Global,
-    options: &Options,
-    formula: Formula,
-    params: &Params,
-    warriors: &[Warrior],
-) -> Result<Table, MatchFault>
-    requires few { length warriors.now ≤ most_warriors }
-    requires position { FitsTwo params.now (length warriors.now) options.now.fixed }
-    ensures { IsAnswer (λ (table : Table). table.rows.items) (contest options.now params.now formula warriors.now) result }
-{
     let plan = Plan {
         rounds: options.rounds,
         seed: options.seed,
         fixed: options.fixed,
         formula,
     };
-    if options.league {
-        league(alloc, params, warriors, &plan)
+    run_planned(alloc, options, &plan, params, warriors, output)
+}
+
+/// Writes the listing, fights by the plan, and writes the results.
+fn run_planned<W: Write>(
+    alloc: Global,
+    options: &Options,
+    plan: &Plan,
+    params: &Params,
+    warriors: &[Warrior],
+    output: &mut W,
+) -> Result<(), RunFault>
+    requires fit { AllFit params.now.core_size warriors.now }
+    requires few { length warriors.now ≤ most_warriors }
+    requires position { FitsTwo params.now (length warriors.now) plan.now.fixed }
+    ensures ok { OnOk result ((rows : List RowValue)
+        × (planned options.now.league plan.now params.now warriors.now ≡ Ok rows)
+        × Appends (W.contents output.old) (W.contents output.new) (listing params.now.core_size options.now.brief warriors.now ++ results_text rows options.now.sorted)) }
+    ensures err { IfErr result (λ fault. ContestFails fault (planned options.now.league plan.now params.now warriors.now) options.now.sorted (W.contents output.old) (W.contents output.new) (listing params.now.core_size options.now.brief warriors.now)) }
+{
+    write_listing(alloc, options.brief, warriors, params.core_size(), output)?;
+    match hold_contest(alloc, options.league, plan, params, warriors) {
+        Ok(table) => write_table(&table, options.sorted, output),
+        Err(fault) => Err(match_fault(fault)),
+    }
+}
+
+/// Fights the match or the league.
+fn hold_contest(
+    alloc: Global,
+    is_league: bool,
+    plan: &Plan,
+    params: &Params,
+    warriors: &[Warrior],
+) -> Result<Table, MatchFault>
+    requires few { length warriors.now ≤ most_warriors }
+    requires position { FitsTwo params.now (length warriors.now) plan.now.fixed }
+    ensures { IsAnswer (λ (table : Table). table.rows.items) (planned is_league plan.now params.now warriors.now) result }
+{
+    if is_league {
+        league(alloc, params, warriors, plan)
     } else {
-        rounds(alloc, params, warriors, &plan)
+        rounds(alloc, params, warriors, plan)
+    }
+}
+
+/// Writes the results.
+fn write_table<W: Write>(table: &Table, sorted: bool, output: &mut W) -> Result<(), RunFault>
+    ensures ok { OnOk result (Appends (W.contents output.old) (W.contents output.new) (results_text table.now.rows.items sorted)) }
+    ensures err { IfErr result (λ fault. (fault ≡ RunFault.Output) × CutShort (W.contents output.old) (W.contents output.new) (results_text table.now.rows.items sorted)) }
+{
+    match write_results(table, sorted, output) {
+        Ok(()) => Ok(()),
+        Err(_) => Err(RunFault::Output),
     }
 }
 

@@ -3,7 +3,7 @@ ghost use Rattle.std.specs.Prelude.{◌≡◌, All, IfErr, IfOk, Some, length, m
 ghost use Rattle.mars_cell.specs.Cells.{FitsCore};
 ghost use Rattle.mars_app.specs.Code.Blames.{IsAssemblyFault, IsLoadFault};
 ghost use Rattle.mars_app.specs.Faults.{FailsToLoad, FirstFails, IsFaultOfFile, IsUnreadFile};
-ghost use Rattle.mars_app.specs.Loading.{AllFit, AreLoaded, IsLoadFileOf, IsRead, is_load_file, shown_name, warrior_of_file};
+ghost use Rattle.mars_app.specs.Loading.{AllFit, AreLoaded, IsLoadFileOf, IsRead, is_load_file, shown_character, shown_name, warrior_of_file};
 
 use crate::fault::RunFault;
 use crate::files::{FileFault, WarriorFiles};
@@ -100,13 +100,20 @@ fn shown_name(alloc: Global, name: &str) -> Result<String, AllocError>
 {
     let mut shown = String::new(alloc);
     for character in name.chars() {
-        shown.push(if character.is_ascii_control() {
-            '?'
-        } else {
-            character
-        })?;
+        shown.push(shown_character(character))?;
     }
     Ok(shown)
+}
+
+/// A character of a name as a fault shows it.
+fn shown_character(character: char) -> char
+    ensures { result ≡ shown_character character }
+{
+    if character.is_ascii_control() {
+        '?'
+    } else {
+        character
+    }
 }
 
 fn is_load_file(name: &str) -> bool
