@@ -1,7 +1,8 @@
 -- What is asked for, put together.
-use Rattle.std.proofs.Common.{◌≡◌, ◌∙◌, ℕ, List, [], ◌∷◌, map, Option, Result, String, Err, inl, inr, false, subst, sym}
+use Rattle.std.proofs.Common.{◌≡◌, ◌∙◌, ℕ, List, [], ◌∷◌, map, Option, Result, String, Err, IfErr, OnOk, inl, inr, false, subst, sym}
 use Rattle.std.proofs.KnownBytes.{Keeps-refl}
 use Rattle.std.proofs.lemmas.List.{append-nil}
+use Rattle.std.proofs.lemmas.Result.{IfErr-weaker, on_ok_weaker}
 use Rattle.std.specs.Io.KnownBytes.{Appends}
 use Rattle.std.specs.List.{flat_map}
 use Rattle.std.specs.Global.{Global}
@@ -67,3 +68,19 @@ module _ (words : List (List ℕ)) (known : List ℕ → Option (List ℕ)) (inp
     pub plays_in_part : (f : RunFault) → PlaysInPart asked.options asked.parameters asked.formula asked.warriors input left v w f → RunFails words known input left v w f
     plays_in_part f (inl (debugger, part)) = not_debugged asked load debugger part
     plays_in_part f (inr (debugger, part)) = not_contested asked load debugger part
+
+-- ---- what is played where words asked for it, whatever they are
+
+module _ (known : List ℕ → Option (List ℕ)) (o : Options) (settings : Settings) (ws : List WarriorValue) (files : List (String Global)) (count : ℕ)
+    (are : AreSettingsOf o settings) (files_are : files ≡ o.files.items) (count_is : count ≡ contest_size o)
+    (loaded : AreLoaded known settings.params o.rounds count (map (λ s. string_bytes s) files) ws) (load : o.load ≡ false)
+    {T : Type 0} (r : Result T RunFault) (input left v w : Option (List ℕ)) where
+  pub all_play_well : OnOk r (PlaysWell o settings.params settings.formula ws input left v w)
+      → OnOk r ((words : List (List ℕ)) → Ask words (value_of o) → RunsWell words known input left v w)
+  all_play_well played = on_ok_weaker r (λ well words said.
+      plays_well words known input left v w (asked_for words known o settings ws files count said are files_are count_is loaded) load well) played
+
+  pub all_play_in_part : IfErr r (PlaysInPart o settings.params settings.formula ws input left v w)
+      → IfErr r (λ f. (words : List (List ℕ)) → Ask words (value_of o) → RunFails words known input left v w f)
+  all_play_in_part played = IfErr-weaker r _ _ (λ f part words said.
+      plays_in_part words known input left v w (asked_for words known o settings ws files count said are files_are count_is loaded) load f part) played

@@ -6,7 +6,7 @@ use Rattle.mars_app.specs.Faults.{FailsToLoad, FirstFails}
 use Rattle.mars_app.specs.Faults.RunFails.{not_loaded, not_written}
 use Rattle.mars_app.specs.Loading.{IsLoaded}
 use Rattle.mars_app.specs.Runs.RunsWell.{written}
-use Rattle.mars_app.proofs.Asking.{appended_alone, asked_for, cut_alone, plays_in_part, plays_well, settings_refused}
+use Rattle.mars_app.proofs.Asking.{all_play_in_part, all_play_well, appended_alone, asked_for, cut_alone, settings_refused}
 use Rattle.mars_app.proofs.Loaded.{alone_fails, loaded_alone}
 use Rattle.mars_app.proofs.run.run_options.Goals as goal
 
@@ -26,11 +26,8 @@ returns-then-options-clause-ok g c =
 
 pub returns-clause-ok : goal.returns-clause-ok
 returns-clause-ok g c =
-    let played = rw c.deref.ensures.value at c.play.ensures.ok in
-    on_ok_weaker c.play.result (λ w words said.
-    let asked = asked_for words (g.F.WarriorFiles.known c.args.files.now) c.args.options.now c.in_ok-settings.settings c.in_ok-warriors.warriors.items _ _
-    said c.in_ok-settings.ensures.ok c.as_slice.ensures.value c.contest_size.ensures c.in_ok-warriors.ensures.loaded in
-    plays_well _ _ _ _ _ _ asked c.if-options.false w) played
+    all_play_well (g.F.WarriorFiles.known c.args.files.now) c.args.options.now c.in_ok-settings.settings c.in_ok-warriors.warriors.items _ _
+    c.in_ok-settings.ensures.ok c.as_slice.ensures.value c.contest_size.ensures c.in_ok-warriors.ensures.loaded c.if-options.false c.play.result _ _ _ _ (rw c.deref.ensures.value at c.play.ensures.ok)
 
 -- ---- runs that fail
 
@@ -71,8 +68,5 @@ returns-in_err-warriors-clause-err g c =
 
 pub returns-clause-err : goal.returns-clause-err
 returns-clause-err g c =
-    let played = rw c.deref.ensures.value at c.play.ensures.err in
-    IfErr-weaker c.play.result _ _ (λ f h words said.
-    let asked = asked_for words (g.F.WarriorFiles.known c.args.files.now) c.args.options.now c.in_ok-settings.settings c.in_ok-warriors.warriors.items _ _
-    said c.in_ok-settings.ensures.ok c.as_slice.ensures.value c.contest_size.ensures c.in_ok-warriors.ensures.loaded in
-    plays_in_part _ _ _ _ _ _ asked c.if-options.false f h) played
+    all_play_in_part (g.F.WarriorFiles.known c.args.files.now) c.args.options.now c.in_ok-settings.settings c.in_ok-warriors.warriors.items _ _
+    c.in_ok-settings.ensures.ok c.as_slice.ensures.value c.contest_size.ensures c.in_ok-warriors.ensures.loaded c.if-options.false c.play.result _ _ _ _ (rw c.deref.ensures.value at c.play.ensures.err)
