@@ -57,6 +57,7 @@ fn read_from_rows(
     match read_all(alloc, names, rows, &mut reading) {
         Ok(()) => Ok(reading),
         Err(fault) => {
+            // by one call, since the drop of each field in this body is dear to prove
             drop(reading);
             Err(fault)
         }
