@@ -7,3 +7,4 @@ pub mod Counts
 pub mod Scores
 pub mod Everywhere
 pub mod Alike
+pub mod Words

@@ -9,23 +9,25 @@ use mars_cell::{Cell, Modifier, Op, default_modifier, read_modifier, read_op};
 use redcode_text::{Env, NameTable, Sign, Token, TokenKind};
 
 /// The opcode of an operation, by its index among the names.
+#[tactic(auto, using(crate::proofs::Words::opcode_short))]
 pub fn read_opcode(names: &NameTable, operation: Option<usize>) -> Result<Op, AsmProblem>
     ensures { result ≡ opcode_of names.now operation }
 {
     let Some(index) = operation else {
         return Err(AsmProblem::Operation);
     };
-    read_op(names.bytes_of(index)).ok_or(AsmProblem::Operation)
+    read_op(names.word(index)).ok_or(AsmProblem::Operation)
 }
 
 /// The modifier behind the `.`.
+#[tactic(auto, using(crate::proofs::Words::modifier_short))]
 fn modifier_of(names: &NameTable, kind: TokenKind) -> Result<Modifier, AsmProblem>
     ensures { result ≡ modifier_in names.now kind }
 {
     let TokenKind::Name(index) = kind else {
         return Err(AsmProblem::Operation);
     };
-    read_modifier(names.bytes_of(index)).ok_or(AsmProblem::Operation)
+    read_modifier(names.word(index)).ok_or(AsmProblem::Operation)
 }
 
 /// The modifier that stands first behind an opcode, or none, and what follows.

@@ -26,7 +26,7 @@ pub struct Source<'a> {
 fn known_value(predefined: &Names, names: &NameTable, current_line: u32, name: usize) -> Option<i64>
     ensures { result ≡ predefined_value (with_current_line (predefined_of predefined.now) current_line) (name_at names.now name) }
 {
-    predefined.value_at(current_line, names.bytes_of(name))
+    predefined.value_at(current_line, names.word(name))
 }
 
 /// What names stand for in an instruction, an ORG or an END behind so many instructions: labels count from an index on.
@@ -107,7 +107,7 @@ impl<'a> Env for FixedNames<'a> {
 
     fn value(&self, name: usize) -> Option<i64> {
         let names = self.source.program.names();
-        if is_current_line(names.bytes_of(name)) {
+        if is_current_line(names.word(name)) {
             return None;
         }
         match self.source.labels.index_of(name) {

@@ -1,4 +1,4 @@
--- What the crates above may cite of values, replacements and the spelling of trees, whose definitions they don't see into.
+-- What the crates above may cite of values, replacements, the spelling of trees and the words that a name may be, whose definitions they don't see into.
 use Rattle.std.specs.Bool.{⊤}
 use Rattle.std.proofs.lemmas.List.{length-map, map-append}
 use Rattle.std.proofs.Common.{◌≡◌, ◌∙◌, ℕ, zero, suc, ◌+◌, ℤ, pos, List, [], ◌∷◌, ◌++◌, length, Bool, true, false, nat_le, Option, Some, None, Result, Ok, Err, refl, ap, sym, subst, arith}
@@ -19,6 +19,7 @@ use Rattle.redcode_text.proofs.Evaluates.{evaluates, value_of-misshapen}
 pub use Rattle.redcode_text.proofs.Trees.{spelling, is_prefix, IsLevelled, rank-≤5}
 pub use Rattle.redcode_text.proofs.Shapes.{shaped}
 pub use Rattle.redcode_text.proofs.Splits.{tree-spelled}
+pub use Rattle.redcode_text.proofs.ShortWords.{has_word_length, find-same, name-same, predefined-same, spelled-same, word-same}
 
 -- where the first is a value, the second is it
 abbrev pub Follows : {A E : Type 0} → Result A E → Result A E → Type 0

@@ -12,6 +12,7 @@ pub mod Linking
 pub mod Running
 pub mod WordSteps
 pub mod NameSteps
+pub mod ShortWords
 pub mod Digits
 pub mod Joins
 pub mod Failing
@@ -36,3 +37,4 @@ pub mod LoneSteps
 pub mod SourceRows
 pub mod Printing
 pub mod NameSets
+pub mod NameParts

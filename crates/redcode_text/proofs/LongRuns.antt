@@ -1,5 +1,5 @@
 -- Long runs of blanks, and long words.
-use Rattle.std.proofs.Common.{◌≡◌, ◌∙◌, ℕ, zero, suc, ◌+◌, ◌-◌, ◌<◌, ◌≤◌, ◌⊎◌, inl, inr, List, [], ◌∷◌, ◌++◌, length, length-append, drop, take, get_or, ap, sym, refl, arith, Bool, true, false, ◌&&◌, ◌||◌, ◌==◌, ◌*◌, nat_le, length-drop}
+use Rattle.std.proofs.Common.{cond, not, ◌≡◌, ◌∙◌, ℕ, zero, suc, ◌+◌, ◌-◌, ◌<◌, ◌≤◌, ◌⊎◌, inl, inr, List, [], ◌∷◌, ◌++◌, length, length-append, drop, take, get_or, ap, sym, refl, arith, Bool, true, false, ◌&&◌, ◌||◌, ◌==◌, ◌*◌, nat_le, length-drop}
 use Rattle.std.proofs.lemmas.List.{get_or-drop, get_or-take, length-take-le, take_rest}
 use Rattle.std.proofs.lemmas.List.Sums.{prefix_len_passes}
 use Rattle.std.proofs.lemmas.Bool.{cases_lt, eqb-true}
@@ -129,6 +129,14 @@ all-behind p (suc n) (b ∷ bs) within each =
 
 plain-joins : (b : ℕ) → is_word_byte b ≡ true → (b == 38) ≡ false
 plain-joins b e = grind (arith, nat_tests, e)
+
+-- the part before a join goes on behind letters, digits and `_`
+pub part-behind : (n : ℕ) (bs : List ℕ) → n ≤ length bs → ArePlain n bs → prefix_len (λ b. not (b == 38)) bs ≡ n + prefix_len (λ b. not (b == 38)) (drop n bs)
+part-behind zero bs within plain = omega arith
+part-behind (suc n) [] within plain = absurd (omega (arith, within))
+part-behind (suc n) (b ∷ bs) within plain =
+    let rest = part-behind n bs (omega (arith, within)) (λ i less. plain (suc i) (omega (arith, less))) in
+    ap (λ t. cond (not t) (1 + prefix_len (λ c. not (c == 38)) bs) 0) (plain-joins b (plain 0 (omega arith))) ∙ omega (arith, rest)
 
 -- a join stands behind letters, digits and `_` only
 pub joins-behind : (n : ℕ) (bs : List ℕ) → n ≤ length bs → ArePlain n bs → list_any (λ b. b == 38) bs ≡ list_any (λ b. b == 38) (drop n bs)

@@ -43,7 +43,7 @@ position-some p keys i e = chosen _ _ e
     chosen true n e = cc
     chosen false n e = cc
 
-same-itself : (q : List ℕ) → bytes_eq q q ≡ true
+pub same-itself : (q : List ℕ) → bytes_eq q q ≡ true
 same-itself q = (bytes_eq-Decides q q).1 refl
 
 other-way : (p q : List ℕ) → bytes_eq p q ≡ false → bytes_eq q p ≡ false

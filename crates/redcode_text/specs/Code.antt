@@ -14,3 +14,4 @@ pub mod Comments
 pub mod Used
 pub mod Heads
 pub mod Loops
+pub mod Parts

@@ -1,14 +1,19 @@
 //! The names of a text.
-ghost use Rattle.std.specs.Prelude.{◌≡◌, length, [], IfOk, IfSome, OnOk, IsAscii, slice_get, option_map};
-ghost use Rattle.redcode_text.specs.Lines.{name_at};
+ghost use Rattle.std.specs.Prelude.{◌≡◌, ◌≤◌, ◌<◌, ◌++◌, length, map, string_bytes, [], IfOk, OnOk, IsAscii};
+ghost use Rattle.std.specs.Str.{str_eq_ignore_ascii_case};
+ghost use Rattle.redcode_text.specs.Code.Parts.{AllParts, AreParts, HasParts, IsFrontOf, front_len, name_of, parts_of};
+ghost use Rattle.redcode_text.specs.Lines.{name_at, word_at};
 ghost use Rattle.redcode_text.specs.Tokens.{name_index, with_name};
 
 pub mod equates;
 pub mod predefined;
 pub mod set;
+mod texts;
 pub mod values;
 
-use indexmap::{IndexMap, IndexSet};
+use crate::characters::is_word;
+use crate::names::texts::Texts;
+use indexmap::IndexSet;
 use std::alloc::{AllocError, Global};
 use std::hash::{BuildHasher, DefaultHasher, Hasher};
 use std::marker::Model;
@@ -39,23 +44,82 @@ impl BuildHasher for Seed {
     }
 }
 
-/// How long a name is for which the place in the text is kept where it stands.
+/// So many bytes are long: where a name has as many, it is kept in two parts, and a text of them is guessed by its place.
 const LONG: usize = 256;
 
+/// How many bytes of a name are its first part: a long one is parted before the digits at its end, where its joins are.
+fn front_len(name: &[u8]) -> usize
+    ensures value { result ≡ front_len name.now }
+    ensures within { result ≤ length name.now }
+{
+    let mut len = name.len();
+    if len < LONG {
+        return len;
+    }
+    while len > 0 && name[len - 1].is_ascii_digit() {
+        len -= 1;
+    }
+    len
+}
+
+/// The two parts of a name, by their indices among the texts.
+type Parts = (usize, usize);
+
+/// The parts of a name that stands at a place of the source; those that are new are added.
+fn parts_at(
+    alloc: Global,
+    texts: &mut Texts,
+    name: &[u8],
+    place: usize,
+) -> Result<Parts, AllocError>
+    requires ascii { IsAscii name.now }
+    ensures parts { IfOk result (λ parts. parts ≡ parts_of texts.new name.now) }
+    ensures there { OnOk result (HasParts texts.new name.now) }
+    ensures grown { IsFrontOf texts.old texts.new }
+{
+    let len = front_len(name);
+    let first = texts.index_at(alloc, &name[..len], place)?;
+    let digits = &name[len..];
+    let second = texts.index_at(alloc, digits, place.saturating_add(len))?;
+    Ok((first, second))
+}
+
+/// The index of the name that these parts make, which is added where it is new.
+fn index_among(
+    texts: &Texts,
+    names: &mut IndexSet<Parts, Seed>,
+    parts: Parts,
+) -> Result<usize, AllocError>
+    requires made { AllParts texts.now names.old.keys }
+    requires parts { AreParts texts.now parts }
+    ensures index { IfOk result (λ n. n ≡ name_index (map (name_of texts.now) names.old.keys) (name_of texts.now parts)) }
+    ensures names { OnOk result (map (name_of texts.now) names.new.keys ≡ with_name (map (name_of texts.now) names.old.keys) (name_of texts.now parts)) }
+    ensures made { AllParts texts.now names.new.keys }
+{
+    match names.insert_full(parts) {
+        Ok((index, _)) => Ok(index),
+        Err(_) => Err(AllocError),
+    }
+}
+
 /// Names, in the order of their first use.
+///
+/// The names that a loop makes of a long one by its joins differ in the digits at their ends alone, so what stands before
+/// those is kept once.
 #[derive(Drop)]
 pub struct NameTable {
-    names: IndexSet<String, Seed>,
-    /// The indices of the long names, by the places in the text where they stand: guesses, which are tested.
-    guesses: IndexMap<usize, usize>,
+    texts: Texts,
+    names: IndexSet<Parts, Seed>,
+    ghost made: { AllParts texts names.keys },
 }
 
 impl Model for NameTable {
-    ghost use Rattle.std.specs.Prelude.{List, ℕ, map, string_bytes};
+    ghost use Rattle.std.specs.Prelude.{List, ℕ, map};
+    ghost use Rattle.redcode_text.specs.Code.Parts.{name_of};
 
     ghost Value = { List (List ℕ) };
 
-    ghost view = { λ t. map (λ s. string_bytes s) t.names.keys };
+    ghost view = { λ t. map (name_of t.texts) t.names.keys };
 }
 
 impl NameTable {
@@ -63,14 +127,14 @@ impl NameTable {
     pub(crate) fn new(alloc: Global, text: &[u8]) -> Self
         ensures { result ≡ [] }
     {
+        let seed = Seed::new(text);
         NameTable {
-            names: IndexSet::with_hasher(alloc, Seed::new(text)),
-            guesses: IndexMap::new(alloc),
+            texts: Texts::new(alloc, seed),
+            names: IndexSet::with_hasher(alloc, seed),
         }
     }
 
-    /// The index of a name that stands at a place of the text; it is added where it is new. A long one is compared with the
-    /// name that was found at its place before, so that it isn't hashed in each round of its loop.
+    /// The index of a name that stands at a place of the text; it is added where it is new.
     pub(crate) fn index_at(
         &mut self,
         alloc: Global,
@@ -81,43 +145,8 @@ impl NameTable {
         ensures index { IfOk result (λ n. n ≡ name_index self.old name.now) }
         ensures names { OnOk result (self.new ≡ with_name self.old name.now) }
     {
-        if name.len() < LONG {
-            return self.index_of(alloc, name);
-        }
-        if let Some(index) = self.guess(name, place) {
-            return Ok(index);
-        }
-        let index = self.index_of(alloc, name)?;
-        self.guesses.insert(place, index)?;
-        Ok(index)
-    }
-
-    /// The index of a name, if it is the name that was found at a place of the text before.
-    fn guess(&self, name: &[u8], place: usize) -> Option<usize>
-        ensures index { IfSome result (λ n. n ≡ name_index self.now name.now) }
-        ensures there { IfSome result (λ _. with_name self.now name.now ≡ self.now) }
-    {
-        let index = *self.guesses.get(&place)?;
-        if index >= self.names.len() || self.bytes_of(index) != name {
-            return None;
-        }
-        Some(index)
-    }
-
-    /// The index of a name, which is added where it is new.
-    fn index_of(&mut self, alloc: Global, name: &[u8]) -> Result<usize, AllocError>
-        requires ascii { IsAscii name.now }
-        ensures index { IfOk result (λ n. n ≡ name_index self.old name.now) }
-        ensures names { OnOk result (self.new ≡ with_name self.old name.now) }
-    {
-        let Ok(name) = str::from_utf8(name) else {
-            unreachable!()
-        };
-        if let Some(index) = self.names.get_index_of(name) {
-            return Ok(index);
-        }
-        let (index, _) = self.names.insert_full(String::from_str(alloc, name)?)?;
-        Ok(index)
+        let parts = parts_at(alloc, &mut self.texts, name, place)?;
+        index_among(&self.texts, &mut self.names, parts)
     }
 
     /// How many names there are.
@@ -127,21 +156,49 @@ impl NameTable {
         self.names.len()
     }
 
-    /// The name of an index.
-    pub fn name(&self, index: usize) -> Option<&str>
-        ensures { option_map (λ name. name.now) result ≡ slice_get self.now index }
+    /// The parts of a name, by its index; both are empty where there is no such name.
+    fn parts(&self, index: usize) -> (&str, &str)
+        ensures whole { result.0.now ++ result.1.now ≡ name_at self.now index }
+        ensures short { length (name_at self.now index) < 256 → result.1.now ≡ [] }
     {
-        let name = self.names.get_index(index)?;
-        Some(name.as_str())
+        match self.names.get_index(index) {
+            Some(parts) => (self.texts.text_of(parts.0), self.texts.text_of(parts.1)),
+            None => ("", ""),
+        }
     }
 
-    /// The bytes of a name, by its index; none where there is no such name.
-    pub fn bytes_of(&self, index: usize) -> &[u8]
-        ensures { result.now ≡ name_at self.now index }
+    /// The bytes of a name of fewer than 256 bytes, by its index; none of a longer one, which is none of the words that
+    /// mean something, and none where there is no such name.
+    pub fn word(&self, index: usize) -> &[u8]
+        ensures { result.now ≡ word_at self.now index }
     {
-        match self.name(index) {
-            Some(name) => name.as_bytes(),
-            None => &[],
+        let (front, digits) = self.parts(index);
+        if front.len() + digits.len() < LONG {
+            return front.as_bytes();
         }
+        &[]
+    }
+
+    /// Whether a name, by its index, is this word in either case.
+    pub fn is_word(&self, index: usize, word: &[u8]) -> bool
+        ensures { result ≡ str_eq_ignore_ascii_case (name_at self.now index) word.now }
+    {
+        let (front, digits) = self.parts(index);
+        match word.split_at_checked(front.len()) {
+            Some((first, rest)) => {
+                is_word(front.as_bytes(), first) && is_word(digits.as_bytes(), rest)
+            }
+            None => false,
+        }
+    }
+
+    /// A name, by its index, in one piece; empty where there is no such name. Fails for want of memory alone.
+    pub fn name(&self, alloc: Global, index: usize) -> Result<String, AllocError>
+        ensures { IfOk result (λ name. string_bytes name ≡ name_at self.now index) }
+    {
+        let (front, digits) = self.parts(index);
+        let mut name = String::from_str(alloc, front)?;
+        name.push_str(digits)?;
+        Ok(name)
     }
 }

@@ -2,7 +2,6 @@
 ghost use Rattle.std.specs.Prelude.{◌≡◌};
 ghost use Rattle.redcode_text.specs.Lines.{is_end, is_instruction, is_spelled};
 
-use crate::characters::is_word;
 use crate::fault::TextFault;
 use crate::names::NameTable;
 use crate::names::equates::Equates;
@@ -145,7 +144,7 @@ pub fn is_spelled(names: &NameTable, word: &[u8], operation: Option<usize>) -> b
     ensures { result ≡ is_spelled names.now word.now operation }
 {
     match operation {
-        Some(name) => is_word(names.bytes_of(name), word),
+        Some(name) => names.is_word(name, word),
         None => false,
     }
 }

@@ -183,14 +183,14 @@ impl Reading {
     pub fn is_predefined(&self, names: &Names, name: usize) -> bool
         ensures { result ≡ is_predefined (predefined_of names.now) (reading_of self.now) name }
     {
-        names.value_at(0, self.names.bytes_of(name)).is_some()
+        names.value_at(0, self.names.word(name)).is_some()
     }
 
     /// Whether a name is an operation.
     pub fn is_operation(&self, name: usize) -> bool
         ensures { result ≡ is_operation (reading_of self.now) name }
     {
-        self.is_equate(name) || is_operation_word(self.names.bytes_of(name))
+        self.is_equate(name) || is_operation_word(self.names.word(name))
     }
 }
 

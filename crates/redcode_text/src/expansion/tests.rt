@@ -75,7 +75,7 @@ fn push_tokens(
     for token in tokens {
         match token.kind {
             TokenKind::Number(number) => push_word(text, &format!(in alloc; "{number}")?)?,
-            TokenKind::Name(name) => push_word(text, names.name(name).unwrap_or("?"))?,
+            TokenKind::Name(name) => push_word(text, &names.name(alloc, name)?)?,
             TokenKind::Sign(Sign::Comma) => push_word(text, ",")?,
             TokenKind::Sign(Sign::Plus) => push_word(text, "+")?,
             TokenKind::Sign(Sign::Dot) => push_word(text, ".")?,
@@ -91,11 +91,11 @@ fn shown(alloc: Global, names: &NameTable, line: &Line) -> Result<String, Fail> 
     let number = line.number;
     let mut text = format!(in alloc; "{number} ")?;
     for label in &line.labels {
-        push_word(&mut text, names.name(*label).unwrap_or("?"))?;
+        push_word(&mut text, &names.name(alloc, *label)?)?;
         push_word(&mut text, ":")?;
     }
     if let Some(operation) = line.operation {
-        push_word(&mut text, names.name(operation).unwrap_or("?"))?;
+        push_word(&mut text, &names.name(alloc, operation)?)?;
     }
     push_word(&mut text, "|")?;
     push_tokens(alloc, &mut text, names, &line.rest)?;
@@ -576,6 +576,66 @@ fn long_words_in_each_round(rt: HostRuntime) -> Result<(), Fail> {
     let program = expand(rt.alloc(), &source, &NAMES)?;
     check_long_words(&rt, program.lines());
     drop(program);
+    Ok(())
+}
+
+/// A label of so many letters and the digits of its round, in two rounds of a loop, and both names behind it.
+fn joined_in_loop(alloc: Global, len: usize) -> Result<Vec<u8>, Fail> {
+    let word = copies(alloc, b"x", len)?;
+    let texts: [&[u8]; 7] = [
+        b"i FOR 2
+",
+        &word,
+        b"&i NOP
+ROF
+JMP ",
+        &word,
+        b"02, ",
+        &word,
+        b"01
+",
+    ];
+    joined(alloc, &texts)
+}
+
+/// The names of the first label, of the second, of the first operand and of the last, in a source of three lines.
+fn joined_names(alloc: Global, program: &Program) -> Result<Vec<String>, Fail> {
+    let mut indices = Vec::new(alloc);
+    for line in program.lines() {
+        indices.extend_from_slice(&line.labels)?;
+        for token in &line.rest {
+            if let TokenKind::Name(name) = token.kind {
+                indices.push(name)?;
+            }
+        }
+    }
+    let mut names = Vec::new(alloc);
+    for index in &indices {
+        names.push(program.names().name(alloc, *index)?)?;
+    }
+    Ok(names)
+}
+
+fn check_joined_names(rt: &impl Abort, alloc: Global, len: usize) -> Result<(), Fail> {
+    let program = expand(alloc, &joined_in_loop(alloc, len)?, &NAMES)?;
+    let names = joined_names(alloc, &program);
+    drop(program);
+    let names = names?;
+    assert_eq!(rt; names.len(), 4);
+    let word = copies(alloc, b"x", len)?;
+    let digits: [&[u8]; 4] = [b"01", b"02", b"02", b"01"];
+    for index in 0..4 {
+        let name = joined(alloc, &[&word, digits[index]])?;
+        assert_eq!(rt; names[index].as_bytes(), name.as_slice());
+    }
+    Ok(())
+}
+
+#[test]
+fn joined_names_of_any_length(rt: HostRuntime) -> Result<(), Fail> {
+    for len in [1, 253, 254, 255, 256, 300] {
+        check_joined_names(&rt, rt.alloc(), len)?;
+    }
     Ok(())
 }
 

@@ -64,7 +64,7 @@ fn read_inside(alloc: Global, text: &[u8]) -> Result<(Option<TokenKind>, String)
     let loops = open_loops(alloc)?;
     let mut names = NameTable::new(alloc, text);
     let kind = first_within(alloc, &loops, text, &mut names);
-    let name = String::from_str(alloc, names.name(0).unwrap_or(""));
+    let name = names.name(alloc, 0);
     drop(names);
     drop(loops);
     Ok((kind, name?))
@@ -157,8 +157,8 @@ fn joins_and_counters(rt: HostRuntime) -> Result<(), Fail> {
 }
 
 fn check_read(rt: &impl Abort, read: &LineTokens) {
-    assert_eq!(rt; read.names.name(0), Some("ab"));
-    assert_eq!(rt; read.names.name(1), None);
+    assert_eq!(rt; read.names.word(0), b"ab".as_slice());
+    assert_eq!(rt; read.names.word(1), b"".as_slice());
     let last = Token {
         kind: TokenKind::Number(12),
         line: 1,

@@ -166,13 +166,28 @@ fn part_len(bytes: &[u8]) -> usize
     bytes.iter().take_while(|byte| **byte != b'&').count()
 }
 
-/// A word with the digits of counters in place of its joins.
-fn join_word(alloc: Global, loops: &OpenLoops, word: &[u8]) -> Result<Vec<u8>, TextProblem>
-    requires { IsAscii word.now }
+/// How many bytes of a word stand before its first join.
+fn first_part_len(word: Word<'_>) -> usize
+    requires { IsFront word.front word.bytes.now }
+    ensures value { result ≡ prefix_len (λ b. not (b == 38)) word.entry.bytes.now }
+    ensures within { result ≤ length word.entry.bytes.now }
+{
+    word.front.plain + part_len(&word.bytes[word.front.plain..])
+}
+
+/// A word with the digits of counters in place of its joins, the first of which stands behind so many bytes.
+fn join_word(
+    alloc: Global,
+    loops: &OpenLoops,
+    word: &[u8],
+    first: usize,
+) -> Result<Vec<u8>, TextProblem>
+    requires ascii { IsAscii word.now }
+    requires first { first ≡ prefix_len (λ b. not (b == 38)) word.now }
     ensures value { Gives (λ w. w.items) result (joined loops.now word.now) }
     ensures ascii { IfOk result (λ w. IsAscii w.items) }
 {
-    let mut at = part_len(word);
+    let mut at = first;
     let Ok(mut joined) = Vec::from_slice(alloc, &word[..at]) else {
         return Err(TextProblem::OutOfMemory);
     };
@@ -206,7 +221,7 @@ pub fn read_word(
     if !word.bytes[word.front.plain..].contains(&b'&') {
         return joined_word(alloc, loops, names, word, len);
     }
-    let joined = join_word(alloc, loops, word.bytes)?;
+    let joined = join_word(alloc, loops, word.bytes, first_part_len(word))?;
     let whole = Word {
         bytes: &joined,
         front: Front::unknown(word.front.place),

@@ -47,7 +47,7 @@ impl<'a> Env for CountNames<'a> {
 
     fn value(&self, name: usize) -> Option<i64> {
         self.predefined
-            .value_at(self.current_line, self.names.bytes_of(name))
+            .value_at(self.current_line, self.names.word(name))
     }
 }
 
@@ -172,7 +172,7 @@ impl Reading {
         let Some(name) = name else {
             return Ok(None);
         };
-        match String::from_str(alloc, self.names.name(name).unwrap_or("")) {
+        match self.names.name(alloc, name) {
             Ok(text) => Ok(Some(text)),
             Err(_) => Err(TextProblem::OutOfMemory),
         }
