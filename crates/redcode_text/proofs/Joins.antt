@@ -1,7 +1,8 @@
 -- The joins of a word, one further.
-use Rattle.std.proofs.Common.{◌≡◌, ℕ, suc, ◌+◌, ◌-◌, ◌<◌, List, [], ◌∷◌, ◌++◌, length, drop, take, Bool, true, false, not, ◌==◌, ◌||◌, cond, Some, None, Ok, Err, refl, ap, sym, ◌∙◌, arith, add-one, drop-drop}
+use Rattle.std.proofs.Common.{◌≤◌, Option, Result, zero, ◌≡◌, ℕ, suc, ◌+◌, ◌-◌, ◌<◌, List, [], ◌∷◌, ◌++◌, length, drop, take, Bool, true, false, not, ◌==◌, ◌||◌, cond, Some, None, Ok, Err, refl, ap, sym, ◌∙◌, arith, add-one, drop-drop}
 use Rattle.std.proofs.Math.Seq.{drop-cons}
 use Rattle.std.specs.List.{onto_first, prefix_len, list_any}
+use Rattle.redcode_text.specs.declared.fault.TextProblem.{TextProblem}
 use Rattle.redcode_text.specs.declared.fault.TextProblem.TheVariants.{BadToken}
 use Rattle.redcode_text.specs.Tokens.{◌>>=◌, OpenLoop, round_of, round_or_bad, round_digits, parts_at_joins, join_counters, join_parts, joined}
 
@@ -70,3 +71,47 @@ parts-none (b ∷ bs) e = go (b == 38) (parts-none bs) e
 
 pub joined-none : (loops : List OpenLoop) (bs : List ℕ) → list_any (λ b. b == 38) bs ≡ false → joined loops bs ≡ Ok bs
 joined-none loops bs e = ap (join_parts loops) (parts-none bs e)
+
+-- ---- a word without some of what stands before its first join
+
+abbrev then-first : ℕ → Result (List ℕ) TextProblem → Result (List ℕ) TextProblem
+then-first b r = r >>= λ w. Ok (b ∷ w)
+
+counters-behind : (loops : List OpenLoop) (b : ℕ) (front : List ℕ) (names : List (List ℕ)) → join_counters loops (b ∷ front) names ≡ then-first b (join_counters loops front names)
+counters-behind loops b front [] = refl
+counters-behind loops b front (name ∷ names) = go (round_of loops name) (λ more. counters-behind loops b more names)
+  where
+    go : (o : Option ℕ) → ((more : List ℕ) → join_counters loops (b ∷ more) names ≡ then-first b (join_counters loops more names))
+        → (round_or_bad o >>= λ n. join_counters loops ((b ∷ front) ++ round_digits n) names) ≡ then-first b (round_or_bad o >>= λ n. join_counters loops (front ++ round_digits n) names)
+    go None rest = refl
+    go (Some n) rest = rest (front ++ round_digits n)
+
+joined-behind-one : (loops : List OpenLoop) (b : ℕ) (bs : List ℕ) → (b == 38) ≡ false → joined loops (b ∷ bs) ≡ then-first b (joined loops bs)
+joined-behind-one loops b bs e =
+    ap (λ t. join_parts loops (elim t as (λ _. List (List ℕ)) [ true ↦ [] ∷ parts_at_joins bs | false ↦ onto_first b (parts_at_joins bs) ])) e
+    ∙ ap (λ ps. join_parts loops (onto_first b ps)) (parts-first bs)
+    ∙ counters-behind loops b (take (part_len bs) bs) (names_of (drop (part_len bs) bs))
+    ∙ sym (ap (λ ps. then-first b (join_parts loops ps)) (parts-first bs))
+
+-- what stands in front, and the joins of the rest
+abbrev pub behind : List ℕ → Result (List ℕ) TextProblem → Result (List ℕ) TextProblem
+behind front r = r >>= λ w. Ok (front ++ w)
+
+behind-none : (r : Result (List ℕ) TextProblem) → r ≡ behind [] r
+behind-none (Ok w) = refl
+behind-none (Err p) = refl
+
+behind-more : (b : ℕ) (front : List ℕ) (r : Result (List ℕ) TextProblem) → then-first b (behind front r) ≡ behind (b ∷ front) r
+behind-more b front (Ok w) = refl
+behind-more b front (Err p) = refl
+
+pub joined-behind : (loops : List OpenLoop) (n : ℕ) (bs : List ℕ) → n ≤ part_len bs → joined loops bs ≡ behind (take n bs) (joined loops (drop n bs))
+joined-behind loops zero bs within = behind-none (joined loops bs)
+joined-behind loops (suc n) [] within = absurd (omega (arith, within))
+joined-behind loops (suc n) (b ∷ bs) within = go (b == 38) refl within (joined-behind loops n bs)
+  where
+    go : (t : Bool) → (b == 38) ≡ t → suc n ≤ cond (not t) (1 + part_len bs) 0 → (n ≤ part_len bs → joined loops bs ≡ behind (take n bs) (joined loops (drop n bs)))
+        → joined loops (b ∷ bs) ≡ behind (b ∷ take n bs) (joined loops (drop n bs))
+    go true e less rest = absurd (omega (arith, less))
+    go false e less rest =
+        joined-behind-one loops b bs e ∙ ap (then-first b) (rest (omega (arith, less))) ∙ behind-more b (take n bs) (joined loops (drop n bs))

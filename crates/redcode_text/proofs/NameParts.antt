@@ -1,15 +1,15 @@
 -- Names in two parts, by their indices among texts that grow.
-use Rattle.std.proofs.Common.{◌≡◌, ◌∙◌, ℕ, zero, suc, ◌+◌, ◌-◌, ◌<◌, List, [], ◌∷◌, ◌++◌, length, drop, take, map, Bool, true, false, not, ◌&&◌, ◌||◌, cond, nat_eq, nat_lt, if◌then◌else◌, Some, None, option_map, unwrap_or, refl, ap, sym, subst, append_assoc, append-nil, arith}
+use Rattle.std.proofs.Common.{◌≤◌, ◌≡◌, ◌∙◌, ℕ, zero, suc, ◌+◌, ◌-◌, ◌<◌, List, [], ◌∷◌, ◌++◌, length, drop, take, get_or, map, Bool, true, false, not, ◌&&◌, ◌||◌, cond, nat_eq, nat_lt, if◌then◌else◌, Some, None, option_map, unwrap_or, refl, ap, sym, subst, append_assoc, append-nil, arith}
 use Rattle.std.proofs.Math.Seq.{drop-length}
 use Rattle.std.proofs.lemmas.Bool.Decides.{nat_tests}
 use Rattle.std.proofs.Math.Bool.{and_assoc}
-use Rattle.std.proofs.lemmas.List.{length-append, length-map, map-append, take-append-drop}
+use Rattle.std.proofs.lemmas.List.{get_or_append_left, get_or-append_right, length-append, length-map, map-append, take-append-drop}
 use Rattle.std.proofs.lemmas.List.Elements.{All-push}
-use Rattle.std.proofs.lemmas.List.Sums.{prefix_len-le-length}
+use Rattle.std.proofs.lemmas.List.Sums.{AllPass-from_list_all, prefix_len-le-length, suffix_len_is}
 use Rattle.std.proofs.lemmas.Option.{get_or_from_slice_get, slice_get-map, slice_get_within}
 use Rattle.std.proofs.lemmas.Slice.Eq.{bytes_eq-Decides}
 use Rattle.std.specs.Char.{is_ascii_digit, to_ascii_lowercase}
-use Rattle.std.specs.List.{list_any, position_or_len, slice_get, suffix_len}
+use Rattle.std.specs.List.{list_all, list_any, position_or_len, slice_get, suffix_len}
 use Rattle.std.specs.Str.{bytes_eq, str_eq_ignore_ascii_case, str_to_ascii_lowercase}
 use Rattle.redcode_text.specs.Code.Parts.{AllParts, AreParts, HasParts, IsFrontOf, IsThere, front_len, name_of, parts_of}
 use Rattle.redcode_text.specs.Lines.{name_at}
@@ -220,9 +220,23 @@ module _ (texts : List (List ℕ)) (names : List (ℕ × ℕ)) (i : ℕ) where
       let are : AreParts texts p = subst (AreParts texts) (get_or_from_slice_get names i p p e) (all i p (slice_get_within names i p e)) in
       lone texts p are (subst (λ n. length n < 256) (sym (name-there p e)) less)
 
+-- ---- the parts of a long name
+
+pub parted : (front digits : List ℕ) → 256 ≤ length front + length digits → 0 < length front → is_ascii_digit (get_or front (length front - 1) 0) ≡ false → list_all is_ascii_digit digits ≡ true
+    → front_len (front ++ digits) ≡ length front
+parted front digits long some last all =
+    let name = front ++ digits in
+    let len = length-append front digits in
+    let test : nat_lt (length name) 256 ≡ false = grind (arith, nat_tests, long, len) in
+    let behind : suffix_len is_ascii_digit name ≡ length name - length front =
+    suffix_len_is is_ascii_digit name (length front) 0 (omega (arith, len))
+    (λ k low high. ap is_ascii_digit (get_or-append_right front digits (length front) k 0 refl low) ∙ AllPass-from_list_all is_ascii_digit digits all (k - length front) 0 (omega (arith, low, high, len)))
+    (λ more. ap is_ascii_digit (get_or_append_left front digits 0 (length front - 1) (omega (arith, more))) ∙ last) in
+    ap (λ b. if b then length name else length name - suffix_len is_ascii_digit name) test ∙ omega (arith, behind, len)
+
 -- ---- a name and a word in either case
 
-equal-parts : (a b c d : List ℕ) → length a ≡ length c → bytes_eq (a ++ b) (c ++ d) ≡ (bytes_eq a c && bytes_eq b d)
+pub equal-parts : (a b c d : List ℕ) → length a ≡ length c → bytes_eq (a ++ b) (c ++ d) ≡ (bytes_eq a c && bytes_eq b d)
 equal-parts [] b [] d e = refl
 equal-parts [] b (y ∷ c) d e = absurd (omega (arith, e))
 equal-parts (x ∷ a) b [] d e = absurd (omega (arith, e))

@@ -1,5 +1,7 @@
 //! The bytes of a line: blanks, and those of words.
 ghost use Rattle.std.specs.Prelude.{◌≡◌, ◌≤◌, length, take, true, IsAscii};
+ghost use Rattle.std.specs.Char.{is_ascii_digit};
+ghost use Rattle.std.specs.List.{list_all};
 ghost use Rattle.std.specs.Str.{str_eq_ignore_ascii_case};
 ghost use Rattle.redcode_text.specs.Source.{blank_len};
 ghost use Rattle.redcode_text.specs.Tokens.{is_blank, is_letter, is_word_byte, begins_name, begins_word, word_len};
@@ -73,4 +75,11 @@ pub fn word_len(bytes: &[u8]) -> usize
         len += 1;
     }
     len
+}
+
+/// Whether all bytes are decimal digits.
+pub fn are_digits(bytes: &[u8]) -> bool
+    ensures { result ≡ list_all is_ascii_digit bytes.now }
+{
+    bytes.iter().all(|byte| byte.is_ascii_digit())
 }

@@ -1,9 +1,9 @@
 //! The names of a text.
-ghost use Rattle.std.specs.Prelude.{◌≡◌, ◌≤◌, ◌<◌, ◌++◌, length, map, string_bytes, [], IfOk, OnOk, IsAscii};
+ghost use Rattle.std.specs.Prelude.{◌≡◌, ◌≤◌, ◌<◌, ◌++◌, length, map, string_bytes, true, [], IfOk, OnOk, IsAscii};
 ghost use Rattle.std.specs.Str.{str_eq_ignore_ascii_case};
 ghost use Rattle.redcode_text.specs.Code.Parts.{AllParts, AreParts, HasParts, IsFrontOf, front_len, name_of, parts_of};
 ghost use Rattle.redcode_text.specs.Lines.{name_at, word_at};
-ghost use Rattle.redcode_text.specs.Tokens.{name_index, with_name};
+ghost use Rattle.redcode_text.specs.Tokens.{begins_name, name_index, with_name};
 
 pub mod equates;
 pub mod predefined;
@@ -11,7 +11,7 @@ pub mod set;
 mod texts;
 pub mod values;
 
-use crate::characters::is_word;
+use crate::characters::{are_digits, begins_name, is_word};
 use crate::names::texts::Texts;
 use indexmap::IndexSet;
 use std::alloc::{AllocError, Global};
@@ -48,7 +48,7 @@ impl BuildHasher for Seed {
 const LONG: usize = 256;
 
 /// How many bytes of a name are its first part: a long one is parted before the digits at its end, where its joins are.
-fn front_len(name: &[u8]) -> usize
+pub fn front_len(name: &[u8]) -> usize
     ensures value { result ≡ front_len name.now }
     ensures within { result ≤ length name.now }
 {
@@ -65,22 +65,37 @@ fn front_len(name: &[u8]) -> usize
 /// The two parts of a name, by their indices among the texts.
 type Parts = (usize, usize);
 
-/// The parts of a name that stands at a place of the source; those that are new are added.
+/// Whether these are the parts of a long name.
+pub fn is_long_name(front: &[u8], digits: &[u8]) -> bool
+    ensures parted { result ≡ true → front_len (front.now ++ digits.now) ≡ length front.now }
+    ensures name { result ≡ true → begins_name front.now ≡ true }
+{
+    let [.., last] = front else {
+        return false;
+    };
+    if front.len() + digits.len() < LONG || last.is_ascii_digit() || !are_digits(digits) {
+        return false;
+    }
+    begins_name(front)
+}
+
+/// The indices of the parts of a name that stands at a place of the source; those that are new are added.
 fn parts_at(
     alloc: Global,
     texts: &mut Texts,
-    name: &[u8],
+    front: &[u8],
+    digits: &[u8],
     place: usize,
 ) -> Result<Parts, AllocError>
-    requires ascii { IsAscii name.now }
-    ensures parts { IfOk result (λ parts. parts ≡ parts_of texts.new name.now) }
-    ensures there { OnOk result (HasParts texts.new name.now) }
+    requires front { IsAscii front.now }
+    requires digits { IsAscii digits.now }
+    requires parted { front_len (front.now ++ digits.now) ≡ length front.now }
+    ensures parts { IfOk result (λ parts. parts ≡ parts_of texts.new (front.now ++ digits.now)) }
+    ensures there { OnOk result (HasParts texts.new (front.now ++ digits.now)) }
     ensures grown { IsFrontOf texts.old texts.new }
 {
-    let len = front_len(name);
-    let first = texts.index_at(alloc, &name[..len], place)?;
-    let digits = &name[len..];
-    let second = texts.index_at(alloc, digits, place.saturating_add(len))?;
+    let first = texts.index_at(alloc, front, place)?;
+    let second = texts.index_at(alloc, digits, place.saturating_add(front.len()))?;
     Ok((first, second))
 }
 
@@ -145,7 +160,25 @@ impl NameTable {
         ensures index { IfOk result (λ n. n ≡ name_index self.old name.now) }
         ensures names { OnOk result (self.new ≡ with_name self.old name.now) }
     {
-        let parts = parts_at(alloc, &mut self.texts, name, place)?;
+        let (front, digits) = name.split_at(front_len(name));
+        self.index_of_parts(alloc, front, digits, place)
+    }
+
+    /// The same, of a name in its parts.
+    pub(crate) fn index_of_parts(
+        &mut self,
+        alloc: Global,
+        front: &[u8],
+        digits: &[u8],
+        place: usize,
+    ) -> Result<usize, AllocError>
+        requires front { IsAscii front.now }
+        requires digits { IsAscii digits.now }
+        requires parted { front_len (front.now ++ digits.now) ≡ length front.now }
+        ensures index { IfOk result (λ n. n ≡ name_index self.old (front.now ++ digits.now)) }
+        ensures names { OnOk result (self.new ≡ with_name self.old (front.now ++ digits.now)) }
+    {
+        let parts = parts_at(alloc, &mut self.texts, front, digits, place)?;
         index_among(&self.texts, &mut self.names, parts)
     }
 

@@ -598,36 +598,43 @@ JMP ",
     joined(alloc, &texts)
 }
 
-/// The names of the first label, of the second, of the first operand and of the last, in a source of three lines.
-fn joined_names(alloc: Global, program: &Program) -> Result<Vec<String>, Fail> {
-    let mut indices = Vec::new(alloc);
-    for line in program.lines() {
-        indices.extend_from_slice(&line.labels)?;
+/// Puts a name of a program behind a text, and a blank.
+fn push_name(
+    alloc: Global,
+    names: &NameTable,
+    name: usize,
+    text: &mut Vec<u8>,
+) -> Result<(), Fail> {
+    text.extend_from_slice(names.name(alloc, name)?.as_bytes())?;
+    text.push(b' ')?;
+    Ok(())
+}
+
+/// The labels of lines and the names behind their operations.
+fn names_of_lines(alloc: Global, names: &NameTable, lines: &[Line]) -> Result<Vec<u8>, Fail> {
+    let mut text = Vec::new(alloc);
+    for line in lines {
+        for label in &line.labels {
+            push_name(alloc, names, *label, &mut text)?;
+        }
         for token in &line.rest {
             if let TokenKind::Name(name) = token.kind {
-                indices.push(name)?;
+                push_name(alloc, names, name, &mut text)?;
             }
         }
     }
-    let mut names = Vec::new(alloc);
-    for index in &indices {
-        names.push(program.names().name(alloc, *index)?)?;
-    }
-    Ok(names)
+    Ok(text)
 }
 
 fn check_joined_names(rt: &impl Abort, alloc: Global, len: usize) -> Result<(), Fail> {
-    let program = expand(alloc, &joined_in_loop(alloc, len)?, &NAMES)?;
-    let names = joined_names(alloc, &program);
-    drop(program);
-    let names = names?;
-    assert_eq!(rt; names.len(), 4);
     let word = copies(alloc, b"x", len)?;
-    let digits: [&[u8]; 4] = [b"01", b"02", b"02", b"01"];
-    for index in 0..4 {
-        let name = joined(alloc, &[&word, digits[index]])?;
-        assert_eq!(rt; names[index].as_bytes(), name.as_slice());
-    }
+    let texts: [&[u8]; 8] = [&word, b"01 ", &word, b"02 ", &word, b"02 ", &word, b"01 "];
+    let expected = joined(alloc, &texts)?;
+    let source = joined_in_loop(alloc, len)?;
+    let program = expand(alloc, &source, &NAMES)?;
+    let names = names_of_lines(alloc, program.names(), program.lines());
+    drop(program);
+    assert_eq!(rt; names?.as_slice(), expected.as_slice());
     Ok(())
 }
 

@@ -1,5 +1,6 @@
 //! The loops that are open where a line is read.
-ghost use Rattle.std.specs.Prelude.{◌≡◌, [], ◌∷◌, drop, length, option_map, reverse, string_bytes, OnOk, OnErr};
+ghost use Rattle.std.specs.Prelude.{◌≡◌, [], ◌∷◌, ◌++◌, drop, length, option_map, reverse, string_bytes, OnOk, OnErr};
+ghost use Rattle.std.specs.Str.{bytes_eq};
 ghost use Rattle.redcode_text.specs.Code.Heads.{innermost_counter};
 ghost use Rattle.redcode_text.specs.Tokens.{is_counter, round_of};
 
@@ -23,6 +24,16 @@ impl Model for OpenLoop {
     ghost view = { λ l. record { counter = option_map (λ s. string_bytes s) l.counter; round = l.round } };
 }
 
+/// Whether a text is two parts, one behind the other.
+fn is_made_of(text: &[u8], first: &[u8], end: &[u8]) -> bool
+    ensures { result ≡ bytes_eq text.now (first.now ++ end.now) }
+{
+    match text.split_at_checked(first.len()) {
+        Some((front, rest)) => front == first && rest == end,
+        None => false,
+    }
+}
+
 impl OpenLoop {
     /// A loop with this counter, if it has one, in this round.
     pub fn new(counter: Option<String>, round: u32) -> Self
@@ -31,11 +42,11 @@ impl OpenLoop {
         OpenLoop { counter, round }
     }
 
-    fn has_counter(&self, name: &[u8]) -> bool
-        ensures { result ≡ is_counter name.now self.now.counter }
+    fn has_counter(&self, name: &[u8], end: &[u8]) -> bool
+        ensures { result ≡ is_counter (name.now ++ end.now) self.now.counter }
     {
         match &self.counter {
-            Some(counter) => counter.as_bytes() == name,
+            Some(counter) => is_made_of(counter.as_bytes(), name, end),
             None => false,
         }
     }
@@ -54,17 +65,17 @@ impl OpenLoop {
     }
 }
 
-/// The round of the loop, the last first, whose counter has this name. There are at most 32.
-fn find_round(loops: &[OpenLoop], name: &[u8]) -> Option<u32>
-    ensures { result ≡ round_of (reverse loops.now) name.now }
+/// The round of the loop, the last first, whose counter has the name of these two parts. There are at most 32.
+fn find_round(loops: &[OpenLoop], name: &[u8], end: &[u8]) -> Option<u32>
+    ensures { result ≡ round_of (reverse loops.now) (name.now ++ end.now) }
 {
     let [outer @ .., innermost] = loops else {
         return None;
     };
-    if innermost.has_counter(name) {
+    if innermost.has_counter(name, end) {
         return Some(innermost.round());
     }
-    find_round(outer, name)
+    find_round(outer, name, end)
 }
 
 /// The open loops, the innermost first.
@@ -123,6 +134,13 @@ impl OpenLoops {
     pub fn round_of(&self, name: &[u8]) -> Option<u32>
         ensures { result ≡ round_of self.now name.now }
     {
-        find_round(&self.loops, name)
+        find_round(&self.loops, name, &[])
+    }
+
+    /// The round of the loop whose counter has the name of these two parts.
+    pub fn round_of_parts(&self, name: &[u8], end: &[u8]) -> Option<u32>
+        ensures { result ≡ round_of self.now (name.now ++ end.now) }
+    {
+        find_round(&self.loops, name, end)
     }
 }

@@ -3,15 +3,16 @@ ghost use Rattle.std.specs.Prelude.{◌≡◌, ◌++◌, ◌≤◌, ◌^◌, len
 ghost use Rattle.std.specs.Char.{is_ascii_digit};
 ghost use Rattle.std.specs.List.{list_all, prefix_len};
 ghost use Rattle.std.specs.Str.Parse.{digits_value};
+ghost use Rattle.redcode_text.specs.Code.Parts.{front_len};
 ghost use Rattle.redcode_text.specs.Code.Problems.{Gives};
 ghost use Rattle.redcode_text.specs.Code.Runs.{IsFront};
 ghost use Rattle.redcode_text.specs.Code.Scanning.{with_names};
-ghost use Rattle.redcode_text.specs.Tokens.{joined, number_kind, plain_word_found, round_digits, round_of, word_found, word_token};
+ghost use Rattle.redcode_text.specs.Tokens.{begins_name, joined, number_kind, plain_word_found, round_digits, round_of, word_found, word_token};
 
-use crate::characters::begins_name;
+use crate::characters::{are_digits, begins_name};
 use crate::fault::TextProblem;
 use crate::lexer::open_loops::OpenLoops;
-use crate::names::NameTable;
+use crate::names::{NameTable, front_len, is_long_name};
 use crate::token::TokenKind;
 use itoa::Buffer;
 use std::alloc::{AllocError, Global};
@@ -45,12 +46,6 @@ impl Front {
 pub struct Word<'a> {
     pub bytes: &'a [u8],
     pub front: Front,
-}
-
-fn are_digits(word: &[u8]) -> bool
-    ensures { result ≡ list_all is_ascii_digit word.now }
-{
-    word.iter().all(|byte| byte.is_ascii_digit())
 }
 
 /// A word without the zeros that are known to stand in front of it.
@@ -175,19 +170,13 @@ fn first_part_len(word: Word<'_>) -> usize
     word.front.plain + part_len(&word.bytes[word.front.plain..])
 }
 
-/// A word with the digits of counters in place of its joins, the first of which stands behind so many bytes.
-fn join_word(
-    alloc: Global,
-    loops: &OpenLoops,
-    word: &[u8],
-    first: usize,
-) -> Result<Vec<u8>, TextProblem>
-    requires ascii { IsAscii word.now }
-    requires first { first ≡ prefix_len (λ b. not (b == 38)) word.now }
+/// A word with the digits of counters in place of its joins.
+fn join_word(alloc: Global, loops: &OpenLoops, word: &[u8]) -> Result<Vec<u8>, TextProblem>
+    requires { IsAscii word.now }
     ensures value { Gives (λ w. w.items) result (joined loops.now word.now) }
     ensures ascii { IfOk result (λ w. IsAscii w.items) }
 {
-    let mut at = first;
+    let mut at = part_len(word);
     let Ok(mut joined) = Vec::from_slice(alloc, &word[..at]) else {
         return Err(TextProblem::OutOfMemory);
     };
@@ -203,6 +192,74 @@ fn join_word(
         at = to;
     }
     Ok(joined)
+}
+
+/// A long name that ends with digits of joins, of which `len` bytes are written.
+fn long_name(
+    alloc: Global,
+    loops: &OpenLoops,
+    names: &mut NameTable,
+    front: Word<'_>,
+    digits: &[u8],
+    len: usize,
+) -> Result<Spelled, TextProblem>
+    requires front { IsAscii front.bytes.now }
+    requires digits { IsAscii digits.now }
+    requires name { begins_name front.bytes.now ≡ true }
+    requires parted { front_len (front.bytes.now ++ digits.now) ≡ length front.bytes.now }
+    ensures value { let bytes = front.entry.bytes.now ++ digits.now in Gives (with_names names.new) result (word_found names.old len bytes (round_of loops.now bytes)) }
+    ensures len { IfOk result (λ s. s.len ≡ len) }
+{
+    if let Some(round) = loops.round_of_parts(front.bytes, digits) {
+        return Ok(Spelled {
+            kind: TokenKind::Number(i64::from(round)),
+            len,
+        });
+    }
+    match names.index_of_parts(alloc, front.bytes, digits, front.front.place) {
+        Ok(index) => Ok(Spelled {
+            kind: TokenKind::Name(index),
+            len,
+        }),
+        Err(_) => Err(TextProblem::OutOfMemory),
+    }
+}
+
+/// A word in one piece, whose end isn't written as it is.
+fn whole_word(alloc: Global, front: &[u8], end: &[u8]) -> Result<Vec<u8>, AllocError>
+    ensures { IfOk result (λ word. word.items ≡ front.now ++ end.now) }
+{
+    let mut word = Vec::from_slice(alloc, front)?;
+    word.extend_from_slice(end)?;
+    Ok(word)
+}
+
+/// A word with its joins done, of which `len` bytes are written. A long name isn't put together, so that a round of its
+/// loop costs no more than its digits.
+fn parted_word(
+    alloc: Global,
+    loops: &OpenLoops,
+    names: &mut NameTable,
+    front: Word<'_>,
+    end: &[u8],
+    len: usize,
+) -> Result<Spelled, TextProblem>
+    requires front { IsAscii front.bytes.now }
+    requires end { IsAscii end.now }
+    ensures value { let bytes = front.entry.bytes.now ++ end.now in Gives (with_names names.new) result (word_found names.old len bytes (round_of loops.now bytes)) }
+    ensures len { IfOk result (λ s. s.len ≡ len) }
+{
+    if is_long_name(front.bytes, end) {
+        return long_name(alloc, loops, names, front, end, len);
+    }
+    let Ok(bytes) = whole_word(alloc, front.bytes, end) else {
+        return Err(TextProblem::OutOfMemory);
+    };
+    let word = Word {
+        bytes: &bytes,
+        front: Front::unknown(front.front.place),
+    };
+    joined_word(alloc, loops, names, word, len)
 }
 
 /// The token of a word as it is written.
@@ -221,10 +278,11 @@ pub fn read_word(
     if !word.bytes[word.front.plain..].contains(&b'&') {
         return joined_word(alloc, loops, names, word, len);
     }
-    let joined = join_word(alloc, loops, word.bytes, first_part_len(word))?;
-    let whole = Word {
-        bytes: &joined,
-        front: Front::unknown(word.front.place),
+    let at = front_len(&word.bytes[..first_part_len(word)]);
+    let end = join_word(alloc, loops, &word.bytes[at..])?;
+    let front = Word {
+        bytes: &word.bytes[..at],
+        front: word.front,
     };
-    joined_word(alloc, loops, names, whole, len)
+    parted_word(alloc, loops, names, front, &end, len)
 }

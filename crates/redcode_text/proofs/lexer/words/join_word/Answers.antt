@@ -1,6 +1,5 @@
-use Rattle.std.proofs.Common.{◌+◌, ◌==◌, not, ◌∙◌, drop, take, ap, sym, arith, length-drop}
+use Rattle.std.proofs.Common.{◌+◌, ◌∙◌, drop, take, ap, sym, arith, length-drop}
 use Rattle.std.proofs.lemmas.List.{take_rest}
-use Rattle.std.proofs.lemmas.List.Sums.{prefix_len-le-length}
 use Rattle.std.proofs.lemmas.Str.{IsAscii-take}
 use Rattle.redcode_text.specs.Tokens.{join_counters}
 use Rattle.redcode_text.proofs.Joins.{names_of, part_len, joined-first, join-ok, join-bad}
@@ -8,14 +7,14 @@ use Rattle.redcode_text.proofs.lexer.words.join_word.Goals as goal
 
 pub loop-at-init : goal.loop-at-init
 loop-at-init c =
-    let word = c.args.word.now in let loops = c.args.loops.now in let first = c.args.first in
+    let word = c.args.word.now in let loops = c.args.loops.now in let first = c.part_len-at.result in
     record {
-      within = omega (arith, c.requires.first, prefix_len-le-length (λ b. not (b == 38)) word);
+      within = c.part_len-at.ensures.within;
       same =
           ap (λ l. join_counters loops l (names_of (drop first word))) c.in-Ok.ensures.items
-          ∙ ap (λ n. join_counters loops (take n word) (names_of (drop n word))) c.requires.first
+          ∙ ap (λ n. join_counters loops (take n word) (names_of (drop n word))) c.part_len-at.ensures.value
           ∙ sym (joined-first loops word);
-      ascii = rw c.in-Ok.ensures.items (IsAscii-take word first c.requires.ascii);
+      ascii = rw c.in-Ok.ensures.items (IsAscii-take word first c.requires);
     }
 
 pub returns-in_default-round_of-clause-value : goal.returns-in_default-round_of-clause-value

@@ -1,7 +1,12 @@
-use Rattle.std.proofs.Common.{◌∙◌, ◌==◌, ap, sym}
-use Rattle.std.proofs.lemmas.List.{take_rest}
+use Rattle.std.proofs.Common.{◌∙◌, ◌++◌, ◌≤◌, ◌==◌, List, ℕ, length, drop, take, ap, arith, subst, sym}
+use Rattle.std.proofs.lemmas.Result.{err_from_is_err_and}
+use Rattle.std.proofs.lemmas.List.{length-take-le, take_rest}
 use Rattle.std.specs.List.{list_any}
-use Rattle.redcode_text.proofs.Joins.{joined-none}
+use Rattle.redcode_text.specs.Code.Problems.{Fails, Gives}
+use Rattle.redcode_text.specs.Code.Scanning.{with_names}
+use Rattle.redcode_text.specs.Tokens.{◌>>=◌, joined, round_of, word_found}
+use Rattle.redcode_text.proofs.Failing.{fails-bind}
+use Rattle.redcode_text.proofs.Joins.{behind, joined-behind, joined-none, part_len}
 use Rattle.redcode_text.proofs.LongRuns.{joins-behind}
 use Rattle.redcode_text.proofs.lexer.words.read_word.Goals as goal
 
@@ -16,3 +21,27 @@ returns-then-not-contains-clause-value c =
     ∙ c.if-not-contains.true
     ))
     c.joined_word.ensures.value
+
+pub returns-in_err-end-clause-value : goal.returns-in_err-end-clause-value
+returns-in_err-end-clause-value c =
+    let word = c.args.word.bytes.now in let loops = c.args.loops.now in let names = c.args.names.now in let at = c.front_len-at.result in let problem = c.in_err-end.field-0.0 in
+    let found = λ (w : List ℕ). word_found names (length word) w (round_of loops w) in
+    let inside : at ≤ part_len word = omega (arith, c.front_len-at.ensures.within, c.first_part_len.ensures.value, length-take-le c.first_part_len.result word c.first_part_len.ensures.within) in
+    let rest = subst (λ r. Fails problem (joined loops r)) (take_rest word at) c.in_err-end.ensures.value in
+    let p = err_from_is_err_and c.from_residual.result c.from_residual.ensures.1 in
+    rw (p.1, p.2) (
+    subst (λ r. Fails problem (r >>= found)) (sym (joined-behind loops at word inside))
+    (fails-bind problem (behind (take at word) (joined loops (drop at word))) found (fails-bind problem (joined loops (drop at word)) _ rest))
+    )
+
+pub returns-clause-value : goal.returns-clause-value
+returns-clause-value c =
+    let word = c.args.word.bytes.now in let loops = c.args.loops.now in let names = c.args.names.now in let at = c.front_len-at.result in
+    let found = λ (w : List ℕ). word_found names (length word) w (round_of loops w) in
+    let inside : at ≤ part_len word = omega (arith, c.front_len-at.ensures.within, c.first_part_len.ensures.value, length-take-le c.first_part_len.result word c.first_part_len.ensures.within) in
+    let rest = ap (joined loops) (sym (take_rest word at)) ∙ c.in_ok-end.ensures.value in
+    let whole =
+    ap (λ r. r >>= found) (joined-behind loops at word inside)
+    ∙ ap (λ r. behind (take at word) r >>= found) rest
+    ∙ ap (λ end. found (take at word ++ end)) (sym c.deref.ensures.value) in
+    subst (Gives (with_names c.parted_word.new.names) c.parted_word.result) (sym whole) c.parted_word.ensures.value
