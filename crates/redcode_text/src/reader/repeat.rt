@@ -109,24 +109,32 @@ fn refuse_unpaired(
     }
 }
 
+/// The rows of a source, and where the loop of each FOR ends.
+#[derive(Clone, Copy)]
+struct PairedRows<'a> {
+    rows: &'a [Row<'a>],
+    /// The index of the row that ends the items behind each row: their ROF, or the length where none ends them.
+    ends: &'a [usize],
+    ghost same_length: { length ends.now ≡ length rows.now },
+    ghost fit: { RowsFit rows.now },
+}
+
 /// Reads the items from `first` on, up to the ROF that ends them, END or the end.
 #[cycle(items)]
 fn read_items(
     alloc: Global,
     names: &Names,
-    rows: &[Row<'_>],
-    ends: &[usize],
+    source: PairedRows<'_>,
     first: usize,
     reading: &mut Reading,
 ) -> Result<(), TextFault>
-    requires ends { AreEnds rows.now ends.now }
-    requires same_length { length ends.now ≡ length rows.now }
-    requires fits { RowsFit rows.now }
-    requires within { first ≤ length rows.now }
+    requires ends { AreEnds source.rows.now source.ends.now }
+    requires within { first ≤ length source.rows.now }
     requires depth { length reading.old.loops ≤ MAX_LOOPS }
-    ensures gives { Answers (λ _. reading_of reading.new) result (flat (predefined_of names.now) (here_from rows.now first) (reading_of reading.old)) }
+    ensures gives { Answers (λ _. reading_of reading.new) result (flat (predefined_of names.now) (here_from source.entry.rows.now first) (reading_of reading.old)) }
     ensures loops { OnOk result (reading.new.loops ≡ reading.old.loops) }
 {
+    let PairedRows { rows, ends } = source;
     let mut at = first;
     while at < rows.len() {
         at = match rows[at].kind() {
@@ -135,7 +143,7 @@ fn read_items(
                 if ends[at] >= rows.len() {
                     return refuse_unpaired(rows[at], TextProblem::UnclosedFor, reading);
                 }
-                read_loop(alloc, names, rows, ends, at, word_at, reading)?
+                read_loop(alloc, names, source, at, word_at, reading)?
             }
             LineKind::Equ(_) | LineKind::Other => read_row(alloc, names, rows, at, reading)?,
         };
@@ -151,25 +159,23 @@ fn read_items(
 fn read_loop(
     alloc: Global,
     names: &Names,
-    rows: &[Row<'_>],
-    ends: &[usize],
+    source: PairedRows<'_>,
     at: usize,
     word_at: usize,
     reading: &mut Reading,
 ) -> Result<usize, TextFault>
-    requires ends { AreEnds rows.now ends.now }
-    requires same_length { length ends.now ≡ length rows.now }
-    requires fits { RowsFit rows.now }
-    requires within { at < length rows.now }
-    requires closed { slice_index ends.now at < length rows.now }
-    requires word { IsFor rows.now at word_at }
+    requires ends { AreEnds source.rows.now source.ends.now }
+    requires within { at < length source.rows.now }
+    requires closed { slice_index source.ends.now at < length source.rows.now }
+    requires word { IsFor source.rows.now at word_at }
     requires depth { length reading.old.loops ≤ MAX_LOOPS }
-    ensures gives { ReadTo (predefined_of names.now) rows.now at (reading_of reading.old) (reading_of reading.new) result }
+    ensures gives { ReadTo (predefined_of names.now) source.entry.rows.now at (reading_of reading.old) (reading_of reading.new) result }
     ensures loops { OnOk result (reading.new.loops ≡ reading.old.loops) }
 {
+    let PairedRows { rows, ends } = source;
     let last = ends[at];
     let head = read_for_row(alloc, names, rows[at], word_at, reading)?;
-    read_rounds(alloc, names, rows, ends, at + 1, head, reading)?;
+    read_rounds(alloc, names, source, at + 1, head, reading)?;
     if reading.ended {
         return Ok(last + 1);
     }
@@ -182,21 +188,19 @@ fn read_loop(
 fn read_rounds(
     alloc: Global,
     names: &Names,
-    rows: &[Row<'_>],
-    ends: &[usize],
+    source: PairedRows<'_>,
     first: usize,
     head: Head,
     reading: &mut Reading,
 ) -> Result<(), TextFault>
-    requires ends { AreEnds rows.now ends.now }
-    requires same_length { length ends.now ≡ length rows.now }
-    requires fits { RowsFit rows.now }
-    requires within { first < length rows.now }
+    requires ends { AreEnds source.rows.now source.ends.now }
+    requires within { first < length source.rows.now }
     requires depth { length reading.old.loops < MAX_LOOPS }
     ensures gives { Answers (λ _. reading_of reading.new) result
-        (rounds (flat (predefined_of names.now) (here_from rows.now first)) (option_map (λ s. string_bytes s) head.counter) 1 head.count (reading_of reading.old)) }
+        (rounds (flat (predefined_of names.now) (here_from source.entry.rows.now first)) (option_map (λ s. string_bytes s) head.counter) 1 head.count (reading_of reading.old)) }
     ensures loops { OnOk result (reading.new.loops ≡ reading.old.loops) }
 {
+    let rows = source.rows;
     if let LineKind::Rof = rows[first].kind() {
         return Ok(());
     }
@@ -205,7 +209,7 @@ fn read_rounds(
         let Ok(()) = reading.loops.push(OpenLoop::new(counter, round)) else {
             return Err(TextProblem::OutOfMemory.at_line(0));
         };
-        read_items(alloc, names, rows, ends, first, reading)?;
+        read_items(alloc, names, source, first, reading)?;
         counter = reading.loops.close();
         if reading.ended {
             return Ok(());
@@ -229,7 +233,11 @@ pub fn read_all(
     let Ok(ends) = ends_of(alloc, rows) else {
         return Err(TextProblem::OutOfMemory.at_line(0));
     };
-    read_items(alloc, names, rows, &ends, 0, reading)?;
+    let source = PairedRows {
+        rows: &*rows,
+        ends: &ends,
+    };
+    read_items(alloc, names, source, 0, reading)?;
     if reading.ended {
         return Ok(());
     }

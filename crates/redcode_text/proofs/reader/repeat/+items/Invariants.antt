@@ -16,19 +16,19 @@ decreases-read_rounds l = 3 * (33 - length l.reading.now.loops)
 
 abbrev pub invariant-read_items-loop-at : goal.invariant-read_items-loop-at
 invariant-read_items-loop-at l = record {
-  within : l.at ≤ length l.rows;
-  same : flat (predefined_of l.names) (here_from l.rows l.at) (reading_of l.reading) ≡ flat (predefined_of l.names) (here_from l.rows l.fn.first) (reading_of l.fn.reading);
+  within : l.at ≤ length l.source.rows.now;
+  same : flat (predefined_of l.names) (here_from l.source.rows.now l.at) (reading_of l.reading) ≡ flat (predefined_of l.names) (here_from l.source.rows.now l.fn.first) (reading_of l.fn.reading);
   loops : l.reading.loops ≡ l.fn.reading.loops;
 }
 
 abbrev pub decreases-read_items-loop-at : goal.decreases-read_items-loop-at
-decreases-read_items-loop-at l = length l.rows - l.at
+decreases-read_items-loop-at l = length l.source.rows.now - l.at
 
 abbrev pub invariant-read_rounds-loop-round : goal.invariant-read_rounds-loop-round
 invariant-read_rounds-loop-round l = record {
   same :
-      rounds (flat (predefined_of l.names) (here_from l.rows l.first)) (option_map (λ s. string_bytes s) l.fn.head.counter) l.round (l.count + 1 - l.round) (reading_of l.reading)
-      ≡ rounds (flat (predefined_of l.names) (here_from l.rows l.first)) (option_map (λ s. string_bytes s) l.fn.head.counter) 1 l.count (reading_of l.fn.reading);
+      rounds (flat (predefined_of l.names) (here_from l.source.rows.now l.first)) (option_map (λ s. string_bytes s) l.fn.head.counter) l.round (l.count + 1 - l.round) (reading_of l.reading)
+      ≡ rounds (flat (predefined_of l.names) (here_from l.source.rows.now l.first)) (option_map (λ s. string_bytes s) l.fn.head.counter) 1 l.count (reading_of l.fn.reading);
   counter : option_map (λ s. string_bytes s) l.counter ≡ option_map (λ s. string_bytes s) l.fn.head.counter;
   loops : l.reading.loops ≡ l.fn.reading.loops;
 }
