@@ -1,5 +1,5 @@
 //! Warriors from their files.
-ghost use Rattle.std.specs.Prelude.{◌≡◌, All, IfErr, IfOk, Some, length, map, string_bytes, vec_len};
+ghost use Rattle.std.specs.Prelude.{◌≡◌, All, IfErr, IfOk, Some, false, length, map, string_bytes, true, vec_len};
 ghost use Rattle.mars_cell.specs.Cells.{FitsCore};
 ghost use Rattle.mars_app.specs.Code.Blames.{IsAssemblyFault, IsLoadFault};
 ghost use Rattle.mars_app.specs.Faults.{FailsToLoad, FirstFails, IsFaultOfFile, IsUnreadFile};
@@ -58,7 +58,7 @@ pub fn load_file_of<F: WarriorFiles>(
 {
     let bytes = read_file(alloc, files, name)?;
     if is_load_file(name) {
-        let warrior = read_warrior(alloc, name, &bytes, contest)?;
+        let warrior = read_load_file(alloc, name, &bytes, contest)?;
         return match write_load(alloc, &warrior, contest.params.core_size()) {
             Ok(text) => Ok(text),
             Err(_) => Err(RunFault::OutOfMemory),
@@ -133,17 +133,47 @@ fn read_warrior(
     ensures fits { IfOk result (λ warrior. All (FitsCore contest.entry.params.now.core_size) warrior.cells) }
     ensures err { let c = contest.entry in IfErr result (IsFaultOfFile c.params.now c.rounds c.warriors name.now bytes.now) }
 {
+    if is_load_file(name) {
+        return read_load_file(alloc, name, bytes, contest);
+    }
+    assemble_file(alloc, name, bytes, contest)
+}
+
+/// The warrior of a load file.
+fn read_load_file(
+    alloc: Global,
+    name: &str,
+    bytes: &[u8],
+    contest: Contest<'_>,
+) -> Result<Warrior, RunFault>
+    requires { is_load_file name.now ≡ true }
+    ensures value { let c = contest.entry in IfOk result (λ warrior. warrior_of_file c.params.now c.rounds c.warriors name.now bytes.now ≡ Some warrior) }
+    ensures fits { IfOk result (λ warrior. All (FitsCore contest.entry.params.now.core_size) warrior.cells) }
+    ensures err { let c = contest.entry in IfErr result (IsFaultOfFile c.params.now c.rounds c.warriors name.now bytes.now) }
+{
+    match read_load(alloc, bytes, contest.params) {
+        Ok(warrior) => Ok(warrior),
+        Err(fault) => Err(load_fault(alloc, name, fault)),
+    }
+}
+
+/// The warrior of a source.
+fn assemble_file(
+    alloc: Global,
+    name: &str,
+    bytes: &[u8],
+    contest: Contest<'_>,
+) -> Result<Warrior, RunFault>
+    requires { is_load_file name.now ≡ false }
+    ensures value { let c = contest.entry in IfOk result (λ warrior. warrior_of_file c.params.now c.rounds c.warriors name.now bytes.now ≡ Some warrior) }
+    ensures fits { IfOk result (λ warrior. All (FitsCore contest.entry.params.now.core_size) warrior.cells) }
+    ensures err { let c = contest.entry in IfErr result (IsFaultOfFile c.params.now c.rounds c.warriors name.now bytes.now) }
+{
     let Contest {
         params,
         rounds,
         warriors,
     } = contest;
-    if is_load_file(name) {
-        return match read_load(alloc, bytes, params) {
-            Ok(warrior) => Ok(warrior),
-            Err(fault) => Err(load_fault(alloc, name, fault)),
-        };
-    }
     match assemble(alloc, bytes, params, rounds, warriors) {
         Ok(warrior) => Ok(warrior),
         Err(fault) => Err(assembly_fault(alloc, name, fault)),

@@ -23,14 +23,19 @@ fn program_of(reading: Reading) -> Program
     ensures { result ≡ program_of (reading_of reading) }
 {
     let Reading {
+        loops,
         names,
         equates,
         lines,
+        labels,
         name,
         author,
         asserts,
         ..
     } = reading;
+    // by calls, since their drops in this body are dear to prove
+    drop(loops);
+    drop(labels);
     Program {
         names,
         equates,
@@ -102,8 +107,10 @@ fn read_source(alloc: Global, bytes: &[u8], names: &Names) -> Result<Reading, Te
 pub fn expand(alloc: Global, bytes: &[u8], names: &Names) -> Result<Program, TextFault>
     ensures { Answers (λ program. program) result (expansion (predefined_of names.now) bytes.now) }
 {
-    let reading = read_source(alloc, bytes, names)?;
-    Ok(program_of(reading))
+    match read_source(alloc, bytes, names) {
+        Ok(reading) => Ok(program_of(reading)),
+        Err(fault) => Err(fault),
+    }
 }
 
 #[cfg(test)]
