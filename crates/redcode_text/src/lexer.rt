@@ -98,6 +98,14 @@ fn read_token(
     read_sign(bytes)
 }
 
+/// A place of a text.
+#[derive(Clone, Copy)]
+struct Cursor {
+    at: usize,
+    /// The index of the run that may reach over it.
+    run: usize,
+}
+
 /// A run that reaches over a place of a text, up to a place.
 #[derive(Clone, Copy)]
 struct Reach {
@@ -105,16 +113,17 @@ struct Reach {
     to: usize,
 }
 
-/// How far the run of this index reaches, where it reaches over a place of a text.
-fn reach_of(text: Text<'_>, next: usize, at: usize) -> Option<Reach>
-    requires within { at < length text.bytes.now }
+/// How far a run reaches over a place of a text.
+fn reach_of(text: Text<'_>, cursor: Cursor) -> Option<Reach>
+    requires within { cursor.at < length text.bytes.now }
     requires fits { text.at + length text.bytes.now < 2 ^ 64 }
-    ensures on { IfSome result (λ reach. at < reach.to) }
+    ensures on { IfSome result (λ reach. cursor.at < reach.to) }
     ensures within { IfSome result (λ reach. reach.to ≤ length text.entry.bytes.now) }
-    ensures stands { IfSome result (λ reach. (i : ℕ) → at ≤ i → i < reach.to → stands reach.kind (text.entry.at + i) (slice_index text.entry.bytes.now i) ≡ true) }
+    ensures stands { IfSome result (λ reach. (i : ℕ) → cursor.at ≤ i → i < reach.to → stands reach.kind (text.entry.at + i) (slice_index text.entry.bytes.now i) ≡ true) }
 {
-    match text.runs.get(next) {
-        Some(run) if run.from <= text.at + at && text.at + at < run.to => Some(Reach {
+    let place = text.at + cursor.at;
+    match text.runs.get(cursor.run) {
+        Some(run) if run.from <= place && place < run.to => Some(Reach {
             kind: run.kind,
             to: (run.to - text.at).min(text.bytes.len()),
         }),
@@ -122,51 +131,51 @@ fn reach_of(text: Text<'_>, next: usize, at: usize) -> Option<Reach>
     }
 }
 
-/// What is known of the front of a word at a place of a text: it is in the run of this index, where that reaches there.
-fn front_of(text: Text<'_>, next: usize, at: usize) -> Front
-    requires within { at < length text.bytes.now }
+/// What is known of the front of a word at a place of a text.
+fn front_of(text: Text<'_>, cursor: Cursor) -> Front
+    requires within { cursor.at < length text.bytes.now }
     requires fits { text.at + length text.bytes.now < 2 ^ 64 }
-    ensures { IsFront result (drop at text.entry.bytes.now) }
+    ensures { IsFront result (drop cursor.at text.entry.bytes.now) }
 {
-    match reach_of(text, next, at) {
+    let place = text.at + cursor.at;
+    match reach_of(text, cursor) {
         Some(
             Reach {
                 kind: RunKind::Word(zeros_to),
                 to,
             },
         ) => Front {
-            place: text.at + at,
-            plain: to - at,
-            zeros: zeros_to.saturating_sub(text.at + at).min(to - at),
+            place,
+            plain: to - cursor.at,
+            zeros: zeros_to.saturating_sub(place).min(to - cursor.at),
         },
-        _ => Front::unknown(text.at + at),
+        _ => Front::unknown(place),
     }
 }
 
-/// Reads the token that begins at a place of a text, where the run of this index may reach, and says how many bytes it takes.
+/// Reads the token that begins at a place of a text, and says how many bytes it takes.
 fn add_token(
     alloc: Global,
     loops: &OpenLoops,
     text: Text<'_>,
-    next: usize,
-    at: usize,
+    cursor: Cursor,
     room: usize,
     names: &mut NameTable,
     tokens: &mut Vec<Token>,
 ) -> Result<usize, TextProblem>
-    requires within { at < length text.bytes.now }
+    requires within { cursor.at < length text.bytes.now }
     requires fits { text.at + length text.bytes.now < 2 ^ 64 }
     ensures value { Gives (λ len. (len, scan_of tokens.new names.new)) result
-        (one_token loops.now text.entry.number room (text.entry.at + at) (drop at text.entry.bytes.now) (scan_of tokens.old names.old)) }
-    ensures len { IfOk result (λ len. (1 ≤ len) × (at + len ≤ length text.entry.bytes.now)) }
+        (one_token loops.now text.entry.number room (text.entry.at + cursor.at) (drop cursor.at text.entry.bytes.now) (scan_of tokens.old names.old)) }
+    ensures len { IfOk result (λ len. (1 ≤ len) × (cursor.at + len ≤ length text.entry.bytes.now)) }
     ensures room { vec_len tokens.old ≤ room → vec_len tokens.new ≤ room }
 {
     let Spelled { kind, len } = match read_token(
         alloc,
         loops,
         names,
-        &text.bytes[at..],
-        front_of(text, next, at),
+        &text.bytes[cursor.at..],
+        front_of(text, cursor),
     ) {
         Ok(found) => found,
         Err(problem) => return Err(problem),
@@ -174,7 +183,7 @@ fn add_token(
     if tokens.len() >= room {
         return Err(TextProblem::TooLong);
     }
-    let from = text.at + at;
+    let from = text.at + cursor.at;
     let token = Token {
         kind,
         line: text.number,
@@ -187,34 +196,34 @@ fn add_token(
     }
 }
 
-/// Whether the run of this index ends before a place of a text.
-fn is_passed(text: Text<'_>, next: usize, at: usize) -> bool
-    requires { text.at + at < 2 ^ 64 }
-    ensures { result ≡ true → next < length text.entry.runs.now }
+/// Whether the run that may reach over a place of a text ends before it.
+fn is_passed(text: Text<'_>, cursor: Cursor) -> bool
+    requires { text.at + cursor.at < 2 ^ 64 }
+    ensures { result ≡ true → cursor.run < length text.entry.runs.now }
 {
-    match text.runs.get(next) {
-        Some(run) => run.to <= text.at + at,
+    match text.runs.get(cursor.run) {
+        Some(run) => run.to <= text.at + cursor.at,
         None => false,
     }
 }
 
-/// A place behind the blank at a place of a text: where that is in the run of this index, the end of the run.
-fn past_blank(text: Text<'_>, next: usize, at: usize) -> usize
-    requires within { at < length text.bytes.now }
+/// A place behind the blank at a place of a text: the end of the run that reaches over it, where there is one.
+fn past_blank(text: Text<'_>, cursor: Cursor) -> usize
+    requires within { cursor.at < length text.bytes.now }
     requires fits { text.at + length text.bytes.now < 2 ^ 64 }
-    requires blank { is_blank (slice_index text.bytes.now at) ≡ true }
-    ensures on { at < result }
+    requires blank { is_blank (slice_index text.bytes.now cursor.at) ≡ true }
+    ensures on { cursor.at < result }
     ensures within { result ≤ length text.entry.bytes.now }
-    ensures blank { (i : ℕ) → at ≤ i → i < result → is_blank (slice_index text.entry.bytes.now i) ≡ true }
+    ensures blank { (i : ℕ) → cursor.at ≤ i → i < result → is_blank (slice_index text.entry.bytes.now i) ≡ true }
 {
-    match reach_of(text, next, at) {
+    match reach_of(text, cursor) {
         Some(
             Reach {
                 kind: RunKind::Blanks,
                 to,
             },
         ) => to,
-        _ => at + 1,
+        _ => cursor.at + 1,
     }
 }
 
@@ -234,14 +243,15 @@ pub fn read_tokens(
     ensures room { vec_len tokens.new ≤ room }
 {
     let mut at = 0;
-    let mut next = 0;
+    let mut run = 0;
     while at < text.bytes.len() {
-        if is_passed(text, next, at) {
-            next += 1;
+        let cursor = Cursor { at, run };
+        if is_passed(text, cursor) {
+            run += 1;
         } else if is_blank(text.bytes[at]) {
-            at = past_blank(text, next, at);
+            at = past_blank(text, cursor);
         } else {
-            match add_token(alloc, loops, text, next, at, room, names, tokens) {
+            match add_token(alloc, loops, text, cursor, room, names, tokens) {
                 Ok(len) => at += len,
                 Err(problem) => return Err(problem),
             }

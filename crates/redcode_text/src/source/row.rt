@@ -11,7 +11,7 @@ use crate::source::directives::{Comment, comment_of};
 use crate::source::runs::LongRun;
 
 /// What a line is, with the place of its word FOR or EQU.
-#[derive(Clone, Copy, PartialEq, Eq, Debug)]
+#[derive(Clone, Copy, PartialEq, Eq)]
 pub enum LineKind {
     Rof,
     For(usize),

@@ -11,7 +11,7 @@ use std::alloc::{AllocError, Global};
 const LONG: usize = 16;
 
 /// What stands in a run.
-#[derive(Clone, Copy, Debug)]
+#[derive(Clone, Copy)]
 pub enum RunKind {
     Blanks,
     /// Letters, digits and `_`, which are zeros before this place of the source.
@@ -19,7 +19,7 @@ pub enum RunKind {
 }
 
 /// A run of bytes in a source: the places from `from` up to, but not with, `to`.
-#[derive(Clone, Copy, Debug)]
+#[derive(Clone, Copy)]
 pub struct LongRun {
     pub from: usize,
     pub to: usize,
