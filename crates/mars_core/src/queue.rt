@@ -26,7 +26,7 @@ impl Model for ProcessQueue {
 }
 
 /// Where a process goes on.
-#[derive(Clone, Copy, Debug)]
+#[derive(Clone, Copy)]
 pub enum Continuation {
     /// The process ends.
     Ends,
@@ -55,7 +55,7 @@ impl Continuation {
 }
 
 /// Where a process was really queued, and whether its queue is empty.
-#[derive(Clone, Copy, Debug)]
+#[derive(Clone, Copy)]
 pub struct Accepted {
     pub queued: Continuation,
     pub is_empty: bool,

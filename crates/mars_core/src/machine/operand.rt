@@ -14,7 +14,7 @@ use mars_cell::{Cell, Field, Mode, Params};
 
 /// An operand by its addresses: where it reads, relative to the instruction; where it reads and writes; and a copy of the cell
 /// that it reads.
-#[derive(Clone, Copy, Debug)]
+#[derive(Clone, Copy)]
 pub struct AddressedOperand {
     pub pointer: u32,
     pub read: u32,
@@ -23,7 +23,7 @@ pub struct AddressedOperand {
 }
 
 /// An operand, and the write that its evaluation made, if it made one.
-#[derive(Clone, Copy, Debug)]
+#[derive(Clone, Copy)]
 pub struct Evaluation {
     pub operand: AddressedOperand,
     pub change: Option<CellChange>,
