@@ -15,7 +15,7 @@ use std::alloc::{AllocError, Global};
 use std::marker::Model;
 
 /// Copies of warriors, all of them twice, so that the warriors from each one on stand in a row.
-#[derive(Debug, Drop)]
+#[derive(Drop)]
 pub struct Lineup {
     twice: Vec<Warrior>,
     count: usize,

@@ -131,7 +131,7 @@ pub struct Table {
 }
 
 /// The sums of one warrior.
-#[derive(Clone, Copy, Debug)]
+#[derive(Clone, Copy)]
 pub struct Tally {
     pub points: i128,
     pub wins: u64,
