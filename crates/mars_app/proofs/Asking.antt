@@ -1,5 +1,5 @@
 -- What is asked for, put together.
-use Rattle.std.proofs.Common.{◌≡◌, ◌∙◌, ℕ, List, [], ◌∷◌, map, Option, Result, String, Err, IfErr, OnOk, inl, inr, false, subst, sym}
+use Rattle.std.proofs.Common.{◌≡◌, ◌∙◌, ℕ, List, [], ◌∷◌, map, Option, Result, String, Err, IfErr, OnOk, inl, inr, false, refl, subst, sym}
 use Rattle.std.proofs.KnownBytes.{Keeps-refl}
 use Rattle.std.proofs.lemmas.List.{append-nil}
 use Rattle.std.proofs.lemmas.Result.{IfErr-weaker, on_ok_weaker}
@@ -14,13 +14,14 @@ use Rattle.redcode_asm.specs.declared.fault.FormulaFault.{FormulaFault}
 use Rattle.redcode_asm.specs.declared.fault.FormulaFault.TheVariants.{Expression}
 use Rattle.redcode_text.specs.declared.fault.ExprFault.{ExprFault}
 use Rattle.redcode_text.specs.Tokens.{Scanned}
-use Rattle.mars_app.specs.Contests.{contest_size}
+use Rattle.mars_app.specs.Contests.{contest, contest_size}
 use Rattle.mars_app.specs.Faults.{RunFails}
 use Rattle.mars_app.specs.Faults.RunFails.{not_allowed, not_contested, not_debugged, not_scored, starved}
 use Rattle.mars_app.specs.Loading.{AreLoaded}
 use Rattle.mars_app.specs.Options.{Ask, value_of}
 use Rattle.mars_app.specs.Runs.{Asked, RunsWell}
 use Rattle.mars_app.specs.Runs.RunsWell.{contested, debugged}
+use Rattle.mars_app.specs.Code.Plans.{planned}
 use Rattle.mars_app.specs.Code.Settings.{AreSettingsOf, IsRefused, PlaysInPart, PlaysWell}
 use Rattle.mars_app.specs.declared.fault.RunFault.{RunFault}
 use Rattle.mars_app.specs.declared.options.Options.{Options}
@@ -32,7 +33,7 @@ abbrev pub asked_for : (words : List (List ℕ)) (known : List ℕ → Option (L
 asked_for words known o settings ws files count said are files_are count_is loaded = record {
   options = o;
   parameters = settings.params;
-  formula = settings.formula;
+  formula = settings.plan.formula;
   warriors = ws;
   said = said;
   allowed = are.allowed;
@@ -53,6 +54,11 @@ cut_alone old new f x text cut is = subst (λ (t : List ℕ). CutShort old new t
 -- a formula's fault, unless memory ran out
 pub formula_fails : (f : FormulaFault) (e : ExprFault) (defined : Result Scanned ExprFault) → Checks (Err f) defined → f ≡ Expression e → defined ≡ Err e
 formula_fails f e defined checks is = subst (λ (g : FormulaFault). Checks (Err g) defined) is checks
+
+-- what is held by the plan is the contest that the options ask for
+pub held_as_asked : (o : Options) (settings : Settings) (p : Parameters) (ws : List WarriorValue) → AreSettingsOf o settings
+    → planned o.league settings.plan p ws ≡ contest o p settings.plan.formula ws
+held_as_asked o settings p ws are = rw (are.rounds, are.seed, are.fixed) refl
 
 module _ (words : List (List ℕ)) (known : List ℕ → Option (List ℕ)) (input left v : Option (List ℕ)) where
   pub settings_refused : (o : Options) (f : RunFault) → IsRefused o f → Ask words (value_of o) → RunFails words known input left v v f
@@ -75,12 +81,12 @@ module _ (known : List ℕ → Option (List ℕ)) (o : Options) (settings : Sett
     (are : AreSettingsOf o settings) (files_are : files ≡ o.files.items) (count_is : count ≡ contest_size o)
     (loaded : AreLoaded known settings.params o.rounds count (map (λ s. string_bytes s) files) ws) (load : o.load ≡ false)
     {T : Type 0} (r : Result T RunFault) (input left v w : Option (List ℕ)) where
-  pub all_play_well : OnOk r (PlaysWell o settings.params settings.formula ws input left v w)
+  pub all_play_well : OnOk r (PlaysWell o settings.params settings.plan.formula ws input left v w)
       → OnOk r ((words : List (List ℕ)) → Ask words (value_of o) → RunsWell words known input left v w)
   all_play_well played = on_ok_weaker r (λ well words said.
       plays_well words known input left v w (asked_for words known o settings ws files count said are files_are count_is loaded) load well) played
 
-  pub all_play_in_part : IfErr r (PlaysInPart o settings.params settings.formula ws input left v w)
+  pub all_play_in_part : IfErr r (PlaysInPart o settings.params settings.plan.formula ws input left v w)
       → IfErr r (λ f. (words : List (List ℕ)) → Ask words (value_of o) → RunFails words known input left v w f)
   all_play_in_part played = IfErr-weaker r _ _ (λ f part words said.
       plays_in_part words known input left v w (asked_for words known o settings ws files count said are files_are count_is loaded) load f part) played

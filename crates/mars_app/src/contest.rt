@@ -9,7 +9,7 @@ ghost use Rattle.mars_match.specs.Tables.{RowValue};
 ghost use Rattle.mars_match.specs.declared.table.Table.{Table};
 ghost use Rattle.mars_match.specs.Writing.{CutShort};
 ghost use Rattle.mars_app.specs.Code.Plans.{planned};
-ghost use Rattle.mars_app.specs.Contests.{BreaksOff, ContestFails, contest, fault_of, listed, listing, listing_from, listing_head};
+ghost use Rattle.mars_app.specs.Contests.{BreaksOff, ContestFails, fault_of, listed, listing, listing_from, listing_head};
 ghost use Rattle.mars_app.specs.Loading.{AllFit, FitsTwo};
 ghost use Rattle.mars_core.specs.Limits.{most_warriors};
 
@@ -21,38 +21,11 @@ use mars_core::BattleFault;
 use mars_match::{
     MatchFault, PlaceFault, Plan, Table, WriteFault, league, rounds, write_results, write_text,
 };
-use redcode_asm::Formula;
 use std::alloc::Global;
 use std::io::Write;
 
-/// Fights the match or the league, and writes the listing of the warriors, where it is wanted, and then the results.
+/// Writes the listing of the warriors, where it is wanted, fights the match or the league by the plan, and writes the results.
 pub fn run_contest<W: Write>(
-    alloc: Global,
-    options: &Options,
-    formula: Formula,
-    params: &Params,
-    warriors: &[Warrior],
-    output: &mut W,
-) -> Result<(), RunFault>
-    requires fit { AllFit params.now.core_size warriors.now }
-    requires few { length warriors.now ≤ most_warriors }
-    requires position { FitsTwo params.now (length warriors.now) options.now.fixed }
-    ensures ok { OnOk result ((rows : List RowValue)
-        × (contest options.now params.now formula warriors.now ≡ Ok rows)
-        × Appends (W.contents output.old) (W.contents output.new) (listing params.now.core_size options.now.brief warriors.now ++ results_text rows options.now.sorted)) }
-    ensures err { IfErr result (λ fault. ContestFails fault (contest options.now params.now formula warriors.now) options.now.sorted (W.contents output.old) (W.contents output.new) (listing params.now.core_size options.now.brief warriors.now)) }
-{
-    let plan = Plan {
-        rounds: options.rounds,
-        seed: options.seed,
-        fixed: options.fixed,
-        formula,
-    };
-    run_planned(alloc, options, &plan, params, warriors, output)
-}
-
-/// Writes the listing, fights by the plan, and writes the results.
-fn run_planned<W: Write>(
     alloc: Global,
     options: &Options,
     plan: &Plan,

@@ -23,7 +23,7 @@ pub enum DebugFault {
 }
 
 /// Whether the debugger goes on.
-#[derive(Clone, Copy, Debug, PartialEq, Eq)]
+#[derive(Clone, Copy, PartialEq, Eq)]
 pub enum Flow {
     More,
     Quit,

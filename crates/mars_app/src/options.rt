@@ -20,7 +20,7 @@ use mars_match::GREATEST_SEED;
 use std::alloc::{AllocError, Global};
 
 /// Why the words aren't taken.
-#[derive(Debug, Drop)]
+#[derive(Drop)]
 pub enum WordsFault {
     /// The words aren't those of the program.
     BadWords,
@@ -42,7 +42,7 @@ impl From<AllocError> for WordsFault {
 }
 
 /// What the words ask for. A limit or a position that isn't given is `None`.
-#[derive(Debug, Drop)]
+#[derive(Drop)]
 pub struct Options {
     /// The names of the warriors' files, in order.
     pub files: Vec<String>,

@@ -7,7 +7,7 @@ use mars_cell::read_cell;
 use mars_session::Call;
 
 /// The words that a line may begin with.
-#[derive(Clone, Copy, Debug, PartialEq, Eq)]
+#[derive(Clone, Copy, PartialEq, Eq)]
 pub enum Command {
     Step,
     Run,
@@ -27,7 +27,7 @@ pub enum Command {
 }
 
 /// What a line asks for.
-#[derive(Clone, Copy, Debug, PartialEq, Eq)]
+#[derive(Clone, Copy, PartialEq, Eq)]
 pub enum Request {
     Nothing,
     Call(Call),

@@ -28,7 +28,7 @@ use crate::loading::{Contest, load_file_of, load_warriors};
 use crate::options::{Options, WordsFault, read_options};
 use mars_cell::{ParamFault, Params, Warrior};
 use mars_core::Battle;
-use mars_match::{MatchFault, PlaceFault, place};
+use mars_match::{MatchFault, PlaceFault, Plan, place};
 use mars_session::{RingTape, Session};
 use redcode_asm::{Formula, FormulaFault};
 use std::alloc::Global;
@@ -88,7 +88,6 @@ fn run_words<F: WarriorFiles, R: Read, W: Write>(
 }
 
 /// Does what the options ask for, whatever the words that said them.
-#[tactic(auto, using(crate::proofs::Positions::position_fits))]
 fn run_options<F: WarriorFiles, R: Read, W: Write>(
     alloc: Global,
     options: &Options,
@@ -103,23 +102,17 @@ fn run_options<F: WarriorFiles, R: Read, W: Write>(
         → RunFails words (F.known files.now) (R.remaining input.old) (R.remaining input.new) (W.contents output.old) (W.contents output.new) fault) }
 {
     let settings = Settings::new(alloc, options)?;
-    let contest = Contest {
-        params: &settings.params,
-        rounds: options.rounds,
-        warriors: contest_size(options),
-    };
-    if options.load {
-        return write_load_file_of(alloc, files, options.files[0].as_str(), contest, output);
-    }
-    let warriors = load_warriors(alloc, files, options.files.as_slice(), contest)?;
-    settings.play(alloc, options, &warriors, input, output)
+    let done = settings.carry_out(alloc, options, files, input, output);
+    drop(settings);
+    done
 }
 
 /// What options come to before any file is read.
 #[derive(Drop)]
 struct Settings {
     params: Params,
-    formula: Formula,
+    /// How a match or a league is held.
+    plan: Plan,
 }
 
 impl Settings {
@@ -133,7 +126,15 @@ impl Settings {
             Err(fault) => return Err(RunFault::Parameters(fault)),
         };
         match Formula::new(alloc, options.score.as_bytes()) {
-            Ok(formula) => Ok(Settings { params, formula }),
+            Ok(formula) => Ok(Settings {
+                params,
+                plan: Plan {
+                    rounds: options.rounds,
+                    seed: options.seed,
+                    fixed: options.fixed,
+                    formula,
+                },
+            }),
             Err(FormulaFault::OutOfMemory) => Err(RunFault::OutOfMemory),
             Err(FormulaFault::Expression(fault)) => {
                 Err(RunFault::Formula(FormulaFault::Expression(fault)))
@@ -141,28 +142,59 @@ impl Settings {
         }
     }
 
+    /// Reads the warriors of the files, and does with them what the options ask for.
+    #[tactic(auto, using(crate::proofs::Positions::position_fits))]
+    fn carry_out<F: WarriorFiles, R: Read, W: Write>(
+        &self,
+        alloc: Global,
+        options: &Options,
+        files: &F,
+        input: &mut R,
+        output: &mut W,
+    ) -> Result<(), RunFault>
+        requires range { AreInRange options.now }
+        requires settings { AreSettingsOf options.now self.now }
+        ensures ok { OnOk result ((words : List (List ℕ)) → Ask words (value_of options.now)
+            → RunsWell words (F.known files.now) (R.remaining input.old) (R.remaining input.new) (W.contents output.old) (W.contents output.new)) }
+        ensures err { IfErr result (λ fault. (words : List (List ℕ)) → Ask words (value_of options.now)
+            → RunFails words (F.known files.now) (R.remaining input.old) (R.remaining input.new) (W.contents output.old) (W.contents output.new) fault) }
+    {
+        let contest = Contest {
+            params: &self.params,
+            rounds: options.rounds,
+            warriors: contest_size(options),
+        };
+        if options.load {
+            return write_load_file_of(alloc, files, options.files[0].as_str(), contest, output);
+        }
+        let warriors = load_warriors(alloc, files, options.files.as_slice(), contest)?;
+        let done = self.play(alloc, options, &warriors, input, output);
+        drop(warriors);
+        done
+    }
+
     /// Debugs the battle of the warriors, or holds their contest.
     fn play<R: Read, W: Write>(
-        self,
+        &self,
         alloc: Global,
         options: &Options,
         warriors: &[Warrior],
         input: &mut R,
         output: &mut W,
     ) -> Result<(), RunFault>
-        requires fit { AllFit self.params.core_size warriors.now }
+        requires settings { AreSettingsOf options.now self.now }
+        requires fit { AllFit self.now.params.core_size warriors.now }
         requires some { 1 ≤ length warriors.now }
         requires few { length warriors.now ≤ most_warriors }
-        requires position { FitsTwo self.params (length warriors.now) options.now.fixed }
+        requires position { FitsTwo self.now.params (length warriors.now) options.now.fixed }
         requires history { IsBetween 1 longest_history options.now.history }
-        ensures ok { OnOk result (PlaysWell options.now self.params self.formula warriors.now (R.remaining input.old) (R.remaining input.new) (W.contents output.old) (W.contents output.new)) }
-        ensures err { IfErr result (PlaysInPart options.now self.params self.formula warriors.now (R.remaining input.old) (R.remaining input.new) (W.contents output.old) (W.contents output.new)) }
+        ensures ok { OnOk result (PlaysWell options.now self.now.params self.now.plan.formula warriors.now (R.remaining input.old) (R.remaining input.new) (W.contents output.old) (W.contents output.new)) }
+        ensures err { IfErr result (PlaysInPart options.now self.now.params self.now.plan.formula warriors.now (R.remaining input.old) (R.remaining input.new) (W.contents output.old) (W.contents output.new)) }
     {
-        let Settings { params, formula } = self;
         if options.debugger {
-            return debug_round(alloc, options, &params, warriors, input, output);
+            return debug_round(alloc, options, &self.params, warriors, input, output);
         }
-        run_contest(alloc, options, formula, &params, warriors, output)
+        run_contest(alloc, options, &self.plan, &self.params, warriors, output)
     }
 }
 

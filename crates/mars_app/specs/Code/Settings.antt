@@ -22,7 +22,10 @@ use Rattle.mars_app.specs.declared.run.Settings.{Settings}
 
 pub record AreSettingsOf (o : Options) (settings : Settings) : Type 0 where
   pub allowed : checked_parameters (parameters_of o) ≡ Ok settings.params
-  pub scored : formula_of (string_bytes o.score) ≡ Ok settings.formula
+  pub scored : formula_of (string_bytes o.score) ≡ Ok settings.plan.formula
+  pub rounds : settings.plan.rounds ≡ o.rounds
+  pub seed : settings.plan.seed ≡ o.seed
+  pub fixed : settings.plan.fixed ≡ o.fixed
 
 -- the parameters aren't allowed, or there is no formula, or memory is wanting
 abbrev pub IsRefused : Options → RunFault → Type 0

@@ -4,7 +4,7 @@ use Rattle.std.proofs.KnownBytes.{Appends-trans}
 use Rattle.mars_match.proofs.CallerLemmas.{CutShort-back}
 use Rattle.mars_app.specs.Contests.{fault_of}
 use Rattle.mars_app.proofs.Writing.{whole_breaks}
-use Rattle.mars_app.proofs.contest.run_planned.Goals as goal
+use Rattle.mars_app.proofs.contest.run_contest.Goals as goal
 
 pub returns-in-Err-clause-err : goal.returns-in-Err-clause-err
 returns-in-Err-clause-err g c =
