@@ -3,7 +3,7 @@ ghost use Rattle.std.specs.Prelude.{◌≡◌, false, IfOk, map, pos};
 ghost use Rattle.clap.specs.Simple.{app_of};
 ghost use Rattle.clap.specs.Walk.{rule_of};
 ghost use Rattle.clap.specs.declared.builder.value_parser.ValueParser.TheVariants.{Signed};
-ghost use Rattle.mars_app.specs.CommandLine.{contest_rules, core_rules, debugger_rules, file_rule, mars, output_rules, with_rules};
+ghost use Rattle.mars_app.specs.CommandLine.{contest_rules, core_rules, debugger_rules, file_rule, mars, output_rules, plain_mars, with_rules};
 ghost use Rattle.mars_app.specs.Code.WordTables.{reached, rule_of_word, valued};
 
 use clap::builder::ValueParser;
@@ -275,18 +275,24 @@ fn output_words() -> [Word; 4]
     OUTPUT
 }
 
-/// The command; its help has no short word.
-pub fn command<'a>(alloc: Global) -> Result<Command<'a>, AllocError>
-    ensures { IfOk result (λ command. app_of command ≡ mars) }
+/// The command before it has a word; its help has no short one.
+fn plain_command<'a>(alloc: Global) -> Command<'a>
+    ensures { app_of result ≡ plain_mars }
 {
-    let command = Command::new(alloc, "mars")
+    Command::new(alloc, "mars")
         .about(
             "Core War: fights matches and leagues of warriors, and debugs battles forwards and backwards",
         )
         .after_help(AFTER_HELP)
         .no_binary_name(true)
         .disable_help_flag(true)
-        .arg(files(alloc))?;
+}
+
+/// The command with all its words.
+pub fn command<'a>(alloc: Global) -> Result<Command<'a>, AllocError>
+    ensures { IfOk result (λ command. app_of command ≡ mars) }
+{
+    let command = plain_command(alloc).arg(files(alloc))?;
     let command = with_words(alloc, command, "Contest", &contest_words())?;
     let command = with_words(alloc, command, "Core", &core_words())?;
     let command = with_words(alloc, command, "Debugger", &debugger_words())?;

@@ -186,11 +186,12 @@ fn load_fault(alloc: Global, name: &str, fault: LoadFault) -> RunFault
 {
     let line = match fault {
         LoadFault::Syntax(line) => line,
+        LoadFault::OutOfMemory => return RunFault::OutOfMemory,
         _ => 0,
     };
-    match (fault, shown_name(alloc, name)) {
-        (LoadFault::OutOfMemory, _) | (_, Err(_)) => RunFault::OutOfMemory,
-        (fault, Ok(name)) => RunFault::Load(name, line, fault),
+    match shown_name(alloc, name) {
+        Ok(name) => RunFault::Load(name, line, fault),
+        Err(_) => RunFault::OutOfMemory,
     }
 }
 
@@ -198,8 +199,11 @@ fn load_fault(alloc: Global, name: &str, fault: LoadFault) -> RunFault
 fn assembly_fault(alloc: Global, name: &str, fault: AsmFault) -> RunFault
     ensures { IsAssemblyFault name.now fault result }
 {
-    match (fault.problem, shown_name(alloc, name)) {
-        (AsmProblem::OutOfMemory, _) | (_, Err(_)) => RunFault::OutOfMemory,
-        (_, Ok(name)) => RunFault::Assembly(name, fault.line, fault),
+    if let AsmProblem::OutOfMemory = fault.problem {
+        return RunFault::OutOfMemory;
+    }
+    match shown_name(alloc, name) {
+        Ok(name) => RunFault::Assembly(name, fault.line, fault),
+        Err(_) => RunFault::OutOfMemory,
     }
 }

@@ -1,5 +1,6 @@
 //! What a line of the debugger asks for.
 ghost use Rattle.std.specs.Prelude.{◌≡◌, ◌<◌, option_map};
+ghost use Rattle.mars_app.specs.declared.request.Command.TheVariants as command;
 ghost use Rattle.mars_app.specs.Requests.{command_of, word_of, alone, one_number, two_numbers, three_numbers, with_arguments, request_of};
 
 use crate::words::{split_number, split_word};
@@ -129,6 +130,30 @@ fn read_three(rest: &[u8]) -> Option<(u64, u64, u64)>
     Some((first, second, third))
 }
 
+/// What an edit asks for: a cell at an address.
+#[tactic(auto, unfolding(crate::specs::Requests::with_arguments))]
+fn read_edit(rest: &[u8], core_size: u32) -> Option<Request>
+    requires { 0 < core_size }
+    ensures { result ≡ with_arguments core_size command.Edit rest.now }
+{
+    let (address, rest) = split_number(rest)?;
+    let cell = read_cell(rest, core_size)?;
+    Some(Request::Call(Call::SetCell(address, cell)))
+}
+
+/// What a fill asks for: a cell from an address to another one.
+#[tactic(auto, unfolding(crate::specs::Requests::with_arguments))]
+fn read_fill(rest: &[u8], core_size: u32) -> Option<Request>
+    requires { 0 < core_size }
+    ensures { result ≡ with_arguments core_size command.Fill rest.now }
+{
+    let (from, rest) = split_number(rest)?;
+    let (to, rest) = split_number(rest)?;
+    let cell = read_cell(rest, core_size)?;
+    Some(Request::Call(Call::Fill(from, to, cell)))
+}
+
+/// What a command asks for with what follows it on its line.
 #[tactic(auto, unfolding(crate::specs::Requests::with_arguments))]
 fn read_arguments(command: Command, rest: &[u8], core_size: u32) -> Option<Request>
     requires { 0 < core_size }
@@ -138,17 +163,8 @@ fn read_arguments(command: Command, rest: &[u8], core_size: u32) -> Option<Reque
         Command::Step => alone(Request::Call(Call::Step), rest),
         Command::Run => Some(Request::Call(Call::Run(read_one(rest)?))),
         Command::Until => Some(Request::Call(Call::Until(read_one(rest)?))),
-        Command::Edit => {
-            let (address, rest) = split_number(rest)?;
-            let cell = read_cell(rest, core_size)?;
-            Some(Request::Call(Call::SetCell(address, cell)))
-        }
-        Command::Fill => {
-            let (from, rest) = split_number(rest)?;
-            let (to, rest) = split_number(rest)?;
-            let cell = read_cell(rest, core_size)?;
-            Some(Request::Call(Call::Fill(from, to, cell)))
-        }
+        Command::Edit => read_edit(rest, core_size),
+        Command::Fill => read_fill(rest, core_size),
         Command::Move => {
             let (warrior, process, address) = read_three(rest)?;
             Some(Request::Call(Call::MoveProcess(warrior, process, address)))

@@ -1,17 +1,13 @@
-use Rattle.std.proofs.Common.{◌∙◌, ◌≡◌, ap, true}
+use Rattle.std.proofs.Common.{◌∙◌, ◌≡◌, ap}
 use Rattle.std.proofs.lemmas.Result.{IfOk-weaker}
-use Rattle.clap.specs.Simple.{Shape, app_of, app_of_fields, on_top}
-use Rattle.mars_app.specs.CommandLine.{contest_rules, core_rules, debugger_rules, output_rules, plain_mars, with_rules}
+use Rattle.clap.specs.Simple.{app_of}
+use Rattle.mars_app.specs.CommandLine.{contest_rules, core_rules, debugger_rules, output_rules, with_rules}
 use Rattle.mars_app.proofs.Adding.{added}
 use Rattle.mars_app.proofs.command_line.command.Goals as goal
 
 pub returns : goal.returns
 returns c =
-    let plain : app_of c.disable_help_flag.result ≡ plain_mars =
-    ap app_of_fields c.disable_help_flag.ensures ∙ ap (on_top (λ (shape : Shape). record shape { disable_help_flag = true }))
-    (ap app_of_fields c.no_binary_name.ensures ∙ ap (on_top (λ (shape : Shape). record shape { no_binary_name = true }))
-    (ap app_of_fields c.after_help.ensures ∙ ap app_of_fields c.about.ensures ∙ c.new.ensures.app)) in
-    let files = added _ c.files.result _ _ _ c.in_ok-command.ensures c.files.ensures.rule c.files.ensures.local plain in
+    let files = added _ c.files.result _ _ _ c.in_ok-command.ensures c.files.ensures.rule c.files.ensures.local c.plain_command.ensures in
     let contest_is : app_of c.in_ok-command-2.command ≡ with_rules (app_of c.in_ok-command.command) contest_rules =
     c.in_ok-command-2.ensures ∙ ap (with_rules (app_of c.in_ok-command.command)) c.contest_words.ensures in
     let core_is : app_of c.in_ok-command-3.command ≡ with_rules (app_of c.in_ok-command-2.command) core_rules =

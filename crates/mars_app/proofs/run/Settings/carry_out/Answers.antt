@@ -27,7 +27,7 @@ returns-then-options-clause-ok g c =
 pub returns-clause-ok : goal.returns-clause-ok
 returns-clause-ok g c =
     all_play_well (g.F.WarriorFiles.known c.args.files.now) c.args.options.now c.args.self.now c.in_ok-warriors.warriors.items _ _
-    c.requires.settings c.as_slice.ensures.value c.contest_size.ensures c.in_ok-warriors.ensures.loaded c.if-options.false c.play.result _ _ _ _ (rw c.deref.ensures.value at c.play.ensures.ok)
+    c.requires.settings c.as_slice.ensures.value c.contest_size.ensures c.in_ok-warriors.ensures.loaded c.if-options.false c.play-done.result _ _ _ _ (rw c.deref.ensures.value at c.play-done.ensures.ok)
 
 -- ---- runs that fail
 
@@ -55,7 +55,7 @@ returns-then-options-clause-err g c =
 
 pub returns-in_err-warriors-clause-err : goal.returns-in_err-warriors-clause-err
 returns-in_err-warriors-clause-err g c =
-    let fault = err_from_is_err_and c.from_residual-in_err-warriors.result c.from_residual-in_err-warriors.ensures.1 in
+    let fault = err_from_is_err_and c.from_residual.result c.from_residual.ensures.1 in
     let settings = c.args.self.now in
     let are = c.requires.settings in
     let fails = rw (c.as_slice.ensures.value, c.contest_size.ensures) at c.in_err-warriors.ensures.err in
@@ -64,4 +64,4 @@ returns-in_err-warriors-clause-err g c =
 pub returns-clause-err : goal.returns-clause-err
 returns-clause-err g c =
     all_play_in_part (g.F.WarriorFiles.known c.args.files.now) c.args.options.now c.args.self.now c.in_ok-warriors.warriors.items _ _
-    c.requires.settings c.as_slice.ensures.value c.contest_size.ensures c.in_ok-warriors.ensures.loaded c.if-options.false c.play.result _ _ _ _ (rw c.deref.ensures.value at c.play.ensures.err)
+    c.requires.settings c.as_slice.ensures.value c.contest_size.ensures c.in_ok-warriors.ensures.loaded c.if-options.false c.play-done.result _ _ _ _ (rw c.deref.ensures.value at c.play-done.ensures.err)
