@@ -30,3 +30,6 @@ loop-line-preserved c =
             same = cell-other ps m source c.loop-line.index cells c.args.lines.now i line c.loop-line-test.true c.line-item.is (sym c.is_instruction.ensures ∙ w.if-is_instruction.false) ∙ c.loop-line.invariant.same;
           })
     ]
+
+pub cell_at-requires-clause-known : goal.cell_at-requires-clause-known
+cell_at-requires-clause-known c = c.loop-line.invariant.known
