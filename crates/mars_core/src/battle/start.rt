@@ -222,11 +222,24 @@ pub fn first_queues(
 {
     let mut queues = Vec::with_capacity(alloc, warriors.len())?;
     for i in 0..warriors.len() {
-        let mut queue = ProcessQueue::with_limit(alloc, params.processes() as usize)?;
-        queue.push(first_process(params.core_size(), &warriors[i], starts[i]));
-        queues.push_reserved(queue);
+        queues.push_reserved(first_queue(alloc, params, &warriors[i], starts[i])?);
     }
     Ok(queues)
+}
+
+/// The queue of a warrior's first process.
+fn first_queue(
+    alloc: Global,
+    params: &Params,
+    warrior: &Warrior,
+    start: u32,
+) -> Result<ProcessQueue, AllocError>
+    ensures addresses { IfOk result (λ queue. queue.addresses ≡ ((start + warrior.now.start) % params.now.core_size) ∷ []) }
+    ensures limit { IfOk result (λ queue. queue.limit ≡ params.now.processes) }
+{
+    let mut queue = ProcessQueue::with_limit(alloc, params.processes() as usize)?;
+    queue.push(first_process(params.core_size(), warrior, start));
+    Ok(queue)
 }
 
 /// Leaves in each queue the first process alone.

@@ -1,6 +1,6 @@
 use Rattle.std.proofs.Common.{◌++◌, codes}
 use Rattle.std.proofs.KnownBytes.{Appends-trans}
-use Rattle.std.proofs.lemmas.Result.{err_from_is_err_and}
+use Rattle.std.proofs.lemmas.Result.{err_from_is_err_and, on_ok_weaker}
 use Rattle.mars_cell.specs.Written.{load_text}
 use Rattle.mars_app.specs.Contests.{listing_head}
 use Rattle.mars_app.proofs.Writing.{BreaksOff-back, BreaksOff-front, last_breaks}
@@ -22,3 +22,14 @@ returns-clause-err g c =
     let first = rw (c.as_bytes.ensures.value, c.as_str.ensures.value, c.listing_head-head.ensures) at c.in_ok-write_part.ensures.ok in
     let before = Appends-trans _ _ _ head file first c.in_ok-write_load_file.ensures.ok in
     last_breaks c.write_part-2.result _ _ _ (head ++ file) (codes "\n") before c.write_part-2.ensures.err
+
+pub write_load_file-requires-clause-fit : goal.write_load_file-requires-clause-fit
+write_load_file-requires-clause-fit g c = c.requires.fit
+
+pub returns-clause-ok : goal.returns-clause-ok
+returns-clause-ok g c =
+    let head = listing_head c.args.number c.args.warrior.now in
+    let file = load_text c.args.core_size c.args.warrior.now in
+    let first = rw (c.as_bytes.ensures.value, c.as_str.ensures.value, c.listing_head-head.ensures) at c.in_ok-write_part.ensures.ok in
+    let before = Appends-trans _ _ _ head file first c.in_ok-write_load_file.ensures.ok in
+    on_ok_weaker c.write_part-2.result (λ last. Appends-trans _ _ _ (head ++ file) (codes "\n") before last) c.write_part-2.ensures.ok
