@@ -33,6 +33,3 @@ pub use parameters::{LARGEST_CORE, MOST_CYCLES, MOST_PROCESSES, ParamFault, Para
 pub use warriors::{Warrior, WarriorFault};
 pub use words::{read_modifier, read_op};
 pub use written::write_load;
-
-#[cfg(test)]
-mod tests;

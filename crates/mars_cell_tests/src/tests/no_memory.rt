@@ -5,7 +5,7 @@ ghost use Rattle.std.specs.Prelude.{IfSome, string_bytes};
 ghost use Rattle.mars_cell.specs.Warriors.{IsName};
 
 use super::{cell, sizes};
-use crate::{
+use mars_cell::{
     Cell, Mode, Modifier, Op, ParamFault, Params, Warrior, WarriorFault, default_modifier,
     read_cell, read_modifier, read_op, residue,
 };

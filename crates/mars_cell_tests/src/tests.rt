@@ -1,6 +1,6 @@
 ghost use Rattle.std.specs.Prelude.{◌≡◌, ◌≤◌, IfOk};
 
-use super::*;
+use mars_cell::*;
 use std::alloc::Global;
 use std::test::Fail;
 

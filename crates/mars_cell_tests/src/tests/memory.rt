@@ -4,7 +4,7 @@ ghost use Rattle.std.specs.Prelude.{All, IfOk};
 ghost use Rattle.mars_cell.specs.Cells.{FitsCore};
 
 use super::{cell, sizes};
-use crate::{LoadFault, Mode, Modifier, Op, Warrior, read_load, write_load};
+use mars_cell::{LoadFault, Mode, Modifier, Op, Warrior, read_load, write_load};
 use std::alloc::Global;
 use std::test::Fail;
 
