@@ -22,6 +22,3 @@ pub use matches::{Plan, league, rounds};
 pub use placement::{GREATEST_SEED, PlaceFault, place};
 pub use report::{WriteFault, write_results, write_text};
 pub use table::{Row, Table};
-
-#[cfg(test)]
-mod tests;

@@ -3,7 +3,7 @@
 ghost use Rattle.std.specs.Prelude.{◌≡◌, IfSome, None};
 
 use super::{BY_DEFAULT, fought, sizes};
-use crate::{MatchFault, PlaceFault, Plan, Table, league, place, rounds};
+use mars_match::{MatchFault, PlaceFault, Plan, Table, league, place, rounds};
 use mars_cell::{Warrior, read_cell};
 use mars_core::BattleFault;
 use redcode_asm::Formula;

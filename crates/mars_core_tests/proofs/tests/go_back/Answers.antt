@@ -1,4 +1,4 @@
-use Rattle.mars_core.proofs.tests.go_back.Goals as goal
+use Rattle.mars_core_tests.proofs.tests.go_back.Goals as goal
 
 pub revert-requires : goal.revert-requires
 revert-requires g c = (c.args.before.now, c.requires)

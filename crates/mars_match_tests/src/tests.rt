@@ -2,7 +2,7 @@
 ghost use Rattle.std.specs.Prelude.{◌≡◌, ◌-◌, ◌≤◌, IfSome, IsTrue, Some};
 ghost use Rattle.mars_cell.specs.Warriors.{IsName};
 
-use crate::{
+use mars_match::{
     MatchFault, PlaceFault, Plan, Row, Table, WriteFault, fight, league, place, rounds,
     write_results,
 };

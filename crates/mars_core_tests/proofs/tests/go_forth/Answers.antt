@@ -1,4 +1,4 @@
-use Rattle.mars_core.proofs.tests.go_forth.Goals as goal
+use Rattle.mars_core_tests.proofs.tests.go_forth.Goals as goal
 
 pub apply-requires : goal.apply-requires
 apply-requires g c = (c.args.after.now, c.requires)
