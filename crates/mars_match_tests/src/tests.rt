@@ -2,12 +2,12 @@
 ghost use Rattle.std.specs.Prelude.{◌≡◌, ◌-◌, ◌≤◌, IfSome, IsTrue, Some};
 ghost use Rattle.mars_cell.specs.Warriors.{IsName};
 
+use mars_cell::{Cell, Params, Warrior, read_cell};
+use mars_core::BattleFault;
 use mars_match::{
     MatchFault, PlaceFault, Plan, Row, Table, WriteFault, fight, league, place, rounds,
     write_results,
 };
-use mars_cell::{Cell, Params, Warrior, read_cell};
-use mars_core::BattleFault;
 use redcode_asm::Formula;
 use redcode_text::ExprFault;
 use std::alloc::Global;
@@ -139,6 +139,20 @@ fn written(
     (writer.bytes, done)
 }
 
+/// A writer with room for all, which takes so many bytes at a time, takes these results.
+fn check_results(
+    rt: &impl Abort,
+    alloc: Global,
+    table: &Table,
+    sorted: bool,
+    size: usize,
+    expected: &str,
+) {
+    let (text, done) = written(alloc, table, sorted, size, 1000, false);
+    assert_eq!(rt; done, Ok(()));
+    assert_eq!(rt; text.as_slice(), expected.as_bytes());
+}
+
 const LEAGUE: &str = "  points   wins   ties losses  warrior
        4      1      1      0  Imp by Dewdney
        4      1      1      0  Stay by Anonymous
@@ -154,17 +168,14 @@ fn results(rt: HostRuntime) -> Result<(), Fail> {
         Row::new("Stay", "Anonymous", 4, 1, 1, 0),
     ]?;
     let table = Table { rows };
-    let (text, done) = written(alloc, &table, true, 1000, 1000, false);
-    assert_eq!(rt; done, Ok(()));
-    assert_eq!(rt; text.as_slice(), LEAGUE.as_bytes());
     let loaded = "  points   wins   ties losses  warrior
        0      0      0      2  Dead by Anonymous
        4      1      1      0  Imp by Dewdney
        4      1      1      0  Stay by Anonymous
 ";
-    let (text, done) = written(alloc, &table, false, 7, 1000, false);
-    assert_eq!(rt; done, Ok(()));
-    assert_eq!(rt; text.as_slice(), loaded.as_bytes());
+    check_results(&rt, alloc, &table, true, 1000, LEAGUE);
+    check_results(&rt, alloc, &table, false, 7, loaded);
+    drop(table);
     Ok(())
 }
 
@@ -176,12 +187,30 @@ fn wide_results(rt: HostRuntime) -> Result<(), Fail> {
         Row::new("B", "C", 123456789, 0, 0, u64::MAX),
     ]?;
     let table = Table { rows };
-    let (text, _) = written(alloc, &table, true, 1000, 1000, false);
     let wide = "  points   wins   ties losses  warrior
 123456789      0      0 18446744073709551615  B by C
 -9223372036854775808 1000000      0      0  A by \n";
-    assert_eq!(rt; text.as_slice(), wide.as_bytes());
+    check_results(&rt, alloc, &table, true, 1000, wide);
+    drop(table);
     Ok(())
+}
+
+/// Where a writer fails at each of its bytes, it has taken just so many of them.
+fn check_failing(
+    rt: &impl Abort,
+    alloc: Global,
+    table: &Table,
+    (size, sorted, idles): (usize, bool, bool),
+) {
+    let all = LEAGUE.as_bytes();
+    for room in 0..all.len() {
+        let (text, done) = written(alloc, table, sorted, size, room, idles);
+        assert_eq!(rt; done, Err(WriteFault), "room for {room}");
+        assert_eq!(rt; text.as_slice(), &all[..room], "room for {room}");
+    }
+    let (text, done) = written(alloc, table, sorted, size, all.len(), idles);
+    assert_eq!(rt; done, Ok(()));
+    assert_eq!(rt; text.as_slice(), all);
 }
 
 #[test]
@@ -193,17 +222,10 @@ fn failing_writers(rt: HostRuntime) -> Result<(), Fail> {
         Row::new("Dead", "Anonymous", 0, 0, 0, 2),
     ]?;
     let table = Table { rows };
-    let all = LEAGUE.as_bytes();
-    for room in 0..all.len() {
-        for (size, sorted, idles) in [(1000, false, false), (3, true, false), (1, true, true)] {
-            let (text, done) = written(alloc, &table, sorted, size, room, idles);
-            assert_eq!(rt; done, Err(WriteFault), "room for {room}");
-            assert_eq!(rt; text.as_slice(), &all[..room], "room for {room}");
-        }
-    }
-    let (text, done) = written(alloc, &table, false, 1000, all.len(), false);
-    assert_eq!(rt; done, Ok(()));
-    assert_eq!(rt; text.as_slice(), all);
+    check_failing(&rt, alloc, &table, (1000, false, false));
+    check_failing(&rt, alloc, &table, (3, true, false));
+    check_failing(&rt, alloc, &table, (1, true, true));
+    drop(table);
     Ok(())
 }
 
@@ -221,8 +243,9 @@ fn one_cell(
     if core_size == 0 {
         return Err("core size".into());
     }
+    let cell = read_cell(text.as_bytes(), core_size).ok_or("cell")?;
     let mut cells = Vec::new(alloc);
-    cells.push(read_cell(text.as_bytes(), core_size).ok_or("cell")?)?;
+    cells.push(cell)?;
     let name = String::from_str(alloc, name)?;
     let author = String::from_str(alloc, author)?;
     let warrior = Warrior::new(name, author, cells, 0).ok().ok_or("warrior")?;
@@ -252,63 +275,111 @@ fn fought(
     fight(alloc, params, warriors, starts, round)
 }
 
-#[test]
-fn fights(rt: HostRuntime) -> Result<(), Fail> {
+/// These warriors survive a round.
+fn check_fight(
+    rt: &impl Abort,
+    alloc: Global,
+    warriors: &[Warrior],
+    starts: &[u32],
+    round: u32,
+    expected: &[bool],
+) -> Result<(), Fail> {
     let params = sizes(8, 1)?;
-    // Each writes an empty cell over the other, so the first to move survives.
-    let duel = one_cells(rt.alloc(), 8, &["MOV.I $1, $4", "MOV.I $1, $4"])?;
-    for (round, expected) in [(0, [true, false]), (1, [false, true]), (2, [true, false])] {
-        let alive = fought(rt.alloc(), &params, duel.as_slice(), &[0, 4], round).ok();
-        assert_eq!(rt;
-            alive.ok_or("fight")?.as_slice(),
-            expected.as_slice(),
-            "round {round}"
-        );
-    }
-    let three = one_cells(
-        rt.alloc(),
-        8,
-        &["JMP.B $0, $0", "DAT.F $0, $0", "JMP.B $0, $0"],
-    )?;
-    for round in 0..4 {
-        let alive = fought(rt.alloc(), &params, three.as_slice(), &[0, 2, 4], round).ok();
-        assert_eq!(rt;
-            alive.ok_or("fight")?.as_slice(),
-            [true, false, true].as_slice(),
-            "round {round}"
-        );
+    let alive = fought(alloc, &params, warriors, starts, round)
+        .ok()
+        .ok_or("fight")?;
+    assert_eq!(rt; alive.as_slice(), expected, "round {round}");
+    Ok(())
+}
+
+/// Rounds of these warriors, each with those that survive it.
+fn check_fights(
+    rt: &impl Abort,
+    alloc: Global,
+    warriors: &[Warrior],
+    starts: &[u32],
+    rounds: &[(u32, &[bool])],
+) -> Result<(), Fail> {
+    for (round, expected) in rounds {
+        check_fight(rt, alloc, warriors, starts, *round, expected)?;
     }
     Ok(())
+}
+
+/// Each writes an empty cell over the other, so the first to move survives.
+const DUEL: &[&str] = &["MOV.I $1, $4", "MOV.I $1, $4"];
+
+const FIRST_MOVERS: &[(u32, &[bool])] = &[
+    (0, &[true, false]),
+    (1, &[false, true]),
+    (2, &[true, false]),
+];
+
+const LIVING: &[(u32, &[bool])] = &[
+    (0, &[true, false, true]),
+    (1, &[true, false, true]),
+    (2, &[true, false, true]),
+    (3, &[true, false, true]),
+];
+
+#[test]
+fn fights(rt: HostRuntime) -> Result<(), Fail> {
+    let duel = one_cells(rt.alloc(), 8, DUEL)?;
+    let checked = check_fights(&rt, rt.alloc(), duel.as_slice(), &[0, 4], FIRST_MOVERS);
+    drop(duel);
+    checked
+}
+
+#[test]
+fn fights_of_three(rt: HostRuntime) -> Result<(), Fail> {
+    let three = one_cells(rt.alloc(), 8, &[STAY, DEAD, STAY])?;
+    let checked = check_fights(&rt, rt.alloc(), three.as_slice(), &[0, 2, 4], LIVING);
+    drop(three);
+    checked
+}
+
+const STAY: &str = "JMP.B $0, $0";
+
+const DEAD: &str = "DAT.F $0, $0";
+
+/// One warrior more than there may be.
+const TOO_MANY: [&str; 17] = [STAY; 17];
+
+/// The fight of the first of these warriors, all at one address, is refused.
+fn check_refused_fight(
+    rt: &impl Abort,
+    alloc: Global,
+    all: &[Warrior],
+    count: usize,
+    fault: BattleFault,
+) -> Result<(), Fail> {
+    let starts: [u32; 17] = [0; 17];
+    if count > all.len() || count > 17 {
+        return Err("count".into());
+    }
+    let params = sizes(8, 1)?;
+    let refused = fought(alloc, &params, &all[..count], &starts[..count], 1).err();
+    assert_eq!(rt;
+        refused,
+        Some(MatchFault::Battle(fault)),
+        "{count} warriors"
+    );
+    Ok(())
+}
+
+fn check_refused_fights(rt: &impl Abort, alloc: Global, all: &[Warrior]) -> Result<(), Fail> {
+    check_refused_fight(rt, alloc, all, 0, BattleFault::NoWarrior)?;
+    check_refused_fight(rt, alloc, all, 17, BattleFault::TooMany)?;
+    check_refused_fight(rt, alloc, all, 2, BattleFault::Overlap)
 }
 
 #[test]
 fn refused_fights(rt: HostRuntime) -> Result<(), Fail> {
-    let params = sizes(8, 1)?;
-    let stays: [&str; 17] = ["JMP.B $0, $0"; 17];
-    let all = one_cells(rt.alloc(), 8, &stays)?;
-    let starts: [u32; 17] = [0; 17];
-    let cases: [(usize, BattleFault); 3] = [
-        (0, BattleFault::NoWarrior),
-        (17, BattleFault::TooMany),
-        (2, BattleFault::Overlap),
-    ];
-    for (count, fault) in cases {
-        if count > all.len() || count > 17 {
-            return Err("count".into());
-        }
-        let refused = fought(rt.alloc(), &params, &all[..count], &starts[..count], 1).err();
-        assert_eq!(rt;
-            refused,
-            Some(MatchFault::Battle(fault)),
-            "{count} warriors"
-        );
-    }
-    Ok(())
-}
-
-fn formula(alloc: Global, text: &str) -> Result<Formula, Fail> {
-    let formula = Formula::new(alloc, text.as_bytes()).ok().ok_or("formula")?;
-    Ok(formula)
+    let alloc = rt.alloc();
+    let all = one_cells(alloc, 8, &TOO_MANY)?;
+    let checked = check_refused_fights(&rt, alloc, all.as_slice());
+    drop(all);
+    checked
 }
 
 /// Whether two warriors may meet at this position, or none is given.
@@ -324,176 +395,32 @@ fn fits_two(params: &Params, warriors: usize, fixed: Option<u32>) -> bool
     }
 }
 
+/// Rounds, seed, fixed position and formula.
+type Plans = (u32, u32, Option<u32>, &'static str);
+
+/// What a match or a league comes to: the lines of its results behind their heading, in load order, or its fault.
+type Outcome = Result<&'static str, MatchFault>;
+
 /// The table of a match, or its fault.
 fn held(
     alloc: Global,
     params: &Params,
     warriors: &[Warrior],
-    (count, seed, fixed, text): (u32, u32, Option<u32>, &str),
-) -> Result<Result<Table, MatchFault>, Fail> {
+    (count, seed, fixed, text): Plans,
+) -> Option<Result<Table, MatchFault>> {
     if !fits_two(params, warriors.len(), fixed) {
-        return Err("position".into());
+        return None;
     }
+    let formula = Formula::new(alloc, text.as_bytes()).ok()?;
     let plan = Plan {
         rounds: count,
         seed,
         fixed,
-        formula: formula(alloc, text)?,
+        formula,
     };
-    Ok(rounds(alloc, params, warriors, &plan))
-}
-
-/// The results of a match, in load order.
-fn results_of(alloc: Global, table: Result<Table, MatchFault>) -> Result<Vec<u8>, Fail> {
-    let table = table.ok().ok_or("match")?;
-    let (text, _done) = written(alloc, &table, false, 1000, 1000, false);
-    Ok(text)
-}
-
-const HEADING: &str = "  points   wins   ties losses  warrior\n";
-
-const BY_DEFAULT: &str = "(W*W-1)/S";
-
-/// The imp and the one that stays.
-fn imp_and_stay(alloc: Global) -> Result<Vec<Warrior>, Fail> {
-    let mut warriors = Vec::new(alloc);
-    warriors.push(one_cell(alloc, "Imp", "Dewdney", 8000, "MOV.I $0, $1")?)?;
-    warriors.push(one_cell(alloc, "Stay", "Anonymous", 8000, "JMP.B $0, $0")?)?;
-    Ok(warriors)
-}
-
-#[test]
-fn matches(rt: HostRuntime) -> Result<(), Fail> {
-    let params = sizes(8000, 100)?;
-    let warriors = imp_and_stay(rt.alloc())?;
-    let table = held(
-        rt.alloc(),
-        &params,
-        warriors.as_slice(),
-        (1, 1, None, BY_DEFAULT),
-    )?;
-    let expected = "  points   wins   ties losses  warrior
-       1      0      1      0  Imp by Dewdney
-       1      0      1      0  Stay by Anonymous
-";
-    let text = results_of(rt.alloc(), table)?;
-    assert_eq!(rt; text.as_slice(), expected.as_bytes());
-    Ok(())
-}
-
-#[test]
-fn default_scores(rt: HostRuntime) -> Result<(), Fail> {
-    let params = sizes(8000, 100)?;
-    let (stay, dead) = ("JMP.B $0, $0", "DAT.F $0, $0");
-    let cases: [(&[&str], &str); 5] = [
-        (&[stay, dead], "       3      1      0      0  Test by \n"),
-        (&[stay, stay], "       1      0      1      0  Test by \n"),
-        (
-            &[stay, dead, dead],
-            "       8      1      0      0  Test by \n",
-        ),
-        (
-            &[stay, stay, dead],
-            "       4      0      1      0  Test by \n",
-        ),
-        (
-            &[stay, stay, stay],
-            "       2      0      1      0  Test by \n",
-        ),
-    ];
-    for (cells, line) in cases {
-        let warriors = one_cells(rt.alloc(), 8000, cells)?;
-        let table = held(
-            rt.alloc(),
-            &params,
-            warriors.as_slice(),
-            (1, 7, None, BY_DEFAULT),
-        )?;
-        let text = results_of(rt.alloc(), table)?;
-        let start = HEADING.len().min(text.len());
-        let end = (start + line.len()).min(text.len());
-        assert_eq!(rt; &text[start..end], line.as_bytes());
-    }
-    Ok(())
-}
-
-#[test]
-fn exact_sums(rt: HostRuntime) -> Result<(), Fail> {
-    // In a battle of one cycle the first kills the second only where it has the first turn. After three rounds its
-    // points are beyond 64 bits, after four they aren't.
-    let params = Params::new(8, 8, 1, 8, 8, 1, 1).ok().ok_or("parameters")?;
-    let duel = one_cells(rt.alloc(), 8, &["MOV.I $1, $4", "JMP.B $0, $0"])?;
-    let text = "3458764513820540928*(5-3*S)";
-    let table = held(rt.alloc(), &params, duel.as_slice(), (4, 0, Some(4), text))?;
-    let expected = "  points   wins   ties losses  warrior
-6917529027641081856      2      2      0  Test by \n-6917529027641081856      0      2      2  Test by \n";
-    assert_eq!(rt;
-        results_of(rt.alloc(), table)?.as_slice(),
-        expected.as_bytes()
-    );
-    let table = held(rt.alloc(), &params, duel.as_slice(), (3, 0, Some(4), text))?;
-    assert_eq!(rt; table.err(), Some(MatchFault::Score(ExprFault::Range)));
-    Ok(())
-}
-
-#[test]
-fn refused_matches(rt: HostRuntime) -> Result<(), Fail> {
-    let params = Params::new(1700, 8, 1, 8, 8, 1, 100)
-        .ok()
-        .ok_or("parameters")?;
-    let stays: [&str; 17] = ["JMP.B $0, $0"; 17];
-    let all = one_cells(rt.alloc(), 1700, &stays)?;
-    let cases: [(usize, u32, u32, &str, MatchFault); 6] = [
-        (
-            0,
-            0,
-            1,
-            BY_DEFAULT,
-            MatchFault::Battle(BattleFault::NoWarrior),
-        ),
-        (
-            17,
-            0,
-            0,
-            BY_DEFAULT,
-            MatchFault::Battle(BattleFault::TooMany),
-        ),
-        (2, 1, 0, BY_DEFAULT, MatchFault::Place(PlaceFault::BadSeed)),
-        (
-            2,
-            1,
-            1,
-            "1/(S-2)",
-            MatchFault::Score(ExprFault::DivideByZero),
-        ),
-        (
-            1,
-            2,
-            1,
-            "9223372036854775807",
-            MatchFault::Score(ExprFault::Range),
-        ),
-        (
-            2,
-            3,
-            1,
-            "9223372036854775807+S",
-            MatchFault::Score(ExprFault::Range),
-        ),
-    ];
-    for (count, rounds, seed, text, fault) in cases {
-        if count > all.len() {
-            return Err("count".into());
-        }
-        let table = held(
-            rt.alloc(),
-            &params,
-            &all[..count],
-            (rounds, seed, None, text),
-        )?;
-        assert_eq!(rt; table.err(), Some(fault), "{count} warriors");
-    }
-    Ok(())
+    let table = rounds(alloc, params, warriors, &plan);
+    drop(plan);
+    Some(table)
 }
 
 /// The table of a league, or its fault.
@@ -501,139 +428,355 @@ fn league_held(
     alloc: Global,
     params: &Params,
     warriors: &[Warrior],
-    (count, seed, fixed, text): (u32, u32, Option<u32>, &str),
-) -> Result<Result<Table, MatchFault>, Fail> {
-    if warriors.len() > 65536 {
-        return Err("warriors".into());
+    (count, seed, fixed, text): Plans,
+) -> Option<Result<Table, MatchFault>> {
+    if warriors.len() > 65536 || !fits_two(params, warriors.len(), fixed) {
+        return None;
     }
-    if !fits_two(params, warriors.len(), fixed) {
-        return Err("position".into());
-    }
+    let formula = Formula::new(alloc, text.as_bytes()).ok()?;
     let plan = Plan {
         rounds: count,
         seed,
         fixed,
-        formula: formula(alloc, text)?,
+        formula,
     };
-    Ok(league(alloc, params, warriors, &plan))
+    let table = league(alloc, params, warriors, &plan);
+    drop(plan);
+    Some(table)
+}
+
+const HEADING: &str = "  points   wins   ties losses  warrior\n";
+
+const BY_DEFAULT: &str = "(W*W-1)/S";
+
+/// The results of a table are the heading and these lines.
+fn check_lines(rt: &impl Abort, alloc: Global, table: &Table, lines: &str) {
+    let (text, done) = written(alloc, table, false, 1000, 1000, false);
+    assert_eq!(rt; done, Ok(()));
+    let (heading, rest) = text.as_slice().split_at(HEADING.len().min(text.len()));
+    assert_eq!(rt; heading, HEADING.as_bytes());
+    assert_eq!(rt; rest, lines.as_bytes());
+}
+
+/// A match or a league came to this.
+fn check_outcome(
+    rt: &impl Abort,
+    alloc: Global,
+    held: &Option<Result<Table, MatchFault>>,
+    expected: Outcome,
+) {
+    match (held, expected) {
+        (Some(Ok(table)), Ok(lines)) => check_lines(rt, alloc, table, lines),
+        (Some(Err(found)), Err(fault)) => assert_eq!(rt; *found, fault),
+        _ => assert!(rt; false, "{expected:?}"),
+    }
+}
+
+fn check_match(
+    rt: &impl Abort,
+    alloc: Global,
+    params: &Params,
+    warriors: &[Warrior],
+    plan: Plans,
+    expected: Outcome,
+) {
+    let table = held(alloc, params, warriors, plan);
+    check_outcome(rt, alloc, &table, expected);
+    drop(table);
+}
+
+fn check_league(
+    rt: &impl Abort,
+    alloc: Global,
+    warriors: &[Warrior],
+    plan: Plans,
+    expected: Outcome,
+) -> Result<(), Fail> {
+    let params = sizes(8000, 100)?;
+    let table = league_held(alloc, &params, warriors, plan);
+    check_outcome(rt, alloc, &table, expected);
+    drop(table);
+    Ok(())
+}
+
+/// One round with the first seed, anywhere.
+const ONE_ROUND: Plans = (1, 1, None, BY_DEFAULT);
+
+/// The imp and the one that stays.
+fn imp_and_stay(alloc: Global) -> Result<Vec<Warrior>, Fail> {
+    let mut warriors = Vec::new(alloc);
+    warriors.push(one_cell(alloc, "Imp", "Dewdney", 8000, "MOV.I $0, $1")?)?;
+    warriors.push(one_cell(alloc, "Stay", "Anonymous", 8000, STAY)?)?;
+    Ok(warriors)
+}
+
+#[test]
+fn matches(rt: HostRuntime) -> Result<(), Fail> {
+    let params = sizes(8000, 100)?;
+    let warriors = imp_and_stay(rt.alloc())?;
+    let expected =
+        "       1      0      1      0  Imp by Dewdney\n       1      0      1      0  Stay by Anonymous\n";
+    check_match(
+        &rt,
+        rt.alloc(),
+        &params,
+        warriors.as_slice(),
+        ONE_ROUND,
+        Ok(expected),
+    );
+    drop(warriors);
+    Ok(())
+}
+
+/// Warriors of one cell each, and the results of one round of theirs.
+const DEFAULT_SCORES: &[(&[&str], &str)] = &[
+    (
+        &[STAY, DEAD],
+        "       3      1      0      0  Test by \n       0      0      0      1  Test by \n",
+    ),
+    (
+        &[STAY, STAY],
+        "       1      0      1      0  Test by \n       1      0      1      0  Test by \n",
+    ),
+    (
+        &[STAY, DEAD, DEAD],
+        "       8      1      0      0  Test by \n       0      0      0      1  Test by \n       0      0      0      1  Test by \n",
+    ),
+    (
+        &[STAY, STAY, DEAD],
+        "       4      0      1      0  Test by \n       4      0      1      0  Test by \n       0      0      0      1  Test by \n",
+    ),
+    (
+        &[STAY, STAY, STAY],
+        "       2      0      1      0  Test by \n       2      0      1      0  Test by \n       2      0      1      0  Test by \n",
+    ),
+];
+
+/// One round of warriors of one cell each comes to these results.
+fn check_score(
+    rt: &impl Abort,
+    alloc: Global,
+    texts: &[&str],
+    lines: &'static str,
+) -> Result<(), Fail> {
+    let params = sizes(8000, 100)?;
+    let warriors = one_cells(alloc, 8000, texts)?;
+    let plan = (1, 7, None, BY_DEFAULT);
+    check_match(rt, alloc, &params, warriors.as_slice(), plan, Ok(lines));
+    drop(warriors);
+    Ok(())
+}
+
+#[test]
+fn default_scores(rt: HostRuntime) -> Result<(), Fail> {
+    for (texts, lines) in DEFAULT_SCORES {
+        check_score(&rt, rt.alloc(), texts, lines)?;
+    }
+    Ok(())
+}
+
+/// A win pays six eighths of what is past 64 bits, a tie takes three.
+const OPPOSITE: &str = "3458764513820540928*(5-3*S)";
+
+#[test]
+fn exact_sums(rt: HostRuntime) -> Result<(), Fail> {
+    // In a battle of one cycle the first kills the second only where it has the first turn. After three rounds its
+    // points are beyond 64 bits, after four they aren't.
+    let params = Params::new(8, 8, 1, 8, 8, 1, 1).ok().ok_or("parameters")?;
+    let duel = one_cells(rt.alloc(), 8, &["MOV.I $1, $4", STAY])?;
+    let expected =
+        "6917529027641081856      2      2      0  Test by \n-6917529027641081856      0      2      2  Test by \n";
+    let four = (4, 0, Some(4), OPPOSITE);
+    let three = (3, 0, Some(4), OPPOSITE);
+    let range = Err(MatchFault::Score(ExprFault::Range));
+    check_match(
+        &rt,
+        rt.alloc(),
+        &params,
+        duel.as_slice(),
+        four,
+        Ok(expected),
+    );
+    check_match(&rt, rt.alloc(), &params, duel.as_slice(), three, range);
+    drop(duel);
+    Ok(())
+}
+
+/// How many warriors, their plan, and the fault of their match.
+const REFUSED_MATCHES: &[(usize, Plans, MatchFault)] = &[
+    (
+        0,
+        (0, 1, None, BY_DEFAULT),
+        MatchFault::Battle(BattleFault::NoWarrior),
+    ),
+    (
+        17,
+        (0, 0, None, BY_DEFAULT),
+        MatchFault::Battle(BattleFault::TooMany),
+    ),
+    (
+        2,
+        (1, 0, None, BY_DEFAULT),
+        MatchFault::Place(PlaceFault::BadSeed),
+    ),
+    (
+        2,
+        (1, 1, None, "1/(S-2)"),
+        MatchFault::Score(ExprFault::DivideByZero),
+    ),
+    (
+        1,
+        (2, 1, None, "9223372036854775807"),
+        MatchFault::Score(ExprFault::Range),
+    ),
+    (
+        2,
+        (3, 1, None, "9223372036854775807+S"),
+        MatchFault::Score(ExprFault::Range),
+    ),
+];
+
+/// Each match of the first of these warriors is refused.
+fn check_refused_matches(rt: &impl Abort, alloc: Global, all: &[Warrior]) -> Result<(), Fail> {
+    let params = Params::new(1700, 8, 1, 8, 8, 1, 100)
+        .ok()
+        .ok_or("parameters")?;
+    for (count, plan, fault) in REFUSED_MATCHES {
+        if *count > all.len() {
+            return Err("count".into());
+        }
+        check_match(rt, alloc, &params, &all[..*count], *plan, Err(*fault));
+    }
+    Ok(())
+}
+
+#[test]
+fn refused_matches(rt: HostRuntime) -> Result<(), Fail> {
+    let all = one_cells(rt.alloc(), 1700, &TOO_MANY)?;
+    let checked = check_refused_matches(&rt, rt.alloc(), all.as_slice());
+    drop(all);
+    checked
 }
 
 #[test]
 fn leagues(rt: HostRuntime) -> Result<(), Fail> {
-    let params = sizes(8000, 100)?;
     let mut warriors = imp_and_stay(rt.alloc())?;
-    warriors.push(one_cell(rt.alloc(), "Dead", "Anonymous", 8000, "DAT.F $0, $0")?)?;
-    let table = league_held(
-        rt.alloc(),
-        &params,
-        warriors.as_slice(),
-        (1, 1, None, BY_DEFAULT),
-    )?;
-    assert_eq!(rt;
-        results_of(rt.alloc(), table)?.as_slice(),
-        LEAGUE.as_bytes()
-    );
-    // One warrior plays nothing, so no seed is too small.
-    let alone = one_cells(rt.alloc(), 8000, &["JMP.B $0, $0"])?;
-    let table = league_held(
-        rt.alloc(),
-        &params,
-        alone.as_slice(),
-        (1, 0, None, BY_DEFAULT),
-    )?;
-    let expected =
-        "  points   wins   ties losses  warrior\n       0      0      0      0  Test by \n";
-    assert_eq!(rt;
-        results_of(rt.alloc(), table)?.as_slice(),
-        expected.as_bytes()
-    );
-    let table = league_held(rt.alloc(), &params, &[], (1, 0, None, BY_DEFAULT))?;
-    assert_eq!(rt;
-        results_of(rt.alloc(), table)?.as_slice(),
-        HEADING.as_bytes()
-    );
+    warriors.push(one_cell(rt.alloc(), "Dead", "Anonymous", 8000, DEAD)?)?;
+    let lines =
+        "       4      1      1      0  Imp by Dewdney\n       4      1      1      0  Stay by Anonymous\n       0      0      0      2  Dead by Anonymous\n";
+    let checked = check_league(&rt, rt.alloc(), warriors.as_slice(), ONE_ROUND, Ok(lines));
+    drop(warriors);
+    checked
+}
+
+/// Fewer than two warriors play nothing, so no seed is too small.
+#[test]
+fn leagues_without_a_pair(rt: HostRuntime) -> Result<(), Fail> {
+    let plan = (1, 0, None, BY_DEFAULT);
+    check_league(&rt, rt.alloc(), &[], plan, Ok(""))?;
+    let alone = one_cells(rt.alloc(), 8000, &[STAY])?;
+    let line = "       0      0      0      0  Test by \n";
+    let checked = check_league(&rt, rt.alloc(), alone.as_slice(), plan, Ok(line));
+    drop(alone);
+    checked
+}
+
+/// Where the second stands, and the results of a league of two.
+const POSITIONS: &[(Option<u32>, &str)] = &[
+    (
+        Some(200),
+        "       3      1      0      0  Test by \n       0      0      0      1  Test by \n",
+    ),
+    (
+        Some(201),
+        "       1      0      1      0  Test by \n       1      0      1      0  Test by \n",
+    ),
+    (
+        None,
+        "       1      0      1      0  Test by \n       1      0      1      0  Test by \n",
+    ),
+];
+
+fn check_positions(rt: &impl Abort, alloc: Global, both: &[Warrior]) -> Result<(), Fail> {
+    for (fixed, lines) in POSITIONS {
+        check_league(rt, alloc, both, (1, 1, *fixed, BY_DEFAULT), Ok(lines))?;
+    }
     Ok(())
 }
 
 #[test]
 fn a_league_of_two_at_a_fixed_position(rt: HostRuntime) -> Result<(), Fail> {
     // The first lowers the field by which the second jumps where it stands 200 cells on, and nowhere else.
-    let params = sizes(8000, 100)?;
     let both = one_cells(rt.alloc(), 8000, &["JMP.B $0, <200", "JMP.B @0, $0"])?;
-    let met = "       3      1      0      0  Test by \n       0      0      0      1  Test by \n";
-    let missed =
-        "       1      0      1      0  Test by \n       1      0      1      0  Test by \n";
-    for (fixed, rows) in [(Some(200), met), (Some(201), missed), (None, missed)] {
-        let table = league_held(
-            rt.alloc(),
-            &params,
-            both.as_slice(),
-            (1, 1, fixed, BY_DEFAULT),
-        )?;
-        let results = results_of(rt.alloc(), table)?;
-        let (heading, rest) = results
-            .as_slice()
-            .split_at(HEADING.len().min(results.len()));
-        assert!(rt; heading == HEADING.as_bytes());
-        assert!(rt; rest == rows.as_bytes(), "{fixed:?}");
-    }
-    Ok(())
+    let checked = check_positions(&rt, rt.alloc(), both.as_slice());
+    drop(both);
+    checked
+}
+
+/// A league of warriors of one cell each comes to this.
+fn check_league_of(
+    rt: &impl Abort,
+    alloc: Global,
+    texts: &[&str],
+    plan: Plans,
+    expected: Outcome,
+) -> Result<(), Fail> {
+    let warriors = one_cells(alloc, 8000, texts)?;
+    let checked = check_league(rt, alloc, warriors.as_slice(), plan, expected);
+    drop(warriors);
+    checked
 }
 
 #[test]
 fn sums_of_leagues(rt: HostRuntime) -> Result<(), Fail> {
     // A pair of which one lives gives it the greatest number, one of which both live takes it from both. The sum of the
     // first is beyond 64 bits after two matches, and zero in the end. Of two that die the one with the second turn lives.
-    let params = sizes(8000, 100)?;
-    let (stay, dead) = ("JMP.B $0, $0", "DAT.F $0, $0");
-    let text = "9223372036854775807*(3-2*S)";
-    let five = one_cells(rt.alloc(), 8000, &[stay, dead, dead, stay, stay])?;
-    let table = league_held(rt.alloc(), &params, five.as_slice(), (1, 1, None, text))?;
-    let expected = "  points   wins   ties losses  warrior
-       0      2      2      0  Test by \n       0      0      0      4  Test by \n9223372036854775807      1      0      3  Test by \n       0      2      2      0  Test by \n       0      2      2      0  Test by \n";
-    assert_eq!(rt;
-        results_of(rt.alloc(), table)?.as_slice(),
-        expected.as_bytes()
-    );
-    let three = one_cells(rt.alloc(), 8000, &[stay, dead, dead])?;
-    let table = league_held(rt.alloc(), &params, three.as_slice(), (1, 1, None, text))?;
-    assert_eq!(rt; table.err(), Some(MatchFault::Score(ExprFault::Range)));
-    Ok(())
+    let plan = (1, 1, None, "9223372036854775807*(3-2*S)");
+    let expected =
+        "       0      2      2      0  Test by \n       0      0      0      4  Test by \n9223372036854775807      1      0      3  Test by \n       0      2      2      0  Test by \n       0      2      2      0  Test by \n";
+    let five: [&str; 5] = [STAY, DEAD, DEAD, STAY, STAY];
+    check_league_of(&rt, rt.alloc(), &five, plan, Ok(expected))?;
+    let range = Err(MatchFault::Score(ExprFault::Range));
+    check_league_of(&rt, rt.alloc(), &[STAY, DEAD, DEAD], plan, range)
 }
+
+/// Where both live the formula divides by zero. Where one lives in both rounds alone its points are too great. Of two that
+/// die each lives in one round.
+const NEITHER: &str = "9223372036854775807/(2-S)";
+
+const REFUSED_LEAGUES: &[(&[&str], u32, MatchFault)] = &[
+    (
+        &[DEAD, DEAD, STAY, STAY],
+        1,
+        MatchFault::Score(ExprFault::Range),
+    ),
+    (
+        &[STAY, STAY, DEAD, DEAD],
+        1,
+        MatchFault::Score(ExprFault::DivideByZero),
+    ),
+    (
+        &[DEAD, STAY, STAY, DEAD],
+        1,
+        MatchFault::Score(ExprFault::Range),
+    ),
+    (
+        &[STAY, STAY, DEAD, DEAD],
+        0,
+        MatchFault::Place(PlaceFault::BadSeed),
+    ),
+];
 
 #[test]
 fn refused_leagues(rt: HostRuntime) -> Result<(), Fail> {
-    let params = sizes(8000, 100)?;
-    let (stay, dead) = ("JMP.B $0, $0", "DAT.F $0, $0");
-    // Where both live the formula divides by zero. Where one lives in both rounds alone its points are too great. Of two
-    // that die each lives in one round.
-    let text = "9223372036854775807/(2-S)";
-    let cases: [([&str; 4], u32, MatchFault); 4] = [
-        (
-            [dead, dead, stay, stay],
-            1,
-            MatchFault::Score(ExprFault::Range),
-        ),
-        (
-            [stay, stay, dead, dead],
-            1,
-            MatchFault::Score(ExprFault::DivideByZero),
-        ),
-        (
-            [dead, stay, stay, dead],
-            1,
-            MatchFault::Score(ExprFault::Range),
-        ),
-        (
-            [stay, stay, dead, dead],
-            0,
-            MatchFault::Place(PlaceFault::BadSeed),
-        ),
-    ];
-    for (texts, seed, fault) in cases {
-        let all = one_cells(rt.alloc(), 8000, &texts)?;
-        let table = league_held(rt.alloc(), &params, all.as_slice(), (2, seed, None, text))?;
-        assert_eq!(rt; table.err(), Some(fault));
+    for (texts, seed, fault) in REFUSED_LEAGUES {
+        check_league_of(
+            &rt,
+            rt.alloc(),
+            texts,
+            (2, *seed, None, NEITHER),
+            Err(*fault),
+        )?;
     }
     Ok(())
 }

@@ -1,20 +1,17 @@
 //! Calls that are refused memory. Each test holds whichever one of its requests is refused, since a second try has memory:
 //! scripts/refuse-memory refuses each in turn.
-ghost use Rattle.std.specs.Prelude.{◌≡◌, IfSome, None};
+ghost use Rattle.std.specs.Prelude.{◌≡◌, ◌≤◌, IfOk, None, length};
 
-use super::{BY_DEFAULT, fought, sizes};
-use mars_match::{MatchFault, PlaceFault, Plan, Table, league, place, rounds};
-use mars_cell::{Warrior, read_cell};
+use super::{BY_DEFAULT, DEAD, STAY, fought, sizes};
+use mars_cell::{Params, Warrior, read_cell};
 use mars_core::BattleFault;
+use mars_match::{MatchFault, PlaceFault, Plan, Table, league, place, rounds};
 use redcode_asm::Formula;
 use std::alloc::Global;
+use std::process::Abort;
 use std::test::Fail;
 
 const IMP: &str = "MOV.I $0, $1";
-
-const STAY: &str = "JMP.B $0, $0";
-
-const DEAD: &str = "DAT.F $0, $0";
 
 /// Whether a fault is want of memory.
 fn is_of_memory(fault: MatchFault) -> bool {
@@ -26,27 +23,40 @@ fn is_of_memory(fault: MatchFault) -> bool {
     )
 }
 
-/// Warriors of one cell each in a core of 8000 cells.
+/// Warriors of one cell each in a core of 8000 cells, where there is memory.
 fn one_cells(alloc: Global, texts: &[&str]) -> Option<Vec<Warrior>> {
     let mut warriors = Vec::new(alloc);
     for text in texts {
+        let cell = read_cell(text.as_bytes(), 8000)?;
         let mut cells = Vec::new(alloc);
-        cells.push(read_cell(text.as_bytes(), 8000)?).ok()?;
+        cells.push(cell).ok()?;
         let warrior = Warrior::new(String::new(alloc), String::new(alloc), cells, 0).ok()?;
         warriors.push(warrior).ok()?;
     }
     Some(warriors)
 }
 
-/// So many rounds with the first seed, anywhere.
-fn plan(alloc: Global, count: u32) -> Option<Plan>
-    ensures { IfSome result (λ plan. plan.fixed ≡ None) }
+/// The same, with a second try.
+fn warriors_of(alloc: Global, texts: &[&str]) -> Result<Vec<Warrior>, Fail> {
+    match one_cells(alloc, texts) {
+        Some(warriors) => Ok(warriors),
+        None => Ok(one_cells(alloc, texts).ok_or("warriors")?),
+    }
+}
+
+/// So many rounds with the first seed, anywhere, with a second try.
+fn plan(alloc: Global, count: u32) -> Result<Plan, Fail>
+    ensures { IfOk result (λ plan. plan.fixed ≡ None) }
 {
-    Some(Plan {
+    let formula = match Formula::new(alloc, BY_DEFAULT.as_bytes()) {
+        Ok(formula) => formula,
+        Err(_) => Formula::new(alloc, BY_DEFAULT.as_bytes())?,
+    };
+    Ok(Plan {
         rounds: count,
         seed: 1,
         fixed: None,
-        formula: Formula::new(alloc, BY_DEFAULT.as_bytes()).ok()?,
+        formula,
     })
 }
 
@@ -75,69 +85,114 @@ fn warriors_are_placed(rt: HostRuntime) -> Result<(), Fail> {
     Ok(())
 }
 
-#[test]
-fn a_round_is_fought(rt: HostRuntime) -> Result<(), Fail> {
+/// These warriors survive the second round of three.
+fn check_fight(rt: &impl Abort, alloc: Global, warriors: &[Warrior]) -> Result<(), Fail> {
     let params = sizes(8000, 100)?;
-    let texts: [&str; 3] = [STAY, DEAD, IMP];
-    let first = one_cells(rt.alloc(), &texts);
-    let warriors = first
-        .or_else(|| one_cells(rt.alloc(), &texts))
-        .ok_or("warriors")?;
     let starts = [0, 100, 200];
-    let alive = match fought(rt.alloc(), &params, warriors.as_slice(), &starts, 1) {
+    let alive = match fought(alloc, &params, warriors, &starts, 1) {
         Err(fault) => {
             assert!(rt; is_of_memory(fault));
-            fought(rt.alloc(), &params, warriors.as_slice(), &starts, 1).ok()
+            fought(alloc, &params, warriors, &starts, 1)
+                .ok()
+                .ok_or("fight")?
         }
-        Ok(alive) => Some(alive),
+        Ok(alive) => alive,
     };
-    let expected = [true, false, true];
-    assert_eq!(rt; alive.ok_or("fight")?.as_slice(), expected.as_slice());
+    assert_eq!(rt; alive.as_slice(), [true, false, true].as_slice());
+    Ok(())
+}
+
+#[test]
+fn a_round_is_fought(rt: HostRuntime) -> Result<(), Fail> {
+    let warriors = warriors_of(rt.alloc(), &[STAY, DEAD, IMP])?;
+    let checked = check_fight(&rt, rt.alloc(), warriors.as_slice());
+    drop(warriors);
+    checked
+}
+
+/// The table of a match, with a second try.
+fn table_of_rounds(
+    rt: &impl Abort,
+    alloc: Global,
+    params: &Params,
+    warriors: &[Warrior],
+    plan: &Plan,
+) -> Result<Table, MatchFault>
+    requires { plan.now.fixed ≡ None }
+{
+    match rounds(alloc, params, warriors, plan) {
+        Err(fault) => {
+            assert!(rt; is_of_memory(fault));
+            rounds(alloc, params, warriors, plan)
+        }
+        Ok(table) => Ok(table),
+    }
+}
+
+/// The table of a league, with a second try.
+fn table_of_league(
+    rt: &impl Abort,
+    alloc: Global,
+    params: &Params,
+    warriors: &[Warrior],
+    plan: &Plan,
+) -> Result<Table, MatchFault>
+    requires plan { plan.now.fixed ≡ None }
+    requires warriors { length warriors.now ≤ 65536 }
+{
+    match league(alloc, params, warriors, plan) {
+        Err(fault) => {
+            assert!(rt; is_of_memory(fault));
+            league(alloc, params, warriors, plan)
+        }
+        Ok(table) => Ok(table),
+    }
+}
+
+fn check_sums(rt: &impl Abort, table: &Result<Table, MatchFault>, expected: [(i64, [u64; 3]); 3]) {
+    match table {
+        Ok(table) => assert_eq!(rt; sums(table), expected),
+        Err(fault) => assert!(rt; false, "{fault}"),
+    }
+}
+
+fn check_match(rt: &impl Abort, alloc: Global, warriors: &[Warrior]) -> Result<(), Fail> {
+    let params = sizes(8000, 100)?;
+    let plan = plan(alloc, 3)?;
+    let table = table_of_rounds(rt, alloc, &params, warriors, &plan);
+    let expected = [(12, [0, 3, 0]), (12, [0, 3, 0]), (0, [0, 0, 3])];
+    check_sums(rt, &table, expected);
+    drop(table);
+    drop(plan);
     Ok(())
 }
 
 #[test]
 fn rounds_are_fought(rt: HostRuntime) -> Result<(), Fail> {
+    let warriors = warriors_of(rt.alloc(), &[IMP, STAY, DEAD])?;
+    let checked = check_match(&rt, rt.alloc(), warriors.as_slice());
+    drop(warriors);
+    checked
+}
+
+fn check_league(rt: &impl Abort, alloc: Global, warriors: &[Warrior]) -> Result<(), Fail> {
+    if warriors.len() > 65536 {
+        return Err("warriors".into());
+    }
     let params = sizes(8000, 100)?;
-    let texts: [&str; 3] = [IMP, STAY, DEAD];
-    let first = one_cells(rt.alloc(), &texts);
-    let warriors = first
-        .or_else(|| one_cells(rt.alloc(), &texts))
-        .ok_or("warriors")?;
-    let first = plan(rt.alloc(), 3);
-    let plan = first.or_else(|| plan(rt.alloc(), 3)).ok_or("plan")?;
-    assert!(rt; plan.fixed.is_none());
-    let table = match rounds(rt.alloc(), &params, warriors.as_slice(), &plan) {
-        Err(fault) => {
-            assert!(rt; is_of_memory(fault));
-            rounds(rt.alloc(), &params, warriors.as_slice(), &plan).ok()
-        }
-        Ok(table) => Some(table),
-    };
-    let expected = [(12, [0, 3, 0]), (12, [0, 3, 0]), (0, [0, 0, 3])];
-    assert_eq!(rt; sums(&table.ok_or("match")?), expected);
+    let plan = plan(alloc, 1)?;
+    let table = table_of_league(rt, alloc, &params, warriors, &plan);
+    let expected = [(4, [1, 1, 0]), (4, [1, 1, 0]), (0, [0, 0, 2])];
+    check_sums(rt, &table, expected);
+    drop(table);
+    drop(plan);
     Ok(())
 }
 
 #[test]
 fn a_league_is_fought(rt: HostRuntime) -> Result<(), Fail> {
-    let params = sizes(8000, 100)?;
-    let texts: [&str; 3] = [IMP, STAY, DEAD];
-    let first = one_cells(rt.alloc(), &texts);
-    let warriors = first
-        .or_else(|| one_cells(rt.alloc(), &texts))
-        .ok_or("warriors")?;
-    let first = plan(rt.alloc(), 1);
-    let plan = first.or_else(|| plan(rt.alloc(), 1)).ok_or("plan")?;
-    assert!(rt; plan.fixed.is_none() && warriors.len() <= 65536);
-    let table = match league(rt.alloc(), &params, warriors.as_slice(), &plan) {
-        Err(fault) => {
-            assert!(rt; is_of_memory(fault));
-            league(rt.alloc(), &params, warriors.as_slice(), &plan).ok()
-        }
-        Ok(table) => Some(table),
-    };
-    let expected = [(4, [1, 1, 0]), (4, [1, 1, 0]), (0, [0, 0, 2])];
-    assert_eq!(rt; sums(&table.ok_or("league")?), expected);
-    Ok(())
+    let warriors = warriors_of(rt.alloc(), &[IMP, STAY, DEAD])?;
+    let checked = check_league(&rt, rt.alloc(), warriors.as_slice());
+    drop(warriors);
+    checked
 }
