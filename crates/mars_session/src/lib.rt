@@ -33,6 +33,3 @@ pub use rings::RingTape;
 pub use sessions::Session;
 pub use tapes::Tape;
 pub use whole::WholeTape;
-
-#[cfg(test)]
-mod tests;

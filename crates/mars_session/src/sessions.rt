@@ -38,6 +38,22 @@ impl<T: Tape> Session<T> {
         Session { tape, limit }
     }
 
+    /// The tape of all places.
+    pub fn tape(&self) -> &T
+        ensures history { T.history result.now ≡ self.now.history }
+        ensures memory { T.memory result.now ≡ self.now.memory }
+    {
+        &self.tape
+    }
+
+    /// Gives the tape back, at the place where the session stands.
+    pub fn into_tape(self) -> T
+        ensures history { T.history result ≡ self.history }
+        ensures memory { T.memory result ≡ self.memory }
+    {
+        self.tape
+    }
+
     /// The battle of the present place.
     pub fn battle(&self) -> &Battle
         ensures { result.now ≡ self.now.history.present.state }

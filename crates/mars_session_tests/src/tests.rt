@@ -28,11 +28,9 @@ mod memory;
 mod no_memory;
 mod poor_tape;
 
-use crate::{
-    Call, DeltaTape, Refusal, Reply, RingTape, Session, Standing, Tape, WholeTape, commands, moves,
-};
 use mars_cell::{Cell, Mode, Modifier, Op, Params, Warrior};
 use mars_core::{Battle, Edit, Work};
+use mars_session::{Call, DeltaTape, Refusal, Reply, RingTape, Session, Standing, Tape, WholeTape};
 use poor_tape::PoorTape;
 use std::alloc::Global;
 use std::process::Abort;
@@ -553,21 +551,21 @@ const WAYS: &[(u64, u64)] = &[
 ];
 
 /// A goto goes over so many places. It is refused past 50 turns.
-fn check_goto<T: Tape>(rt: &impl Abort, tape: &mut PoorTape<T>, turns: u64, way: u64) {
-    let before = tape.walked();
-    let reply = moves::goto(tape, turns);
+fn check_goto<T: Tape>(rt: &impl Abort, session: &mut Session<PoorTape<T>>, turns: u64, way: u64) {
+    let before = session.tape().walked();
+    let reply = session.goto(turns);
     assert_eq!(rt; reply.is_ok(), turns <= 50);
-    assert_eq!(rt; tape.walked(), before.saturating_add(way));
+    assert_eq!(rt; session.tape().walked(), before.saturating_add(way));
 }
 
 /// How many places a goto goes over: those on the way, and at most one more there and back. A refused one goes to both ends.
 fn check_way<T: Start + Drop>(rt: &impl Abort, alloc: Global) -> Result<(), Fail>
     requires { T.FORGETS ≡ false }
 {
-    let mut tape = PoorTape::new(imp_tape::<T>(alloc)?, 1);
-    check_reply(rt, commands::run(&mut tape, 100, 50), imp_at!(50, 50, 50));
+    let mut session = poor_imp::<T>(alloc, 1)?;
+    check_call(rt, &mut session, Call::Run(50), imp_at!(50, 50, 50));
     for (turns, way) in WAYS {
-        check_goto(rt, &mut tape, *turns, *way);
+        check_goto(rt, &mut session, *turns, *way);
     }
     Ok(())
 }

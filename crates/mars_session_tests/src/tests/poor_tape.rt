@@ -8,8 +8,8 @@ ghost use Rattle.mars_session.specs.History.{following, position_of, last_of, ma
 ghost use Rattle.mars_session.specs.Memory.{Memory, never, kept, noted};
 ghost use Rattle.mars_session.specs.Tapes.{TurnsNeverFell};
 
-use crate::Tape;
 use mars_core::{Battle, Edit};
+use mars_session::Tape;
 use std::alloc::{AllocError, Global};
 use std::marker::Model;
 

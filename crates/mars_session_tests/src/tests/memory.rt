@@ -1,9 +1,9 @@
 //! Calls that are refused memory, over each kind of tape. Each test holds whichever one of its requests is refused, since a
 //! second try has memory: scripts/refuse-memory refuses each in turn.
 use super::{BLANK, COPIER, IDLE, check_call, check_reply, check_same, check_standing};
-use crate::{Call, DeltaTape, Refusal, Reply, RingTape, Session, Standing, Tape, WholeTape};
 use mars_cell::{Params, Warrior};
 use mars_core::Battle;
+use mars_session::{Call, DeltaTape, Refusal, Reply, RingTape, Session, Standing, Tape, WholeTape};
 use std::alloc::Global;
 use std::process::Abort;
 use std::test::Fail;

@@ -5,9 +5,7 @@ use super::memory::{
     ALL_COMMANDS, Begin, battle, check_same_sessions, is_refused, tape, with_future,
 };
 use super::{BLANK, IDLE, check_call, check_each, check_process, check_reply, check_standing};
-use crate::{
-    Call, DeltaTape, Refusal, Reply, RingTape, Session, Standing, Tape, WholeTape, commands, moves,
-};
+use mars_session::{Call, DeltaTape, Refusal, Reply, RingTape, Session, Standing, Tape, WholeTape};
 use std::alloc::Global;
 use std::process::Abort;
 use std::test::Fail;
@@ -118,16 +116,17 @@ fn room_of<T: Tape>(tape: &mut T) -> u64 {
 
 /// A run that is refused leaves the tape's room as it was: at least the three places that follow.
 fn check_room<T: Begin>(rt: &impl Abort, alloc: Global) {
-    let Some(mut tape) = tape::<T>(alloc) else {
+    let Some(session) = with_future::<T>(alloc) else {
         return;
     };
-    if commands::run(&mut tape, 100, 5).is_err() || moves::goto(&mut tape, 2).is_err() {
-        return;
-    }
     ask(alloc);
+    let mut tape = session.into_tape();
     let room = room_of(&mut tape);
     assert!(rt; room >= 3);
-    if is_refused::<T>(commands::run(&mut tape, 100, 90)) {
+    let mut session = Session::new(tape, 100);
+    let reply = session.run(90);
+    let mut tape = session.into_tape();
+    if is_refused::<T>(reply) {
         assert_eq!(rt; room_of(&mut tape), room);
     }
 }
@@ -173,13 +172,15 @@ fn a_session_over_records(rt: HostRuntime) -> Result<(), Fail> {
 
 #[test]
 fn records_of_a_tape(rt: HostRuntime) -> Result<(), Fail> {
-    let Some(mut tape) = tape::<DeltaTape>(rt.alloc()) else {
+    let Some(tape) = tape::<DeltaTape>(rt.alloc()) else {
         return Ok(());
     };
-    if commands::run(&mut tape, 100, 2).is_err() {
+    let mut session = Session::new(tape, 100);
+    if session.run(2).is_err() {
         return Ok(());
     }
     ask(rt.alloc());
+    let tape = session.tape();
     assert!(rt; tape.atom(0).is_some() && tape.atom(1).is_some());
     assert!(rt; tape.atom(2).is_none());
     Ok(())
