@@ -64,6 +64,3 @@ pub fn assemble(
     drop(program);
     warrior
 }
-
-#[cfg(test)]
-mod tests;

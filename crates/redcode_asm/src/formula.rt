@@ -134,6 +134,3 @@ impl Formula {
         eval(&self.line.tokens, &variables)
     }
 }
-
-#[cfg(test)]
-mod tests;

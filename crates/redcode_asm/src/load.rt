@@ -26,6 +26,3 @@ pub fn assemble_load(
         Err(_) => Err(AsmFault::out_of_memory()),
     }
 }
-
-#[cfg(test)]
-mod tests;

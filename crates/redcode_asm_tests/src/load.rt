@@ -1,5 +1,5 @@
-use crate::{AsmFault, AsmProblem, assemble, assemble_load};
 use mars_cell::{Params, read_load};
+use redcode_asm::{AsmFault, AsmProblem, assemble, assemble_load};
 use std::test::Fail;
 
 /// A name and an author, EQU, a label and a start.

@@ -1,7 +1,7 @@
 //! Calls that are refused memory. Each test holds whichever one of its requests is refused, since a second try has memory:
 //! scripts/refuse-memory refuses each in turn.
-use crate::{AsmFault, AsmProblem, Formula, FormulaFault, assemble, assemble_load};
 use mars_cell::Params;
+use redcode_asm::{AsmFault, AsmProblem, Formula, FormulaFault, assemble, assemble_load};
 use std::test::Fail;
 
 /// Labels, EQU names, a loop, joins, a name, an assert and a start.

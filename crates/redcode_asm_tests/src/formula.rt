@@ -1,6 +1,6 @@
 //! Formulas: the values that players know, and the faults.
 
-use crate::{Formula, FormulaFault};
+use redcode_asm::{Formula, FormulaFault};
 use redcode_text::ExprFault;
 use std::alloc::Global;
 use std::test::Fail;

@@ -1,7 +1,7 @@
 //! Sources and their warriors or faults: values that players know, limits at their values and one past them.
 
-use crate::{AsmFault, AsmProblem, assemble, assemble_load};
 use mars_cell::Params;
+use redcode_asm::{AsmFault, AsmProblem, assemble, assemble_load};
 use redcode_text::{ExprFault, TextProblem};
 use std::alloc::Global;
 use std::test::Fail;
