@@ -112,6 +112,3 @@ pub fn expand(alloc: Global, bytes: &[u8], names: &Names) -> Result<Program, Tex
         Err(fault) => Err(fault),
     }
 }
-
-#[cfg(test)]
-mod tests;

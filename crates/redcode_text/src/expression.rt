@@ -60,6 +60,3 @@ pub fn eval<E: Env>(tokens: &[Token], env: &E) -> Result<i64, ExprFault>
     check_shape(tokens)?;
     evaluate(tokens, env)
 }
-
-#[cfg(test)]
-mod tests;

@@ -290,6 +290,3 @@ pub fn scan(alloc: Global, text: &[u8]) -> Result<LineTokens, TextFault>
         Err(problem) => Err(problem.at_line(1)),
     }
 }
-
-#[cfg(test)]
-mod tests;

@@ -2,7 +2,7 @@
 //!
 //! A test hands its program to functions that borrow it, and then to `drop`: where it goes out of scope by itself, each such
 //! body proves anew how a program is dropped.
-use crate::{
+use redcode_text::{
     Assert, Env, ExprFault, Line, NameTable, Names, Program, Sign, TextFault, TextProblem, Token,
     TokenKind, eval, expand,
 };
@@ -13,7 +13,8 @@ use std::test::Fail;
 mod memory;
 mod no_memory;
 
-const NAMES: Names = Names {
+/// What the predefined names stand for.
+pub const NAMES: Names = Names {
     core_size: 8000,
     max_processes: 8000,
     max_cycles: 80_000,

@@ -1,6 +1,7 @@
-use crate::lexer::open_loops::{OpenLoop, OpenLoops};
-use crate::lexer::{Text, read_tokens};
-use crate::{LineTokens, NameTable, Sign, TextFault, TextProblem, Token, TokenKind, scan};
+use crate::expansion::NAMES;
+use redcode_text::{
+    LineTokens, NameTable, Program, Sign, TextFault, TextProblem, Token, TokenKind, expand, scan,
+};
 use std::alloc::Global;
 use std::process::Abort;
 use std::test::Fail;
@@ -30,44 +31,6 @@ fn check_problems(rt: &impl Abort, alloc: Global, texts: &[&[u8]], problem: Text
     for text in texts {
         assert_eq!(rt; problem_of(alloc, text), Some(problem), "in {text:?}");
     }
-}
-
-/// The loops of `i`, in round 1, and `j`, in round 12.
-fn open_loops(alloc: Global) -> Result<OpenLoops, Fail> {
-    let mut loops = OpenLoops::new(alloc);
-    loops.push(OpenLoop::new(Some(String::from_str(alloc, "j")?), 12))?;
-    loops.push(OpenLoop::new(None, 3))?;
-    loops.push(OpenLoop::new(Some(String::from_str(alloc, "i")?), 1))?;
-    Ok(loops)
-}
-
-/// The first token of a text within these loops, which puts names into the table.
-fn first_within(
-    alloc: Global,
-    loops: &OpenLoops,
-    text: &[u8],
-    names: &mut NameTable,
-) -> Option<TokenKind> {
-    let mut tokens = Vec::new(alloc);
-    let row = Text {
-        number: 1,
-        at: 0,
-        bytes: text,
-        runs: &[],
-    };
-    read_tokens(alloc, loops, row, 100, names, &mut tokens).ok()?;
-    tokens.first().map(|token| token.kind)
-}
-
-/// The first token of a text, where the loops of `i`, in round 1, and `j`, in round 12, are open, with the first name.
-fn read_inside(alloc: Global, text: &[u8]) -> Result<(Option<TokenKind>, String), Fail> {
-    let loops = open_loops(alloc)?;
-    let mut names = NameTable::new(alloc, text);
-    let kind = first_within(alloc, &loops, text, &mut names);
-    let name = names.name(alloc, 0);
-    drop(names);
-    drop(loops);
-    Ok((kind, name?))
 }
 
 #[test]
@@ -129,31 +92,46 @@ fn what_begins_no_token(rt: HostRuntime) {
     assert_eq!(rt; problem, Some(TextProblem::NotAscii));
 }
 
-fn check_kind(
-    rt: &impl Abort,
-    alloc: Global,
-    text: &[u8],
-    kind: Option<TokenKind>,
-) -> Result<(), Fail> {
-    assert_eq!(rt; read_inside(alloc, text)?.0, kind);
-    Ok(())
+/// A line in three loops, last read in round 12 of `j`, round 3 of one without a counter and round 1 of `i`.
+const JOINS: &[u8] = b"j FOR 12\nFOR 3\ni FOR 1\nDAT x&i x&i&j &i 5&i j\nROF\nROF\nROF\n";
+
+/// A join to `x`, which is no counter, in the same loops.
+const NO_COUNTER: &[u8] = b"j FOR 12\nFOR 3\ni FOR 1\nDAT &i&x\nROF\nROF\nROF\n";
+
+/// A token is this name.
+fn check_name(rt: &impl Abort, names: &NameTable, token: &Token, name: &[u8]) {
+    let found = match token.kind {
+        TokenKind::Name(index) => names.word(index),
+        _ => b"".as_slice(),
+    };
+    assert_eq!(rt; found, name);
 }
 
-fn check_name(rt: &impl Abort, alloc: Global, text: &[u8], name: &str) -> Result<(), Fail> {
-    assert_eq!(rt; read_inside(alloc, text)?.1.as_str(), name);
+/// The tokens that were read last: two names and three numbers.
+fn check_joined(rt: &impl Abort, program: &Program) -> Result<(), Fail> {
+    let last = program.lines().last().ok_or("line")?;
+    let [name, longer, counter, number, alone] = last.rest.as_slice() else {
+        return Err("tokens".into());
+    };
+    check_name(rt, program.names(), name, b"x01");
+    check_name(rt, program.names(), longer, b"x0112");
+    assert_eq!(rt; counter.kind, TokenKind::Number(1));
+    assert_eq!(rt; number.kind, TokenKind::Number(501));
+    assert_eq!(rt; alone.kind, TokenKind::Number(12));
     Ok(())
 }
 
 #[test]
 fn joins_and_counters(rt: HostRuntime) -> Result<(), Fail> {
-    let alloc = rt.alloc();
-    check_kind(&rt, alloc, b"x&i", Some(TokenKind::Name(0)))?;
-    check_name(&rt, alloc, b"x&i", "x01")?;
-    check_name(&rt, alloc, b"x&i&j", "x0112")?;
-    check_kind(&rt, alloc, b"&i", Some(TokenKind::Number(1)))?;
-    check_kind(&rt, alloc, b"5&i", Some(TokenKind::Number(501)))?;
-    check_kind(&rt, alloc, b"j", Some(TokenKind::Number(12)))?;
-    check_kind(&rt, alloc, b"&i&x", None)
+    let program = expand(rt.alloc(), JOINS, &NAMES)?;
+    let checked = check_joined(&rt, &program);
+    drop(program);
+    let bad = TextFault {
+        line: 4,
+        problem: TextProblem::BadToken,
+    };
+    assert_eq!(rt; expand(rt.alloc(), NO_COUNTER, &NAMES).err(), Some(bad));
+    checked
 }
 
 fn check_read(rt: &impl Abort, read: &LineTokens) {

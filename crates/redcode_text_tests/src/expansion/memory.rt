@@ -1,7 +1,9 @@
 //! Calls that are refused memory. Each test holds whichever one of its requests is refused, since a second try has memory:
 //! scripts/refuse-memory refuses each in turn.
 use super::NAMES;
-use crate::{Line, LineTokens, Program, TextFault, TextProblem, Token, TokenKind, expand, scan};
+use redcode_text::{
+    Line, LineTokens, Program, TextFault, TextProblem, Token, TokenKind, expand, scan,
+};
 use std::alloc::Global;
 use std::process::Abort;
 use std::test::Fail;

@@ -1,4 +1,4 @@
-use crate::{Env, ExprFault, Sign, TextFault, TextProblem, Token, TokenKind, eval};
+use redcode_text::{Env, ExprFault, Sign, TextFault, TextProblem, Token, TokenKind, eval};
 use std::test::Fail;
 
 /// The name 0 stands for 5, and no other for anything.
