@@ -156,17 +156,40 @@ fn answer_over(
     })
 }
 
+fn check_output(
+    rt: &impl Abort,
+    alloc: Global,
+    words: &[&str],
+    input: &[u8],
+    output: &[u8],
+) -> Result<(), Fail> {
+    let answer = answer(alloc, words, input)?;
+    assert_eq!(rt; answer.status, 0, "{words:?}");
+    assert!(rt; answer.output.as_slice() == output, "{words:?}");
+    assert!(rt; answer.faults.is_empty(), "{words:?}");
+    Ok(())
+}
+
+/// Words, what they read, and what they write with status 0.
+type Played = (&'static [&'static str], &'static [u8], &'static [u8]);
+
+/// Each run ends well, and writes just this.
+fn check_played(rt: &impl Abort, alloc: Global, runs: &[Played]) -> Result<(), Fail> {
+    for (words, input, output) in runs {
+        check_output(rt, alloc, words, input, output)?;
+    }
+    Ok(())
+}
+
+const A_STEP_AND_AN_UNDO: &[Played] = &[(
+    &["-e", "-s", "8", "-l", "1", "-d", "1", "imp.load"],
+    b"step\nundo\n",
+    b"turn 1 cycle 1 next 0 alive 1 at 1/1\nturn 0 cycle 0 next 0 alive 1 at 0/1\n",
+)];
+
 #[test]
 fn a_step_and_an_undo(rt: HostRuntime) -> Result<(), Fail> {
-    let words = ["-e", "-s", "8", "-l", "1", "-d", "1", "imp.load"];
-    let answer = answer(rt.alloc(), &words, b"step\nundo\n")?;
-    assert_eq!(rt; answer.status, 0);
-    assert!(rt;
-        answer.output.as_slice()
-            == b"turn 1 cycle 1 next 0 alive 1 at 1/1\nturn 0 cycle 0 next 0 alive 1 at 0/1\n".as_slice()
-    );
-    assert!(rt; answer.faults.is_empty());
-    Ok(())
+    check_played(&rt, rt.alloc(), A_STEP_AND_AN_UNDO)
 }
 
 fn check_fault(
@@ -255,24 +278,40 @@ fn check_taken(rt: &impl Abort, alloc: Global, words: &[&str]) -> Result<(), Fai
     Ok(())
 }
 
-#[test]
-fn parameters_that_hold_where_no_word_gives_another(rt: HostRuntime) -> Result<(), Fail> {
-    check_taken(&rt, rt.alloc(), &["--load", "given.red"])?;
+const DEFAULT_LIMITS: &[Played] = &[
     // Reading and writing reach round the whole core: half of it on is not folded, one more is.
-    let words = ["-e", "imp.load"];
-    let input = b"edit 0 MOV.I $4000, $4000\nedit 4000 NOP.F $1, $1\nstep\nlist 4000 1\n";
-    let output = b"turn 0 cycle 0 next 0 alive 1 at 1/1
+    (
+        &["-e", "imp.load"],
+        b"edit 0 MOV.I $4000, $4000\nedit 4000 NOP.F $1, $1\nstep\nlist 4000 1\n",
+        b"turn 0 cycle 0 next 0 alive 1 at 1/1
 turn 0 cycle 0 next 0 alive 1 at 2/2
 turn 1 cycle 1 next 0 alive 1 at 3/3
 4000 NOP.F $1, $1
-";
-    check_output(&rt, rt.alloc(), &words, input, output)?;
+",
+    ),
     // So many places are kept beside the last one.
-    let words = ["-e", "-c", "300000", "imp.load"];
-    let kept = b"turn 200001 cycle 200001 next 0 alive 1 at 200000/200000
+    (
+        &["-e", "-c", "300000", "imp.load"],
+        b"run 200001\ngoto 0\n",
+        b"turn 200001 cycle 200001 next 0 alive 1 at 200000/200000
 refused 12 NotInHistory 1 200001
-";
-    check_output(&rt, rt.alloc(), &words, b"run 200001\ngoto 0\n", kept)
+",
+    ),
+];
+
+#[test]
+fn parameters_that_hold_where_no_word_gives_another(rt: HostRuntime) -> Result<(), Fail> {
+    check_taken(&rt, rt.alloc(), &["--load", "given.red"])?;
+    check_played(&rt, rt.alloc(), DEFAULT_LIMITS)
+}
+
+/// Each run ends well.
+fn check_well(rt: &impl Abort, alloc: Global, runs: &[&[&str]]) -> Result<(), Fail> {
+    for words in runs {
+        let answer = answer(alloc, words, b"show\n")?;
+        assert_eq!(rt; answer.status, 0, "{words:?}");
+    }
+    Ok(())
 }
 
 const LEAST_WORDS: &[&str] = &[
@@ -325,11 +364,8 @@ const GREATEST_WORDS: &[&str] = &[
     "greatest.red",
 ];
 
-#[test]
-fn least_and_greatest_numbers(rt: HostRuntime) -> Result<(), Fail> {
-    check_taken(&rt, rt.alloc(), LEAST_WORDS)?;
-    check_taken(&rt, rt.alloc(), GREATEST_WORDS)?;
-    let history = [
+const LONGEST_HISTORY: &[Played] = &[(
+    &[
         "-e",
         "--history",
         "1000000",
@@ -340,19 +376,26 @@ fn least_and_greatest_numbers(rt: HostRuntime) -> Result<(), Fail> {
         "-d",
         "1",
         "dead.load",
-    ];
-    let dead = b"turn 1 cycle 0 next 0 alive 0 at 1/1\n";
-    check_output(&rt, rt.alloc(), &history, b"run 1000000\n", dead)?;
-    for position in ["100", "7900"] {
-        let words = ["-b", "-c", "1", "-F", position, "imp.load", "stay.load"];
-        assert_eq!(rt; answer(rt.alloc(), &words, b"")?.status, 0);
-    }
-    Ok(())
-}
+    ],
+    b"run 1000000\n",
+    b"turn 1 cycle 0 next 0 alive 0 at 1/1\n",
+)];
+
+const LEAST_AND_GREATEST_POSITION: &[&[&str]] = &[
+    &["-b", "-c", "1", "-F", "100", "imp.load", "stay.load"],
+    &["-b", "-c", "1", "-F", "7900", "imp.load", "stay.load"],
+];
 
 #[test]
-fn reading_and_writing_have_limits_of_their_own(rt: HostRuntime) -> Result<(), Fail> {
-    let words = [
+fn least_and_greatest_numbers(rt: HostRuntime) -> Result<(), Fail> {
+    check_taken(&rt, rt.alloc(), LEAST_WORDS)?;
+    check_taken(&rt, rt.alloc(), GREATEST_WORDS)?;
+    check_played(&rt, rt.alloc(), LONGEST_HISTORY)?;
+    check_well(&rt, rt.alloc(), LEAST_AND_GREATEST_POSITION)
+}
+
+const LIMITS_OF_THEIR_OWN: &[Played] = &[(
+    &[
         "-e",
         "-s",
         "8",
@@ -365,29 +408,36 @@ fn reading_and_writing_have_limits_of_their_own(rt: HostRuntime) -> Result<(), F
         "--write-limit",
         "8",
         "limited.load",
-    ];
-    let output = b"turn 1 cycle 1 next 0 alive 1 at 1/1
+    ],
+    b"step\nlist 1 1\nlist 3 1\nlist 7 1\n",
+    b"turn 1 cycle 1 next 0 alive 1 at 1/1
 1 DAT.F $0, $0
 3 DAT.F $1, $0
 7 DAT.F $0, $0
-";
-    let input = b"step\nlist 1 1\nlist 3 1\nlist 7 1\n";
-    check_output(&rt, rt.alloc(), &words, input, output)
-}
+",
+)];
 
 #[test]
-fn processes_and_cycles_have_limits_of_their_own(rt: HostRuntime) -> Result<(), Fail> {
-    let words = ["-e", "-p", "2", "-c", "3", "stay.load"];
-    let input = b"spawn 0 1\nspawn 0 2\nundo\nrun 9\nshow\n";
-    let output = b"turn 0 cycle 0 next 0 alive 1 at 1/1
+fn reading_and_writing_have_limits_of_their_own(rt: HostRuntime) -> Result<(), Fail> {
+    check_played(&rt, rt.alloc(), LIMITS_OF_THEIR_OWN)
+}
+
+const PROCESSES_AND_CYCLES: &[Played] = &[(
+    &["-e", "-p", "2", "-c", "3", "stay.load"],
+    b"spawn 0 1\nspawn 0 2\nundo\nrun 9\nshow\n",
+    b"turn 0 cycle 0 next 0 alive 1 at 1/1
 refused 7 QueueFull
 turn 0 cycle 0 next 0 alive 1 at 0/1
 turn 3 cycle 3 next 0 alive 1 at 3/3
 turn 3 cycle 3 next 0 alive 1 at 3/3
 warrior 0 processes 1
 battle over
-";
-    check_output(&rt, rt.alloc(), &words, input, output)
+",
+)];
+
+#[test]
+fn processes_and_cycles_have_limits_of_their_own(rt: HostRuntime) -> Result<(), Fail> {
+    check_played(&rt, rt.alloc(), PROCESSES_AND_CYCLES)
 }
 
 /// A file of so many blanks is refused with this line.
@@ -451,50 +501,40 @@ fn at_most_sixteen_files(rt: HostRuntime) -> Result<(), Fail> {
     Ok(())
 }
 
-fn check_output(
-    rt: &impl Abort,
-    alloc: Global,
-    words: &[&str],
-    input: &[u8],
-    output: &[u8],
-) -> Result<(), Fail> {
-    let answer = answer(alloc, words, input)?;
-    assert_eq!(rt; answer.status, 0, "{words:?}");
-    assert!(rt; answer.output.as_slice() == output, "{words:?}");
-    assert!(rt; answer.faults.is_empty(), "{words:?}");
-    Ok(())
-}
+const MATCHES: &[Played] = &[
+    (
+        &["-b", "-c", "10", "imp.load", "stay.load"],
+        b"",
+        b"  points   wins   ties losses  warrior
+       1      0      1      0  Unknown by Anonymous
+       1      0      1      0  Unknown by Anonymous
+",
+    ),
+    (
+        &["-b", "-r", "2", "dead.load", "stay.load"],
+        b"",
+        b"  points   wins   ties losses  warrior
+       0      0      0      2  Unknown by Anonymous
+       6      2      0      0  Unknown by Anonymous
+",
+    ),
+    (
+        &["-b", "-o", "-r", "2", "dead.load", "stay.load"],
+        b"",
+        b"  points   wins   ties losses  warrior
+       6      2      0      0  Unknown by Anonymous
+       0      0      0      2  Unknown by Anonymous
+",
+    ),
+];
 
 #[test]
 fn matches(rt: HostRuntime) -> Result<(), Fail> {
-    let tied = b"  points   wins   ties losses  warrior
-       1      0      1      0  Unknown by Anonymous
-       1      0      1      0  Unknown by Anonymous
-";
-    let words = ["-b", "-c", "10", "imp.load", "stay.load"];
-    check_output(&rt, rt.alloc(), &words, b"", tied)?;
-    let won = b"  points   wins   ties losses  warrior
-       0      0      0      2  Unknown by Anonymous
-       6      2      0      0  Unknown by Anonymous
-";
-    let words = ["-b", "-r", "2", "dead.load", "stay.load"];
-    check_output(&rt, rt.alloc(), &words, b"", won)?;
-    let sorted = b"  points   wins   ties losses  warrior
-       6      2      0      0  Unknown by Anonymous
-       0      0      0      2  Unknown by Anonymous
-";
-    let words = ["-b", "-o", "-r", "2", "dead.load", "stay.load"];
-    check_output(&rt, rt.alloc(), &words, b"", sorted)
+    check_played(&rt, rt.alloc(), MATCHES)
 }
 
-#[test]
-fn a_league(rt: HostRuntime) -> Result<(), Fail> {
-    let table = b"  points   wins   ties losses  warrior
-       0      0      0      2  Unknown by Anonymous
-       4      1      1      0  Unknown by Anonymous
-       4      1      1      0  Unknown by Anonymous
-";
-    let words = [
+const A_LEAGUE: &[Played] = &[(
+    &[
         "-b",
         "-c",
         "10",
@@ -502,13 +542,33 @@ fn a_league(rt: HostRuntime) -> Result<(), Fail> {
         "dead.load",
         "imp.load",
         "stay.load",
-    ];
-    check_output(&rt, rt.alloc(), &words, b"", table)
-}
+    ],
+    b"",
+    b"  points   wins   ties losses  warrior
+       0      0      0      2  Unknown by Anonymous
+       4      1      1      0  Unknown by Anonymous
+       4      1      1      0  Unknown by Anonymous
+",
+)];
 
 #[test]
-fn a_listing_before_the_results(rt: HostRuntime) -> Result<(), Fail> {
-    let output = b"warrior 0: Unknown by Anonymous, 1 instructions
+fn a_league(rt: HostRuntime) -> Result<(), Fail> {
+    check_played(&rt, rt.alloc(), A_LEAGUE)
+}
+
+const A_LISTING: &[Played] = &[(
+    &[
+        "-r",
+        "2",
+        "-c",
+        "10",
+        "--score",
+        "100*S",
+        "imp.load",
+        "dead.load",
+    ],
+    b"",
+    b"warrior 0: Unknown by Anonymous, 1 instructions
 ;load 2 8000
 ;name Unknown
 ;author Anonymous
@@ -525,39 +585,48 @@ DAT.F $0, $0
   points   wins   ties losses  warrior
      200      2      0      0  Unknown by Anonymous
        0      0      0      2  Unknown by Anonymous
-";
-    let words = [
-        "-r",
-        "2",
-        "-c",
-        "10",
-        "--score",
-        "100*S",
-        "imp.load",
-        "dead.load",
-    ];
-    check_output(&rt, rt.alloc(), &words, b"", output)
-}
+",
+)];
 
 #[test]
-fn a_load_file(rt: HostRuntime) -> Result<(), Fail> {
-    check_output(
-        &rt,
-        rt.alloc(),
+fn a_listing_before_the_results(rt: HostRuntime) -> Result<(), Fail> {
+    check_played(&rt, rt.alloc(), A_LISTING)
+}
+
+const LOAD_FILES: &[Played] = &[
+    (
         &["--load", "two.load"],
         b"",
         b";load 2 8000\n;name Unknown\n;author Anonymous\nORG 0\nNOP.F $0, $0\nNOP.F $0, $0\n",
-    )
-}
+    ),
+    (
+        &["--load", "dwarf.red"],
+        b"",
+        b";load 2 8000\n;name Unknown\n;author Anonymous\nORG 0\nADD.AB #4, $3\nMOV.I $2, @2\nJMP.B $-2, $0\nDAT.F #0, #0\n",
+    ),
+];
 
 #[test]
-fn a_load_file_of_another_core(rt: HostRuntime) -> Result<(), Fail> {
-    let words = ["--load", "-s", "8", "-l", "1", "-d", "1", "named.load"];
-    let text = b";load 2 8\n;name Imp\n;author Dewdney\nORG 0\nMOV.I $0, $-1\n";
-    check_output(&rt, rt.alloc(), &words, b"", text)?;
-    let text = b";load 2 8000\n;name Imp\n;author Dewdney\nORG 0\nMOV.I $0, $-1\n";
-    check_output(&rt, rt.alloc(), &["--load", "named.load"], b"", text)?;
-    let output = b"warrior 0: Imp by Dewdney, 1 instructions
+fn load_files(rt: HostRuntime) -> Result<(), Fail> {
+    check_played(&rt, rt.alloc(), LOAD_FILES)
+}
+
+/// The file was written for a core of 8 cells.
+const ANOTHER_CORE: &[Played] = &[
+    (
+        &["--load", "-s", "8", "-l", "1", "-d", "1", "named.load"],
+        b"",
+        b";load 2 8\n;name Imp\n;author Dewdney\nORG 0\nMOV.I $0, $-1\n",
+    ),
+    (
+        &["--load", "named.load"],
+        b"",
+        b";load 2 8000\n;name Imp\n;author Dewdney\nORG 0\nMOV.I $0, $-1\n",
+    ),
+    (
+        &["-c", "10", "named.load"],
+        b"",
+        b"warrior 0: Imp by Dewdney, 1 instructions
 ;load 2 8000
 ;name Imp
 ;author Dewdney
@@ -566,32 +635,45 @@ MOV.I $0, $-1
 
   points   wins   ties losses  warrior
        0      0      0      1  Imp by Dewdney
-";
-    check_output(&rt, rt.alloc(), &["-c", "10", "named.load"], b"", output)
+",
+    ),
+];
+
+#[test]
+fn a_load_file_of_another_core(rt: HostRuntime) -> Result<(), Fail> {
+    check_played(&rt, rt.alloc(), ANOTHER_CORE)
 }
+
+const PLACED_WARRIORS: &[Played] = &[
+    (
+        &["-e", "-F", "200", "imp.load", "stay.load"],
+        b"queue 1\n",
+        b"queue 1: 200\n",
+    ),
+    (
+        &["-e", "imp.load", "stay.load"],
+        b"queue 1\n",
+        b"queue 1: 1305\n",
+    ),
+    (
+        &["-e", "--seed", "16807", "imp.load", "stay.load"],
+        b"queue 1\n",
+        b"queue 1: 1139\n",
+    ),
+    (
+        &["-e", "imp.load", "stay.load", "dead.load"],
+        b"queue 1\nqueue 2\nrun 3\n",
+        b"queue 1: 1505\nqueue 2: 2769\nturn 3 cycle 1 next 0 alive 2 at 3/3\n",
+    ),
+];
 
 #[test]
 fn a_battle_of_placed_warriors(rt: HostRuntime) -> Result<(), Fail> {
-    let words = ["-e", "-F", "200", "imp.load", "stay.load"];
-    check_output(&rt, rt.alloc(), &words, b"queue 1\n", b"queue 1: 200\n")?;
-    let words = ["-e", "imp.load", "stay.load"];
-    check_output(&rt, rt.alloc(), &words, b"queue 1\n", b"queue 1: 1305\n")?;
-    let words = ["-e", "--seed", "16807", "imp.load", "stay.load"];
-    check_output(&rt, rt.alloc(), &words, b"queue 1\n", b"queue 1: 1139\n")?;
-    let words = ["-e", "imp.load", "stay.load", "dead.load"];
-    let queues = b"queue 1: 1505\nqueue 2: 2769\nturn 3 cycle 1 next 0 alive 2 at 3/3\n";
-    check_output(
-        &rt,
-        rt.alloc(),
-        &words,
-        b"queue 1\nqueue 2\nrun 3\n",
-        queues,
-    )
+    check_played(&rt, rt.alloc(), PLACED_WARRIORS)
 }
 
-#[test]
-fn a_history_of_two_places(rt: HostRuntime) -> Result<(), Fail> {
-    let words = [
+const TWO_PLACES: &[Played] = &[(
+    &[
         "-e",
         "--history",
         "2",
@@ -602,21 +684,20 @@ fn a_history_of_two_places(rt: HostRuntime) -> Result<(), Fail> {
         "-d",
         "1",
         "imp.load",
-    ];
-    let replies = b"turn 3 cycle 3 next 0 alive 1 at 2/2
+    ],
+    b"run 3\nrun 2\nstep\nundo\nundo\ngoto 0\n",
+    b"turn 3 cycle 3 next 0 alive 1 at 2/2
 turn 5 cycle 5 next 0 alive 1 at 2/2
 turn 6 cycle 6 next 0 alive 1 at 2/2
 turn 5 cycle 5 next 0 alive 1 at 1/2
 refused 15 Forgotten
 refused 12 NotInHistory 4 6
-";
-    check_output(
-        &rt,
-        rt.alloc(),
-        &words,
-        b"run 3\nrun 2\nstep\nundo\nundo\ngoto 0\n",
-        replies,
-    )
+",
+)];
+
+#[test]
+fn a_history_of_two_places(rt: HostRuntime) -> Result<(), Fail> {
+    check_played(&rt, rt.alloc(), TWO_PLACES)
 }
 
 const FAULTS: &[(&[&str], u8, &[u8])] = &[
@@ -774,50 +855,49 @@ fn the_first_fault_of_several_files(rt: HostRuntime) -> Result<(), Fail> {
     Ok(())
 }
 
+const CONTESTS: &[&[&str]] = &[
+    &["-b", "-r", "3", "pair.red", "pair.red"],
+    &["--league", "-r", "3", "pair.red", "imp.red", "pair.red"],
+    &["-e", "-r", "3", "pair.red", "imp.red"],
+];
+
 #[test]
 fn sources_know_the_contest(rt: HostRuntime) -> Result<(), Fail> {
-    let alloc = rt.alloc();
-    let pair = ["-b", "-r", "3", "pair.red", "pair.red"];
-    assert_eq!(rt; answer(alloc, &pair, b"")?.status, 0);
-    let league = ["--league", "-r", "3", "pair.red", "imp.red", "pair.red"];
-    assert_eq!(rt; answer(alloc, &league, b"")?.status, 0);
-    let debugger = ["-e", "-r", "3", "pair.red", "imp.red"];
-    assert_eq!(rt; answer(alloc, &debugger, b"")?.status, 0);
-    Ok(())
+    check_well(&rt, rt.alloc(), CONTESTS)
 }
 
-#[test]
-fn the_load_file_of_a_source(rt: HostRuntime) -> Result<(), Fail> {
-    let text =
-        b";load 2 8000\n;name Unknown\n;author Anonymous\nORG 0\nADD.AB #4, $3\nMOV.I $2, @2\nJMP.B $-2, $0\nDAT.F #0, #0\n";
-    check_output(&rt, rt.alloc(), &["--load", "dwarf.red"], b"", text)
-}
-
-#[test]
-fn a_match_of_named_warriors(rt: HostRuntime) -> Result<(), Fail> {
-    let table = b"  points   wins   ties losses  warrior
+const NAMED_WARRIORS: &[Played] = &[
+    (
+        &["-b", "-c", "10", "imp.red", "stay.red"],
+        b"",
+        b"  points   wins   ties losses  warrior
        1      0      1      0  Imp by Dewdney
        1      0      1      0  Stay by Anonymous
-";
-    let words = ["-b", "-c", "10", "imp.red", "stay.red"];
-    check_output(&rt, rt.alloc(), &words, b"", table)?;
-    let table = b"  points   wins   ties losses  warrior
+",
+    ),
+    (
+        &[
+            "-b", "-c", "10", "--league", "imp.red", "stay.red", "dead.red",
+        ],
+        b"",
+        b"  points   wins   ties losses  warrior
        4      1      1      0  Imp by Dewdney
        4      1      1      0  Stay by Anonymous
        0      0      0      2  Dead by Anonymous
-";
-    let words = [
-        "-b", "-c", "10", "--league", "imp.red", "stay.red", "dead.red",
-    ];
-    check_output(&rt, rt.alloc(), &words, b"", table)
+",
+    ),
+];
+
+#[test]
+fn a_match_of_named_warriors(rt: HostRuntime) -> Result<(), Fail> {
+    check_played(&rt, rt.alloc(), NAMED_WARRIORS)
 }
+
+const NUMBERS_AS_WORDS: &[&[&str]] = &[&["-e", "-s", "+8", "-l", "001", "-d", "1", "imp.load"]];
 
 #[test]
 fn numbers_as_words(rt: HostRuntime) -> Result<(), Fail> {
-    let words = ["-e", "-s", "+8", "-l", "001", "-d", "1", "imp.load"];
-    let answer = answer(rt.alloc(), &words, b"show\n")?;
-    assert_eq!(rt; answer.status, 0);
-    Ok(())
+    check_well(&rt, rt.alloc(), NUMBERS_AS_WORDS)
 }
 
 /// The whole help.
