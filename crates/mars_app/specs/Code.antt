@@ -1,8 +1,5 @@
 -- How the code holds and reaches what is defined. All of this serves the proofs alone.
 pub mod Settings
-pub mod LineBuffer
-pub mod Steps
-pub mod Waiting
 pub mod Allowed
 pub mod Blames
 pub mod Words

@@ -11,7 +11,7 @@ use Rattle.mars_match.specs.declared.fault.MatchFault.{MatchFault}
 use Rattle.mars_session.specs.History.{beginning}
 use Rattle.mars_session.specs.Script.{SessionState}
 use Rattle.mars_app.specs.Contests.{fault_of}
-use Rattle.mars_app.specs.Transcript.{Completes, ReadFails, WriteFails}
+use Rattle.mars_debugger.specs.Transcript.{Completes, ReadFails, WriteFails}
 use Rattle.mars_app.specs.declared.fault.RunFault.{RunFault}
 use Rattle.mars_app.specs.declared.fault.RunFault.TheVariants.{Commands, OutOfMemory, Output}
 use Rattle.mars_app.specs.declared.options.Options.{Options}

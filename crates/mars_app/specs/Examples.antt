@@ -1,4 +1,2 @@
 -- Worked examples. The check computes each of them.
-pub mod Requests
-pub mod Replies
 pub mod CommandLines

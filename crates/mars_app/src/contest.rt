@@ -15,9 +15,9 @@ ghost use Rattle.mars_core.specs.Limits.{most_warriors};
 
 use crate::fault::RunFault;
 use crate::options::Options;
-use crate::replies::{Line, numbered, push_number};
 use mars_cell::{Params, Warrior, write_load};
 use mars_core::BattleFault;
+use mars_debugger::{Line, numbered, push_number};
 use mars_match::{
     MatchFault, PlaceFault, Plan, Table, WriteFault, league, rounds, write_results, write_text,
 };

@@ -4,21 +4,12 @@
 
 mod command_line;
 mod contest;
-mod debugger;
 mod fault;
 mod files;
-mod line_buffer;
 mod loading;
 mod options;
-mod pending;
-mod readings;
-mod replies;
-mod request;
 mod run;
 mod started;
-#[cfg(test)]
-mod tests;
-mod words;
 
 use crate::files::SystemFiles;
 use crate::run::{run, write_fault};

@@ -21,13 +21,13 @@ ghost use Rattle.mars_core.specs.Limits.{most_warriors};
 ghost use Rattle.mars_app.specs.Limits.{longest_history};
 
 use crate::contest::{match_fault, run_contest, write_part};
-use crate::debugger::{DebugFault, debug};
 use crate::fault::RunFault;
 use crate::files::WarriorFiles;
 use crate::loading::{Contest, load_file_of, load_warriors};
 use crate::options::{Options, WordsFault, read_options};
 use mars_cell::{ParamFault, Params, Warrior};
 use mars_core::Battle;
+use mars_debugger::{DebugFault, debug};
 use mars_match::{MatchFault, PlaceFault, Plan, place};
 use mars_session::{RingTape, Session};
 use redcode_asm::{Formula, FormulaFault};

@@ -6,7 +6,7 @@ use Rattle.mars_app.specs.Faults.{FailsToLoad, FirstFails}
 use Rattle.mars_app.specs.Faults.RunFails.{not_loaded, not_written}
 use Rattle.mars_app.specs.Loading.{IsLoaded}
 use Rattle.mars_app.specs.Runs.RunsWell.{written}
-use Rattle.mars_app.proofs.Asking.{all_play_in_part, all_play_well, appended_alone, asked_for, cut_alone, settings_refused}
+use Rattle.mars_app.proofs.Asking.{all_play_in_part, all_play_well, appended_alone, asked_for, cut_alone}
 use Rattle.mars_app.proofs.Loaded.{alone_fails, loaded_alone}
 use Rattle.mars_app.proofs.run.Settings.carry_out.Goals as goal
 

@@ -1,0 +1,3 @@
+-- Worked examples. The check computes each of them.
+pub mod Requests
+pub mod Replies
