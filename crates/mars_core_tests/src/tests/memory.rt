@@ -1,8 +1,8 @@
 //! Calls that are refused memory. Each test holds whichever one of its requests is refused, since a second try has memory:
 //! scripts/refuse-memory refuses each in turn.
 use super::{check_clock, check_same, params};
-use mars_core::{Battle, BattleFault};
 use mars_cell::{Params, Warrior, read_cell};
+use mars_core::{Battle, BattleFault};
 use std::alloc::Global;
 use std::process::Abort;
 use std::test::Fail;

@@ -6,8 +6,8 @@ ghost use Rattle.mars_core.specs.Leads.{Leads};
 
 use super::memory::{one_cells, start};
 use super::{STAY, check_clock, check_queue, check_restart, check_same, go_back, go_forth, params};
-use mars_core::{Atom, Battle, BattleFault, Edit, EditFault};
 use mars_cell::{Params, Warrior};
+use mars_core::{Atom, Battle, BattleFault, Edit, EditFault};
 use std::alloc::Global;
 use std::process::Abort;
 use std::test::Fail;
