@@ -2,6 +2,7 @@ ghost use Rattle.std.specs.Prelude.{◌≡◌, ◌≤◌, IfOk};
 
 use mars_cell::*;
 use std::alloc::Global;
+use std::process::Abort;
 use std::test::Fail;
 
 mod memory;
@@ -32,13 +33,14 @@ fn sizes(core_size: u32, max_length: u32) -> Result<Params, ParamFault>
 #[test]
 fn fields_of_cells(rt: HostRuntime) {
     let empty = cell(Op::Dat, Modifier::F, Mode::Direct, 0, Mode::Direct, 0);
-    assert_eq!(rt; Cell::empty(), empty);
-    assert_eq!(rt; Cell::default(), empty);
+    assert_eq!(rt; [Cell::empty(), Cell::default()], [empty, empty]);
     let add = cell(Op::Add, Modifier::Ab, Mode::Immediate, 4, Mode::Direct, 3);
-    assert_eq!(rt; add.field(Field::ANumber), 4);
-    assert_eq!(rt; add.field(Field::BNumber), 3);
-    assert_eq!(rt; add.with_field(Field::ANumber, 9).a, 9);
-    assert_eq!(rt; add.with_field(Field::BNumber, 9).b, 9);
+    let fields = [add.field(Field::ANumber), add.field(Field::BNumber)];
+    let written = [
+        add.with_field(Field::ANumber, 9).a,
+        add.with_field(Field::BNumber, 9).b,
+    ];
+    assert_eq!(rt; (fields, written), ([4, 3], [9, 9]));
 }
 
 #[test]
@@ -144,45 +146,51 @@ fn default_modifiers(rt: HostRuntime) {
     }
 }
 
+/// The parameters of these numbers, in their order.
+fn params_of(numbers: [u32; 7]) -> Result<Params, ParamFault> {
+    let [core_size, processes, cycles, read, write, longest, distance] = numbers;
+    Params::new(core_size, processes, cycles, read, write, longest, distance)
+}
+
+const PARAMETERS: [([u32; 7], Option<ParamFault>); 9] = [
+    ([1_048_577, 1, 1, 1, 1, 1, 1], Some(ParamFault::CoreSize)),
+    ([8, 65_537, 1, 1, 1, 1, 1], Some(ParamFault::Processes)),
+    ([8, 1, 10_000_001, 1, 1, 1, 1], Some(ParamFault::Cycles)),
+    ([8, 1, 1, 9, 1, 1, 1], Some(ParamFault::Limit)),
+    ([8, 1, 1, 1, 9, 1, 1], Some(ParamFault::Limit)),
+    ([8, 1, 1, 1, 1, 9, 9], Some(ParamFault::Length)),
+    ([8, 1, 1, 1, 1, 3, 2], Some(ParamFault::Distance)),
+    (
+        [
+            1_048_576, 65_536, 10_000_000, 1_048_576, 1_048_576, 1_048_576, 1_048_576,
+        ],
+        None,
+    ),
+    ([1, 1, 1, 1, 1, 1, 1], None),
+];
+
 #[test]
 fn parameters(rt: HostRuntime) -> Result<(), Fail> {
     let params = Params::new(8000, 7000, 80_000, 600, 500, 100, 200)?;
-    assert_eq!(rt; params.core_size(), 8000);
-    assert_eq!(rt; params.processes(), 7000);
-    assert_eq!(rt; params.cycles(), 80_000);
-    assert_eq!(rt; params.read_limit(), 600);
-    assert_eq!(rt; params.write_limit(), 500);
-    assert_eq!(rt; params.max_length(), 100);
-    assert_eq!(rt; params.distance(), 200);
-    let faults = [
-        (
-            Params::new(1_048_577, 1, 1, 1, 1, 1, 1).err(),
-            ParamFault::CoreSize,
-        ),
-        (
-            Params::new(8, 65_537, 1, 1, 1, 1, 1).err(),
-            ParamFault::Processes,
-        ),
-        (
-            Params::new(8, 1, 10_000_001, 1, 1, 1, 1).err(),
-            ParamFault::Cycles,
-        ),
-        (Params::new(8, 1, 1, 9, 1, 1, 1).err(), ParamFault::Limit),
-        (Params::new(8, 1, 1, 1, 9, 1, 1).err(), ParamFault::Limit),
-        (Params::new(8, 1, 1, 1, 1, 9, 9).err(), ParamFault::Length),
-        (Params::new(8, 1, 1, 1, 1, 3, 2).err(), ParamFault::Distance),
+    let sizes = [
+        params.core_size(),
+        params.read_limit(),
+        params.write_limit(),
+        params.max_length(),
+        params.distance(),
     ];
-    for (found, fault) in faults {
-        assert_eq!(rt; found, Some(fault));
+    assert_eq!(rt; sizes, [8000, 600, 500, 100, 200]);
+    assert_eq!(rt; (params.processes(), params.cycles()), (7000, 80_000));
+    for (numbers, fault) in PARAMETERS {
+        assert_eq!(rt; params_of(numbers).err(), fault);
     }
-    assert!(rt;
-        Params::new(
-            1_048_576, 65_536, 10_000_000, 1_048_576, 1_048_576, 1_048_576, 1_048_576
-        )
-        .is_ok()
-    );
-    assert!(rt; Params::new(1, 1, 1, 1, 1, 1, 1).is_ok());
     Ok(())
+}
+
+/// Whether a warrior has these names, cells and start.
+fn is_warrior(warrior: &Warrior, name: &str, author: &str, cells: &[Cell], start: u32) -> bool {
+    (warrior.name(), warrior.author(), warrior.start()) == (name, author, start)
+        && warrior.cells() == cells
 }
 
 /// A warrior of these jumps without names.
@@ -202,9 +210,7 @@ fn two_jumps(alloc: Global) -> Result<Warrior, Fail> {
 
 fn are_two_jumps(warrior: &Warrior) -> bool {
     let jmp = cell(Op::Jmp, Modifier::B, Mode::Direct, 0, Mode::Direct, 0);
-    (warrior.name(), warrior.author()) == ("Two Jumps ~", "")
-        && warrior.cells() == [jmp, jmp].as_slice()
-        && warrior.start() == 1
+    is_warrior(warrior, "Two Jumps ~", "", &[jmp, jmp], 1)
 }
 
 #[test]
@@ -270,81 +276,101 @@ fn a_load_file(rt: HostRuntime) -> Result<(), Fail> {
     let alloc = rt.alloc();
     let dwarf =
         b"; a dwarf\nORG 1 ; here\n\n ADD.AB #4, $3\nmov 2, @2\nJMP -2, 0\ndat #0,#0\nEND 9\nthis is prose";
-    let warrior = read_load(alloc, dwarf, &sizes(8000, 100)?)?;
-    assert_eq!(rt; warrior.name(), "Unknown");
-    assert_eq!(rt; warrior.author(), "Anonymous");
-    assert_eq!(rt; warrior.start(), 1);
+    let params = sizes(8000, 100)?;
     let cells = [
         cell(Op::Add, Modifier::Ab, Mode::Immediate, 4, Mode::Direct, 3),
         cell(Op::Mov, Modifier::I, Mode::Direct, 2, Mode::BIndirect, 2),
         cell(Op::Jmp, Modifier::B, Mode::Direct, 7998, Mode::Direct, 0),
         cell(Op::Dat, Modifier::F, Mode::Immediate, 0, Mode::Immediate, 0),
     ];
-    assert_eq!(rt; warrior.cells(), cells.as_slice());
+    let warrior = read_load(alloc, dwarf, &params)?;
+    let is_it = is_warrior(&warrior, "Unknown", "Anonymous", &cells, 1);
+    drop(warrior);
+    assert!(rt; is_it);
     Ok(())
+}
+
+/// Load files, with the length and the start of each one's warrior.
+const FILES: [(&[u8], usize, u32); 8] = [
+    (b"NOP 0, 0", 1, 0),
+    (b"ORG 0\nORG 1\nNOP 0, 0\nNOP 0, 0\n", 2, 1),
+    (b"NOP 0, 0\nNOP 0, 0\nEND 1\nMOV 0", 2, 1),
+    (b"oRg 0\nNOP 0, 0\neNd 9", 1, 0),
+    (b"ORG 999999999999999999\nNOP 0, 0\nORG -0", 1, 0),
+    (b";load it\nNOP 0, 0", 1, 0),
+    (b"\n\x00\x1f \t\r\nNOP\x010,0\r\n;;\xff\n", 1, 0),
+    (b"ORG 000000000000000001\nNOP 0,0\nNOP 0,0", 2, 1),
+];
+
+/// The length and the start of a load file's warrior.
+fn length_and_start(alloc: Global, text: &[u8], params: &Params) -> Option<(usize, u32)> {
+    let warrior = read_load(alloc, text, params).ok()?;
+    let found = (warrior.cells().len(), warrior.start());
+    drop(warrior);
+    Some(found)
 }
 
 #[test]
 fn loaded(rt: HostRuntime) -> Result<(), Fail> {
-    let alloc = rt.alloc();
     let params = sizes(8, 2)?;
-    let rows: [(&[u8], usize, u32); 8] = [
-        (b"NOP 0, 0", 1, 0),
-        (b"ORG 0\nORG 1\nNOP 0, 0\nNOP 0, 0\n", 2, 1),
-        (b"NOP 0, 0\nNOP 0, 0\nEND 1\nMOV 0", 2, 1),
-        (b"oRg 0\nNOP 0, 0\neNd 9", 1, 0),
-        (b"ORG 999999999999999999\nNOP 0, 0\nORG -0", 1, 0),
-        (b";load it\nNOP 0, 0", 1, 0),
-        (b"\n\x00\x1f \t\r\nNOP\x010,0\r\n;;\xff\n", 1, 0),
-        (b"ORG 000000000000000001\nNOP 0,0\nNOP 0,0", 2, 1),
-    ];
-    for (text, len, start) in rows {
-        let warrior = read_load(alloc, text, &params)?;
-        assert_eq!(rt; warrior.cells().len(), len);
-        assert_eq!(rt; warrior.start(), start);
+    for (text, len, start) in FILES {
+        let found = length_and_start(rt.alloc(), text, &params);
+        assert_eq!(rt; found, Some((len, start)));
+    }
+    Ok(())
+}
+
+/// The fault of a load file, where it has one.
+fn load_fault(alloc: Global, text: &[u8], params: &Params) -> Option<LoadFault> {
+    read_load(alloc, text, params).err()
+}
+
+/// Each of these load files has its fault.
+fn check_faults(
+    rt: &impl Abort,
+    alloc: Global,
+    core_size: u32,
+    rows: &[(&[u8], LoadFault)],
+) -> Result<(), Fail> {
+    let params = sizes(core_size, 2)?;
+    for (text, fault) in rows {
+        assert_eq!(rt; load_fault(alloc, text, &params), Some(*fault));
     }
     Ok(())
 }
 
 #[test]
 fn load_faults(rt: HostRuntime) -> Result<(), Fail> {
-    let alloc = rt.alloc();
-    let params = sizes(8, 2)?;
-    let rows: [(&[u8], LoadFault); 17] = [
-        (b"MOV 0", LoadFault::Syntax(1)),
-        (b"NOP 0,0\n\nMOV 0\nORG", LoadFault::Syntax(3)),
-        (b"NOP 0,0\nORG0", LoadFault::Syntax(2)),
-        (b"MOV0,1", LoadFault::Syntax(1)),
-        (b"MOV.I0,1", LoadFault::Syntax(1)),
-        (b"NOP 0,0\nORG 1000000000000000000", LoadFault::Syntax(2)),
-        (b"NOP 0,0 0\n", LoadFault::Syntax(1)),
-        (
-            b"NOP 0,0\nNOP 0,0\nNOP 0,0\n\nEND -\n",
-            LoadFault::Syntax(5),
-        ),
-        (b"\x7f", LoadFault::Syntax(1)),
-        (b"NOP 0,0\nNOP 0,0\nNOP 0,0", LoadFault::TooLong),
-        (b"ORG 9\nNOP 0,0\nNOP 0,0\nNOP 0,0", LoadFault::TooLong),
-        (b"", LoadFault::Empty),
-        (b"\n;\nORG 5", LoadFault::Empty),
-        (b"END 0;\nNOP 0, 0", LoadFault::Empty),
-        (b"ORG 1\nNOP 0,0", LoadFault::BadOrigin),
-        (b"ORG-1\nNOP 0,0", LoadFault::BadOrigin),
-        (b"NOP 0,0\nEND 4294967296", LoadFault::BadOrigin),
-    ];
-    for (text, fault) in rows {
-        match read_load(alloc, text, &params) {
-            Ok(_) => assert!(rt; false),
-            Err(found) => assert_eq!(rt; found, fault),
-        }
-    }
-    Ok(())
+    check_faults(&rt, rt.alloc(), 8, &BAD_FILES)
 }
+
+const BAD_FILES: [(&[u8], LoadFault); 17] = [
+    (b"MOV 0", LoadFault::Syntax(1)),
+    (b"NOP 0,0\n\nMOV 0\nORG", LoadFault::Syntax(3)),
+    (b"NOP 0,0\nORG0", LoadFault::Syntax(2)),
+    (b"MOV0,1", LoadFault::Syntax(1)),
+    (b"MOV.I0,1", LoadFault::Syntax(1)),
+    (b"NOP 0,0\nORG 1000000000000000000", LoadFault::Syntax(2)),
+    (b"NOP 0,0 0\n", LoadFault::Syntax(1)),
+    (
+        b"NOP 0,0\nNOP 0,0\nNOP 0,0\n\nEND -\n",
+        LoadFault::Syntax(5),
+    ),
+    (b"\x7f", LoadFault::Syntax(1)),
+    (b"NOP 0,0\nNOP 0,0\nNOP 0,0", LoadFault::TooLong),
+    (b"ORG 9\nNOP 0,0\nNOP 0,0\nNOP 0,0", LoadFault::TooLong),
+    (b"", LoadFault::Empty),
+    (b"\n;\nORG 5", LoadFault::Empty),
+    (b"END 0;\nNOP 0, 0", LoadFault::Empty),
+    (b"ORG 1\nNOP 0,0", LoadFault::BadOrigin),
+    (b"ORG-1\nNOP 0,0", LoadFault::BadOrigin),
+    (b"NOP 0,0\nEND 4294967296", LoadFault::BadOrigin),
+];
 
 /// Whether a warrior has these texts, and one cell: MOV.I to this number.
 fn is_mover(warrior: &Warrior, name: &str, author: &str, number: u32) -> bool {
     let mov = cell(Op::Mov, Modifier::I, Mode::Direct, 0, Mode::Direct, number);
-    (warrior.name(), warrior.author()) == (name, author) && warrior.cells() == [mov].as_slice()
+    is_warrior(warrior, name, author, &[mov], 0)
 }
 
 #[test]
@@ -392,60 +418,56 @@ fn named_load_files(rt: HostRuntime) -> Result<(), Fail> {
 
 #[test]
 fn faults_of_heads(rt: HostRuntime) -> Result<(), Fail> {
-    let alloc = rt.alloc();
-    let params = sizes(8000, 2)?;
-    let rows: [(&[u8], LoadFault); 24] = [
-        (b";load 3 8000\nNOP 0, 0", LoadFault::Version),
-        (b";load 1 8000\nNOP 0, 0", LoadFault::Version),
-        (b";load 20 8\nNOP 0, 0", LoadFault::Version),
-        (b";load 02 8\nNOP 0, 0", LoadFault::Version),
-        (b";load 2  8\nx", LoadFault::Version),
-        (b";load 2\t8\nx", LoadFault::Version),
-        (b";load 2 8 \nx", LoadFault::Version),
-        (b";load 2 8\r\nx", LoadFault::Version),
-        (b";load 2 8 9\nx", LoadFault::Version),
-        (b";load 2 08\nx", LoadFault::Version),
-        (b";load 2 0\nx", LoadFault::Version),
-        (b";load 2 +8\nx", LoadFault::Version),
-        (b";load 2 1048577\nx", LoadFault::Version),
-        (b";load 2 4294967304\nx", LoadFault::Version),
-        (b";load 2 18446744073709551624\nx", LoadFault::Version),
-        (
-            b";load 2 8\n;author Dewdney\nORG 0\nMOV.I $0, $7",
-            LoadFault::Syntax(2),
-        ),
-        (
-            b";load 2 8\n;name Imp\r\n;author Dewdney\nMOV 0, 1",
-            LoadFault::Syntax(2),
-        ),
-        (
-            b";load 2 8\n;name \x7f\n;author Dewdney\nMOV 0, 1",
-            LoadFault::Syntax(2),
-        ),
-        (
-            b";load 2 8\n;name This name is one byte longer than the longest one, by one only.\n;author\nx",
-            LoadFault::Syntax(2),
-        ),
-        (b";load 2 8\n;Name Imp\n;author x\nx", LoadFault::Syntax(2)),
-        (b";load 2 8\n ;name Imp\n;author x\nx", LoadFault::Syntax(2)),
-        (
-            b";load 2 8\n;name Imp\n;author D\xc3\xa9\nMOV 0, 1",
-            LoadFault::Syntax(3),
-        ),
-        (
-            b";load 2 8\n;name Imp\n;author Dewdney\nORG 9\n;name x\nx",
-            LoadFault::Syntax(6),
-        ),
-        (
-            b";load 2 8\n;name Imp\n;author Dewdney\nORG 8\nMOV 0, 1",
-            LoadFault::BadOrigin,
-        ),
-    ];
-    for (text, fault) in rows {
-        assert_eq!(rt; read_load(alloc, text, &params).err(), Some(fault));
-    }
-    Ok(())
+    check_faults(&rt, rt.alloc(), 8000, &BAD_HEADS)
 }
+
+const BAD_HEADS: [(&[u8], LoadFault); 24] = [
+    (b";load 3 8000\nNOP 0, 0", LoadFault::Version),
+    (b";load 1 8000\nNOP 0, 0", LoadFault::Version),
+    (b";load 20 8\nNOP 0, 0", LoadFault::Version),
+    (b";load 02 8\nNOP 0, 0", LoadFault::Version),
+    (b";load 2  8\nx", LoadFault::Version),
+    (b";load 2\t8\nx", LoadFault::Version),
+    (b";load 2 8 \nx", LoadFault::Version),
+    (b";load 2 8\r\nx", LoadFault::Version),
+    (b";load 2 8 9\nx", LoadFault::Version),
+    (b";load 2 08\nx", LoadFault::Version),
+    (b";load 2 0\nx", LoadFault::Version),
+    (b";load 2 +8\nx", LoadFault::Version),
+    (b";load 2 1048577\nx", LoadFault::Version),
+    (b";load 2 4294967304\nx", LoadFault::Version),
+    (b";load 2 18446744073709551624\nx", LoadFault::Version),
+    (
+        b";load 2 8\n;author Dewdney\nORG 0\nMOV.I $0, $7",
+        LoadFault::Syntax(2),
+    ),
+    (
+        b";load 2 8\n;name Imp\r\n;author Dewdney\nMOV 0, 1",
+        LoadFault::Syntax(2),
+    ),
+    (
+        b";load 2 8\n;name \x7f\n;author Dewdney\nMOV 0, 1",
+        LoadFault::Syntax(2),
+    ),
+    (
+        b";load 2 8\n;name This name is one byte longer than the longest one, by one only.\n;author\nx",
+        LoadFault::Syntax(2),
+    ),
+    (b";load 2 8\n;Name Imp\n;author x\nx", LoadFault::Syntax(2)),
+    (b";load 2 8\n ;name Imp\n;author x\nx", LoadFault::Syntax(2)),
+    (
+        b";load 2 8\n;name Imp\n;author D\xc3\xa9\nMOV 0, 1",
+        LoadFault::Syntax(3),
+    ),
+    (
+        b";load 2 8\n;name Imp\n;author Dewdney\nORG 9\n;name x\nx",
+        LoadFault::Syntax(6),
+    ),
+    (
+        b";load 2 8\n;name Imp\n;author Dewdney\nORG 8\nMOV 0, 1",
+        LoadFault::BadOrigin,
+    ),
+];
 
 /// The fault of each beginning of a load file.
 #[test]
@@ -472,7 +494,7 @@ fn beginnings_of_a_load_file(rt: HostRuntime) -> Result<(), Fail> {
             _ => None,
         };
         let (front, _) = file.split_at(length);
-        assert_eq!(rt; read_load(alloc, front, &params).err(), fault);
+        assert_eq!(rt; load_fault(alloc, front, &params), fault);
     }
     Ok(())
 }

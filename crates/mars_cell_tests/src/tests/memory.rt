@@ -3,7 +3,7 @@
 ghost use Rattle.std.specs.Prelude.{All, IfOk};
 ghost use Rattle.mars_cell.specs.Cells.{FitsCore};
 
-use super::{cell, sizes};
+use super::{cell, is_warrior, sizes};
 use mars_cell::{LoadFault, Mode, Modifier, Op, Warrior, read_load, write_load};
 use std::alloc::Global;
 use std::test::Fail;
@@ -24,6 +24,15 @@ fn jumper(alloc: Global) -> Result<Warrior, Fail>
     }
 }
 
+/// Whether a warrior has these names, and the cells and the start of the file's.
+fn is_jumper(warrior: &Warrior, name: &str, author: &str) -> bool {
+    let cells = [
+        cell(Op::Nop, Modifier::F, Mode::Direct, 0, Mode::Direct, 0),
+        cell(Op::Jmp, Modifier::B, Mode::Direct, 7, Mode::Direct, 0),
+    ];
+    is_warrior(warrior, name, author, &cells, 1)
+}
+
 #[test]
 fn a_load_file_is_read(rt: HostRuntime) -> Result<(), Fail> {
     let alloc = rt.alloc();
@@ -35,14 +44,9 @@ fn a_load_file_is_read(rt: HostRuntime) -> Result<(), Fail> {
             read_load(alloc, FILE, &params)?
         }
     };
-    let cells = [
-        cell(Op::Nop, Modifier::F, Mode::Direct, 0, Mode::Direct, 0),
-        cell(Op::Jmp, Modifier::B, Mode::Direct, 7, Mode::Direct, 0),
-    ];
-    assert_eq!(rt; warrior.cells(), cells.as_slice());
-    assert_eq!(rt; warrior.start(), 1);
-    assert_eq!(rt; warrior.name(), "Jumper");
-    assert_eq!(rt; warrior.author(), "A");
+    let is_it = is_jumper(&warrior, "Jumper", "A");
+    drop(warrior);
+    assert!(rt; is_it);
     Ok(())
 }
 
@@ -57,9 +61,9 @@ fn a_nameless_load_file_is_read(rt: HostRuntime) -> Result<(), Fail> {
             read_load(alloc, NAMELESS, &params)?
         }
     };
-    assert_eq!(rt; warrior.cells().len(), 2);
-    assert_eq!(rt; warrior.name(), "Unknown");
-    assert_eq!(rt; warrior.author(), "Anonymous");
+    let is_it = is_jumper(&warrior, "Unknown", "Anonymous");
+    drop(warrior);
+    assert!(rt; is_it);
     Ok(())
 }
 
@@ -82,11 +86,9 @@ fn a_warrior_is_copied(rt: HostRuntime) -> Result<(), Fail> {
         Ok(copy) => copy,
         Err(_) => warrior.copy()?,
     };
-    for warrior in [&warrior, &copy] {
-        assert_eq!(rt; warrior.cells().len(), 2);
-        assert_eq!(rt; warrior.start(), 1);
-        assert_eq!(rt; warrior.name(), "Jumper");
-        assert_eq!(rt; warrior.author(), "A");
-    }
+    let are_it = is_jumper(&warrior, "Jumper", "A") && is_jumper(&copy, "Jumper", "A");
+    drop(warrior);
+    drop(copy);
+    assert!(rt; are_it);
     Ok(())
 }

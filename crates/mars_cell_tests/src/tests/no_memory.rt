@@ -61,27 +61,41 @@ fn ann(alloc: Global) -> Option<String>
     }
 }
 
+/// A warrior of Ann's, or why there is none: memory is asked for once its parts are made. None where these are refused.
+fn anns(alloc: Global, len: usize, start: u32) -> Option<Result<Warrior, WarriorFault>> {
+    let (Some(name), Some(author), Some(cells)) = (ann(alloc), ann(alloc), idle(alloc, len)) else {
+        return None;
+    };
+    ask(alloc);
+    Some(Warrior::new(name, author, cells, start))
+}
+
+/// Whether that came to such a warrior, or to this fault.
+fn is_told(
+    found: &Result<Warrior, WarriorFault>,
+    len: usize,
+    start: u32,
+    fault: Option<WarriorFault>,
+) -> bool {
+    match found {
+        Ok(warrior) => {
+            fault.is_none()
+                && (warrior.name(), warrior.author()) == ("Ann", "Ann")
+                && (warrior.cells().len(), warrior.start()) == (len, start)
+        }
+        Err(found) => Some(*found) == fault,
+    }
+}
+
 #[test]
-fn warriors(rt: HostRuntime) -> Result<(), Fail> {
-    let alloc = rt.alloc();
+fn warriors(rt: HostRuntime) {
     for (len, start, fault) in [
         (2, 1, None),
         (2, 2, Some(WarriorFault::BadOrigin)),
         (0, 0, Some(WarriorFault::Empty)),
     ] {
-        let (Some(name), Some(author), Some(cells)) = (ann(alloc), ann(alloc), idle(alloc, len))
-        else {
-            return Ok(());
-        };
-        ask(alloc);
-        match Warrior::new(name, author, cells, start) {
-            Ok(warrior) => {
-                assert!(rt; fault.is_none());
-                assert_eq!(rt; (warrior.name(), warrior.author()), ("Ann", "Ann"));
-                assert_eq!(rt; (warrior.cells().len(), warrior.start()), (len, start));
-            }
-            Err(found) => assert_eq!(rt; Some(found), fault),
+        if let Some(found) = anns(rt.alloc(), len, start) {
+            assert!(rt; is_told(&found, len, start, fault));
         }
     }
-    Ok(())
 }
