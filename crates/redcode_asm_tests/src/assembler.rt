@@ -1,9 +1,10 @@
 //! Sources and their warriors or faults: values that players know, limits at their values and one past them.
 
-use mars_cell::Params;
+use mars_cell::{Params, Warrior};
 use redcode_asm::{AsmFault, AsmProblem, assemble, assemble_load};
 use redcode_text::{ExprFault, TextProblem};
 use std::alloc::Global;
+use std::process::Abort;
 use std::test::Fail;
 
 mod memory;
@@ -37,14 +38,35 @@ fn listing(alloc: Global, params: &Params, source: &[u8]) -> Result<String, Fail
 }
 
 fn fault_of(alloc: Global, params: &Params, source: &[u8]) -> Option<AsmFault> {
-    match assemble(alloc, source, params, 2, 3) {
-        Ok(_) => None,
-        Err(fault) => Some(fault),
+    assemble(alloc, source, params, 2, 3).err()
+}
+
+/// A source with the line of its fault and the problem.
+type Faulty = (&'static str, usize, AsmProblem);
+
+/// Each of these sources has its fault.
+fn check_faults(rt: &impl Abort, alloc: Global, params: &Params, rows: &[Faulty]) {
+    for (source, line, problem) in rows {
+        let expected = AsmFault {
+            line: *line,
+            problem: *problem,
+        };
+        assert_eq!(rt; fault_of(alloc, params, source.as_bytes()), Some(expected));
     }
 }
 
-fn at(line: usize, problem: AsmProblem) -> Option<AsmFault> {
-    Some(AsmFault { line, problem })
+/// The listing of a source is this text.
+fn check_listing(
+    rt: &impl Abort,
+    alloc: Global,
+    params: &Params,
+    source: &[u8],
+    text: &str,
+) -> Result<(), Fail> {
+    let found = listing(alloc, params, source)?;
+    assert_eq!(rt; found.as_str(), text);
+    drop(found);
+    Ok(())
 }
 
 /// A text, so many copies of another, and an end.
@@ -84,277 +106,297 @@ const COPIES: &[u8] =
 #[test]
 fn listings(rt: HostRuntime) -> Result<(), Fail> {
     let params = core_of(8000)?;
-    let cases = [
-        (
-            "ADD #4, 3\nMOV 2, @2\nJMP -2\nDAT #0, #0\n",
-            "ORG 0\nADD.AB #4, $3\nMOV.I $2, @2\nJMP.B $-2, $0\nDAT.F #0, #0\n",
-        ),
-        (
-            "DAT 5\nSPL 2\nCMP 1, #2\nNOP\n",
-            "ORG 0\nDAT.F $0, $5\nSPL.B $2, $0\nSEQ.B $1, #2\nNOP.F $0, $0\n",
-        ),
-        (
-            "SLT 1, #2\nSLT #1, 2\nmov . ba * 1, { -1",
-            "ORG 0\nSLT.B $1, #2\nSLT.AB #1, $2\nMOV.BA *1, {-1\n",
-        ),
-        (
-            "DAT 8000, -8000\nDAT 8001, -1\nDAT 4000, 4001",
-            "ORG 0\nDAT.F $0, $0\nDAT.F $1, $-1\nDAT.F $4000, $-3999\n",
-        ),
-        (
-            "a NOP a, b\nNOP a, b\nb: NOP a, CURLINE\nORG b-CURLINE+1",
-            "ORG 0\nNOP.F $0, $2\nNOP.F $-1, $1\nNOP.F $-2, $2\n",
-        ),
-        (
-            "NOP\nb NOP\nEND b\nNOP 1x",
-            "ORG 1\nNOP.F $0, $0\nNOP.F $0, $0\n",
-        ),
-        (
-            "NOP ROUNDS, WARRIORS\nNOP VERSION, MAXCYCLES-80000\n;assert CURLINE==2\nNOP",
-            "ORG 0\nNOP.F $2, $3\nNOP.F $80, $0\nNOP.F $0, $0\n",
-        ),
-    ];
-    for (source, text) in cases {
-        assert_eq!(rt;
-            listing(rt.alloc(), &params, source.as_bytes())?.as_str(),
-            text
-        );
+    for (source, text) in LISTINGS {
+        check_listing(&rt, rt.alloc(), &params, source, text)?;
     }
-    assert_eq!(rt;
-        listing(rt.alloc(), &params, LOOPS)?.as_str(),
-        "ORG 0\nDAT.F $1, $0\nDAT.F $2, $0\nDAT.F $-1, $-2\n"
-    );
-    assert_eq!(rt;
-        listing(rt.alloc(), &params, COPIES)?.as_str(),
-        "ORG 0\nDAT.F $0, $0\nMOV.I $-1, $4\nADD.AB #4, $-2\n"
-    );
     Ok(())
+}
+
+const LISTINGS: [(&[u8], &str); 9] = [
+    (
+        b"ADD #4, 3\nMOV 2, @2\nJMP -2\nDAT #0, #0\n",
+        "ORG 0\nADD.AB #4, $3\nMOV.I $2, @2\nJMP.B $-2, $0\nDAT.F #0, #0\n",
+    ),
+    (
+        b"DAT 5\nSPL 2\nCMP 1, #2\nNOP\n",
+        "ORG 0\nDAT.F $0, $5\nSPL.B $2, $0\nSEQ.B $1, #2\nNOP.F $0, $0\n",
+    ),
+    (
+        b"SLT 1, #2\nSLT #1, 2\nmov . ba * 1, { -1",
+        "ORG 0\nSLT.B $1, #2\nSLT.AB #1, $2\nMOV.BA *1, {-1\n",
+    ),
+    (
+        b"DAT 8000, -8000\nDAT 8001, -1\nDAT 4000, 4001",
+        "ORG 0\nDAT.F $0, $0\nDAT.F $1, $-1\nDAT.F $4000, $-3999\n",
+    ),
+    (
+        b"a NOP a, b\nNOP a, b\nb: NOP a, CURLINE\nORG b-CURLINE+1",
+        "ORG 0\nNOP.F $0, $2\nNOP.F $-1, $1\nNOP.F $-2, $2\n",
+    ),
+    (
+        b"NOP\nb NOP\nEND b\nNOP 1x",
+        "ORG 1\nNOP.F $0, $0\nNOP.F $0, $0\n",
+    ),
+    (
+        b"NOP ROUNDS, WARRIORS\nNOP VERSION, MAXCYCLES-80000\n;assert CURLINE==2\nNOP",
+        "ORG 0\nNOP.F $2, $3\nNOP.F $80, $0\nNOP.F $0, $0\n",
+    ),
+    (LOOPS, "ORG 0\nDAT.F $1, $0\nDAT.F $2, $0\nDAT.F $-1, $-2\n"),
+    (
+        COPIES,
+        "ORG 0\nDAT.F $0, $0\nMOV.I $-1, $4\nADD.AB #4, $-2\n",
+    ),
+];
+
+/// Whether a warrior has this name and this author.
+fn is_by(warrior: &Warrior, name: &str, author: &str) -> bool {
+    (warrior.name(), warrior.author()) == (name, author)
 }
 
 #[test]
 fn names_of_warriors(rt: HostRuntime) -> Result<(), Fail> {
     let params = core_of(8000)?;
-    let source = b";name One\n;author Two\nNOP\n;name Three \n";
-    let warrior = assemble(rt.alloc(), source, &params, 1, 1)?;
-    assert_eq!(rt; warrior.name(), "Three");
-    assert_eq!(rt; warrior.author(), "Two");
-    let nameless = assemble(rt.alloc(), b"NOP", &params, 1, 1)?;
-    assert_eq!(rt; nameless.name(), "Unknown");
-    assert_eq!(rt; nameless.author(), "Anonymous");
+    let rows: [(&[u8], &str, &str); 2] = [
+        (
+            b";name One\n;author Two\nNOP\n;name Three \n",
+            "Three",
+            "Two",
+        ),
+        (b"NOP", "Unknown", "Anonymous"),
+    ];
+    for (source, name, author) in rows {
+        let warrior = assemble(rt.alloc(), source, &params, 1, 1)?;
+        let is_right = is_by(&warrior, name, author);
+        drop(warrior);
+        assert!(rt; is_right);
+    }
     Ok(())
 }
+
+const UNKNOWN: AsmProblem = AsmProblem::Expression(ExprFault::Unknown);
+
+const SYNTAX: AsmProblem = AsmProblem::Expression(ExprFault::Syntax);
 
 #[test]
 fn each_fault(rt: HostRuntime) -> Result<(), Fail> {
     let params = core_of(8000)?;
-    let unknown = AsmProblem::Expression(ExprFault::Unknown);
-    let syntax = AsmProblem::Expression(ExprFault::Syntax);
-    let cases = [
-        ("JMP", 1, AsmProblem::Operand),
-        ("NOP 1, 2, 3", 1, AsmProblem::Operand),
-        ("NOP\nNOP 1,", 2, AsmProblem::Operand),
-        ("STP 1, 2", 1, AsmProblem::Operation),
-        ("MOV.Q 1, 2", 1, AsmProblem::Operation),
-        ("5 NOP", 1, AsmProblem::Operation),
-        ("NOP 1, #", 1, syntax),
-        ("NOP x, 1/0", 1, unknown),
-        (
-            "NOP 1/0, x",
-            1,
-            AsmProblem::Expression(ExprFault::DivideByZero),
-        ),
-        (
-            "NOP 9223372036854775807+1",
-            1,
-            AsmProblem::Expression(ExprFault::Range),
-        ),
-        ("NOP\nORG 4\nNOP\nNOP\nNOP", 2, AsmProblem::BadOrigin),
-        (
-            "ORG 4\nADD #4, 3\nMOV 2, @2\nJMP -2\nDAT #0, #0",
-            1,
-            AsmProblem::BadOrigin,
-        ),
-        ("NOP\nORG -1", 2, AsmProblem::BadOrigin),
-        ("NOP\nORG", 2, syntax),
-        ("NOP\nEND x", 2, unknown),
-        (";assert 0\nNOP", 1, AsmProblem::AssertFailed),
-        (";assert a\na NOP", 1, unknown),
-        (";assert 1\n", 0, AsmProblem::Empty),
-        ("", 0, AsmProblem::Empty),
-        (
-            "x EQU 1\n EQU 2\nDAT x",
-            3,
-            AsmProblem::Text(TextProblem::BadToken),
-        ),
-        (
-            "FOR 0\nthis is prose\nROF\ni FOR 2\nx&i DAT i, 0\n",
-            4,
-            AsmProblem::Text(TextProblem::UnclosedFor),
-        ),
-    ];
-    for (source, line, problem) in cases {
-        assert_eq!(rt;
-            fault_of(rt.alloc(), &params, source.as_bytes()),
-            at(line, problem)
-        );
-    }
+    check_faults(&rt, rt.alloc(), &params, &EACH_FAULT);
     Ok(())
 }
+
+const EACH_FAULT: [Faulty; 21] = [
+    ("JMP", 1, AsmProblem::Operand),
+    ("NOP 1, 2, 3", 1, AsmProblem::Operand),
+    ("NOP\nNOP 1,", 2, AsmProblem::Operand),
+    ("STP 1, 2", 1, AsmProblem::Operation),
+    ("MOV.Q 1, 2", 1, AsmProblem::Operation),
+    ("5 NOP", 1, AsmProblem::Operation),
+    ("NOP 1, #", 1, SYNTAX),
+    ("NOP x, 1/0", 1, UNKNOWN),
+    (
+        "NOP 1/0, x",
+        1,
+        AsmProblem::Expression(ExprFault::DivideByZero),
+    ),
+    (
+        "NOP 9223372036854775807+1",
+        1,
+        AsmProblem::Expression(ExprFault::Range),
+    ),
+    ("NOP\nORG 4\nNOP\nNOP\nNOP", 2, AsmProblem::BadOrigin),
+    (
+        "ORG 4\nADD #4, 3\nMOV 2, @2\nJMP -2\nDAT #0, #0",
+        1,
+        AsmProblem::BadOrigin,
+    ),
+    ("NOP\nORG -1", 2, AsmProblem::BadOrigin),
+    ("NOP\nORG", 2, SYNTAX),
+    ("NOP\nEND x", 2, UNKNOWN),
+    (";assert 0\nNOP", 1, AsmProblem::AssertFailed),
+    (";assert a\na NOP", 1, UNKNOWN),
+    (";assert 1\n", 0, AsmProblem::Empty),
+    ("", 0, AsmProblem::Empty),
+    (
+        "x EQU 1\n EQU 2\nDAT x",
+        3,
+        AsmProblem::Text(TextProblem::BadToken),
+    ),
+    (
+        "FOR 0\nthis is prose\nROF\ni FOR 2\nx&i DAT i, 0\n",
+        4,
+        AsmProblem::Text(TextProblem::UnclosedFor),
+    ),
+];
 
 #[test]
 fn order_of_faults(rt: HostRuntime) -> Result<(), Fail> {
     let params = short_warriors()?;
-    let cases = [
-        ("NOP x\nNOP 1x", 2, AsmProblem::Text(TextProblem::BadToken)),
-        (
-            ";assert 0\nORG 9\nNOP\nNOP\nNOP\nNOP\nNOP\nNOP x\n",
-            8,
-            AsmProblem::Expression(ExprFault::Unknown),
-        ),
-        (
-            ";assert 0\nORG 9\nNOP\nNOP\nNOP\nNOP\nNOP\nNOP 1\n",
-            7,
-            AsmProblem::TooLong,
-        ),
-        (";assert 0\nORG 9\nNOP\n", 2, AsmProblem::BadOrigin),
-        (
-            ";assert 1\n;assert 0\n;assert x\nNOP\n",
-            2,
-            AsmProblem::AssertFailed,
-        ),
-        (
-            "m EQU 1\n EQU 2\nMOV m",
-            3,
-            AsmProblem::Text(TextProblem::BadToken),
-        ),
-        ("m EQU 1\n EQU 2\nMOV.Q m", 3, AsmProblem::Operation),
-        ("m EQU\nJMP m", 2, AsmProblem::Operand),
-    ];
-    for (source, line, problem) in cases {
-        assert_eq!(rt;
-            fault_of(rt.alloc(), &params, source.as_bytes()),
-            at(line, problem)
-        );
-    }
+    check_faults(&rt, rt.alloc(), &params, &ORDER_OF_FAULTS);
     Ok(())
 }
+
+const ORDER_OF_FAULTS: [Faulty; 8] = [
+    ("NOP x\nNOP 1x", 2, AsmProblem::Text(TextProblem::BadToken)),
+    (
+        ";assert 0\nORG 9\nNOP\nNOP\nNOP\nNOP\nNOP\nNOP x\n",
+        8,
+        UNKNOWN,
+    ),
+    (
+        ";assert 0\nORG 9\nNOP\nNOP\nNOP\nNOP\nNOP\nNOP 1\n",
+        7,
+        AsmProblem::TooLong,
+    ),
+    (";assert 0\nORG 9\nNOP\n", 2, AsmProblem::BadOrigin),
+    (
+        ";assert 1\n;assert 0\n;assert x\nNOP\n",
+        2,
+        AsmProblem::AssertFailed,
+    ),
+    (
+        "m EQU 1\n EQU 2\nMOV m",
+        3,
+        AsmProblem::Text(TextProblem::BadToken),
+    ),
+    ("m EQU 1\n EQU 2\nMOV.Q m", 3, AsmProblem::Operation),
+    ("m EQU\nJMP m", 2, AsmProblem::Operand),
+];
 
 #[test]
 fn one_cell(rt: HostRuntime) -> Result<(), Fail> {
     let params = core_of(1)?;
-    assert_eq!(rt;
-        listing(rt.alloc(), &params, b"ADD.F }5, {-7")?.as_str(),
-        "ORG 0\nADD.F }0, {0\n"
-    );
-    assert_eq!(rt;
-        fault_of(rt.alloc(), &params, b";assert CORESIZE==8000\nADD.F }0, {0"),
-        at(1, AsmProblem::AssertFailed)
-    );
-    Ok(())
+    let refused = [(
+        ";assert CORESIZE==8000\nADD.F }0, {0",
+        1,
+        AsmProblem::AssertFailed,
+    )];
+    check_faults(&rt, rt.alloc(), &params, &refused);
+    check_listing(
+        &rt,
+        rt.alloc(),
+        &params,
+        b"ADD.F }5, {-7",
+        "ORG 0\nADD.F }0, {0\n",
+    )
 }
+
+const DEPTH_OF_EQU: AsmProblem = AsmProblem::Text(TextProblem::EquDepth);
+
+const TOO_LONG: AsmProblem = AsmProblem::Text(TextProblem::TooLong);
 
 #[test]
 fn limits_of_equ_names(rt: HostRuntime) -> Result<(), Fail> {
-    let alloc = rt.alloc();
     let params = core_of(8000)?;
-    let depth = AsmProblem::Text(TextProblem::EquDepth);
-    assert_eq!(rt; fault_of(alloc, &params, b"x EQU x\nx"), at(2, depth));
-    assert_eq!(rt;
-        fault_of(alloc, &params, b"x EQU y+y\ny EQU x+x\nDAT x"),
-        at(3, depth)
-    );
-    assert_eq!(rt;
-        listing(alloc, &params, &doublings(alloc, 15)?)?.as_str(),
-        "ORG 0\nDAT.F $0, $768\n"
-    );
-    assert_eq!(rt;
-        fault_of(alloc, &params, &doublings(alloc, 16)?),
-        at(18, AsmProblem::Text(TextProblem::TooLong))
-    );
+    let refused = [
+        ("x EQU x\nx", 2, DEPTH_OF_EQU),
+        ("x EQU y+y\ny EQU x+x\nDAT x", 3, DEPTH_OF_EQU),
+    ];
+    check_faults(&rt, rt.alloc(), &params, &refused);
     Ok(())
 }
+
+#[test]
+fn doubled_names(rt: HostRuntime) -> Result<(), Fail> {
+    let params = core_of(8000)?;
+    let most = doublings(rt.alloc(), 15)?;
+    let listed = check_listing(&rt, rt.alloc(), &params, &most, "ORG 0\nDAT.F $0, $768\n");
+    drop(most);
+    listed?;
+    let more = doublings(rt.alloc(), 16)?;
+    let fault = fault_of(rt.alloc(), &params, &more);
+    drop(more);
+    let expected = AsmFault {
+        line: 18,
+        problem: TOO_LONG,
+    };
+    assert_eq!(rt; fault, Some(expected));
+    Ok(())
+}
+
+/// A text, how many copies of another follow it, and an end; and where the fault of such a source is, if it has one.
+type Repeated = (
+    &'static [u8],
+    &'static [u8],
+    usize,
+    &'static [u8],
+    Option<(usize, AsmProblem)>,
+);
+
+/// Each of these sources has its fault, or none.
+fn check_repeated(rt: &impl Abort, alloc: Global, rows: &[Repeated]) -> Result<(), Fail> {
+    let params = core_of(8000)?;
+    for (front, part, count, end, expected) in rows {
+        let source = repeated(alloc, front, part, *count, end)?;
+        let found = fault_of(alloc, &params, &source);
+        drop(source);
+        let found = found.map(|fault| (fault.line, fault.problem));
+        assert_eq!(rt; found, *expected);
+    }
+    Ok(())
+}
+
+const DEPTH: AsmProblem = AsmProblem::Expression(ExprFault::Depth);
+
+const LINES_AND_SIGNS: [Repeated; 6] = [
+    (
+        b"FOR 10000\nFOR 10000\nNOP\nROF\nROF",
+        b"\n",
+        1,
+        b"",
+        Some((3, TOO_LONG)),
+    ),
+    (b"DAT ", b"(", 10_000, b"", Some((1, DEPTH))),
+    (b"DAT ", b"-", 65, b"1", Some((1, DEPTH))),
+    (b"", b"\n", 65_537, b"", Some((65_537, TOO_LONG))),
+    (b"", b" ", 1_048_576, b"", Some((0, AsmProblem::Empty))),
+    (
+        b"",
+        b"1",
+        1_048_576,
+        b"",
+        Some((1, AsmProblem::Text(TextProblem::BadToken))),
+    ),
+];
 
 #[test]
 fn limits_of_lines_and_signs(rt: HostRuntime) -> Result<(), Fail> {
-    let alloc = rt.alloc();
-    let params = core_of(8000)?;
-    let too_long = AsmProblem::Text(TextProblem::TooLong);
-    let depth = AsmProblem::Expression(ExprFault::Depth);
-    assert_eq!(rt;
-        fault_of(alloc, &params, b"FOR 10000\nFOR 10000\nNOP\nROF\nROF\n"),
-        at(3, too_long)
-    );
-    assert_eq!(rt;
-        fault_of(
-            alloc,
-            &params,
-            &repeated(alloc, b"DAT ", b"(", 10_000, b"")?
-        ),
-        at(1, depth)
-    );
-    assert_eq!(rt;
-        listing(alloc, &params, &repeated(alloc, b"DAT ", b"-", 64, b"1")?)?.as_str(),
-        "ORG 0\nDAT.F $0, $1\n"
-    );
-    assert_eq!(rt;
-        fault_of(alloc, &params, &repeated(alloc, b"DAT ", b"-", 65, b"1")?),
-        at(1, depth)
-    );
-    assert_eq!(rt;
-        fault_of(alloc, &params, &repeated(alloc, b"", b"\n", 65_537, b"")?),
-        at(65_537, too_long)
-    );
-    assert_eq!(rt;
-        fault_of(alloc, &params, &repeated(alloc, b"", b" ", 1_048_576, b"")?),
-        at(0, AsmProblem::Empty)
-    );
-    assert_eq!(rt;
-        fault_of(alloc, &params, &repeated(alloc, b"", b"1", 1_048_576, b"")?),
-        at(1, AsmProblem::Text(TextProblem::BadToken))
-    );
-    Ok(())
+    check_repeated(&rt, rt.alloc(), &LINES_AND_SIGNS)
 }
 
 #[test]
-fn longest_warriors(rt: HostRuntime) -> Result<(), Fail> {
-    let alloc = rt.alloc();
+fn most_signs(rt: HostRuntime) -> Result<(), Fail> {
     let params = core_of(8000)?;
-    assert_eq!(rt;
-        fault_of(alloc, &params, &repeated(alloc, b"", b"NOP\n", 8000, b"")?),
-        None
-    );
-    assert_eq!(rt;
-        fault_of(
-            alloc,
-            &params,
-            &repeated(alloc, b"", b"NOP\n", 8001, b"NOP x")?
-        ),
-        at(8002, AsmProblem::Expression(ExprFault::Unknown))
-    );
-    assert_eq!(rt;
-        fault_of(alloc, &params, &repeated(alloc, b"", b"NOP\n", 8002, b"")?),
-        at(8001, AsmProblem::TooLong)
-    );
-    Ok(())
+    let source = repeated(rt.alloc(), b"DAT ", b"-", 64, b"1")?;
+    let listed = check_listing(&rt, rt.alloc(), &params, &source, "ORG 0\nDAT.F $0, $1\n");
+    drop(source);
+    listed
+}
+
+const LONGEST: [Repeated; 3] = [
+    (b"", b"NOP\n", 8000, b"", None),
+    (b"", b"NOP\n", 8001, b"NOP x", Some((8002, UNKNOWN))),
+    (b"", b"NOP\n", 8002, b"", Some((8001, AsmProblem::TooLong))),
+];
+
+#[test]
+fn longest_warriors(rt: HostRuntime) -> Result<(), Fail> {
+    check_repeated(&rt, rt.alloc(), &LONGEST)
 }
 
 #[test]
 fn bytes_outside_ascii(rt: HostRuntime) -> Result<(), Fail> {
-    let alloc = rt.alloc();
     let params = core_of(8000)?;
-    assert_eq!(rt;
-        fault_of(alloc, &params, b"NOP \xC8"),
-        at(1, AsmProblem::Text(TextProblem::NotAscii))
-    );
+    let expected = AsmFault {
+        line: 1,
+        problem: AsmProblem::Text(TextProblem::NotAscii),
+    };
+    assert_eq!(rt; fault_of(rt.alloc(), &params, b"NOP \xC8"), Some(expected));
     for source in [
         b"NOP ;\xC8".as_slice(),
         b"FOR 0\n\xC8\nROF\nNOP\n".as_slice(),
         b"\xC8\n;redcode\nNOP\n".as_slice(),
     ] {
-        assert_eq!(rt;
-            listing(alloc, &params, source)?.as_str(),
-            "ORG 0\nNOP.F $0, $0\n"
-        );
+        check_listing(&rt, rt.alloc(), &params, source, "ORG 0\nNOP.F $0, $0\n")?;
     }
     Ok(())
 }

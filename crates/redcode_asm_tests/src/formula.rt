@@ -14,58 +14,79 @@ fn fault_of(alloc: Global, text: &[u8]) -> Option<FormulaFault> {
     Formula::new(alloc, text).err()
 }
 
+/// The points of a formula.
+fn score(
+    alloc: Global,
+    text: &str,
+    warriors: i64,
+    survivors: i64,
+) -> Result<Result<i64, ExprFault>, Fail> {
+    let formula = formula(alloc, text)?;
+    let score = formula.score(warriors, survivors);
+    drop(formula);
+    Ok(score)
+}
+
+/// Formulas with so many warriors and survivors, and the points.
+const SCORES: [(&str, i64, i64, Result<i64, ExprFault>); 7] = [
+    ("(W*W-1)/S", 2, 1, Ok(3)),
+    ("(W*W-1)/S", 2, 2, Ok(1)),
+    ("(W*W-1)/S", 3, 1, Ok(8)),
+    ("(W*W-1)/S", 3, 2, Ok(4)),
+    ("(W*W-1)/S", 3, 3, Ok(2)),
+    ("1/(S-2)", 2, 2, Err(ExprFault::DivideByZero)),
+    ("9223372036854775807+W", 1, 1, Err(ExprFault::Range)),
+];
+
 #[test]
-fn default_formula(rt: HostRuntime) -> Result<(), Fail> {
-    let formula = formula(rt.alloc(), "(W*W-1)/S")?;
-    let scores = [(2, 1, 3), (2, 2, 1), (3, 1, 8), (3, 2, 4), (3, 3, 2)];
-    for (warriors, survivors, score) in scores {
-        assert_eq!(rt; formula.score(warriors, survivors), Ok(score));
+fn scores(rt: HostRuntime) -> Result<(), Fail> {
+    for (text, warriors, survivors, expected) in SCORES {
+        assert_eq!(rt; score(rt.alloc(), text, warriors, survivors)?, expected);
     }
     Ok(())
 }
 
-#[test]
-fn scores_without_a_value(rt: HostRuntime) -> Result<(), Fail> {
-    let alloc = rt.alloc();
-    assert_eq!(rt;
-        formula(alloc, "1/(S-2)")?.score(2, 2),
-        Err(ExprFault::DivideByZero)
-    );
-    assert_eq!(rt;
-        formula(alloc, "9223372036854775807+W")?.score(1, 1),
-        Err(ExprFault::Range)
-    );
-    Ok(())
-}
+const NO_FORMULAS: [(&[u8], ExprFault); 11] = [
+    (b"", ExprFault::Syntax),
+    (b"1+", ExprFault::Syntax),
+    (b"W;", ExprFault::Syntax),
+    (b"x+", ExprFault::Syntax),
+    (b"1x", ExprFault::Syntax),
+    (b"W\n", ExprFault::Syntax),
+    (b"(W", ExprFault::Syntax),
+    (b"\xC8", ExprFault::Syntax),
+    (b"x+1", ExprFault::Unknown),
+    (b"w", ExprFault::Unknown),
+    (b"W+S*CORESIZE", ExprFault::Unknown),
+];
 
 #[test]
-fn texts_that_are_no_formulas(rt: HostRuntime) -> Result<(), Fail> {
-    let alloc = rt.alloc();
-    let syntax = Some(FormulaFault::Expression(ExprFault::Syntax));
-    for text in ["", "1+", "W;", "x+", "1x", "W\n", "(W"] {
-        assert_eq!(rt; fault_of(alloc, text.as_bytes()), syntax);
+fn texts_that_are_no_formulas(rt: HostRuntime) {
+    for (text, fault) in NO_FORMULAS {
+        assert_eq!(rt;
+            fault_of(rt.alloc(), text),
+            Some(FormulaFault::Expression(fault))
+        );
     }
-    assert_eq!(rt; fault_of(alloc, &[200]), syntax);
-    let unknown = Some(FormulaFault::Expression(ExprFault::Unknown));
-    for text in ["x+1", "w", "W+S*CORESIZE"] {
-        assert_eq!(rt; fault_of(alloc, text.as_bytes()), unknown);
+}
+
+/// The fault of a formula with so many blanks behind it.
+fn fault_before_blanks(alloc: Global, count: u32) -> Result<Option<FormulaFault>, Fail> {
+    let mut text = Vec::from_slice(alloc, b"W")?;
+    for _ in 0..count {
+        text.push(b' ')?;
     }
-    Ok(())
+    let fault = fault_of(alloc, &text);
+    drop(text);
+    Ok(fault)
 }
 
 #[test]
 fn length_of_a_formula(rt: HostRuntime) -> Result<(), Fail> {
-    let alloc = rt.alloc();
-    let mut text = Vec::from_slice(alloc, b"W")?;
-    for _ in 0..255 {
-        text.push(b' ')?;
+    let syntax = FormulaFault::Expression(ExprFault::Syntax);
+    for (blanks, fault) in [(255, None), (256, Some(syntax))] {
+        assert_eq!(rt; fault_before_blanks(rt.alloc(), blanks)?, fault);
     }
-    assert_eq!(rt; fault_of(alloc, &text), None);
-    text.push(b' ')?;
-    assert_eq!(rt;
-        fault_of(alloc, &text),
-        Some(FormulaFault::Expression(ExprFault::Syntax))
-    );
     Ok(())
 }
 

@@ -1,5 +1,6 @@
-use mars_cell::{Params, read_load};
+use mars_cell::{Params, Warrior, read_load};
 use redcode_asm::{AsmFault, AsmProblem, assemble, assemble_load};
+use std::alloc::Global;
 use std::test::Fail;
 
 /// A name and an author, EQU, a label and a start.
@@ -13,33 +14,53 @@ fn of_core(core_size: u32) -> Result<Params, Fail> {
     Ok(params)
 }
 
+/// Whether the load file of a source, for so many warriors and rounds, is this one.
+fn is_file_of(
+    alloc: Global,
+    source: &[u8],
+    params: &Params,
+    (warriors, rounds): (u32, u32),
+    text: &[u8],
+) -> Result<bool, Fail> {
+    let file = assemble_load(alloc, source, params, warriors, rounds)?;
+    let is_it = file.as_slice() == text;
+    drop(file);
+    Ok(is_it)
+}
+
 #[test]
 fn load_files_of_sources(rt: HostRuntime) -> Result<(), Fail> {
-    let alloc = rt.alloc();
-    let file = assemble_load(alloc, SOURCE, &of_core(8000)?, 1, 1)?;
-    assert!(rt;
-        file.as_slice()
-            == b";load 2 8000\n;name Dwarf; 1\n;author A. K. Dewdney\nORG 1\nDAT.F $0, $0\nADD.AB #4, $-1\nMOV.I $-2, @-2\nJMP.B $-2, $0\n".as_slice()
-    );
-    let nameless = assemble_load(alloc, b"NOP WARRIORS, ROUNDS", &of_core(80)?, 2, 3)?;
-    assert!(rt;
-        nameless.as_slice()
-            == b";load 2 80\n;name Unknown\n;author Anonymous\nORG 0\nNOP.F $3, $2\n".as_slice()
-    );
+    let dwarf =
+        b";load 2 8000\n;name Dwarf; 1\n;author A. K. Dewdney\nORG 1\nDAT.F $0, $0\nADD.AB #4, $-1\nMOV.I $-2, @-2\nJMP.B $-2, $0\n";
+    assert!(rt; is_file_of(rt.alloc(), SOURCE, &of_core(8000)?, (1, 1), dwarf)?);
+    let counts = b"NOP WARRIORS, ROUNDS";
+    let nameless = b";load 2 80\n;name Unknown\n;author Anonymous\nORG 0\nNOP.F $3, $2\n";
+    assert!(rt; is_file_of(rt.alloc(), counts, &of_core(80)?, (2, 3), nameless)?);
     Ok(())
+}
+
+/// The warrior of the load file of the source.
+fn read_back(alloc: Global, params: &Params) -> Result<Warrior, Fail> {
+    let file = assemble_load(alloc, SOURCE, params, 1, 1)?;
+    let warrior = read_load(alloc, &file, params);
+    drop(file);
+    Ok(warrior?)
+}
+
+fn are_same(one: &Warrior, other: &Warrior) -> bool {
+    (one.name(), one.author(), one.start()) == (other.name(), other.author(), other.start())
+        && one.cells() == other.cells()
 }
 
 #[test]
 fn sources_are_read_back(rt: HostRuntime) -> Result<(), Fail> {
-    let alloc = rt.alloc();
     let params = of_core(8000)?;
-    let warrior = assemble(alloc, SOURCE, &params, 1, 1)?;
-    let file = assemble_load(alloc, SOURCE, &params, 1, 1)?;
-    let again = read_load(alloc, &file, &params)?;
-    assert_eq!(rt; again.name(), warrior.name());
-    assert_eq!(rt; again.author(), warrior.author());
-    assert_eq!(rt; again.cells(), warrior.cells());
-    assert_eq!(rt; again.start(), warrior.start());
+    let again = read_back(rt.alloc(), &params)?;
+    let warrior = assemble(rt.alloc(), SOURCE, &params, 1, 1)?;
+    let are_same = are_same(&again, &warrior);
+    drop(again);
+    drop(warrior);
+    assert!(rt; are_same);
     Ok(())
 }
 

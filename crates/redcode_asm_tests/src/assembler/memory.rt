@@ -1,12 +1,23 @@
 //! Calls that are refused memory. Each test holds whichever one of its requests is refused, since a second try has memory:
 //! scripts/refuse-memory refuses each in turn.
-use mars_cell::Params;
+use mars_cell::{Params, Warrior};
 use redcode_asm::{AsmFault, AsmProblem, Formula, FormulaFault, assemble, assemble_load};
+use std::alloc::Global;
 use std::test::Fail;
 
 /// Labels, EQU names, a loop, joins, a name, an assert and a start.
 const SOURCE: &[u8] =
     b";redcode\n;name Four\n;assert MAXLENGTH >= 4\nstep EQU 4\ni FOR 2\nx&i ADD.AB #step, i+last\nROF\nlast JMP x01\nDAT x02, -1\nEND last\n";
+
+/// Whether a warrior has the name, the start and the numbers of the source's.
+fn is_four(warrior: &Warrior) -> bool {
+    let mut numbers = [(0, 0); 4];
+    for (pair, cell) in numbers.iter_mut().zip(warrior.cells()) {
+        *pair = (cell.a, cell.b);
+    }
+    (warrior.name(), warrior.start()) == ("Four", 2)
+        && numbers == [(4, 3), (4, 3), (7998, 0), (7998, 7999)]
+}
 
 #[test]
 fn a_source_is_assembled(rt: HostRuntime) -> Result<(), Fail> {
@@ -24,13 +35,9 @@ fn a_source_is_assembled(rt: HostRuntime) -> Result<(), Fail> {
         }
         Ok(warrior) => warrior,
     };
-    assert_eq!(rt; warrior.name(), "Four");
-    assert_eq!(rt; warrior.start(), 2);
-    let mut numbers = [(0, 0); 4];
-    for (pair, cell) in numbers.iter_mut().zip(warrior.cells()) {
-        *pair = (cell.a, cell.b);
-    }
-    assert_eq!(rt; numbers, [(4, 3), (4, 3), (7998, 0), (7998, 7999)]);
+    let is_it = is_four(&warrior);
+    drop(warrior);
+    assert!(rt; is_it);
     Ok(())
 }
 
@@ -57,16 +64,20 @@ fn a_load_file_is_made(rt: HostRuntime) -> Result<(), Fail> {
     Ok(())
 }
 
+/// The default formula, with a second try where memory is wanting.
+fn formula(alloc: Global) -> Result<Formula, FormulaFault> {
+    let text = b"(W*W-1)/S";
+    match Formula::new(alloc, text) {
+        Err(FormulaFault::OutOfMemory) => Formula::new(alloc, text),
+        first => first,
+    }
+}
+
 #[test]
 fn a_formula_is_read(rt: HostRuntime) -> Result<(), Fail> {
-    let text = b"(W*W-1)/S";
-    let formula = match Formula::new(rt.alloc(), text) {
-        Err(fault) => {
-            assert_eq!(rt; fault, FormulaFault::OutOfMemory);
-            Formula::new(rt.alloc(), text)?
-        }
-        Ok(formula) => formula,
-    };
-    assert_eq!(rt; formula.score(3, 2), Ok(4));
+    let formula = formula(rt.alloc())?;
+    let score = formula.score(3, 2);
+    drop(formula);
+    assert_eq!(rt; score, Ok(4));
     Ok(())
 }
