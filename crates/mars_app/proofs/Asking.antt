@@ -9,7 +9,7 @@ use Rattle.std.specs.Global.{Global}
 use Rattle.std.specs.Prelude.{string_bytes}
 use Rattle.mars_cell.specs.Parameters.{Parameters}
 use Rattle.mars_cell.specs.Warriors.{WarriorValue}
-use Rattle.mars_match.specs.Writing.{CutShort}
+use Rattle.mars_output.specs.Writing.{CutShort}
 use Rattle.redcode_asm.specs.Formula.{Checks}
 use Rattle.redcode_asm.specs.declared.fault.FormulaFault.{FormulaFault}
 use Rattle.redcode_asm.specs.declared.fault.FormulaFault.TheVariants.{Expression}

@@ -5,8 +5,8 @@ use Rattle.std.proofs.Math.Seq.{take-append-add}
 use Rattle.std.proofs.lemmas.List.{take-append-le, take_all}
 use Rattle.std.proofs.KnownBytes.{Appends-trans}
 use Rattle.std.specs.Io.KnownBytes.{Appends}
-use Rattle.mars_match.specs.Writing.{CutShort}
-use Rattle.mars_match.proofs.CallerLemmas.{CutShort-back, CutShort-front, flat_map-around}
+use Rattle.mars_output.specs.Writing.{CutShort}
+use Rattle.mars_output.proofs.CallerLemmas.{CutShort-back, CutShort-front, flat_map-around}
 use Rattle.mars_app.specs.Contests.{BreaksOff}
 use Rattle.mars_app.specs.declared.fault.RunFault.{RunFault}
 use Rattle.mars_app.specs.declared.fault.RunFault.TheVariants.{Output, OutOfMemory}

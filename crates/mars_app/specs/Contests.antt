@@ -8,7 +8,7 @@ use Rattle.mars_match.specs.Leagues.{league_of}
 use Rattle.mars_match.specs.Rounds.{table_of}
 use Rattle.mars_match.specs.Results.{results_text}
 use Rattle.mars_match.specs.Tables.{RowValue}
-use Rattle.mars_match.specs.Writing.{CutShort}
+use Rattle.mars_output.specs.Writing.{CutShort}
 use Rattle.mars_core.specs.declared.battle.start.BattleFault.TheVariants as battle
 use Rattle.mars_match.specs.declared.fault.MatchFault.{MatchFault}
 use Rattle.mars_match.specs.declared.fault.MatchFault.TheVariants as match

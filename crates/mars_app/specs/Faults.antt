@@ -11,7 +11,7 @@ use Rattle.mars_cell.specs.declared.fault.LoadFault.{LoadFault}
 use Rattle.mars_cell.specs.declared.fault.LoadFault.TheVariants as load_fault
 use Rattle.mars_cell.specs.declared.parameters.ParamFault.{ParamFault}
 use Rattle.mars_core.specs.State.{State}
-use Rattle.mars_match.specs.Writing.{CutShort}
+use Rattle.mars_output.specs.Writing.{CutShort}
 use Rattle.redcode_asm.specs.Assembly.{assembly}
 use Rattle.redcode_asm.specs.Formula.{formula_of}
 use Rattle.redcode_asm.specs.declared.fault.FormulaFault.TheVariants.{Expression}

@@ -7,7 +7,7 @@ ghost use Rattle.mars_match.specs.Answers.{IsAnswer};
 ghost use Rattle.mars_match.specs.Results.{results_text};
 ghost use Rattle.mars_match.specs.Tables.{RowValue};
 ghost use Rattle.mars_match.specs.declared.table.Table.{Table};
-ghost use Rattle.mars_match.specs.Writing.{CutShort};
+ghost use Rattle.mars_output.specs.Writing.{CutShort};
 ghost use Rattle.mars_app.specs.Code.Plans.{planned};
 ghost use Rattle.mars_app.specs.Contests.{BreaksOff, ContestFails, fault_of, listed, listing, listing_from, listing_head};
 ghost use Rattle.mars_app.specs.Loading.{AllFit, FitsTwo};
@@ -18,9 +18,8 @@ use crate::options::Options;
 use mars_cell::{Params, Warrior, write_load};
 use mars_core::BattleFault;
 use mars_debugger::{Line, numbered, push_number};
-use mars_match::{
-    MatchFault, PlaceFault, Plan, Table, WriteFault, league, rounds, write_results, write_text,
-};
+use mars_match::{MatchFault, PlaceFault, Plan, Table, league, rounds, write_results};
+use mars_output::{WriteFault, write_text};
 use std::alloc::Global;
 use std::io::Write;
 

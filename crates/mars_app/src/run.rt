@@ -5,7 +5,7 @@ ghost use Rattle.std.specs.Io.KnownBytes.{Appends, Keeps};
 ghost use Rattle.mars_core.specs.State.{State};
 ghost use Rattle.mars_match.specs.Answers.{IsAnswer};
 ghost use Rattle.mars_match.specs.Rounds.{placed_for};
-ghost use Rattle.mars_match.specs.Writing.{CutShort};
+ghost use Rattle.mars_output.specs.Writing.{CutShort};
 ghost use Rattle.mars_app.specs.Contests.{contest_size};
 ghost use Rattle.mars_app.specs.Debugging.{DebugsInPart, DebugsWell, StartsNothing, first_round, session_at};
 ghost use Rattle.mars_app.specs.Loading.{AllFit, FitsTwo, IsLoadFileOf};

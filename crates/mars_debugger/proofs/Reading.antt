@@ -12,7 +12,7 @@ use Rattle.mars_debugger.specs.declared.request.Request.{Request}
 use Rattle.mars_debugger.specs.declared.request.Request.TheVariants.{Quit}
 use Rattle.mars_debugger.specs.Code.LineBuffer.{Holds}
 use Rattle.mars_debugger.specs.Lines.{IsLine, ended, line_asks, lines_of}
-use Rattle.mars_match.specs.Writing.{CutShort}
+use Rattle.mars_output.specs.Writing.{CutShort}
 use Rattle.mars_debugger.specs.Transcript.{Transcript, GoesOn, Completes, WriteFails, answer, until_quit}
 use Rattle.mars_debugger.specs.Transcript.EndsIn.{at_newline, at_end}
 use Rattle.mars_debugger.specs.Transcript.Transcript.{none, line}

@@ -2,8 +2,8 @@
 use Rattle.std.proofs.Common.{◌∙◌, ℕ, List, [], ◌++◌, Option, ap, sym, append-nil, append_assoc}
 use Rattle.std.proofs.KnownBytes.{Appends-trans}
 use Rattle.std.specs.Io.KnownBytes.{Appends}
-use Rattle.mars_match.specs.Writing.{CutShort}
-use Rattle.mars_match.proofs.CallerLemmas.{CutShort-back}
+use Rattle.mars_output.specs.Writing.{CutShort}
+use Rattle.mars_output.proofs.CallerLemmas.{CutShort-back}
 use Rattle.mars_debugger.specs.Code.Waiting.{Waits}
 
 -- what waits goes out

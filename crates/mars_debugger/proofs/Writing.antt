@@ -2,8 +2,8 @@
 use Rattle.std.proofs.Common.{◌≡◌, refl, ℕ, zero, suc, ◌+◌, ◌<◌, List, [], ◌++◌, Option, ◌⊎◌, inl, inr, arith, append_assoc, add-one, append-nil}
 use Rattle.std.proofs.KnownBytes.{Appends-trans}
 use Rattle.std.specs.Io.KnownBytes.{Appends}
-use Rattle.mars_match.specs.Writing.{CutShort}
-use Rattle.mars_match.proofs.CallerLemmas.{CutShort-after, CutShort-front}
+use Rattle.mars_output.specs.Writing.{CutShort}
+use Rattle.mars_output.proofs.CallerLemmas.{CutShort-after, CutShort-front}
 use Rattle.mars_debugger.specs.Readings.{texts}
 
 -- three texts went out

@@ -1,7 +1,7 @@
 //! The debugger: it reads lines, makes their calls and writes what they answer.
 ghost use Rattle.std.specs.Prelude.{◌≡◌, Bool, [], ◌∷◌, ◌<◌, ◌*◌, OnOk, OnErr};
 ghost use Rattle.std.specs.Io.KnownBytes.{Appends};
-ghost use Rattle.mars_match.specs.Writing.{CutShort};
+ghost use Rattle.mars_output.specs.Writing.{CutShort};
 ghost use Rattle.mars_debugger.specs.Transcript.{answer, core_size_of, Completes, NothingDone, ReadFails, TakesAtMost, WriteFails};
 ghost use Rattle.mars_debugger.specs.Code.Steps.{Breaks, BreaksAtEnd, Finishes, GoesThrough, Quits};
 
@@ -9,7 +9,7 @@ use crate::line_buffer::LineBuffer;
 use crate::readings::{write_list, write_queue, write_show};
 use crate::replies::reply_line;
 use crate::request::Request;
-use mars_match::{WriteFault, write_text};
+use mars_output::{WriteFault, write_text};
 use mars_session::{Session, Tape};
 use std::io::{Read, Write};
 

@@ -1,12 +1,12 @@
 //! Text that waits to be written with what follows it.
 ghost use Rattle.std.specs.Prelude.{◌≡◌, ℕ, List, Option, [], ◌++◌, OnOk, OnErr};
 ghost use Rattle.std.specs.Io.KnownBytes.{Appends};
-ghost use Rattle.mars_match.specs.Writing.{CutShort};
+ghost use Rattle.mars_output.specs.Writing.{CutShort};
 ghost use Rattle.mars_debugger.specs.Code.Waiting.{Waits};
 
 use crate::replies::Line;
 use arrayvec::ArrayString;
-use mars_match::{WriteFault, write_text};
+use mars_output::{WriteFault, write_text};
 use std::io::Write;
 use std::marker::Model;
 

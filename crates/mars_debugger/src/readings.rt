@@ -2,7 +2,7 @@
 ghost use Rattle.std.specs.Prelude.{◌≡◌, ◌<◌, ◌≤◌, ◌++◌, length, OnOk, OnErr};
 ghost use Rattle.std.specs.Io.KnownBytes.{Appends};
 ghost use Rattle.std.specs.List.{flat_map};
-ghost use Rattle.mars_match.specs.Writing.{CutShort};
+ghost use Rattle.mars_output.specs.Writing.{CutShort};
 ghost use Rattle.mars_core.specs.State.{cell_at, queue_of};
 ghost use Rattle.arrayvec.specs.ArrayString.{array_string_len};
 ghost use Rattle.mars_debugger.specs.Readings.{cell_line, line_at, list_text, most_listed, texts, queue_text, process_text, warrior_text, life_text, death_of, show_text, end_text};
@@ -10,7 +10,7 @@ ghost use Rattle.mars_debugger.specs.Readings.{cell_line, line_at, list_text, mo
 use crate::pending::Pending;
 use crate::replies::{Line, fixed, numbered, push_number, refusal_line, standing_line};
 use mars_core::{Battle, Death};
-use mars_match::{WriteFault, write_text};
+use mars_output::{WriteFault, write_text};
 use mars_session::{Refusal, Standing};
 use std::io::Write;
 

@@ -2,7 +2,6 @@ pub mod FullCores
 pub mod Ascending
 pub mod Draws
 pub mod Spacing
-pub mod CallerLemmas
 pub mod Ranking
 pub mod Rotations
 pub mod Ends

@@ -5,7 +5,6 @@ pub mod Battles
 pub mod Rounds
 pub mod Leagues
 pub mod Results
-pub mod Writing
 pub mod Answers
 pub mod Laws
 pub mod Examples

@@ -4,8 +4,8 @@
 //! fault; any two of the starts lie at least the least distance apart, both ways round the core. `fight` tells who survives a
 //! round (`specs/Battles`), `rounds` gives the table of a match (`specs/Rounds`), and `league` that of a league
 //! (`specs/Leagues`), each or its first fault, or want of memory (`specs/Answers`). `write_results` writes exactly the
-//! defined text of a table (`specs/Results`), or, where the writer fails, a beginning of it; it takes no memory.
-//! `write_text` writes one text in the same way. What ascending order and a ranking are stands in `laws`.
+//! defined text of a table (`specs/Results`), or, where the writer fails, a beginning of it; it takes no memory. What
+//! ascending order and a ranking are stands in `laws`.
 #![tactic(auto)]
 
 mod fault;
@@ -20,5 +20,5 @@ pub use fault::MatchFault;
 pub use fights::fight;
 pub use matches::{Plan, league, rounds};
 pub use placement::{GREATEST_SEED, PlaceFault, place};
-pub use report::{WriteFault, write_results, write_text};
+pub use report::write_results;
 pub use table::{Row, Table};

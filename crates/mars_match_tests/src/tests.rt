@@ -5,9 +5,9 @@ ghost use Rattle.mars_cell.specs.Warriors.{IsName};
 use mars_cell::{Cell, Params, Warrior, read_cell};
 use mars_core::BattleFault;
 use mars_match::{
-    MatchFault, PlaceFault, Plan, Row, Table, WriteFault, fight, league, place, rounds,
-    write_results,
+    MatchFault, PlaceFault, Plan, Row, Table, fight, league, place, rounds, write_results,
 };
+use mars_output::WriteFault;
 use redcode_asm::Formula;
 use redcode_text::ExprFault;
 use std::alloc::Global;
@@ -17,6 +17,12 @@ use std::test::Fail;
 
 mod memory;
 mod no_memory;
+
+/// The cell of a warrior that lives on.
+const STAY: &str = "JMP.B $0, $0";
+
+/// The cell of a warrior that dies at its first turn.
+const DEAD: &str = "DAT.F $0, $0";
 
 /// Parameters of a core size and a least distance.
 fn sizes(core_size: u32, distance: u32) -> Result<Params, Fail> {
@@ -338,10 +344,6 @@ fn fights_of_three(rt: HostRuntime) -> Result<(), Fail> {
     checked
 }
 
-const STAY: &str = "JMP.B $0, $0";
-
-const DEAD: &str = "DAT.F $0, $0";
-
 /// One warrior more than there may be.
 const TOO_MANY: [&str; 17] = [STAY; 17];
 
@@ -401,23 +403,31 @@ type Plans = (u32, u32, Option<u32>, &'static str);
 /// What a match or a league comes to: the lines of its results behind their heading, in load order, or its fault.
 type Outcome = Result<&'static str, MatchFault>;
 
+/// The plan that these make, where there is memory.
+fn plan_of(alloc: Global, plans: Plans) -> Option<Plan>
+    ensures { IfSome result (λ plan. plan.fixed ≡ plans.2) }
+{
+    let (count, seed, fixed, text) = plans;
+    let formula = Formula::new(alloc, text.as_bytes()).ok()?;
+    Some(Plan {
+        rounds: count,
+        seed,
+        fixed,
+        formula,
+    })
+}
+
 /// The table of a match, or its fault.
 fn held(
     alloc: Global,
     params: &Params,
     warriors: &[Warrior],
-    (count, seed, fixed, text): Plans,
+    plans: Plans,
 ) -> Option<Result<Table, MatchFault>> {
-    if !fits_two(params, warriors.len(), fixed) {
+    if !fits_two(params, warriors.len(), plans.2) {
         return None;
     }
-    let formula = Formula::new(alloc, text.as_bytes()).ok()?;
-    let plan = Plan {
-        rounds: count,
-        seed,
-        fixed,
-        formula,
-    };
+    let plan = plan_of(alloc, plans)?;
     let table = rounds(alloc, params, warriors, &plan);
     drop(plan);
     Some(table)
@@ -428,18 +438,12 @@ fn league_held(
     alloc: Global,
     params: &Params,
     warriors: &[Warrior],
-    (count, seed, fixed, text): Plans,
+    plans: Plans,
 ) -> Option<Result<Table, MatchFault>> {
-    if warriors.len() > 65536 || !fits_two(params, warriors.len(), fixed) {
+    if warriors.len() > 65536 || !fits_two(params, warriors.len(), plans.2) {
         return None;
     }
-    let formula = Formula::new(alloc, text.as_bytes()).ok()?;
-    let plan = Plan {
-        rounds: count,
-        seed,
-        fixed,
-        formula,
-    };
+    let plan = plan_of(alloc, plans)?;
     let table = league(alloc, params, warriors, &plan);
     drop(plan);
     Some(table)

@@ -3,7 +3,8 @@
 //! are refused, there is nothing to show. The calls of the crates below stand here too.
 use super::{BY_DEFAULT, LEAGUE, Narrow};
 use mars_cell::{Mode, Modifier, Op, Params, Warrior, default_modifier, read_cell};
-use mars_match::{Row, Table, WriteFault, write_results};
+use mars_match::{Row, Table, write_results};
+use mars_output::WriteFault;
 use redcode_asm::Formula;
 use redcode_text::ExprFault;
 use std::alloc::Global;

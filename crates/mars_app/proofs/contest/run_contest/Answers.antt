@@ -1,7 +1,7 @@
 use Rattle.std.proofs.Common.{◌∙◌, ap, inl, inr}
 use Rattle.std.proofs.lemmas.Result.{IfErr-weaker, on_ok_weaker}
 use Rattle.std.proofs.KnownBytes.{Appends-trans}
-use Rattle.mars_match.proofs.CallerLemmas.{CutShort-back}
+use Rattle.mars_output.proofs.CallerLemmas.{CutShort-back}
 use Rattle.mars_app.specs.Contests.{fault_of}
 use Rattle.mars_app.proofs.Writing.{whole_breaks}
 use Rattle.mars_app.proofs.contest.run_contest.Goals as goal

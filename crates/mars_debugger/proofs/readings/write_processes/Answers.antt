@@ -4,7 +4,7 @@ use Rattle.std.proofs.lemmas.Option.{get_or_from_slice_get}
 use Rattle.std.specs.List.{flat_map}
 use Rattle.mars_core.specs.State.{queue_of}
 use Rattle.mars_debugger.specs.Readings.{process_text}
-use Rattle.mars_match.proofs.CallerLemmas.{CutShort-front, flat_map-one_more}
+use Rattle.mars_output.proofs.CallerLemmas.{CutShort-front, flat_map-one_more}
 use Rattle.mars_debugger.proofs.readings.write_processes.Goals as goal
 
 pub returns-in-Err-clause-err : goal.returns-in-Err-clause-err

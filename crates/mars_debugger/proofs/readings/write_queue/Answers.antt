@@ -3,7 +3,7 @@ use Rattle.std.proofs.lemmas.Result.{err_from_is_err_and, on_err_weaker}
 use Rattle.std.specs.List.{flat_map}
 use Rattle.mars_core.specs.State.{State, queue_of}
 use Rattle.mars_debugger.specs.Readings.{queue_text, queue_head, process_text}
-use Rattle.mars_match.proofs.CallerLemmas.{CutShort-front, CutShort-back, CutShort-after}
+use Rattle.mars_output.proofs.CallerLemmas.{CutShort-front, CutShort-back, CutShort-after}
 use Rattle.mars_debugger.proofs.readings.write_queue.Goals as goal
 
 -- the addresses of the processes, one behind the other

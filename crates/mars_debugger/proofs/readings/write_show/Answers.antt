@@ -3,7 +3,7 @@ use Rattle.std.proofs.lemmas.Result.{err_from_is_err_and, on_err_weaker, on_ok_w
 use Rattle.mars_core.specs.State.{State}
 use Rattle.mars_debugger.specs.Readings.{show_text, texts, warrior_text, end_text}
 use Rattle.mars_debugger.specs.Replies.{standing_text}
-use Rattle.mars_match.proofs.CallerLemmas.{CutShort-front, CutShort-back, CutShort-after}
+use Rattle.mars_output.proofs.CallerLemmas.{CutShort-front, CutShort-back, CutShort-after}
 use Rattle.mars_debugger.proofs.Writing.{Appends-three}
 use Rattle.mars_debugger.proofs.readings.write_show.Goals as goal
 

@@ -6,7 +6,7 @@ use Rattle.std.proofs.lemmas.Grind.{flat_map-append}
 use Rattle.std.proofs.KnownBytes.{Appends-trans}
 use Rattle.std.specs.List.{flat_map}
 use Rattle.std.specs.Io.KnownBytes.{Appends}
-use Rattle.mars_match.specs.Writing.{CutShort}
+use Rattle.mars_output.specs.Writing.{CutShort}
 
 -- a beginning of the first of two texts went out
 pub CutShort-front : (a b : Option (List ℕ)) (x y : List ℕ) → CutShort a b x → CutShort a b (x ++ y)

@@ -1,0 +1,2 @@
+-- What a reader of the contracts has to believe.
+pub mod Writing
