@@ -405,7 +405,7 @@ type Outcome = Result<&'static str, MatchFault>;
 
 /// The plan that these make, where there is memory.
 fn plan_of(alloc: Global, plans: Plans) -> Option<Plan>
-    ensures { IfSome result (λ plan. plan.fixed ≡ plans.2) }
+    ensures { IfSome result (λ plan. plan.fixed ≡ plans.entry.2) }
 {
     let (count, seed, fixed, text) = plans;
     let formula = Formula::new(alloc, text.as_bytes()).ok()?;
