@@ -61,20 +61,20 @@ pub held_as_asked : (o : Options) (settings : Settings) (p : Parameters) (ws : L
     → planned o.league settings.plan p ws ≡ contest o p settings.plan.formula ws
 held_as_asked o settings p ws are = rw (are.rounds, are.seed, are.fixed) refl
 
-module _ (words : List (List ℕ)) (known : List ℕ → Option (List ℕ)) (input left v : Option (List ℕ)) where
-  pub settings_refused : (o : Options) (f : RunFault) → IsRefused o f → Ask words (value_of o) → RunFails words known input left v v f
-  settings_refused o f (inl memory) said = starved memory (Keeps-refl v)
-  settings_refused o f (inr (inl (e, is, told))) said = not_allowed o said e is told (Keeps-refl v)
-  settings_refused o f (inr (inr (p, allowed, e, is, told))) said = not_scored o said p allowed e is told (Keeps-refl v)
+module _ (words : List (List ℕ)) (known : List ℕ → Option (List ℕ)) (input v : Option (List ℕ)) where
+  pub settings_refused : (o : Options) (f : RunFault) → IsRefused o f → Ask words (value_of o) → RunFails words known input input v v f
+  settings_refused o f (inl memory) said = starved memory (Keeps-refl input, Keeps-refl v)
+  settings_refused o f (inr (inl (e, is, told))) said = not_allowed o said e is told (Keeps-refl input, Keeps-refl v)
+  settings_refused o f (inr (inr (p, allowed, e, is, told))) said = not_scored o said p allowed e is told (Keeps-refl input, Keeps-refl v)
 
-  module _ (w : Option (List ℕ)) (asked : Asked words known) (load : asked.options.load ≡ false) where
+  module _ (left w : Option (List ℕ)) (asked : Asked words known) (load : asked.options.load ≡ false) where
     pub plays_well : PlaysWell asked.options asked.parameters asked.formula asked.warriors input left v w → RunsWell words known input left v w
     plays_well (inl (debugger, s, starts, well)) = debugged asked load debugger s starts well
-    plays_well (inr (debugger, rows, held, writes)) = contested asked load debugger rows held writes
+    plays_well (inr (debugger, unread, rows, held, writes)) = contested asked load debugger unread rows held writes
 
     pub plays_in_part : (f : RunFault) → PlaysInPart asked.options asked.parameters asked.formula asked.warriors input left v w f → RunFails words known input left v w f
     plays_in_part f (inl (debugger, part)) = not_debugged asked load debugger part
-    plays_in_part f (inr (debugger, part)) = not_contested asked load debugger part
+    plays_in_part f (inr (debugger, unread, part)) = not_contested asked load debugger unread part
 
 -- ---- what is played where words asked for it, whatever they are
 
@@ -85,9 +85,9 @@ module _ (known : List ℕ → Option (List ℕ)) (o : Options) (settings : Sett
   pub all_play_well : OnOk r (PlaysWell o settings.params settings.plan.formula ws input left v w)
       → OnOk r ((words : List (List ℕ)) → Ask words (value_of o) → RunsWell words known input left v w)
   all_play_well played = on_ok_weaker r (λ well words said.
-      plays_well words known input left v w (asked_for words known o settings ws files count said are files_are count_is loaded) load well) played
+      plays_well words known input v left w (asked_for words known o settings ws files count said are files_are count_is loaded) load well) played
 
   pub all_play_in_part : IfErr r (PlaysInPart o settings.params settings.plan.formula ws input left v w)
       → IfErr r (λ f. (words : List (List ℕ)) → Ask words (value_of o) → RunFails words known input left v w f)
   all_play_in_part played = IfErr-weaker r _ _ (λ f part words said.
-      plays_in_part words known input left v w (asked_for words known o settings ws files count said are files_are count_is loaded) load f part) played
+      plays_in_part words known input v left w (asked_for words known o settings ws files count said are files_are count_is loaded) load f part) played

@@ -36,7 +36,11 @@ DebugsInPart fault s core_size input left v w =
     ((fault ≡ Commands) × (t : SessionState) × ReadFails core_size input left s v t w)
     ⊎ ((fault ≡ Output) × (t : SessionState) × WriteFails core_size input left s v t w)
 
--- nothing was written, since memory was wanting or the round can't start
-abbrev pub StartsNothing : RunFault → Result State MatchFault → Option (List ℕ) → Option (List ℕ) → Type 0
-StartsNothing fault round v w =
-    ((fault ≡ OutOfMemory) ⊎ ((f : MatchFault) × (round ≡ Err f) × (fault ≡ fault_of f))) × Keeps v w
+-- nothing was read or written
+abbrev pub Untouched : Option (List ℕ) → Option (List ℕ) → Option (List ℕ) → Option (List ℕ) → Type 0
+Untouched input left v w = Keeps input left × Keeps v w
+
+-- that is so, since memory was wanting or the round can't start
+abbrev pub StartsNothing : RunFault → Result State MatchFault → Option (List ℕ) → Option (List ℕ) → Option (List ℕ) → Option (List ℕ) → Type 0
+StartsNothing fault round input left v w =
+    ((fault ≡ OutOfMemory) ⊎ ((f : MatchFault) × (round ≡ Err f) × (fault ≡ fault_of f))) × Untouched input left v w

@@ -1,6 +1,6 @@
 -- What a run that ends well has done.
 use Rattle.std.specs.Prelude.{◌≡◌, ℕ, false, true, List, ◌++◌, map, Option, Ok, string_bytes}
-use Rattle.std.specs.Io.KnownBytes.{Appends}
+use Rattle.std.specs.Io.KnownBytes.{Appends, Keeps}
 use Rattle.std.specs.List.{flat_map}
 use Rattle.mars_cell.specs.ParameterFaults.{checked_parameters}
 use Rattle.mars_cell.specs.Parameters.{Parameters}
@@ -29,15 +29,15 @@ pub record Asked (words : List (List ℕ)) (known : List ℕ → Option (List �
   pub loaded : AreLoaded known parameters options.rounds (contest_size options) (map (λ name. string_bytes name) options.files.items) warriors
 
 -- It has written a help that was asked for; or the warrior's load file; or it has debugged the battle of the first round; or it has written
--- the listing of a match or a league, and its results.
+-- the listing of a match or a league, and its results. The debugger alone reads the input.
 pub data RunsWell (words : List (List ℕ)) (known : List ℕ → Option (List ℕ)) (input left v w : Option (List ℕ)) : Type 0 where
-  helped : AskForHelp words → (text : List ℕ) → Appends v w text → RunsWell words known input left v w
-  written : (asked : Asked words known) → asked.options.load ≡ true
+  helped : AskForHelp words → Keeps input left → (text : List ℕ) → Appends v w text → RunsWell words known input left v w
+  written : (asked : Asked words known) → asked.options.load ≡ true → Keeps input left
       → Appends v w (flat_map (load_text asked.parameters.core_size) asked.warriors) → RunsWell words known input left v w
   debugged : (asked : Asked words known) → asked.options.load ≡ false → asked.options.debugger ≡ true
       → (s : State) → first_round asked.options asked.parameters asked.warriors ≡ Ok s
       → DebugsWell (session_at asked.options.history s) s.params.core_size input left v w → RunsWell words known input left v w
-  contested : (asked : Asked words known) → asked.options.load ≡ false → asked.options.debugger ≡ false
+  contested : (asked : Asked words known) → asked.options.load ≡ false → asked.options.debugger ≡ false → Keeps input left
       → (rows : List RowValue) → contest asked.options asked.parameters asked.formula asked.warriors ≡ Ok rows
       → Appends v w (listing asked.parameters.core_size asked.options.brief asked.warriors ++ results_text rows asked.options.sorted)
       → RunsWell words known input left v w

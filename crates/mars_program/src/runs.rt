@@ -7,7 +7,7 @@ ghost use Rattle.mars_match.specs.Answers.{IsAnswer};
 ghost use Rattle.mars_match.specs.Rounds.{placed_for};
 ghost use Rattle.mars_output.specs.Writing.{CutShort};
 ghost use Rattle.mars_program.specs.Contests.{contest_size};
-ghost use Rattle.mars_program.specs.Debugging.{DebugsInPart, DebugsWell, StartsNothing, first_round, session_at};
+ghost use Rattle.mars_program.specs.Debugging.{DebugsInPart, DebugsWell, StartsNothing, Untouched, first_round, session_at};
 ghost use Rattle.mars_program.specs.Loading.{AllFit, FitsTwo, IsLoadFileOf};
 ghost use Rattle.mars_program.specs.Code.Allowed.{AreInRange, IsBetween};
 ghost use Rattle.mars_program.specs.Code.Settings.{AreSettingsOf, IsRefused, PlaysInPart, PlaysWell};
@@ -38,7 +38,7 @@ use std::io::{Read, Write};
 ///
 /// With status 0 it has written the help, a load file, the transcript of a debugged battle, or the listing and results of a
 /// match or a league; another status is that of the first fault. A fault is one line on `faults`; where that can't be
-/// written, the status is the same.
+/// written, the status is the same. The debugger alone reads `input`.
 pub fn run<F: WarriorFiles, R: Read, W: Write, E: Write>(
     alloc: Global,
     words: &[String],
@@ -260,7 +260,7 @@ fn debug_round<R: Read, W: Write>(
     requires history { IsBetween 1 longest_history options.now.history }
     ensures ok { OnOk result ((s : State) × (first_round options.now params.now warriors.now ≡ Ok s)
         × DebugsWell (session_at options.now.history s) s.params.core_size (R.remaining input.old) (R.remaining input.new) (W.contents output.old) (W.contents output.new)) }
-    ensures err { IfErr result (λ fault. StartsNothing fault (first_round options.now params.now warriors.now) (W.contents output.old) (W.contents output.new)
+    ensures err { IfErr result (λ fault. StartsNothing fault (first_round options.now params.now warriors.now) (R.remaining input.old) (R.remaining input.new) (W.contents output.old) (W.contents output.new)
         ⊎ ((s : State) × (first_round options.now params.now warriors.now ≡ Ok s)
         × DebugsInPart fault (session_at options.now.history s) s.params.core_size (R.remaining input.old) (R.remaining input.new) (W.contents output.old) (W.contents output.new))) }
 {
@@ -310,7 +310,7 @@ fn debug_battle<R: Read, W: Write>(
 ) -> Result<(), RunFault>
     requires { IsBetween 1 longest_history history }
     ensures ok { OnOk result (DebugsWell (session_at history battle) battle.params.core_size (R.remaining input.old) (R.remaining input.new) (W.contents output.old) (W.contents output.new)) }
-    ensures err { IfErr result (λ fault. ((fault ≡ RunFault.OutOfMemory) × Keeps (W.contents output.old) (W.contents output.new))
+    ensures err { IfErr result (λ fault. ((fault ≡ RunFault.OutOfMemory) × Untouched (R.remaining input.old) (R.remaining input.new) (W.contents output.old) (W.contents output.new))
         ⊎ DebugsInPart fault (session_at history battle) battle.params.core_size (R.remaining input.old) (R.remaining input.new) (W.contents output.old) (W.contents output.new)) }
 {
     let Ok(tape) = RingTape::new(alloc, battle, history as usize) else {

@@ -1,6 +1,6 @@
 //! The program as it was started.
 ghost use Rattle.std.specs.Prelude.{◌≡◌, ◌≢◌, ◌⊎◌, ℕ, IfErr, List};
-ghost use Rattle.std.specs.Io.KnownBytes.{Keeps};
+ghost use Rattle.mars_program.specs.Debugging.{Untouched};
 ghost use Rattle.mars_program.specs.Faults.{RunFails};
 ghost use Rattle.mars_program.specs.Runs.{RunsWell};
 ghost use Rattle.mars_program.specs.Status.{status_of};
@@ -15,7 +15,7 @@ use std::io::{ErrorKind, Read, Write};
 
 /// Runs the program on the words that it was started with, and gives its exit status, as `run` does.
 ///
-/// A word that isn't UTF-8 is bad words: nothing is written on `output` then.
+/// A word that isn't UTF-8 is bad words: nothing is read from `input` or written on `output` then.
 pub fn start<V: Env, F: WarriorFiles, R: Read, W: Write, E: Write>(
     alloc: Global,
     env: &V,
@@ -26,7 +26,7 @@ pub fn start<V: Env, F: WarriorFiles, R: Read, W: Write, E: Write>(
 ) -> u8
     ensures done { result ≡ 0 → (words : List (List ℕ)) × RunsWell words (F.known files.now) (R.remaining input.old) (R.remaining input.new) (W.contents output.old) (W.contents output.new) }
     ensures failed { result ≢ 0 → (fault : RunFault) × (result ≡ status_of fault)
-        × (((fault ≡ RunFault.Words) × Keeps (W.contents output.old) (W.contents output.new))
+        × (((fault ≡ RunFault.Words) × Untouched (R.remaining input.old) (R.remaining input.new) (W.contents output.old) (W.contents output.new))
         ⊎ ((words : List (List ℕ)) × RunFails words (F.known files.now) (R.remaining input.old) (R.remaining input.new) (W.contents output.old) (W.contents output.new) fault)) }
 {
     match words_behind_name(alloc, env) {

@@ -1,6 +1,6 @@
 -- What options come to, and what is then done with the warriors of their files.
 use Rattle.std.specs.Prelude.{◌≡◌, ◌⊎◌, ℕ, false, true, List, ◌++◌, Option, Ok, Err, string_bytes}
-use Rattle.std.specs.Io.KnownBytes.{Appends}
+use Rattle.std.specs.Io.KnownBytes.{Appends, Keeps}
 use Rattle.mars_cell.specs.ParameterFaults.{checked_parameters}
 use Rattle.mars_cell.specs.Parameters.{Parameters}
 use Rattle.mars_cell.specs.Warriors.{WarriorValue}
@@ -38,12 +38,12 @@ IsRefused o f = (f ≡ fault.OutOfMemory)
 abbrev pub PlaysWell : Options → Parameters → Scanned → List WarriorValue → Option (List ℕ) → Option (List ℕ) → Option (List ℕ) → Option (List ℕ) → Type 0
 PlaysWell o p formula ws input left v w =
     ((o.debugger ≡ true) × (s : State) × (first_round o p ws ≡ Ok s) × DebugsWell (session_at o.history s) s.params.core_size input left v w)
-    ⊎ ((o.debugger ≡ false) × (rows : List RowValue) × (contest o p formula ws ≡ Ok rows)
+    ⊎ ((o.debugger ≡ false) × Keeps input left × (rows : List RowValue) × (contest o p formula ws ≡ Ok rows)
     × Appends v w (listing p.core_size o.brief ws ++ results_text rows o.sorted))
 
 -- that didn't end well
 abbrev pub PlaysInPart : Options → Parameters → Scanned → List WarriorValue → Option (List ℕ) → Option (List ℕ) → Option (List ℕ) → Option (List ℕ) → RunFault → Type 0
 PlaysInPart o p formula ws input left v w f =
-    ((o.debugger ≡ true) × (StartsNothing f (first_round o p ws) v w
+    ((o.debugger ≡ true) × (StartsNothing f (first_round o p ws) input left v w
     ⊎ ((s : State) × (first_round o p ws ≡ Ok s) × DebugsInPart f (session_at o.history s) s.params.core_size input left v w)))
-    ⊎ ((o.debugger ≡ false) × ContestFails f (contest o p formula ws) o.sorted v w (listing p.core_size o.brief ws))
+    ⊎ ((o.debugger ≡ false) × Keeps input left × ContestFails f (contest o p formula ws) o.sorted v w (listing p.core_size o.brief ws))

@@ -13,6 +13,6 @@ returns-clause-err g c =
     let starts = c.in-Ok.placed.0.items in
     let new = rw c.deref.ensures.value at c.new.ensures in
     elim (start_refused (start_fault p ws starts) (start_state p ws starts) c.new.result c.in-Err-new.fault new.fault new.only_memory c.in-Err-new.is) [
-      | inl memory ↦ inl (inl (c.match_fault-in-Err-new.ensures ∙ ap (λ f. fault_of (Battle f)) memory), Keeps-refl _)
-      | inr own ↦ inl (inr (Battle c.in-Err-new.fault, rw c.in-Ok.ensures.value own, c.match_fault-in-Err-new.ensures), Keeps-refl _)
+      | inl memory ↦ inl (inl (c.match_fault-in-Err-new.ensures ∙ ap (λ f. fault_of (Battle f)) memory), (Keeps-refl _, Keeps-refl _))
+      | inr own ↦ inl (inr (Battle c.in-Err-new.fault, rw c.in-Ok.ensures.value own, c.match_fault-in-Err-new.ensures), (Keeps-refl _, Keeps-refl _))
     ]

@@ -22,7 +22,7 @@ returns-then-options-clause-ok g c =
     let there : IsLoaded known p o.rounds c.contest_size.result (string_bytes (get_or o.files.items 0 c.index.result.now)) w.1.0 = rw first (rw c.as_str.ensures.value at w.1.1) in
     let loaded = loaded_alone known p o.rounds c.contest_size.result o.files.items w.1.0 c.index.result.now alone there in
     let asked = asked_for words known o settings (w.1.0 ∷ []) _ _ said c.requires.settings refl c.contest_size.ensures loaded in
-    written asked c.if-options.true (appended_alone _ _ (load_text p.core_size) w.1.0 w.0 w.2 w.1.2)) c.write_load_file_of.ensures.ok
+    written asked c.if-options.true (Keeps-refl _) (appended_alone _ _ (load_text p.core_size) w.1.0 w.0 w.2 w.1.2)) c.write_load_file_of.ensures.ok
 
 pub returns-clause-ok : goal.returns-clause-ok
 returns-clause-ok g c =
@@ -45,12 +45,12 @@ returns-then-options-clause-err g c =
           let fails : FailsToLoad known p o.rounds c.contest_size.result (string_bytes (get_or o.files.items 0 c.index.result.now)) f = rw first (rw c.as_str.ensures.value at unread.0) in
           let first_fails = alone_fails known p o.rounds c.contest_size.result o.files.items c.index.result.now f alone fails in
           let counted = subst (λ (n : ℕ). FirstFails known p o.rounds n (map (λ s. string_bytes s) o.files.items) f) c.contest_size.ensures first_fails in
-          not_loaded o said p are.allowed settings.plan.formula are.scored counted unread.1
+          not_loaded o said p are.allowed settings.plan.formula are.scored counted (Keeps-refl _, unread.1)
       | inr w ↦
           let there : IsLoaded known p o.rounds c.contest_size.result (string_bytes (get_or o.files.items 0 c.index.result.now)) w.2.0 = rw first (rw c.as_str.ensures.value at w.2.1) in
           let loaded = loaded_alone known p o.rounds c.contest_size.result o.files.items w.2.0 c.index.result.now alone there in
           let asked = asked_for words known o settings (w.2.0 ∷ []) _ _ said are refl c.contest_size.ensures loaded in
-          not_written asked c.if-options.true w.0 (cut_alone _ _ (load_text p.core_size) w.2.0 w.1 w.3 w.2.2)
+          not_written asked c.if-options.true w.0 (Keeps-refl _) (cut_alone _ _ (load_text p.core_size) w.2.0 w.1 w.3 w.2.2)
     ]) c.write_load_file_of.ensures.err
 
 pub returns-in_err-warriors-clause-err : goal.returns-in_err-warriors-clause-err
@@ -59,7 +59,7 @@ returns-in_err-warriors-clause-err g c =
     let settings = c.args.self.now in
     let are = c.requires.settings in
     let fails = rw (c.as_slice.ensures.value, c.contest_size.ensures) at c.in_err-warriors.ensures.err in
-    rw (fault.1, fault.2) (λ words said. not_loaded c.args.options.now said settings.params are.allowed settings.plan.formula are.scored fails (Keeps-refl _))
+    rw (fault.1, fault.2) (λ words said. not_loaded c.args.options.now said settings.params are.allowed settings.plan.formula are.scored fails (Keeps-refl _, Keeps-refl _))
 
 pub returns-clause-err : goal.returns-clause-err
 returns-clause-err g c =

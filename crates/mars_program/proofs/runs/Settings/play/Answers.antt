@@ -1,4 +1,5 @@
 use Rattle.std.proofs.Common.{◌∙◌, inl, inr, sym}
+use Rattle.std.proofs.KnownBytes.{Keeps-refl}
 use Rattle.std.proofs.lemmas.Result.{IfErr-weaker, on_ok_weaker}
 use Rattle.mars_program.proofs.Asking.{held_as_asked}
 use Rattle.mars_program.proofs.runs.Settings.play.Goals as goal
@@ -12,9 +13,9 @@ returns-then-options-clause-err g c = IfErr-weaker c.debug_round.result _ _ (λ 
 pub returns-clause-ok : goal.returns-clause-ok
 returns-clause-ok g c =
     let held = held_as_asked c.args.options.now c.args.self.now c.args.self.now.params c.args.warriors.now c.requires.settings in
-    on_ok_weaker c.run_contest.result (λ w. inr (c.if-options.false, w.0, sym held ∙ w.1, w.2)) c.run_contest.ensures.ok
+    on_ok_weaker c.run_contest.result (λ w. inr (c.if-options.false, Keeps-refl _, w.0, sym held ∙ w.1, w.2)) c.run_contest.ensures.ok
 
 pub returns-clause-err : goal.returns-clause-err
 returns-clause-err g c =
     let held = held_as_asked c.args.options.now c.args.self.now c.args.self.now.params c.args.warriors.now c.requires.settings in
-    IfErr-weaker c.run_contest.result _ _ (λ f h. inr (c.if-options.false, rw held at h)) c.run_contest.ensures.err
+    IfErr-weaker c.run_contest.result _ _ (λ f h. inr (c.if-options.false, Keeps-refl _, rw held at h)) c.run_contest.ensures.err
