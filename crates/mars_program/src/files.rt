@@ -1,5 +1,6 @@
 //! Where warriors are read from.
-ghost use Rattle.std.specs.Prelude.{◌≡◌, ◌≤◌, ℕ, List, Option, None, IfErr, IfOk, IfSome, vec_len};
+ghost use Rattle.std.specs.Global.{Global};
+ghost use Rattle.std.specs.Prelude.{◌≡◌, ◌≤◌, ℕ, List, [], ◌∷◌, ◌++◌, Option, None, IfErr, IfOk, IfSome, OnErr, OnOk, String, Vec, string_bytes, vec_len};
 ghost use Rattle.mars_program.specs.Loading.{IsUnread};
 
 use std::alloc::{AllocError, Global};
@@ -39,14 +40,20 @@ pub struct MemoryFiles {
 
 impl MemoryFiles {
     /// No files.
-    pub fn new(alloc: Global) -> MemoryFiles {
+    pub fn new(alloc: Global) -> MemoryFiles
+        ensures { result.files.items ≡ [] }
+    {
         MemoryFiles {
             files: Vec::new(alloc),
         }
     }
 
-    /// Adds a file.
-    pub fn add(&mut self, alloc: Global, name: &str, bytes: &[u8]) -> Result<(), AllocError> {
+    /// One file more, behind the others: of those of one name the first is read. Where a growth is refused, the files stay.
+    pub fn add(&mut self, alloc: Global, name: &str, bytes: &[u8]) -> Result<(), AllocError>
+        ensures ok { OnOk result ((file : String Global × Vec ℕ Global) × (string_bytes file.0 ≡ name.now) × (file.1.items ≡ bytes.now)
+            × (self.new.files.items ≡ self.old.files.items ++ file ∷ [])) }
+        ensures err { OnErr result (self.new.files.items ≡ self.old.files.items) }
+    {
         let file = (
             String::from_str(alloc, name)?,
             Vec::from_slice(alloc, bytes)?,
