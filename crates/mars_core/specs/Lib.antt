@@ -13,6 +13,7 @@ pub mod Start
 pub mod Shape
 pub mod Leads
 pub mod Record
+pub mod Moved
 pub mod Laws
 pub mod Examples
 pub mod Code

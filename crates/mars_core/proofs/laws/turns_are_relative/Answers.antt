@@ -1,0 +1,5 @@
+use Rattle.mars_core.proofs.Relative.{turn_moved}
+use Rattle.mars_core.proofs.laws.turns_are_relative.Goals as goal
+
+pub returns : goal.returns
+returns c = turn_moved
