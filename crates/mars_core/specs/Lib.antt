@@ -14,6 +14,7 @@ pub mod Shape
 pub mod Leads
 pub mod Record
 pub mod Moved
+pub mod Reach
 pub mod Laws
 pub mod Examples
 pub mod Code

@@ -1,0 +1,5 @@
+use Rattle.mars_core.proofs.Near.{writes_near}
+use Rattle.mars_core.proofs.laws.writes_stay_near.Goals as goal
+
+pub returns : goal.returns
+returns c = writes_near
