@@ -1,13 +1,17 @@
--- A process writes, and reads, no further than its limits reach.
-use Rattle.std.proofs.Common.{◌≡◌, ℕ, ◌+◌, ◌-◌, ◌/◌, ◌%◌, ◌<◌, ◌≤◌, Bool, true, false, All, refl, sym, subst, arith, inl, inr}
-use Rattle.std.specs.Prelude.{nat_lt, if◌then◌else◌}
+-- A process writes no further than its write limit reaches, and cells that neither limit reaches do not matter to it.
+use Rattle.std.proofs.Common.{◌≡◌, ℕ, List, ◌∙◌, ◌+◌, ◌-◌, ◌/◌, ◌%◌, ◌<◌, ◌≤◌, Bool, true, false, All, refl, sym, subst, arith, inl, inr}
+use Rattle.std.specs.Prelude.{◌⊎◌, nat_lt, if◌then◌else◌}
 use Rattle.std.proofs.lemmas.Bool.Decides.{nat_tests}
+use Rattle.std.proofs.lemmas.List.{map-id}
+use Rattle.mars_cell.specs.declared.instruction.Cell.{Cell}
+use Rattle.mars_cell.specs.Parameters.{Parameters, AreInRange}
 use Rattle.mars_core.specs.Addresses.{address_after, fold}
 use Rattle.mars_core.specs.Reach.{IsNear, Reaches}
-use Rattle.mars_core.specs.State.{State, queue_of}
-use Rattle.mars_core.specs.Turn.{front_of, turn_record}
-use Rattle.mars_core.specs.Validity.{IsValid}
+use Rattle.mars_core.specs.State.{State, cell_at, queue_of}
+use Rattle.mars_core.specs.Turn.{front_of, execution_of, turn_record}
+use Rattle.mars_core.specs.Validity.{IsCore, IsValid}
 use Rattle.mars_core.specs.declared.record.CellChange.{CellChange}
+use Rattle.mars_core.proofs.Alike.{Corresponds, Alike, execution_alike}
 use Rattle.mars_core.proofs.Fits.{address_inside, folded_inside}
 use Rattle.mars_core.proofs.Inside.{execution_here}
 
@@ -44,3 +48,31 @@ writes_near s v =
     execution_here p pc (Reaches p.core_size p.write_limit pc)
     (pointed_reached p.core_size p.write_limit pc v.params.write_least v.params.write_most)
     (here_reached p.core_size p.write_limit pc v.params.write_least v.params.write_most) s.core
+
+module _ (p : Parameters) (r : AreInRange p) (pc : ℕ) where
+  -- reached for reading or for writing
+  abbrev IsReached : ℕ → Type 0
+  IsReached a = Reaches p.core_size p.read_limit pc a ⊎ Reaches p.core_size p.write_limit pc a
+
+  inside : (a : ℕ) → IsReached a → a < p.core_size
+  inside a (inl read) = reached_inside p.core_size p.read_limit pc r.read_least r.read_most a read
+  inside a (inr write) = reached_inside p.core_size p.write_limit pc r.write_least r.write_most a write
+
+  corresponds : pc < p.core_size → Corresponds p (λ a. a) IsReached pc pc
+  corresponds start = record {
+    one = λ a b near near_b same. same;
+    inside = inside;
+    inside_there = inside;
+    step = λ d. refl;
+    start = start;
+    start_there = start;
+    here = inl (here_reached p.core_size p.read_limit pc r.read_least r.read_most);
+    read = λ n. inl (pointed_reached p.core_size p.read_limit pc r.read_least r.read_most n);
+    write = λ n. inr (pointed_reached p.core_size p.write_limit pc r.write_least r.write_most n);
+  }
+
+pub far_cells : (p : Parameters) (core other : List Cell) (pc : ℕ) → AreInRange p → IsCore p.core_size core → IsCore p.core_size other → pc < p.core_size → ((a : ℕ) → Reaches p.core_size p.read_limit pc a ⊎ Reaches p.core_size p.write_limit pc a → cell_at core a ≡ cell_at other a) → ((execution_of p core pc).queued ≡ (execution_of p other pc).queued) × ((execution_of p core pc).written.changes ≡ (execution_of p other pc).written.changes)
+far_cells p core other pc r fits fits_other start same =
+    let alike : Alike p.core_size (λ a. a) (IsReached p r pc) core other = record { size = fits.size; size_there = fits_other.size; cells = λ a near. sym (same a near) } in
+    let e = execution_alike p (λ a. a) (IsReached p r pc) pc pc (corresponds p r pc start) core other alike in
+    (sym (e.queued ∙ map-id (execution_of p core pc).queued), sym (e.written.changes ∙ map-id (execution_of p core pc).written.changes))

@@ -1,0 +1,5 @@
+use Rattle.mars_core.proofs.Near.{far_cells}
+use Rattle.mars_core.proofs.laws.far_cells_do_not_matter.Goals as goal
+
+pub returns : goal.returns
+returns c = far_cells
