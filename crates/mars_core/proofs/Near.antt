@@ -1,6 +1,7 @@
 -- A process writes no further than its write limit reaches, and cells that neither limit reaches do not matter to it.
-use Rattle.std.proofs.Common.{◌≡◌, ℕ, List, ◌∙◌, ◌+◌, ◌-◌, ◌/◌, ◌%◌, ◌<◌, ◌≤◌, Bool, true, false, All, refl, sym, subst, arith, inl, inr}
-use Rattle.std.specs.Prelude.{◌⊎◌, nat_lt, if◌then◌else◌}
+use Rattle.std.proofs.Common.{ap, ◌≡◌, ℕ, List, ◌∙◌, ◌+◌, ◌-◌, ◌/◌, ◌%◌, ◌<◌, ◌≤◌, Bool, true, false, All, refl, sym, subst, arith, inl, inr}
+use Rattle.std.specs.Prelude.{◌⊎◌, ◌↔◌, nat_lt, if◌then◌else◌}
+use Rattle.std.proofs.Math.Nat.{mod-eq_of_lt}
 use Rattle.std.proofs.lemmas.Bool.Decides.{nat_tests}
 use Rattle.std.proofs.lemmas.List.{map-id}
 use Rattle.mars_cell.specs.declared.instruction.Cell.{Cell}
@@ -76,3 +77,32 @@ far_cells p core other pc r fits fits_other start same =
     let alike : Alike p.core_size (λ a. a) (IsReached p r pc) core other = record { size = fits.size; size_there = fits_other.size; cells = λ a near. sym (same a near) } in
     let e = execution_alike p (λ a. a) (IsReached p r pc) pc pc (corresponds p r pc start) core other alike in
     (sym (e.queued ∙ map-id (execution_of p core pc).queued), sym (e.written.changes ∙ map-id (execution_of p core pc).written.changes))
+
+-- a pointer below the limit is folded as it is
+fold_small : (m limit n : ℕ) → n < limit → fold m limit n ≡ (if nat_lt (limit / 2) n then n + (m - limit) else n)
+unfolding fold
+fold_small m limit n h = rw (mod-eq_of_lt {n = n} {m = limit} h) refl
+
+small_either : (m limit n : ℕ) (b : Bool) → nat_lt (limit / 2) n ≡ b → n ≤ limit / 2 → (if b then n + (m - limit) else n) ≡ n
+small_either m limit n true e h = absurd (grind (arith, nat_tests))
+small_either m limit n false e h = refl
+
+back_either : (m limit n d : ℕ) (b : Bool) → nat_lt (limit / 2) n ≡ b → limit / 2 < n → n + (m - limit) ≡ d → (if b then n + (m - limit) else n) ≡ d
+back_either m limit n d true e h is = is
+back_either m limit n d false e h is = absurd (grind (arith, nat_tests))
+
+-- a distance that is near is that of a pointer
+pointer_of : (m limit d : ℕ) → 1 ≤ limit → limit ≤ m → d < m → IsNear m limit d → (n : ℕ) × (n < m) × (fold m limit n ≡ d)
+pointer_of m limit d least most h (inl ahead) =
+    let small : d < limit = omega (arith, ahead, least) in
+    (d, h, fold_small m limit d small ∙ small_either m limit d (nat_lt (limit / 2) d) refl ahead)
+pointer_of m limit d least most h (inr back) =
+    let n = d + limit - m in
+    let small : n < limit = omega (arith, h, most, least) in
+    (n, omega (arith, small, most), fold_small m limit n small ∙ back_either m limit n d (nat_lt (limit / 2) n) refl (omega (arith, back)) (omega (arith, back, most)))
+
+pub pointers_reach : (m limit pc a : ℕ) → 1 ≤ limit → limit ≤ m → Reaches m limit pc a ↔ ((n : ℕ) × (n < m) × (a ≡ address_after m pc (fold m limit n)))
+pointers_reach m limit pc a least most = (
+  λ k. (let n = pointer_of m limit k.distance least most k.inside k.near in (n.0, n.1, k.address_is ∙ ap (address_after m pc) (sym n.2))),
+  λ n. subst (Reaches m limit pc) (sym n.2) (pointed_reached m limit pc least most n.0),
+)

@@ -1,0 +1,5 @@
+use Rattle.mars_core.proofs.Near.{pointers_reach}
+use Rattle.mars_core.proofs.laws.pointers_reach.Goals as goal
+
+pub returns : goal.returns
+returns c = pointers_reach
