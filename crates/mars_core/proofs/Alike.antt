@@ -61,14 +61,17 @@ module _ (p : Parameters) (there : ℕ → ℕ) (Near : ℕ → Type 0) (pc pc' 
             ∙ alike.cells b near_b ∙ sym (get_or-set_other core a b cell empty_cell other)
       ]
 
+  pub set_alike : (core core' : List Cell) (a : ℕ) (cell : Cell) → Near a → Alike p.core_size there Near core core' → Alike p.core_size there Near (set core a cell) (set core' (there a) cell)
+  set_alike core core' a cell near alike = record {
+    size = simp length-set alike.size;
+    size_there = simp length-set alike.size_there;
+    cells = λ b near_b. cell_set core core' a b cell near near_b alike;
+  }
+
   written_alike : (w w' : WrittenCore) (a : ℕ) (cell : Cell) → Near a → AlikeWritten w w' → AlikeWritten (write_cell w a cell) (write_cell w' (there a) cell)
   unfolding write_cell
   written_alike w w' a cell near alike = record {
-    cores = record {
-      size = simp length-set alike.cores.size;
-      size_there = simp length-set alike.cores.size_there;
-      cells = λ b near_b. cell_set w.core w'.core a b cell near near_b alike.cores;
-    };
+    cores = set_alike w.core w'.core a cell near alike.cores;
     changes = rw (alike.changes, alike.cores.cells a near, map-append) refl;
   }
 

@@ -44,7 +44,7 @@ module _ (p : Parameters) (r : AreInRange p) (k : ℕ) (h : k < p.core_size) whe
   abbrev Near : ℕ → Type 0
   Near a = a < m
 
-  one : (a b : ℕ) → a < m → b < m → there a ≡ there b → a ≡ b
+  pub one : (a b : ℕ) → a < m → b < m → there a ≡ there b → a ≡ b
   unfolding address_after
   one a b l n e =
       elim (wrapped m a k l h) [
@@ -84,14 +84,14 @@ module _ (p : Parameters) (r : AreInRange p) (k : ℕ) (h : k < p.core_size) whe
             ∙ ap (cell_at core) (omega (arith, y, h))
       ]
 
-  moved_alike : (core : List Cell) → length core ≡ m → Alike m there Near core (moved_core m k core)
+  pub moved_alike : (core : List Cell) → length core ≡ m → Alike m there Near core (moved_core m k core)
   moved_alike core size = record {
     size = size;
     size_there = length-append (drop (m - k) core) (take (m - k) core) ∙ simp (length-drop, length-take) (omega (arith, size, h));
     cells = moved_cell core size;
   }
 
-  one_core : (core first second : List Cell) → Alike m there Near core first → Alike m there Near core second → first ≡ second
+  pub one_core : (core first second : List Cell) → Alike m there Near core first → Alike m there Near core second → first ≡ second
   one_core core first second f s =
       ext_get_or empty_cell first second (f.size_there ∙ sym s.size_there)
       (λ i l.
@@ -130,7 +130,7 @@ module _ (p : Parameters) (r : AreInRange p) (k : ℕ) (h : k < p.core_size) whe
   front_moved (x ∷ q) n = refl
 
   -- an instruction and the moved one
-  corresponds : (pc : ℕ) → pc < m → Corresponds p there Near pc (address_after m pc k)
+  pub corresponds : (pc : ℕ) → pc < m → Corresponds p there Near pc (address_after m pc k)
   corresponds pc l = record {
     one = one;
     inside = λ a n. n;
