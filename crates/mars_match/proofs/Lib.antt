@@ -10,3 +10,4 @@ pub mod Outcomes
 pub mod Totals
 pub mod Pairs
 pub mod LeagueTotals
+pub mod RoundCounts

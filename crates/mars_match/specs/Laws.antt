@@ -1,10 +1,14 @@
 -- Laws of the definitions.
-use Rattle.std.specs.Prelude.{◌≡◌, ℕ, zero, suc, ◌+◌, ◌*◌, ◌≤◌, ℤ, List, [], ◌∷◌, false, AllPairs}
+use Rattle.std.specs.Prelude.{◌≡◌, ℕ, zero, suc, ◌+◌, ◌*◌, ◌-◌, ◌≤◌, ℤ, List, [], ◌∷◌, length, false, Option, Ok, All, AllPairs}
 use Rattle.std.specs.Int.Signed.{lt_z}
 use Rattle.std.specs.List.{filter}
 use Rattle.std.specs.List.Sorted.{IsPermutation, IsNonDecreasing}
 use Rattle.mars_cell.specs.Parameters.{Parameters}
+use Rattle.mars_cell.specs.Warriors.{WarriorValue}
+use Rattle.redcode_text.specs.Tokens.{Scanned}
 use Rattle.mars_match.specs.Placement.{ascending, starts_in_order}
+use Rattle.mars_match.specs.Rounds.{table_of}
+use Rattle.mars_match.specs.Leagues.{league_of}
 use Rattle.mars_match.specs.Results.{ranked, has_points}
 use Rattle.mars_match.specs.Tables.{RowValue}
 
@@ -35,3 +39,17 @@ multiples distance i (suc n) = (i * distance) ∷ multiples distance (i + 1) n
 -- where the warriors' distances together are the whole core, the starts in order are the multiples of the distance, whatever the seed
 abbrev pub FullCoresLeaveNoChoice : Type 0
 FullCoresLeaveNoChoice = (p : Parameters) (w seed : ℕ) → 1 ≤ w → w * p.distance ≡ p.core_size → starts_in_order p w seed ≡ multiples p.distance 0 w
+
+-- the rounds that a row tells of
+abbrev pub rounds_of : RowValue → ℕ
+rounds_of row = row.wins + row.ties + row.losses
+
+-- in each row of a match wins, ties and losses are together its rounds
+abbrev pub EachRoundIsCounted : Type 0
+EachRoundIsCounted = (p : Parameters) (warriors : List WarriorValue) (formula : Scanned) (fixed : Option ℕ) (n seed : ℕ) (rows : List RowValue) →
+    table_of p warriors formula fixed n seed ≡ Ok rows → All (λ row. rounds_of row ≡ n) rows
+
+-- in each row of a league they are the rounds of its matches with each of the other warriors
+abbrev pub EachMatchIsCounted : Type 0
+EachMatchIsCounted = (p : Parameters) (warriors : List WarriorValue) (formula : Scanned) (fixed : Option ℕ) (n seed : ℕ) (rows : List RowValue) →
+    league_of p warriors formula fixed n seed ≡ Ok rows → All (λ row. rounds_of row ≡ n * (length warriors - 1)) rows

@@ -1,5 +1,5 @@
 //! Laws of the definitions: they make no calls.
-ghost use Rattle.mars_match.specs.Laws.{EachHasOneOrder, FullCoresLeaveNoChoice, RanksByPoints};
+ghost use Rattle.mars_match.specs.Laws.{EachHasOneOrder, EachMatchIsCounted, EachRoundIsCounted, FullCoresLeaveNoChoice, RanksByPoints};
 
 /// Each list of values has one ascending order: the same values, none of them less than one before it.
 pub fn each_has_one_order()
@@ -15,4 +15,14 @@ pub fn ranks_by_points()
 /// whatever the seed.
 pub fn full_cores_leave_no_choice()
     ensures { FullCoresLeaveNoChoice }
+{}
+
+/// In each row of a match wins, ties and losses are together its rounds.
+pub fn each_round_is_counted()
+    ensures { EachRoundIsCounted }
+{}
+
+/// In each row of a league wins, ties and losses are together the rounds of its warrior's matches, one with each of the others.
+pub fn each_match_is_counted()
+    ensures { EachMatchIsCounted }
 {}
