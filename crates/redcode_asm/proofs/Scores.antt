@@ -149,7 +149,7 @@ names-checked : (r : Result (Unit {0}) ExprFault) (b : Bool) (f : Scanned) → (
 names-checked (Ok tt) b f h = names-by b f h
 names-checked (Err e) b f h = cc
 
-checked-value : (f : Scanned) (w s : ℤ) → checked_formula f ≡ Ok f → HasValue (score_of f w s)
+pub checked-value : (f : Scanned) (w s : ℤ) → checked_formula f ≡ Ok f → HasValue (score_of f w s)
 checked-value f w s h =
     tokens-value (λ n. variable_value w s (name_at f.names n)) (kinds f.tokens) (shape-checked (shape start (kinds f.tokens)) (list_all (may_occur f.names) (kinds f.tokens)) f h)
     (kinds-stand f w s (kinds f.tokens) (names-checked (shape start (kinds f.tokens)) (list_all (may_occur f.names) (kinds f.tokens)) f h))

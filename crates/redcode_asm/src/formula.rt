@@ -1,9 +1,10 @@
 //! Score formulas.
-ghost use Rattle.std.specs.Prelude.{◌≡◌, Ok, Err, MatchResult};
+ghost use Rattle.std.specs.Prelude.{◌≡◌, Ok, Err, IfErr, MatchResult};
 ghost use Rattle.redcode_text.specs.Expression.{kinds};
 ghost use Rattle.redcode_text.specs.Views.{scan_of};
 ghost use Rattle.std.specs.List.{list_all};
 ghost use Rattle.redcode_asm.specs.Formula.{Checks, checked_formula, formula_of, is_variable, may_occur, score_of, variable_value};
+ghost use Rattle.redcode_asm.specs.Laws.{IsValueFault};
 
 use crate::fault::FormulaFault;
 use redcode_text::{
@@ -122,9 +123,10 @@ impl Formula {
         }
     }
 
-    /// The value for so many warriors and survivors, or DivideByZero or Range. It takes no memory.
+    /// The value for so many warriors and survivors, or DivideByZero or Range, and no other fault. It takes no memory.
     pub fn score(&self, warriors: i64, survivors: i64) -> Result<i64, ExprFault>
-        ensures { result ≡ score_of self.now warriors survivors }
+        ensures value { result ≡ score_of self.now warriors survivors }
+        ensures few { IfErr result IsValueFault }
     {
         let variables = Variables {
             names: &self.line.names,

@@ -17,7 +17,7 @@ returns-in-Ok-clause-value c =
     let few : c.survivors-survivors.result ≤ 16 = omega (arith, survivors-le s.queues) in
     let w = to_z_pos w64 c.warriors.result (omega arith) in
     let n = to_z_pos w64 c.survivors-survivors.result (omega arith) in
-    let value = rw (w, n, c.warriors.ensures, c.survivors-survivors.ensures, c.in-Ok.is) at c.score.ensures in
+    let value = rw (w, n, c.warriors.ensures, c.survivors-survivors.ensures, c.in-Ok.is) at c.score.ensures.value in
     rw (score_is c.args.formula.now s (rw c.survivors-survivors.ensures at c.if-survivors-eq0.false), ← value, to_z-of_z w64 c.in-Ok.score fits) refl
 
 pub returns-in-Err-clause-value : goal.returns-in-Err-clause-value
@@ -26,5 +26,5 @@ returns-in-Err-clause-value c =
     let few : c.survivors-survivors.result ≤ 16 = omega (arith, survivors-le s.queues) in
     let w = to_z_pos w64 c.warriors.result (omega arith) in
     let n = to_z_pos w64 c.survivors-survivors.result (omega arith) in
-    let value = rw (w, n, c.warriors.ensures, c.survivors-survivors.ensures, c.in-Err.is) at c.score.ensures in
+    let value = rw (w, n, c.warriors.ensures, c.survivors-survivors.ensures, c.in-Err.is) at c.score.ensures.value in
     rw (score_is c.args.formula.now s (rw c.survivors-survivors.ensures at c.if-survivors-eq0.false), ← value) refl
