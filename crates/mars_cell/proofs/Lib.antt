@@ -6,3 +6,4 @@ pub mod PartsOf
 pub mod RoundTrip
 pub mod Values
 pub mod WrittenLines
+pub mod CallerLemmas

@@ -18,7 +18,7 @@ count-by (Ok c) (Ok others) n cells each e = sym (ap count_in e) ∙ ap suc (eac
 count-by (Ok c) (Err fault) n cells each e = cc
 count-by (Err fault) rest n cells each e = cc
 
-cells-counted : (ps : Predefined) (m : ℕ) (source : ProgramValue) (is : List Placed) (cells : List Cell) → cells_of ps m source is ≡ Ok cells → length cells ≡ length is
+pub cells-counted : (ps : Predefined) (m : ℕ) (source : ProgramValue) (is : List Placed) (cells : List Cell) → cells_of ps m source is ≡ Ok cells → length cells ≡ length is
 cells-counted ps m source [] cells e = sym (ap count_in e)
 cells-counted ps m source (p ∷ is) cells e = count-by (at_line p.line.number (cell_of ps m source p)) (cells_of ps m source is) (length is) cells (cells-counted ps m source is) e
 

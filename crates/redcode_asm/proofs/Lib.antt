@@ -8,3 +8,4 @@ pub mod Scores
 pub mod Everywhere
 pub mod Alike
 pub mod Words
+pub mod ReadBack

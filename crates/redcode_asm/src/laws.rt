@@ -1,7 +1,12 @@
 //! Laws of the definitions. The functions do nothing; their contracts are the laws.
-ghost use Rattle.redcode_asm.specs.Laws.{ScoresHaveValues};
+ghost use Rattle.redcode_asm.specs.Laws.{AssembledLoadIsRead, ScoresHaveValues};
 
 /// `Formula::score` of a formula that `Formula::new` read is refused by DivideByZero and Range alone.
 pub fn scores_have_values()
     ensures { ScoresHaveValues }
+{}
+
+/// `mars_cell::read_load` gives back the very warrior whose load file `assemble_load` wrote for the same parameters.
+pub fn assembled_load_is_read()
+    ensures { AssembledLoadIsRead }
 {}

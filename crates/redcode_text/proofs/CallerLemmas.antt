@@ -16,6 +16,7 @@ use Rattle.redcode_text.specs.Tokens as tokens
 use Rattle.redcode_text.specs.Expression.{◌>>=◌, kinds, known, shape, start, value_of}
 use Rattle.redcode_text.specs.Code.Climbing.{State, move, operand, run, wants}
 use Rattle.redcode_text.proofs.Evaluates.{evaluates, value_of-misshapen}
+pub use Rattle.redcode_text.proofs.PrintedNames.{program-printed}
 pub use Rattle.redcode_text.proofs.Trees.{spelling, is_prefix, IsLevelled, rank-≤5}
 pub use Rattle.redcode_text.proofs.Shapes.{shaped}
 pub use Rattle.redcode_text.proofs.Splits.{tree-spelled}

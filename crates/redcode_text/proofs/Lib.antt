@@ -38,3 +38,4 @@ pub mod SourceRows
 pub mod Printing
 pub mod NameSets
 pub mod NameParts
+pub mod PrintedNames

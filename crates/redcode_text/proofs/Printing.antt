@@ -17,11 +17,11 @@ in-range b = go (nat_le 32 b) (nat_le b 126) refl refl
     go true false e f = (omega arith, omega arith)
     go false t e f = (omega arith, omega arith)
 
-all-printed : (bs : List ℕ) → All (λ b. (32 ≤ b) × (b ≤ 126)) (map printable bs)
+pub all-printed : (bs : List ℕ) → All (λ b. (32 ≤ b) × (b ≤ 126)) (map printable bs)
 all-printed [] = All-nil (λ b. (32 ≤ b) × (b ≤ 126))
 all-printed (b ∷ bs) = All-cons (λ b. (32 ≤ b) × (b ≤ 126)) (printable b) (map printable bs) (in-range b) (all-printed bs)
 
-is-printed : (bs : List ℕ) → length bs ≤ 60 → IsPrinted (map printable bs)
+pub is-printed : (bs : List ℕ) → length bs ≤ 60 → IsPrinted (map printable bs)
 is-printed bs few = record { short = omega (arith, few, length-map bs printable); printed = all-printed bs }
 
 abbrev bytes-in : Result (List ℕ) TextProblem → List ℕ

@@ -1,0 +1,5 @@
+use Rattle.redcode_asm.proofs.ReadBack.{read-back}
+use Rattle.redcode_asm.proofs.laws.assembled_load_is_read.Goals as goal
+
+pub returns : goal.returns
+returns c = read-back
