@@ -9,3 +9,4 @@ pub mod Everywhere
 pub mod Alike
 pub mod Words
 pub mod ReadBack
+pub mod FreeNames

@@ -1,13 +1,17 @@
--- The laws of load files and of score formulas.
-use Rattle.std.specs.Prelude.{◌≡◌, ⊤, ℕ, ℤ, List, Ok, IfErr}
+-- The laws of names, of load files and of score formulas.
+use Rattle.std.specs.Prelude.{◌≡◌, ⊤, ℕ, ℤ, List, Ok, IfErr, codes}
+use Rattle.std.specs.Str.{str_eq_ignore_ascii_case}
 use Rattle.mars_cell.specs.Load.{load}
 use Rattle.mars_cell.specs.Parameters.{Parameters, AreInRange}
 use Rattle.mars_cell.specs.Warriors.{WarriorValue}
+use Rattle.mars_cell.specs.Words.{op_of, modifier_of}
 use Rattle.mars_cell.specs.Written.{load_text}
 use Rattle.redcode_text.specs.declared.fault.ExprFault.{ExprFault}
 use Rattle.redcode_text.specs.declared.fault.ExprFault.TheVariants.{DivideByZero, Range}
 use Rattle.redcode_text.specs.Tokens.{Scanned}
-use Rattle.redcode_asm.specs.Assembly.{assembly}
+use Rattle.redcode_text.specs.Expansion.{ProgramValue}
+use Rattle.redcode_text.specs.Lines.{Predefined, name_at, predefined_value, with_current_line}
+use Rattle.redcode_asm.specs.Assembly.{assembly, warrior_of}
 use Rattle.redcode_asm.specs.Formula.{formula_of, score_of}
 
 -- a fault that an expression has by its values alone
@@ -24,3 +28,16 @@ ScoresHaveValues = (text : List ℕ) (f : Scanned) (w s : ℤ) → formula_of te
 abbrev pub AssembledLoadIsRead : Type 0
 AssembledLoadIsRead = (p : Parameters) (rounds warriors : ℕ) (source : List ℕ) (w : WarriorValue) → AreInRange p → assembly p rounds warriors source ≡ Ok w
     → load p.core_size p.max_length (load_text p.core_size w) ≡ Ok w
+
+-- two spellings say the same where a name stands as an operation, as a modifier, or in an expression behind any number of instructions
+pub record SaysTheSame (ps : Predefined) (one other : List ℕ) : Type 0 where
+  pub opcode : op_of one ≡ op_of other
+  pub modifier : modifier_of one ≡ modifier_of other
+  pub org : str_eq_ignore_ascii_case one (codes "org") ≡ str_eq_ignore_ascii_case other (codes "org")
+  pub end : str_eq_ignore_ascii_case one (codes "end") ≡ str_eq_ignore_ascii_case other (codes "end")
+  pub value : (instructions : ℕ) → predefined_value (with_current_line ps instructions) one ≡ predefined_value (with_current_line ps instructions) other
+
+-- names are free: a program that has other spellings of the same names, as of its labels and EQU names, gives the same warrior or the same fault
+abbrev pub NamesAreFree : Type 0
+NamesAreFree = (ps : Predefined) (p : Parameters) (source : ProgramValue) (names : List (List ℕ)) → ((n : ℕ) → SaysTheSame ps (name_at source.names n) (name_at names n))
+    → warrior_of ps p source ≡ warrior_of ps p (record source { names = names })

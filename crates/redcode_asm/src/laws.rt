@@ -1,5 +1,5 @@
 //! Laws of the definitions. The functions do nothing; their contracts are the laws.
-ghost use Rattle.redcode_asm.specs.Laws.{AssembledLoadIsRead, ScoresHaveValues};
+ghost use Rattle.redcode_asm.specs.Laws.{AssembledLoadIsRead, NamesAreFree, ScoresHaveValues};
 
 /// `Formula::score` of a formula that `Formula::new` read is refused by DivideByZero and Range alone.
 pub fn scores_have_values()
@@ -9,4 +9,9 @@ pub fn scores_have_values()
 /// `mars_cell::read_load` gives back the very warrior whose load file `assemble_load` wrote for the same parameters.
 pub fn assembled_load_is_read()
     ensures { AssembledLoadIsRead }
+{}
+
+/// Names are free: a program with other spellings of its labels and EQU names gives the same warrior, or the same fault.
+pub fn names_are_free()
+    ensures { NamesAreFree }
 {}
