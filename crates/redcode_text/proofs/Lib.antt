@@ -39,3 +39,4 @@ pub mod Printing
 pub mod NameSets
 pub mod NameParts
 pub mod PrintedNames
+pub mod BehindEnd

@@ -4,8 +4,8 @@ use Rattle.std.specs.List.{list_any}
 use Rattle.redcode_text.specs.declared.fault.TextFault.{TextFault}
 use Rattle.redcode_text.specs.declared.fault.TextProblem.{TextProblem}
 use Rattle.redcode_text.specs.Tokens.{◌>>>◌, at_line}
-use Rattle.redcode_text.specs.Source.{Row, Items, Plain, Loop, begins_redcode, from_redcode, read_rows}
-use Rattle.redcode_text.specs.Lines.{Reading, Predefined, plain_line, unless_ended}
+use Rattle.redcode_text.specs.Source.{Row, Items, Loop, begins_redcode, from_redcode, read_rows}
+use Rattle.redcode_text.specs.Lines.{Reading, Predefined, unless_ended}
 use Rattle.redcode_text.specs.Expansion.{Head, flat, head_line, rounds, in_round}
 
 -- ---- before the first `;redcode`
@@ -36,23 +36,6 @@ read-behind before rows none some =
     read-by (list_any begins_redcode (before ++ rows)) (from_redcode (before ++ rows)) (before ++ rows) (any-behind before rows some)
     ∙ from-behind before rows none
     ∙ sym (read-by (list_any begins_redcode rows) (from_redcode rows) rows some)
-
--- ---- behind the end
-
-ended-by : (ended : Bool) (read : Reading) (f g : Result Reading TextFault) → ended ≡ true
-    → ◌≡◌ {A = Result Reading TextFault} (elim ended [ true ↦ Ok read | false ↦ f ]) (elim ended [ true ↦ Ok read | false ↦ g ])
-ended-by true read f g e = refl
-ended-by false read f g e = cc
-
-behind-by : (number : ℕ) (r : Result Reading TextProblem) (f g : Reading → Result Reading TextFault) → IfOk r (λ (read : Reading). read.ended ≡ true)
-    → (at_line number r >>> λ a. unless_ended a f) ≡ (at_line number r >>> λ a. unless_ended a g)
-behind-by number (Ok read) f g e = ended-by read.ended read (f read) (g read) e
-behind-by number (Err problem) f g e = refl
-
-pub behind-end : (ps : Predefined) (row : Row) (rest other : Items) (st : Reading)
-    → IfOk (plain_line ps row st) (λ (read : Reading). read.ended ≡ true)
-    → flat ps (Plain row rest) st ≡ flat ps (Plain row other) st
-behind-end ps row rest other st e = behind-by row.number (plain_line ps row st) (flat ps rest) (flat ps other) e
 
 -- ---- in no round
 

@@ -1,24 +1,25 @@
 -- What the text of a source means, apart from how it is read.
-use Rattle.std.specs.Prelude.{◌≡◌, ℕ, suc, ◌+◌, List, [], ◌∷◌, ◌++◌, false, true, Option, Some, Result, Ok, IfOk}
+use Rattle.std.specs.Prelude.{◌≡◌, ℕ, suc, ◌+◌, List, [], ◌∷◌, ◌++◌, false, true, Option, Some, Result, Ok, IfOk, codes}
 use Rattle.std.specs.List.{list_any}
 use Rattle.redcode_text.specs.declared.token.Token.{Token}
 use Rattle.redcode_text.specs.declared.fault.TextFault.{TextFault}
 use Rattle.redcode_text.specs.Tokens.{◌>>=◌, ◌>>>◌}
-use Rattle.redcode_text.specs.Source.{Row, Items, Plain, Loop, begins_redcode, read_rows, tree_of_rows}
+use Rattle.redcode_text.specs.Source.{Row, Items, Loop, begins_redcode, has_directive, lines_of, read_rows, tree_of, tree_of_rows}
 use Rattle.redcode_text.specs.Equates.{equate_lines}
-use Rattle.redcode_text.specs.Lines.{Reading, Predefined, Parts, line_read, tokens_counted, parts_of, ordinary_line, plain_line, unless_ended}
-use Rattle.redcode_text.specs.Expansion.{Head, flat, head_line, rounds}
+use Rattle.redcode_text.specs.Lines.{Reading, Predefined, Parts, line_read, tokens_counted, parts_of, ordinary_line, unless_ended}
+use Rattle.redcode_text.specs.Expansion.{Head, expansion, flat, head_line, nothing_read, rounds}
 
 -- lines before the first `;redcode` have no effect
 abbrev pub LinesBeforeRedcodeAreUnread : Type 0
 LinesBeforeRedcodeAreUnread = (before rows : List Row) → list_any begins_redcode before ≡ false → list_any begins_redcode rows ≡ true
     → tree_of_rows (read_rows (before ++ rows)) ≡ tree_of_rows (read_rows rows)
 
--- lines behind the one that ends the source have no effect
+-- What stands behind a source that reads to an END has no effect, whatever it is, but for a line that begins `;redcode`: what stood before it
+-- wouldn't be read then. 10 ends the last line of the source.
 abbrev pub LinesBehindEndAreUnread : Type 0
-LinesBehindEndAreUnread = (ps : Predefined) (row : Row) (rest other : Items) (st : Reading)
-    → IfOk (plain_line ps row st) (λ (read : Reading). read.ended ≡ true)
-    → flat ps (Plain row rest) st ≡ flat ps (Plain row other) st
+LinesBehindEndAreUnread = (ps : Predefined) (source behind : List ℕ) (read : Reading)
+    → flat ps (tree_of (source ++ 10 ∷ [])) nothing_read ≡ Ok read → read.ended ≡ true → list_any (has_directive (codes "redcode")) (lines_of behind) ≡ false
+    → expansion ps (source ++ 10 ∷ behind) ≡ expansion ps (source ++ 10 ∷ [])
 
 -- lines in a loop that goes round no time have no effect
 abbrev pub LinesInNoRoundAreUnread : Type 0

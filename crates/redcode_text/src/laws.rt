@@ -7,7 +7,8 @@ pub fn lines_before_redcode_are_unread()
     ensures { LinesBeforeRedcodeAreUnread }
 {}
 
-/// Lines behind the one that ends the source have no effect.
+/// What stands behind a source that reads to an END has no effect, where no line of it begins `;redcode`: not even a ROF
+/// or a FOR alone, or what is no line at all.
 pub fn lines_behind_end_are_unread()
     ensures { LinesBehindEndAreUnread }
 {}
