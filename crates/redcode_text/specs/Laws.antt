@@ -21,15 +21,16 @@ LinesBehindEndAreUnread = (ps : Predefined) (source behind : List ℕ) (read : R
     → flat ps (tree_of (source ++ 10 ∷ [])) nothing_read ≡ Ok read → read.ended ≡ true → list_any (has_directive (codes "redcode")) (lines_of behind) ≡ false
     → expansion ps (source ++ 10 ∷ behind) ≡ expansion ps (source ++ 10 ∷ [])
 
--- lines in a loop that goes round no time have no effect
+-- The body of a loop that goes round no time has no effect: two trees that differ in it alone are read the same. A FOR in it without its ROF,
+-- or a ROF without its FOR, would change which lines are the body.
 abbrev pub LinesInNoRoundAreUnread : Type 0
 LinesInNoRoundAreUnread = (ps : Predefined) (head rof : Row) (body other rest : Items) (st : Reading)
     → IfOk (head_line ps head st) (λ (h : Head). h.count ≡ 0)
     → flat ps (Loop head body rof rest) st ≡ flat ps (Loop head other rof rest) st
 
--- a body written out n + m times is the same written out n times, and then, where the source hasn't ended, m times
-abbrev pub LoopsAreWrittenOut : Type 0
-LoopsAreWrittenOut = (body : Reading → Result Reading TextFault) (counter : Option (List ℕ)) (round n m : ℕ) (st : Reading)
+-- n + m rounds of a loop are n rounds, and then, where the source hasn't ended, m rounds, whatever a round does
+abbrev pub RoundsAddUp : Type 0
+RoundsAddUp = (body : Reading → Result Reading TextFault) (counter : Option (List ℕ)) (round n m : ℕ) (st : Reading)
     → st.ended ≡ false
     → rounds body counter round (n + m) st ≡ (rounds body counter round n st >>> λ read. unless_ended read (rounds body counter (round + n) m))
 

@@ -1,6 +1,6 @@
 //! Laws of the definitions: what the text of a source means, apart from how it is read. The functions do nothing; their
 //! contracts are the laws.
-ghost use Rattle.redcode_text.specs.Laws.{LinesBeforeRedcodeAreUnread, LinesBehindEndAreUnread, LinesInNoRoundAreUnread, LoopsAreWrittenOut, OperationsAreWrittenInPlace};
+ghost use Rattle.redcode_text.specs.Laws.{LinesBeforeRedcodeAreUnread, LinesBehindEndAreUnread, LinesInNoRoundAreUnread, OperationsAreWrittenInPlace, RoundsAddUp};
 
 /// Lines before the first `;redcode` have no effect.
 pub fn lines_before_redcode_are_unread()
@@ -13,17 +13,21 @@ pub fn lines_behind_end_are_unread()
     ensures { LinesBehindEndAreUnread }
 {}
 
-/// Lines in a loop that goes round no time have no effect.
+/// The body of a loop that goes round no time has no effect: another one, with the same FOR and ROF round it, gives the
+/// same. The law is over trees, where each FOR of a body has its ROF; a line that parts those changes which lines are the
+/// body.
 pub fn lines_in_no_round_are_unread()
     ensures { LinesInNoRoundAreUnread }
 {}
 
-/// A loop's body is read as if it were written out so many times.
-pub fn loops_are_written_out()
-    ensures { LoopsAreWrittenOut }
+/// n + m rounds of a loop are n rounds, and then, where the source hasn't ended, m rounds. It holds of any body: what a
+/// round reads of its lines and its counter is in the definition alone.
+pub fn rounds_add_up()
+    ensures { RoundsAddUp }
 {}
 
-/// An EQU name as operation is read as its text written in its place.
+/// A line whose operation is an EQU name of one line is read as the line with that text in place of the name, counted as
+/// a line more, its tokens as well; EQU names may nest one less in it.
 pub fn operations_are_written_in_place()
     ensures { OperationsAreWrittenInPlace }
 {}

@@ -1,5 +1,5 @@
 use Rattle.redcode_text.proofs.Unread.{rounds-split}
-use Rattle.redcode_text.proofs.laws.loops_are_written_out.Goals as goal
+use Rattle.redcode_text.proofs.laws.rounds_add_up.Goals as goal
 
 pub returns : goal.returns
 returns c = rounds-split
