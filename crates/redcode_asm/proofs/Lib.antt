@@ -10,3 +10,4 @@ pub mod Alike
 pub mod Words
 pub mod ReadBack
 pub mod FreeNames
+pub mod Unplaced

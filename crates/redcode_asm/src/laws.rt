@@ -1,5 +1,5 @@
 //! Laws of the definitions. The functions do nothing; their contracts are the laws.
-ghost use Rattle.redcode_asm.specs.Laws.{AssembledLoadIsRead, NamesAreFree, ScoresHaveValues};
+ghost use Rattle.redcode_asm.specs.Laws.{AssembledLoadIsRead, NamesAreFree, NamesOfSourcesAreFree, ScoresHaveValues};
 
 /// `Formula::score` of a formula that `Formula::new` read is refused by DivideByZero and Range alone.
 pub fn scores_have_values()
@@ -14,4 +14,10 @@ pub fn assembled_load_is_read()
 /// Names are free: a program with other spellings of its labels and EQU names gives the same warrior, or the same fault.
 pub fn names_are_free()
     ensures { NamesAreFree }
+{}
+
+/// Two sources whose programs are the same but for the spelling of their labels, EQU names and counters are assembled to
+/// the same warrior, or have the same fault.
+pub fn names_of_sources_are_free()
+    ensures { NamesOfSourcesAreFree }
 {}

@@ -17,6 +17,8 @@ use Rattle.redcode_text.specs.Expression.{◌>>=◌, kinds, known, shape, start,
 use Rattle.redcode_text.specs.Code.Climbing.{State, move, operand, run, wants}
 use Rattle.redcode_text.proofs.Evaluates.{evaluates, value_of-misshapen}
 pub use Rattle.redcode_text.proofs.PrintedNames.{program-printed}
+pub use Rattle.redcode_text.proofs.Moved.{kinds-moved, moved_tokens, substitution-moved}
+use Rattle.redcode_text.proofs.Moved.{only_tokens, only-tokens, without-lines}
 pub use Rattle.redcode_text.proofs.Trees.{spelling, is_prefix, IsLevelled, rank-≤5}
 pub use Rattle.redcode_text.proofs.Shapes.{shaped}
 pub use Rattle.redcode_text.proofs.Splits.{tree-spelled}
@@ -137,25 +139,6 @@ module _ (equates : List Equate) (deeper : Option Replacing) (respects : Respect
 replacing-respects : (equates : List Equate) (depth : ℕ) → Respects (replacing depth equates)
 replacing-respects equates zero = tt
 replacing-respects equates (suc depth) = λ r s line h. each-like equates (replacing depth equates) (replacing-respects equates depth) line line refl r s h
-
-without-lines : (equates : List Equate) (r : Replaced) (ts : List Token) → without_line (each_replaced_at_line equates r ts) ≡ each_replaced equates (replacing depth_limit equates) r ts
-without-lines equates r [] = refl
-without-lines equates r (t ∷ ts) = go (replaced_token (replacing depth_limit equates) r t (token_lines equates t.kind)) (λ s. without-lines equates s ts)
-  where
-    go : (x : Result Replaced TextProblem) → ((s : Replaced) → without_line (each_replaced_at_line equates s ts) ≡ each_replaced equates (replacing depth_limit equates) s ts)
-        → without_line (at_line t.line x >>> λ s. each_replaced_at_line equates s ts) ≡ tokens.◌>>=◌ x (λ s. each_replaced equates (replacing depth_limit equates) s ts)
-    go (Ok s) k = k s
-    go (Err e) k = refl
-
-abbrev only_tokens : Result Replaced TextProblem → Result (List Token) TextProblem
-only_tokens r = tokens.◌>>=◌ r (λ q. Ok q.tokens)
-
-only-tokens : (equates : List Equate) (ts : List Token) → without_line (substitution equates ts) ≡ only_tokens (without_line (each_replaced_at_line equates (record { tokens = []; count = 0 }) ts))
-only-tokens equates ts = go (each_replaced_at_line equates (record { tokens = []; count = 0 }) ts)
-  where
-    go : (x : Result Replaced TextFault) → without_line (x >>> λ r. Ok r.tokens) ≡ only_tokens (without_line x)
-    go (Ok r) = refl
-    go (Err e) = refl
 
 tokens-like : (a b : Result Replaced TextProblem) → LikeResult a b → LikeTokens (only_tokens a) (only_tokens b)
 tokens-like (Ok r) (Ok s) h = h.0

@@ -40,3 +40,4 @@ pub mod NameSets
 pub mod NameParts
 pub mod PrintedNames
 pub mod BehindEnd
+pub mod Moved
