@@ -11,3 +11,4 @@ pub mod Words
 pub mod ReadBack
 pub mod FreeNames
 pub mod Unplaced
+pub mod PrintedTokens

@@ -1,16 +1,27 @@
 -- The laws of names, of load files and of score formulas.
-use Rattle.std.specs.Prelude.{◌≡◌, ⊤, ℕ, ℤ, List, map, Ok, IfErr, codes}
+use Rattle.std.specs.Prelude.{◌≡◌, ⊤, ℕ, ◌-◌, ◌/◌, ◌^◌, ◌<◌, ◌≤◌, nat_le, if◌then◌else◌, ℤ, pos, List, [], ◌∷◌, ◌++◌, map, Ok, IfErr, codes}
 use Rattle.std.specs.Str.{str_eq_ignore_ascii_case}
+use Rattle.mars_cell.specs.declared.instruction.Cell.{Cell}
+use Rattle.mars_cell.specs.declared.instruction.Mode.{Mode}
+use Rattle.mars_cell.specs.declared.instruction.Mode.TheVariants as mode
+use Rattle.mars_cell.specs.Cells.{FitsCore}
 use Rattle.mars_cell.specs.Load.{load}
 use Rattle.mars_cell.specs.Parameters.{Parameters, AreInRange}
 use Rattle.mars_cell.specs.Warriors.{WarriorValue}
-use Rattle.mars_cell.specs.Words.{op_of, modifier_of}
+use Rattle.mars_cell.specs.Text.{cell_text}
+use Rattle.mars_cell.specs.Words.{op_name, op_of, modifier_name, modifier_of}
 use Rattle.mars_cell.specs.Written.{load_text}
 use Rattle.redcode_text.specs.declared.fault.ExprFault.{ExprFault}
 use Rattle.redcode_text.specs.declared.fault.ExprFault.TheVariants.{DivideByZero, Range}
-use Rattle.redcode_text.specs.Tokens.{Scanned}
+use Rattle.redcode_text.specs.Tokens.{Scanned, name_index, tokens, with_name}
+use Rattle.redcode_text.specs.declared.token.Sign.{Sign}
+use Rattle.redcode_text.specs.declared.token.Sign.TheVariants as sign
 use Rattle.redcode_text.specs.declared.token.Token.{Token}
+use Rattle.redcode_text.specs.declared.token.TokenKind.{TokenKind}
+use Rattle.redcode_text.specs.declared.token.TokenKind.TheVariants.{Number, Name}
+use Rattle.redcode_text.specs.declared.token.TokenKind.TheVariants as token
 use Rattle.redcode_text.specs.Equates.{Equate}
+use Rattle.redcode_text.specs.Expression.{kinds}
 use Rattle.redcode_text.specs.Expansion.{ProgramValue, expansion}
 use Rattle.redcode_text.specs.Lines.{Assert, Line, Predefined, name_at, predefined_value, with_current_line}
 use Rattle.redcode_asm.specs.Assembly.{assembly, predefined, warrior_of}
@@ -70,3 +81,34 @@ NamesOfSourcesAreFree = (p : Parameters) (rounds warriors : ℕ) (one other : Li
     → unplaced_program t ≡ record (unplaced_program s) { names = t.names }
     → ((n : ℕ) → SaysTheSame (predefined p rounds warriors) (name_at s.names n) (name_at t.names n))
     → assembly p rounds warriors one ≡ assembly p rounds warriors other
+
+-- the sign of a mode
+abbrev pub sign_of : Mode → Sign
+sign_of mode.Immediate = sign.Hash
+sign_of mode.Direct = sign.Dollar
+sign_of mode.AIndirect = sign.Star
+sign_of mode.BIndirect = sign.At
+sign_of mode.APredecrement = sign.OpenBrace
+sign_of mode.BPredecrement = sign.Less
+sign_of mode.APostincrement = sign.CloseBrace
+sign_of mode.BPostincrement = sign.Greater
+
+-- the tokens of a number of a core of m cells, as it is printed
+abbrev pub number_kinds : ℕ → ℕ → List TokenKind
+number_kinds m n = if nat_le n (m / 2) then Number (pos n) ∷ [] else token.Sign sign.Minus ∷ Number (pos (m - n)) ∷ []
+
+abbrev pub operand_kinds : ℕ → Mode → ℕ → List TokenKind
+operand_kinds m x n = token.Sign (sign_of x) ∷ number_kinds m n
+
+-- the tokens of a cell, as it is printed; its opcode and its modifier are names with these indices
+abbrev pub cell_kinds : ℕ → Cell → ℕ → ℕ → List TokenKind
+cell_kinds m c opcode modifier =
+    Name opcode ∷ token.Sign sign.Dot ∷ Name modifier ∷ ((operand_kinds m c.a_mode c.a ++ token.Sign sign.Comma ∷ []) ++ operand_kinds m c.b_mode c.b)
+
+-- the text of a cell is read as its tokens, and its opcode and its modifier are two further names where they are new
+abbrev pub CellIsScanned : Type 0
+CellIsScanned = (m : ℕ) (c : Cell) (line at room : ℕ) (names : List (List ℕ)) → m < 2 ^ 32 → FitsCore m c → 10 ≤ room →
+    let opcode = op_name c.op in
+    let suffix = modifier_name c.modifier in
+    let more = with_name names opcode in
+    (s : Scanned) × (tokens [] line at room names (cell_text m c) ≡ Ok s) × (kinds s.tokens ≡ cell_kinds m c (name_index names opcode) (name_index more suffix)) × (s.names ≡ with_name more suffix)

@@ -1,5 +1,5 @@
 //! Laws of the definitions. The functions do nothing; their contracts are the laws.
-ghost use Rattle.redcode_asm.specs.Laws.{AssembledLoadIsRead, NamesAreFree, NamesOfSourcesAreFree, ScoresHaveValues};
+ghost use Rattle.redcode_asm.specs.Laws.{AssembledLoadIsRead, CellIsScanned, NamesAreFree, NamesOfSourcesAreFree, ScoresHaveValues};
 
 /// `Formula::score` of a formula that `Formula::new` read is refused by DivideByZero and Range alone.
 pub fn scores_have_values()
@@ -20,4 +20,10 @@ pub fn names_are_free()
 /// the same warrior, or have the same fault.
 pub fn names_of_sources_are_free()
     ensures { NamesOfSourcesAreFree }
+{}
+
+/// The text of a cell, as a line outside loops, is scanned as its tokens: the opcode, `.`, the modifier, and for each
+/// operand its mode's sign and its number, with a comma between them.
+pub fn cell_is_scanned()
+    ensures { CellIsScanned }
 {}

@@ -19,6 +19,7 @@ use Rattle.redcode_text.proofs.Evaluates.{evaluates, value_of-misshapen}
 pub use Rattle.redcode_text.proofs.PrintedNames.{program-printed}
 pub use Rattle.redcode_text.proofs.Moved.{kinds-moved, moved_tokens, substitution-moved}
 use Rattle.redcode_text.proofs.Moved.{only_tokens, only-tokens, without-lines}
+pub use Rattle.redcode_text.proofs.TokensRead.{Leads, Seen, blank-leads, decimal-is, end-leads, name-leads, number-leads, token-leads}
 pub use Rattle.redcode_text.proofs.Trees.{spelling, is_prefix, IsLevelled, rank-≤5}
 pub use Rattle.redcode_text.proofs.Shapes.{shaped}
 pub use Rattle.redcode_text.proofs.Splits.{tree-spelled}

@@ -41,3 +41,4 @@ pub mod NameParts
 pub mod PrintedNames
 pub mod BehindEnd
 pub mod Moved
+pub mod TokensRead

@@ -1,0 +1,5 @@
+use Rattle.redcode_asm.proofs.PrintedTokens.{cell-scanned}
+use Rattle.redcode_asm.proofs.laws.cell_is_scanned.Goals as goal
+
+pub returns : goal.returns
+returns c = cell-scanned
