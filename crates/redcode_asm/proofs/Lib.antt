@@ -12,3 +12,4 @@ pub mod ReadBack
 pub mod FreeNames
 pub mod Unplaced
 pub mod PrintedTokens
+pub mod PrintedCells

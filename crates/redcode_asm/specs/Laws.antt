@@ -1,5 +1,5 @@
 -- The laws of names, of load files and of score formulas.
-use Rattle.std.specs.Prelude.{◌≡◌, ⊤, ℕ, ◌-◌, ◌/◌, ◌^◌, ◌<◌, ◌≤◌, nat_le, if◌then◌else◌, ℤ, pos, List, [], ◌∷◌, ◌++◌, map, Ok, IfErr, codes}
+use Rattle.std.specs.Prelude.{◌≡◌, ⊤, ℕ, ◌-◌, ◌/◌, ◌^◌, ◌<◌, ◌≤◌, nat_le, if◌then◌else◌, ℤ, pos, List, [], ◌∷◌, ◌++◌, map, Some, Ok, IfErr, codes}
 use Rattle.std.specs.Str.{str_eq_ignore_ascii_case}
 use Rattle.mars_cell.specs.declared.instruction.Cell.{Cell}
 use Rattle.mars_cell.specs.declared.instruction.Mode.{Mode}
@@ -24,7 +24,7 @@ use Rattle.redcode_text.specs.Equates.{Equate}
 use Rattle.redcode_text.specs.Expression.{kinds}
 use Rattle.redcode_text.specs.Expansion.{ProgramValue, expansion}
 use Rattle.redcode_text.specs.Lines.{Assert, Line, Predefined, name_at, predefined_value, with_current_line}
-use Rattle.redcode_asm.specs.Assembly.{assembly, predefined, warrior_of}
+use Rattle.redcode_asm.specs.Assembly.{Placed, assembly, cell_of, predefined, warrior_of}
 use Rattle.redcode_asm.specs.Formula.{formula_of, score_of}
 
 -- a fault that an expression has by its values alone
@@ -112,3 +112,9 @@ CellIsScanned = (m : ℕ) (c : Cell) (line at room : ℕ) (names : List (List �
     let suffix = modifier_name c.modifier in
     let more = with_name names opcode in
     (s : Scanned) × (tokens [] line at room names (cell_text m c) ≡ Ok s) × (kinds s.tokens ≡ cell_kinds m c (name_index names opcode) (name_index more suffix)) × (s.names ≡ with_name more suffix)
+
+-- an instruction of the tokens of a cell is assembled to the cell, where there is no EQU name
+abbrev pub CellIsAssembled : Type 0
+CellIsAssembled = (ps : Predefined) (m : ℕ) (c : Cell) (source : ProgramValue) (p : Placed) (opcode suffix : ℕ) → m < 2 ^ 32 → FitsCore m c → source.equates ≡ []
+    → p.line.operation ≡ Some opcode → op_of (name_at source.names opcode) ≡ Some c.op → modifier_of (name_at source.names suffix) ≡ Some c.modifier
+    → Name opcode ∷ kinds p.line.rest ≡ cell_kinds m c opcode suffix → cell_of ps m source p ≡ Ok c

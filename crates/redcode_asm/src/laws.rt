@@ -1,5 +1,5 @@
 //! Laws of the definitions. The functions do nothing; their contracts are the laws.
-ghost use Rattle.redcode_asm.specs.Laws.{AssembledLoadIsRead, CellIsScanned, NamesAreFree, NamesOfSourcesAreFree, ScoresHaveValues};
+ghost use Rattle.redcode_asm.specs.Laws.{AssembledLoadIsRead, CellIsAssembled, CellIsScanned, NamesAreFree, NamesOfSourcesAreFree, ScoresHaveValues};
 
 /// `Formula::score` of a formula that `Formula::new` read is refused by DivideByZero and Range alone.
 pub fn scores_have_values()
@@ -26,4 +26,9 @@ pub fn names_of_sources_are_free()
 /// operand its mode's sign and its number, with a comma between them.
 pub fn cell_is_scanned()
     ensures { CellIsScanned }
+{}
+
+/// An instruction whose tokens are those of a cell is assembled to that cell, where the source has no EQU name.
+pub fn cell_is_assembled()
+    ensures { CellIsAssembled }
 {}

@@ -1,0 +1,5 @@
+use Rattle.redcode_asm.proofs.PrintedCells.{cell-assembled}
+use Rattle.redcode_asm.proofs.laws.cell_is_assembled.Goals as goal
+
+pub returns : goal.returns
+returns c = cell-assembled
