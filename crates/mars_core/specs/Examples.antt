@@ -2,6 +2,7 @@
 pub mod Edits
 pub mod Starts
 pub mod Turns
+pub mod ReferenceCode
 use Rattle.std.specs.Prelude.{⊤, ◌≡◌, ℕ, List, [], ◌∷◌, ◌++◌, take}
 use Rattle.std.proofs.Common.{replicate}
 use Rattle.mars_cell.specs.declared.instruction.Cell.{Cell}
