@@ -273,11 +273,9 @@ pub fn remainder(core_size: u32, number: u32) -> u32
     ensures value { result ≡ number % core_size }
     ensures inside { result < core_size }
 {
-    if number < core_size {
-        number
-    } else {
-        number - core_size
-    }
+    // By the sign of the difference: of a comparison the compiler makes a subtraction more.
+    let less = number.wrapping_sub(core_size);
+    if less >= 0x8000_0000 { number } else { less }
 }
 
 /// The address `distance` cells after another one.
