@@ -1,0 +1,20 @@
+"""Where the program is: the built one of this repository, or another that was given or installed."""
+import os
+import shutil
+
+TOP = os.path.dirname(os.path.dirname(os.path.realpath(__file__)))
+# The crate of the program, and the file that a proof of it leaves.
+CRATE = "mars_app"
+BUILT = os.path.join(TOP, "crates", CRATE, "out", CRATE)
+
+
+class NoProgram(Exception):
+    """There is no program to run; its text says which was asked for."""
+
+
+def find_program(given=None):
+    """The file of the program: the given one, or the built one, or one on the path."""
+    program = given or (BUILT if os.path.exists(BUILT) else shutil.which("mars") or BUILT)
+    if not os.path.isfile(program) or not os.access(program, os.X_OK):
+        raise NoProgram(f"no program: {program}")
+    return os.path.abspath(program)
