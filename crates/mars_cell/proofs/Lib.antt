@@ -6,4 +6,5 @@ pub mod PartsOf
 pub mod RoundTrip
 pub mod Values
 pub mod WrittenLines
+pub mod CutShort
 pub mod CallerLemmas

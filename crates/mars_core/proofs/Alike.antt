@@ -18,7 +18,7 @@ use Rattle.mars_core.specs.Writes.{WrittenCore, write_cell, write_field}
 use Rattle.mars_core.specs.Operand.{Evaluation, direct_operand, indirect_operand, predecremented, postincremented, evaluated}
 use Rattle.mars_core.specs.Effect.{division, effect_of}
 use Rattle.mars_core.specs.Turn.{Execution, after_effect, execution_of}
-use Rattle.mars_core.specs.declared.record.CellChange.{CellChange}
+use Rattle.mars_core.specs.declared.machine.writes.CellChange.{CellChange}
 use Rattle.mars_core.proofs.Folding.{after_none}
 
 -- an address of the first core for each of the second one; those that are near are told apart, and the instructions reach no others

@@ -14,7 +14,7 @@ use Rattle.mars_core.specs.Leads.{Leads}
 use Rattle.mars_core.specs.Record.{rewritten, warrior_of, queue_after_work, with_queue, deaths_after, turns_of, cycles_of, applied}
 use Rattle.mars_core.specs.Code.Records.{CanRequeue, HasQueue}
 use Rattle.mars_core.specs.declared.record.Atom.{Atom}
-use Rattle.mars_core.specs.declared.record.CellChange.{CellChange}
+use Rattle.mars_core.specs.declared.machine.writes.CellChange.{CellChange}
 use Rattle.mars_core.specs.declared.deaths.Death.{Death}
 use Rattle.mars_core.specs.declared.battle.edit.Edit.{Edit}
 use Rattle.mars_core.specs.declared.battle.edit.Edit.TheVariants as edit

@@ -10,7 +10,7 @@ use Rattle.mars_core.specs.Shape.{SameShape}
 use Rattle.mars_core.specs.declared.record.Atom.{Atom}
 use Rattle.mars_core.specs.declared.battle.edit.Edit.{Edit}
 use Rattle.mars_core.specs.declared.battle.edit.Edit.TheVariants as edit
-use Rattle.mars_core.specs.declared.machine.Clock.{Clock}
+use Rattle.mars_core.specs.declared.machine.clock.Clock.{Clock}
 -- turns and edits of a valid state are valid, and a record gives back the states that it leads from and to
 pub use Rattle.mars_core.proofs.Edits.{edit_valid}
 pub use Rattle.mars_core.proofs.Restored.{record_reverted}

@@ -6,7 +6,7 @@ use Rattle.std.proofs.lemmas.List.Sums.{sum_by-set, sum_by-append}
 use Rattle.std.proofs.lemmas.Bool.{cases_eq}
 use Rattle.mars_core.specs.State.{is_empty, first_live, live_from, survivors_of, moved_clock, advanced}
 use Rattle.mars_core.specs.Validity.{IsClock}
-use Rattle.mars_core.specs.declared.machine.Clock.{Clock}
+use Rattle.mars_core.specs.declared.machine.clock.Clock.{Clock}
 use Rattle.mars_core.proofs.Clocks.{IsLive, live_from_is, somebody}
 use Rattle.mars_core.proofs.Turns.{filled_one}
 

@@ -12,12 +12,12 @@ use Rattle.mars_core.specs.Turn.{with_death}
 use Rattle.mars_core.specs.Edit.{left_of, killed, edited, edit_record}
 use Rattle.mars_core.specs.Validity.{IsValid}
 use Rattle.mars_core.specs.declared.record.Atom.{Atom}
-use Rattle.mars_core.specs.declared.record.CellChange.{CellChange}
+use Rattle.mars_core.specs.declared.machine.writes.CellChange.{CellChange}
 use Rattle.mars_core.specs.declared.deaths.Death.{Death}
 use Rattle.mars_core.specs.declared.record.Work.{Work}
 use Rattle.mars_core.specs.declared.record.Work.TheVariants as work
 use Rattle.mars_core.specs.declared.battle.edit.Edit.TheVariants as edit
-use Rattle.mars_core.specs.declared.machine.Clock.{Clock}
+use Rattle.mars_core.specs.declared.machine.clock.Clock.{Clock}
 use Rattle.mars_core.proofs.EditClocks.{live_survives, survivors_kept}
 use Rattle.mars_core.proofs.Edits.{place_filled}
 use Rattle.mars_core.proofs.Live.{addresses_at}

@@ -15,7 +15,7 @@ use Rattle.mars_core.specs.Turn.{with_death, after_turns, executed, turn_of, exe
 use Rattle.mars_core.specs.Shape.{SameShape}
 use Rattle.mars_core.specs.Validity.{IsValid}
 use Rattle.mars_core.specs.declared.deaths.Death.{Death}
-use Rattle.mars_core.specs.declared.machine.Clock.{Clock}
+use Rattle.mars_core.specs.declared.machine.clock.Clock.{Clock}
 use Rattle.mars_core.proofs.CallerLemmas.{shape-turn_of}
 use Rattle.mars_core.proofs.Counted.{valid_counted}
 use Rattle.mars_core.proofs.Ends.{battle_ends}

@@ -11,7 +11,7 @@ use Rattle.mars_core.specs.Reach.{IsNear, Reaches}
 use Rattle.mars_core.specs.State.{State, cell_at, queue_of}
 use Rattle.mars_core.specs.Turn.{front_of, execution_of, turn_record}
 use Rattle.mars_core.specs.Validity.{IsCore, IsValid}
-use Rattle.mars_core.specs.declared.record.CellChange.{CellChange}
+use Rattle.mars_core.specs.declared.machine.writes.CellChange.{CellChange}
 use Rattle.mars_core.proofs.Alike.{Corresponds, Alike, execution_alike}
 use Rattle.mars_core.proofs.Fits.{address_inside, folded_inside}
 use Rattle.mars_core.proofs.Inside.{execution_here}

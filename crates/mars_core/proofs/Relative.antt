@@ -13,7 +13,7 @@ use Rattle.mars_core.specs.Addresses.{address_after}
 use Rattle.mars_core.specs.Moved.{moved_core, moved}
 use Rattle.mars_core.specs.Turn.{front_of, front_execution, accepted, queue_after, executed, turn_of, after_turns}
 use Rattle.mars_core.specs.Validity.{IsCore, IsQueue, IsValid}
-use Rattle.mars_core.specs.declared.machine.Clock.{Clock}
+use Rattle.mars_core.specs.declared.machine.clock.Clock.{Clock}
 use Rattle.mars_core.proofs.Alike.{Corresponds, Alike, AlikeExecution, execution_alike}
 use Rattle.mars_core.proofs.CallerLemmas.{shape-turn_of}
 use Rattle.mars_core.proofs.Fits.{address_inside}

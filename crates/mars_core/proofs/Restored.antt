@@ -17,9 +17,9 @@ use Rattle.mars_core.specs.Effect.{effect_of}
 use Rattle.mars_core.specs.Turn.{after_effect, execution_of, front_of, accepted, queue_after, with_death, executed, turn_of, turn_record}
 use Rattle.mars_core.specs.Validity.{IsValid}
 use Rattle.mars_core.specs.Record.{restored, without_last, cycles_of, reverted}
-use Rattle.mars_core.specs.declared.record.CellChange.{CellChange}
+use Rattle.mars_core.specs.declared.machine.writes.CellChange.{CellChange}
 use Rattle.mars_core.specs.declared.deaths.Death.{Death}
-use Rattle.mars_core.specs.declared.machine.Clock.{Clock}
+use Rattle.mars_core.specs.declared.machine.clock.Clock.{Clock}
 use Rattle.mars_core.specs.Edit.{left_of, killed, edit_fault, edited, edit_record, IsProcess, CanSpawn}
 use Rattle.mars_core.specs.Leads.{Leads}
 use Rattle.mars_core.specs.declared.record.Atom.{Atom}

@@ -16,11 +16,11 @@ use Rattle.mars_core.specs.Leads.{Leads}
 use Rattle.mars_core.specs.Record.{restored, without_last, warrior_of, queue_before, with_queue, turns_of, cycles_of, reverted}
 use Rattle.mars_core.specs.Code.Records.{CanRestore, HasQueue}
 use Rattle.mars_core.specs.declared.record.Atom.{Atom}
-use Rattle.mars_core.specs.declared.record.CellChange.{CellChange}
+use Rattle.mars_core.specs.declared.machine.writes.CellChange.{CellChange}
 use Rattle.mars_core.specs.declared.deaths.Death.{Death}
 use Rattle.mars_core.specs.declared.battle.edit.Edit.{Edit}
 use Rattle.mars_core.specs.declared.battle.edit.Edit.TheVariants as edit
-use Rattle.mars_core.specs.declared.machine.Clock.{Clock}
+use Rattle.mars_core.specs.declared.machine.clock.Clock.{Clock}
 use Rattle.mars_core.proofs.Accepted.{accepted_set_cell, accepted_move, accepted_kill, accepted_spawn}
 use Rattle.mars_core.proofs.Fits.{execution_keeps}
 use Rattle.mars_core.proofs.Inside.{AreInside, execution_inside}

@@ -21,8 +21,8 @@ use Rattle.mars_core.specs.declared.battle.edit.Edit.{Edit}
 use Rattle.mars_core.specs.declared.battle.edit.Edit.TheVariants as edit
 use Rattle.mars_core.proofs.Turns.{same_eq}
 use Rattle.mars_core.proofs.Restored.{killing}
-use Rattle.mars_core.specs.declared.record.CellChange.{CellChange}
-use Rattle.mars_core.specs.declared.machine.Clock.{Clock}
+use Rattle.mars_core.specs.declared.machine.writes.CellChange.{CellChange}
+use Rattle.mars_core.specs.declared.machine.clock.Clock.{Clock}
 
 rewritten-append : (xs ys : List CellChange) (core : List Cell) → rewritten (xs ++ ys) core ≡ rewritten ys (rewritten xs core)
 rewritten-append [] ys core = refl

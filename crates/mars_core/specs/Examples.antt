@@ -23,7 +23,7 @@ use Rattle.mars_core.specs.Turn.{turn_of, turn_record, executed, accepted, execu
 use Rattle.mars_core.specs.Edit.{edited, edit_fault, edit_record, killed}
 use Rattle.mars_core.specs.Record.{reverted, applied}
 use Rattle.mars_core.specs.Start.{overlap, start_state}
-use Rattle.mars_core.specs.declared.record.CellChange.{CellChange}
+use Rattle.mars_core.specs.declared.machine.writes.CellChange.{CellChange}
 use Rattle.mars_core.specs.declared.battle.edit.Edit.{Edit}
 
 -- what an example unfolds to compute the machine

@@ -5,11 +5,12 @@ ghost use Rattle.mars_core.specs.Queue.{Queue as Contents};
 ghost use Rattle.mars_core.specs.Record.{without_last};
 ghost use Rattle.mars_core.specs.Code.Turns.{addresses_to};
 
+mod edit;
+
 use arrayvec::ArrayVec;
 use circular_buffer::HeapCircularBuffer;
 use std::alloc::{AllocError, Global};
 use std::marker::Model;
-use std::mem;
 
 /// The processes of a warrior, in the order of their turns. Room for all of them is reserved.
 #[derive(Debug, Drop)]
@@ -213,144 +214,6 @@ impl ProcessQueue {
     {
         self.ring.clear();
         self.push(address);
-    }
-
-    /// Makes the process at a place stand at another address, and gives the one before.
-    pub fn replace(&mut self, place: usize, address: u32) -> u32
-        requires { place < length self.old.addresses }
-        ensures address { result ≡ slice_index self.old.addresses place }
-        ensures queue { self.new ≡ record { addresses = slice_set self.old.addresses place address; limit = self.old.limit } }
-    {
-        match self.ring.get_mut(place) {
-            Some(process) => mem::replace(process, address),
-            None => unreachable!(),
-        }
-    }
-
-    /// Takes the process at a place out, and gives the address that it stood at. Only where it stands neither at the front nor
-    /// at the end do the others go round.
-    pub fn remove(&mut self, place: usize) -> u32
-        requires { place < length self.old.addresses }
-        ensures address { result ≡ slice_index self.old.addresses place }
-        ensures queue { self.new ≡ record { addresses = remove self.old.addresses place; limit = self.old.limit } }
-    {
-        if place == 0 {
-            self.take_front()
-        } else if place == self.len() - 1 {
-            self.take_back()
-        } else {
-            self.take_between(place)
-        }
-    }
-
-    /// Takes the process at a place out, while the others go round once.
-    fn take_between(&mut self, place: usize) -> u32
-        requires { place < length self.old.addresses }
-        ensures address { result ≡ slice_index self.old.addresses place }
-        ensures queue { self.new ≡ record { addresses = remove self.old.addresses place; limit = self.old.limit } }
-    {
-        let after = self.len() - 1 - place;
-        self.rotate(place);
-        let address = self.take_front();
-        self.rotate(after);
-        address
-    }
-
-    /// Puts a process in at a place. There must be room. Only where the place is neither the front nor the end do the others go
-    /// round.
-    pub fn insert(&mut self, place: usize, address: u32)
-        requires place { place ≤ length self.old.addresses }
-        requires room { length self.old.addresses < self.old.limit }
-        ensures { self.new ≡ record { addresses = insert self.old.addresses place address; limit = self.old.limit } }
-    {
-        if place == 0 {
-            self.push_front(address);
-        } else if place == self.len() {
-            self.push(address);
-        } else {
-            self.put_between(place, address);
-        }
-    }
-
-    /// Puts a process in at a place, while the others go round once. There must be room.
-    fn put_between(&mut self, place: usize, address: u32)
-        requires place { place ≤ length self.old.addresses }
-        requires room { length self.old.addresses < self.old.limit }
-        ensures { self.new ≡ record { addresses = insert self.old.addresses place address; limit = self.old.limit } }
-    {
-        let after = self.len() - place;
-        self.rotate(place);
-        self.push(address);
-        self.rotate(after);
-    }
-
-    /// The first `count` processes go round to the end, one at a time.
-    fn rotate(&mut self, count: usize)
-        requires count { count ≤ length self.old.addresses }
-        requires room { length self.old.addresses ≤ self.old.limit }
-        ensures { self.new ≡ record { addresses = drop count self.old.addresses ++ take count self.old.addresses; limit = self.old.limit } }
-    {
-        for moved in 0..count {
-            let address = self.take_front();
-            self.push(address);
-        }
-    }
-
-    /// Takes the process at the end.
-    fn take_back(&mut self) -> u32
-        requires { 1 ≤ length self.old.addresses }
-        ensures address { result ≡ slice_index self.old.addresses (length self.old.addresses - 1) }
-        ensures queue { self.new ≡ record { addresses = take (length self.old.addresses - 1) self.old.addresses; limit = self.old.limit } }
-    {
-        match self.ring.pop_back() {
-            Some(address) => address,
-            None => unreachable!(),
-        }
-    }
-
-    /// Puts a process at the front. There must be room.
-    fn push_front(&mut self, address: u32)
-        requires { length self.old.addresses < self.old.limit }
-        ensures { self.new ≡ record { addresses = address ∷ self.old.addresses; limit = self.old.limit } }
-    {
-        let _ = self.ring.try_push_front(address);
-    }
-
-    /// Takes the process at the end away, where there is one.
-    pub fn drop_back(&mut self)
-        ensures { self.new ≡ record { addresses = without_last 1 self.old.addresses; limit = self.old.limit } }
-    {
-        let _ = self.ring.pop_back();
-    }
-
-    /// Takes the last `queued` processes away, and puts one at the front. There must be room.
-    pub fn put_back(&mut self, queued: usize, address: u32)
-        requires queued { queued ≤ length self.old.addresses }
-        requires room { length self.old.addresses - queued < self.old.limit }
-        ensures { self.new ≡ record { addresses = address ∷ without_last queued self.old.addresses; limit = self.old.limit } }
-    {
-        let left = self.len() - queued;
-        self.ring.truncate_back(left);
-        self.push_front(address);
-    }
-
-    /// Takes the process at the front, and puts these at the end. There must be room.
-    pub fn take_round(&mut self, queued: &[u32])
-        requires alive { 1 ≤ length self.old.addresses }
-        requires room { length (drop 1 self.old.addresses) + length queued.now ≤ self.old.limit }
-        ensures { self.new ≡ record { addresses = drop 1 self.old.addresses ++ queued.now; limit = self.old.limit } }
-    {
-        let _ = self.take_front();
-        match queued {
-            [address] => self.push(*address),
-            [first, second] => {
-                self.push(*first);
-                self.push(*second);
-            }
-            _ => {
-                let _ = self.ring.fill_from_slice(queued);
-            }
-        }
     }
 
     /// The same queue once more, with room of its own.

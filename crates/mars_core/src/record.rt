@@ -6,36 +6,10 @@ ghost use Rattle.mars_core.specs.Code.Turns.{made_atom};
 pub mod redo;
 pub mod undo;
 
-use crate::machine::{Clock, MadeTurn};
+use crate::machine::clock::Clock;
+use crate::machine::turn::MadeTurn;
+use crate::machine::writes::CellChange;
 use arrayvec::ArrayVec;
-use mars_cell::{Cell, Mode, Modifier, Op};
-
-/// One write of a cell: its address, and the whole cell before and after, also where they are equal.
-#[derive(Clone, Copy, Debug, PartialEq, Eq)]
-pub struct CellChange {
-    pub address: u32,
-    pub before: Cell,
-    pub after: Cell,
-}
-
-impl Default for CellChange {
-    /// Zeros throughout, so that a list of blanks is made and copied as whole words.
-    fn default() -> Self {
-        let blank = Cell {
-            op: Op::Dat,
-            modifier: Modifier::A,
-            a_mode: Mode::Immediate,
-            b_mode: Mode::Immediate,
-            a: 0,
-            b: 0,
-        };
-        CellChange {
-            address: 0,
-            before: blank,
-            after: blank,
-        }
-    }
-}
 
 /// What was done. Warriors are counted from 0, and so are places in a queue, the front being 0.
 #[derive(Clone, Copy, Debug, PartialEq, Eq)]

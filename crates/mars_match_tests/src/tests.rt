@@ -7,7 +7,7 @@ use mars_core::BattleFault;
 use mars_match::{
     MatchFault, PlaceFault, Plan, Row, Table, fight, league, place, rounds, write_results,
 };
-use mars_output::WriteFault;
+use mars_cell::WriteFault;
 use redcode_asm::Formula;
 use redcode_text::ExprFault;
 use std::alloc::Global;

@@ -9,7 +9,7 @@ use Rattle.mars_core.specs.State.{State, first_live, live_from, survivors_of, mo
 use Rattle.mars_core.specs.Turn.{turn_of, executed}
 use Rattle.mars_core.specs.Validity.{IsValid}
 use Rattle.mars_core.proofs.CallerLemmas.{cycle-turn_of, shape-turn_of}
-use Rattle.mars_core.specs.declared.machine.Clock.{Clock}
+use Rattle.mars_core.specs.declared.machine.clock.Clock.{Clock}
 use Rattle.mars_session.specs.declared.calls.Refusal.{Refusal}
 use Rattle.mars_session.specs.declared.calls.Refusal.TheVariants.{Count, Over, CyclePassed}
 use Rattle.mars_session.specs.Commands.{command_limit, States, turns_until, in_cycle, stops_at, until_bound, until_states}

@@ -11,9 +11,10 @@ ghost use Rattle.mars_cell.specs.Limits.{most_cycles};
 
 use crate::battle::Battle;
 use crate::deaths::note_death;
-use crate::machine::{Clock, advanced};
+use crate::machine::clock::{Clock, advanced};
+use crate::machine::writes::CellChange;
 use crate::queue::ProcessQueue;
-use crate::record::{Atom, CellChange, Work, quiet_atom};
+use crate::record::{Atom, Work, quiet_atom};
 use arrayvec::ArrayVec;
 use mars_cell::Cell;
 use thiserror::Error;

@@ -5,11 +5,12 @@ ghost use Rattle.mars_core.specs.Limits.{most_warriors};
 ghost use Rattle.mars_core.specs.Record.{rewritten, warrior_of as spec_warrior_of, queue_after_work, with_queue, deaths_after};
 ghost use Rattle.mars_core.specs.Queue.{addresses_of, Queue as Contents};
 ghost use Rattle.mars_core.specs.Code.Records.{CanRequeue, HasQueue};
-ghost use Rattle.mars_core.specs.declared.record.CellChange.{CellChange as Change};
+ghost use Rattle.mars_core.specs.declared.machine.writes.CellChange.{CellChange as Change};
 
 use crate::deaths::{Death, MOST_WARRIORS, note_death};
+use crate::machine::writes::CellChange;
 use crate::queue::ProcessQueue;
-use crate::record::{CellChange, Work, warrior_of};
+use crate::record::{Work, warrior_of};
 use arrayvec::ArrayVec;
 use mars_cell::Cell;
 

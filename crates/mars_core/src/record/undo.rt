@@ -3,10 +3,11 @@ ghost use Rattle.std.specs.Prelude.{◌≡◌, ℕ, ◌<◌, length, All};
 ghost use Rattle.mars_core.specs.Record.{restored, warrior_of as spec_warrior_of, queue_before, with_queue};
 ghost use Rattle.mars_core.specs.Queue.{addresses_of, Queue as Contents};
 ghost use Rattle.mars_core.specs.Code.Records.{CanRestore, HasQueue};
-ghost use Rattle.mars_core.specs.declared.record.CellChange.{CellChange as Change};
+ghost use Rattle.mars_core.specs.declared.machine.writes.CellChange.{CellChange as Change};
 
+use crate::machine::writes::CellChange;
 use crate::queue::ProcessQueue;
-use crate::record::{CellChange, Work, warrior_of};
+use crate::record::{Work, warrior_of};
 use mars_cell::Cell;
 
 /// Writes back what each changed cell was, the last change first.

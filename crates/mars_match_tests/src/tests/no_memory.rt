@@ -4,7 +4,7 @@
 use super::{BY_DEFAULT, LEAGUE, Narrow};
 use mars_cell::{Mode, Modifier, Op, Params, Warrior, default_modifier, read_cell};
 use mars_match::{Row, Table, write_results};
-use mars_output::WriteFault;
+use mars_cell::WriteFault;
 use redcode_asm::Formula;
 use redcode_text::ExprFault;
 use std::alloc::Global;

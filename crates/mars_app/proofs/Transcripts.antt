@@ -1,0 +1,5 @@
+pub mod Bounds
+pub mod LinesOf
+pub mod Reading
+pub mod Waits
+pub mod Texts

@@ -1,0 +1,57 @@
+-- The lines of some bytes.
+use Rattle.std.proofs.Common.{◌≡◌, ◌≢◌, refl, ℕ, false, List, [], ◌∷◌, ◌++◌, nat_eq, rules, append_assoc}
+use Rattle.std.specs.List.{flat_map, AllByRecursion}
+use Rattle.mars_app.specs.declared.debugger.request.Request.{Request}
+use Rattle.mars_app.specs.declared.debugger.request.Request.TheVariants as request
+use Rattle.mars_app.specs.Debugger.Lines.{IsLine, Splits, ended, line_asks, lines_of}
+use Rattle.mars_app.specs.Debugger.Transcript.{GoesOn, is_quit, until_quit}
+
+not_newline : (b : ℕ) → b ≢ 10 → nat_eq b 10 ≡ false
+not_newline b h = search rules
+
+pub lines_of-line : (l bs : List ℕ) → IsLine l → lines_of (l ++ 10 ∷ bs) ≡ l ∷ lines_of bs
+unfolding lines_of
+lines_of-line [] bs h = refl
+lines_of-line (b ∷ l) bs h = rw (not_newline b h.0, lines_of-line l bs h.1) refl
+
+-- the line that isn't ended, where there is one
+abbrev pub last_of : List ℕ → List (List ℕ)
+last_of [] = []
+last_of (b ∷ l) = (b ∷ l) ∷ []
+
+pub lines_of-open : (l : List ℕ) → IsLine l → lines_of l ≡ last_of l
+unfolding lines_of
+lines_of-open [] h = refl
+lines_of-open (b ∷ []) h = rw (not_newline b h.0) refl
+lines_of-open (b ∷ c ∷ l) h = rw (not_newline b h.0, lines_of-open (c ∷ l) h.1) refl
+
+pub lines_of-lines : (ls : List (List ℕ)) (bs : List ℕ) → AllByRecursion IsLine ls → lines_of (flat_map ended ls ++ bs) ≡ ls ++ lines_of bs
+lines_of-lines [] bs h = refl
+lines_of-lines (l ∷ ls) bs h = rw (append_assoc, append_assoc l (10 ∷ []) (flat_map ended ls ++ bs), lines_of-line l (flat_map ended ls ++ bs) h.0, lines_of-lines ls bs h.1) refl
+
+is_no_quit : (r : Request) → r ≢ request.Quit → is_quit r ≡ false
+is_no_quit request.Nothing h = refl
+is_no_quit (request.Call call) h = refl
+is_no_quit (request.List address n) h = refl
+is_no_quit (request.Queue warrior) h = refl
+is_no_quit request.Show h = refl
+is_no_quit request.Quit h = absurd (h refl)
+is_no_quit request.Unknown h = refl
+
+pub until_quit-lines : (m : ℕ) (ls more : List (List ℕ)) → AllByRecursion (GoesOn m) ls → until_quit m (ls ++ more) ≡ ls ++ until_quit m more
+unfolding until_quit
+until_quit-lines m [] more h = refl
+until_quit-lines m (l ∷ ls) more h = rw (is_no_quit (line_asks m l) h.0, until_quit-lines m ls more h.1) refl
+
+pub until_quit-quit : (m : ℕ) (l : List ℕ) (ls : List (List ℕ)) → line_asks m l ≡ request.Quit → until_quit m (l ∷ ls) ≡ []
+unfolding until_quit
+until_quit-quit m l ls e = rw e refl
+
+pub until_quit-one : (m : ℕ) (l : List ℕ) → GoesOn m l → until_quit m (l ∷ []) ≡ l ∷ []
+unfolding until_quit
+until_quit-one m l h = rw (is_no_quit (line_asks m l) h) refl
+
+-- what is executed of some bytes
+pub executed_lines : (m : ℕ) (bytes : List ℕ) (lines : List (List ℕ)) (rest : List ℕ) → Splits bytes lines rest → AllByRecursion (GoesOn m) lines
+    → until_quit m (lines_of bytes) ≡ lines ++ until_quit m (last_of rest)
+executed_lines m bytes lines rest s g = rw (s.whole, lines_of-lines lines rest s.each, until_quit-lines m lines (lines_of rest) g, lines_of-open rest s.unfinished) refl

@@ -1,0 +1,23 @@
+-- Text that waits to be written.
+use Rattle.std.proofs.Common.{◌∙◌, ℕ, List, [], ◌++◌, Option, ap, sym, append-nil, append_assoc}
+use Rattle.std.proofs.KnownBytes.{Appends-trans}
+use Rattle.std.specs.Io.KnownBytes.{Appends}
+use Rattle.mars_cell.specs.Output.{CutShort}
+use Rattle.mars_cell.proofs.CallerLemmas.{CutShort-back}
+use Rattle.mars_app.specs.Code.Waiting.{Waits}
+
+-- what waits goes out
+pub sent_all : (a b c : Option (List ℕ)) (waiting text : List ℕ) → Appends b c waiting → Waits a b waiting text → Appends a c text
+sent_all a b c waiting text more waits = rw waits.1 (Appends-trans a b c waits.0 waiting waits.2 more)
+
+-- a beginning of what waits goes out
+pub sent_part : (a b c : Option (List ℕ)) (waiting text : List ℕ) → CutShort b c waiting → Waits a b waiting text → CutShort a c text
+sent_part a b c waiting text cut waits = rw waits.1 (CutShort-back a b c waits.0 waiting waits.2 cut)
+
+-- nothing waits any more
+pub none_waits : (a b : Option (List ℕ)) (text : List ℕ) → Appends a b text → Waits a b [] text
+none_waits a b text sent = (text, sym (append-nil text), sent)
+
+-- more waits
+pub more_waits : (a b : Option (List ℕ)) (waiting text line : List ℕ) → Waits a b waiting text → Waits a b (waiting ++ line) (text ++ line)
+more_waits a b waiting text line waits = (waits.0, ap (λ t. t ++ line) waits.1 ∙ append_assoc waits.0 waiting line, waits.2)

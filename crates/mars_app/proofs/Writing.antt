@@ -1,0 +1,50 @@
+-- What several writes, one after the other, did, where a text broke off.
+use Rattle.std.proofs.Common.{◌≡◌, ℕ, ◌+◌, ◌<◌, List, ◌++◌, length, take, get_or, Option, Result, Ok, Err, IfErr, inl, inr, arith, length-append}
+use Rattle.std.specs.List.{flat_map}
+use Rattle.std.proofs.Math.Seq.{take-append-add}
+use Rattle.std.proofs.lemmas.List.{take-append-le, take_all}
+use Rattle.std.proofs.KnownBytes.{Appends-trans}
+use Rattle.std.specs.Io.KnownBytes.{Appends}
+use Rattle.mars_cell.specs.Output.{CutShort}
+use Rattle.mars_cell.proofs.CallerLemmas.{CutShort-back, CutShort-front, flat_map-around}
+use Rattle.mars_app.specs.Contests.{BreaksOff}
+use Rattle.mars_app.specs.declared.fault.RunFault.{RunFault}
+use Rattle.mars_app.specs.declared.fault.RunFault.TheVariants.{Output, OutOfMemory}
+
+-- the last text broke off, of one that was written alone
+pub last_breaks : (result : Result (Unit {0}) RunFault) (a b c : Option (List ℕ)) (x y : List ℕ) → Appends a b x →
+    IfErr result (λ fault. (fault ≡ Output) × CutShort b c y) → IfErr result (λ fault. BreaksOff fault a c (x ++ y))
+last_breaks (Ok u) a b c x y before w = tt
+last_breaks (Err fault) a b c x y before w = inl (w.0, CutShort-back a b c x y before w.1)
+
+module _ (fault : RunFault) where
+  -- it broke off in the first of two texts
+  pub BreaksOff-front : (a b : Option (List ℕ)) (x y : List ℕ) → BreaksOff fault a b x → BreaksOff fault a b (x ++ y)
+  BreaksOff-front a b x y (inl w) = inl (w.0, CutShort-front a b x y w.1)
+  BreaksOff-front a b x y (inr w) =
+      let same : take w.1 (x ++ y) ≡ take w.1 x = take-append-le w.1 x y w.2 in
+      inr (w.0, w.1, (omega (arith, w.2, length-append x y)), rw same w.3)
+
+  -- a text went out, and it broke off in the next
+  pub BreaksOff-back : (a b c : Option (List ℕ)) (x y : List ℕ) → Appends a b x → BreaksOff fault b c y → BreaksOff fault a c (x ++ y)
+  BreaksOff-back a b c x y before (inl w) = inl (w.0, CutShort-back a b c x y before w.1)
+  BreaksOff-back a b c x y before (inr w) =
+      let same : take (length x + w.1) (x ++ y) ≡ x ++ take w.1 y = take-append-add x y w.1 in
+      inr (w.0, length x + w.1, (omega (arith, w.2, length-append x y)), rw same (Appends-trans a b c x (take w.1 y) before w.3))
+
+  -- a text went out, and it broke off in the next, which is not the last
+  pub BreaksOff-after : (a b c : Option (List ℕ)) (x y z : List ℕ) → Appends a b x → BreaksOff fault b c y → BreaksOff fault a c (x ++ (y ++ z))
+  BreaksOff-after a b c x y z before cut = BreaksOff-back a b c x (y ++ z) before (BreaksOff-front b c y z cut)
+
+  -- it broke off in the text of an element
+  pub flat_map_breaks : {X : Type 0} (f : X → List ℕ) (xs : List X) (i : ℕ) (d : X) → i < length xs → (a b c : Option (List ℕ)) (text : List ℕ) →
+      BreaksOff fault b c text → Appends a b (flat_map f (take i xs)) → text ≡ f (get_or xs i d) → BreaksOff fault a c (flat_map f xs)
+  flat_map_breaks f xs i d inside a b c text broken before e =
+      let r = flat_map-around f xs i d inside in
+      rw r (BreaksOff-after a b c (flat_map f (take i xs)) (f (get_or xs i d)) _ before (rw e at broken))
+
+-- all of a text went out, and then memory was wanting
+pub whole_breaks : (fault : RunFault) (a b : Option (List ℕ)) (x : List ℕ) → fault ≡ OutOfMemory → Appends a b x → BreaksOff fault a b x
+whole_breaks fault a b x e w =
+    let whole : take (length x) x ≡ x = take_all (length x) x (omega arith) in
+    inr (e, length x, omega arith, rw whole w)

@@ -1,0 +1,86 @@
+-- The words that follow the program's name, as `clap` reads them.
+use Rattle.std.specs.Prelude.{ℕ, true, List, [], ◌∷◌, Some, codes, fold, pos}
+use Rattle.mars_app.specs.Limits.{longest_history, most_rounds}
+use Rattle.mars_match.specs.Placement.{greatest_seed}
+use Rattle.mars_cell.specs.Limits.{largest_core, most_cycles, most_processes}
+use Rattle.clap.specs.Lexer.{usize_max}
+use Rattle.clap.specs.Simple.{App, new_rule, new_shape, with_rule}
+use Rattle.clap.specs.Walk.{Rule}
+use Rattle.clap.specs.declared.builder.action.ArgAction.TheVariants.{Help, SetTrue}
+use Rattle.clap.specs.declared.builder.value_parser.ValueParser.TheVariants as parser
+
+-- a word with a number from 1 to a greatest one
+abbrev pub number_rule : List ℕ → ℕ → Rule
+number_rule id greatest = record (new_rule id) { value_names = 1; parser = Some (parser.Signed (pos 1) (pos greatest)) }
+
+-- a word without a value
+abbrev pub flag_rule : List ℕ → Rule
+flag_rule id = record (new_rule id) { action = Some SetTrue }
+
+abbrev pub score_rule : Rule
+score_rule = record (new_rule (codes "score")) { value_names = 1 }
+
+abbrev pub help_rule : Rule
+help_rule = record (new_rule (codes "help")) { action = Some Help }
+
+-- a letter behind one minus, and the name behind two
+abbrev pub short : ℕ → Rule → Rule
+short letter rule = record rule { short = Some letter }
+
+abbrev pub long : Rule → Rule
+long rule = record rule { long = Some rule.id }
+
+-- the value where the word isn't given
+abbrev pub or_else : List ℕ → Rule → Rule
+or_else text rule = record rule { defaults = text ∷ [] }
+
+-- what is fought
+abbrev pub contest_rules : List Rule
+contest_rules =
+    short 114 (or_else (codes "1") (number_rule (codes "rounds") most_rounds))
+    ∷ short 70 (number_rule (codes "fixed") largest_core)
+    ∷ long (or_else (codes "1") (number_rule (codes "seed") greatest_seed))
+    ∷ long (or_else (codes "(W*W-1)/S") score_rule)
+    ∷ long (flag_rule (codes "league"))
+    ∷ []
+
+-- where it is fought
+abbrev pub core_rules : List Rule
+core_rules =
+    short 115 (or_else (codes "8000") (number_rule (codes "core") largest_core))
+    ∷ short 99 (or_else (codes "80000") (number_rule (codes "cycles") most_cycles))
+    ∷ short 112 (or_else (codes "8000") (number_rule (codes "processes") most_processes))
+    ∷ short 108 (or_else (codes "100") (number_rule (codes "longest") largest_core))
+    ∷ short 100 (or_else (codes "100") (number_rule (codes "distance") largest_core))
+    ∷ long (number_rule (codes "read-limit") largest_core)
+    ∷ long (number_rule (codes "write-limit") largest_core)
+    ∷ []
+
+-- what is written
+abbrev pub output_rules : List Rule
+output_rules =
+    short 98 (flag_rule (codes "brief"))
+    ∷ short 111 (flag_rule (codes "sorted"))
+    ∷ long (flag_rule (codes "load"))
+    ∷ long help_rule
+    ∷ []
+
+abbrev pub debugger_rules : List Rule
+debugger_rules =
+    short 101 (flag_rule (codes "debugger"))
+    ∷ long (or_else (codes "200000") (number_rule (codes "history") longest_history))
+    ∷ []
+
+-- the names of the warriors' files
+abbrev pub file_rule : Rule
+file_rule = record (new_rule (codes "FILE")) { required = true; range = Some (record { start_inclusive = 1; end_inclusive = usize_max }) }
+
+abbrev pub with_rules : App → List Rule → App
+with_rules app rules = fold with_rule app rules
+
+-- the program, without words: the words are all its own, and no word is there by itself
+abbrev pub plain_mars : App
+plain_mars = record { top = record (new_shape (codes "mars")) { no_binary_name = true; disable_help_flag = true }; subs = [] }
+
+abbrev pub mars : App
+mars = with_rules (with_rules (with_rules (with_rules (with_rule plain_mars file_rule) contest_rules) core_rules) debugger_rules) output_rules

@@ -1,0 +1,68 @@
+-- What a match or a league writes.
+use Rattle.std.specs.Prelude.{◌≡◌, ◌≤◌, ◌⊎◌, ℕ, ◌+◌, Bool, if◌then◌else◌, List, [], ◌∷◌, ◌++◌, length, vec_len, decimal, codes, Option, Result, Ok, Err, take}
+use Rattle.std.specs.Io.KnownBytes.{Appends}
+use Rattle.mars_cell.specs.Parameters.{Parameters}
+use Rattle.mars_cell.specs.Warriors.{WarriorValue}
+use Rattle.mars_cell.specs.Written.{load_text}
+use Rattle.mars_match.specs.Leagues.{league_of}
+use Rattle.mars_match.specs.Rounds.{table_of}
+use Rattle.mars_match.specs.Results.{results_text}
+use Rattle.mars_match.specs.Tables.{RowValue}
+use Rattle.mars_cell.specs.Output.{CutShort}
+use Rattle.mars_core.specs.declared.battle.start.BattleFault.TheVariants as battle
+use Rattle.mars_match.specs.declared.fault.MatchFault.{MatchFault}
+use Rattle.mars_match.specs.declared.fault.MatchFault.TheVariants as match
+use Rattle.mars_match.specs.declared.placement.PlaceFault.TheVariants as place
+use Rattle.redcode_text.specs.Tokens.{Scanned}
+use Rattle.mars_app.specs.declared.fault.RunFault.{RunFault}
+use Rattle.mars_app.specs.declared.fault.RunFault.TheVariants.{Placement, Battle, Score, OutOfMemory, Output}
+use Rattle.mars_app.specs.declared.options.Options.{Options}
+
+-- as `warrior 0: Imp by Dewdney, 1 instructions`
+unfoldable pub listing_head : ℕ → WarriorValue → List ℕ
+listing_head number w =
+    codes "warrior " ++ decimal number ++ codes ": " ++ w.name ++ codes " by " ++ w.author ++ codes ", " ++ decimal (length w.cells) ++ codes " instructions\n"
+
+-- the line of a warrior, its load file, and an empty line
+abbrev pub listed : ℕ → ℕ → WarriorValue → List ℕ
+listed core_size number w = listing_head number w ++ load_text core_size w ++ codes "\n"
+
+-- the warriors in load order, from one of this number on
+abbrev pub listing_from : ℕ → ℕ → List WarriorValue → List ℕ
+listing_from core_size number [] = []
+listing_from core_size number (w ∷ warriors) = listed core_size number w ++ listing_from core_size (number + 1) warriors
+
+abbrev pub listing : ℕ → Bool → List WarriorValue → List ℕ
+listing core_size brief warriors = if brief then [] else listing_from core_size 0 warriors
+
+-- how many warriors meet: in a league two, else all
+abbrev pub contest_size : Options → ℕ
+contest_size o = if o.league then 2 else vec_len o.files
+
+-- the rows of the match, or of the league, that the options ask for
+abbrev pub contest : Options → Parameters → Scanned → List WarriorValue → Result (List RowValue) MatchFault
+contest o p formula warriors =
+    if o.league then league_of p warriors formula o.fixed o.rounds o.seed
+    else table_of p warriors formula o.fixed o.rounds o.seed
+
+-- the fault of a match, as the program tells it: want of memory is the same wherever it came
+abbrev pub fault_of : MatchFault → RunFault
+fault_of match.OutOfMemory = OutOfMemory
+fault_of (match.Place place.OutOfMemory) = OutOfMemory
+fault_of (match.Place fault) = Placement fault
+fault_of (match.Battle battle.OutOfMemory) = OutOfMemory
+fault_of (match.Battle fault) = Battle fault
+fault_of (match.Score fault) = Score fault
+
+-- a text was to be written: the output failed after a beginning of it, not all, or memory was wanting after a beginning
+abbrev pub BreaksOff : RunFault → Option (List ℕ) → Option (List ℕ) → List ℕ → Type 0
+BreaksOff fault old new text =
+    ((fault ≡ Output) × CutShort old new text)
+    ⊎ ((fault ≡ OutOfMemory) × (n : ℕ) × (n ≤ length text) × Appends old new (take n text))
+
+-- a contest fails in its listing, or before its fight; or by its own fault, and then its listing was written; or in its results
+abbrev pub ContestFails : RunFault → Result (List RowValue) MatchFault → Bool → Option (List ℕ) → Option (List ℕ) → List ℕ → Type 0
+ContestFails fault contest sorted old new listing =
+    BreaksOff fault old new listing
+    ⊎ (((f : MatchFault) × (contest ≡ Err f) × (fault ≡ fault_of f) × Appends old new listing)
+    ⊎ ((rows : List RowValue) × (contest ≡ Ok rows) × (fault ≡ Output) × CutShort old new (listing ++ results_text rows sorted)))

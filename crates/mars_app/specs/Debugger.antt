@@ -1,0 +1,7 @@
+-- What the debugger's lines ask for, what they answer, and what it has written, in this order.
+pub mod Words
+pub mod Requests
+pub mod Lines
+pub mod Replies
+pub mod Readings
+pub mod Transcript

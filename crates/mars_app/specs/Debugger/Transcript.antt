@@ -1,0 +1,129 @@
+-- What the debugger writes for its lines.
+use Rattle.std.specs.Prelude.{◌≡◌, ◌≢◌, if◌then◌else◌, ℕ, Bool, false, true, ◌<◌, ◌≤◌, List, [], ◌∷◌, ◌++◌, length, take, codes, Option, ◌⊎◌, IfSome}
+use Rattle.std.specs.List.{flat_map, AllByRecursion}
+use Rattle.std.specs.Io.KnownBytes.{Appends, Consumes, IsAtEnd, Keeps}
+use Rattle.mars_session.specs.Script.{SessionState, standing_of, outcome}
+use Rattle.mars_app.specs.declared.debugger.request.Request.{Request}
+use Rattle.mars_app.specs.declared.debugger.request.Request.TheVariants as request
+use Rattle.mars_app.specs.Debugger.Lines.{line_asks, lines_of, Splits, IsLine, ended}
+use Rattle.mars_app.specs.Debugger.Readings.{list_text, queue_text, show_text}
+use Rattle.mars_app.specs.Debugger.Replies.{reply_text}
+
+-- the cells of the core that a session stands at
+abbrev pub core_size_of : SessionState → ℕ
+core_size_of s = s.history.present.state.params.core_size
+
+-- the session after a request, and what is written for it; poor says whether memory was wanting
+unfoldable pub answer : Bool → SessionState → Request → SessionState × List ℕ
+answer poor s request.Nothing = (s, [])
+answer poor s (request.Call call) =
+    let after = outcome s.memory s.limit call poor s.history in
+    (record { history = after.history; limit = s.limit; memory = after.memory }, reply_text after.reply)
+answer poor s (request.List address n) = (s, list_text s.history.present.state address n)
+answer poor s (request.Queue warrior) = (s, queue_text s.history.present.state warrior)
+answer poor s request.Show = (s, show_text (standing_of s.history) s.history.present.state)
+answer poor s request.Quit = (s, [])
+answer poor s request.Unknown = (s, codes "unknown\n")
+
+-- Executed one after the other, the lines turn the session s into t and have this text. Of each line it says whether
+-- memory was wanting.
+pub data Transcript (core_size : ℕ) : SessionState → List (List ℕ) → SessionState → List ℕ → Type 0 where
+  none : {s : SessionState} → Transcript core_size s [] s []
+  line : (poor : Bool) {s t : SessionState} {text whole : List ℕ} (l : List ℕ) {ls : List (List ℕ)}
+      → Transcript core_size (answer poor s (line_asks core_size l)).0 ls t text
+      → whole ≡ (answer poor s (line_asks core_size l)).1 ++ text
+      → Transcript core_size s (l ∷ ls) t whole
+
+abbrev pub is_quit : Request → Bool
+is_quit request.Nothing = false
+is_quit (request.Call call) = false
+is_quit (request.List address n) = false
+is_quit (request.Queue warrior) = false
+is_quit request.Show = false
+is_quit request.Quit = true
+is_quit request.Unknown = false
+
+-- lines up to the first quit
+unfoldable pub until_quit : ℕ → List (List ℕ) → List (List ℕ)
+until_quit core_size [] = []
+until_quit core_size (l ∷ ls) = if is_quit (line_asks core_size l) then [] else l ∷ until_quit core_size ls
+
+-- the line doesn't end the debugger
+abbrev pub GoesOn : ℕ → List ℕ → Type 0
+GoesOn core_size l = line_asks core_size l ≢ request.Quit
+
+-- among the bytes is a line with its LF that is quit, the first one
+pub record HasQuit (core_size : ℕ) (bytes : List ℕ) : Type 0 where
+  pub lines : List (List ℕ)
+  pub last : List ℕ
+  pub more : List ℕ
+  pub whole : bytes ≡ flat_map ended lines ++ (last ++ 10 ∷ more)
+  pub each : AllByRecursion IsLine (lines ++ last ∷ [])
+  pub goes_on : AllByRecursion (GoesOn core_size) lines
+  pub quits : line_asks core_size last ≡ request.Quit
+
+-- The debugger came to quit or to the end. These bytes were read. Their lines up to the first quit were executed, which
+-- turned the session s into t, and all their text was written; and quit is one of them, or the reader has no more.
+pub record Completes (core_size : ℕ) (input left : Option (List ℕ)) (s : SessionState) (v : Option (List ℕ)) (t : SessionState) (w : Option (List ℕ)) : Type 0 where
+  pub bytes : List ℕ
+  pub text : List ℕ
+  pub consumed : Consumes input left bytes
+  pub answers : Transcript core_size s (until_quit core_size (lines_of bytes)) t text
+  pub written : Appends v w text
+  pub ends : HasQuit core_size bytes ⊎ IsAtEnd left
+  -- so the lines are those of all that the reader had, however it came in pieces
+  pub all : IfSome input (λ xs. Transcript core_size s (until_quit core_size (lines_of xs)) t text)
+
+-- At most n bytes of the input were read.
+abbrev pub TakesAtMost : ℕ → Option (List ℕ) → Option (List ℕ) → Type 0
+TakesAtMost n input left = (bytes : List ℕ) × Consumes input left bytes × (length bytes ≤ n)
+
+-- Nothing was read, executed or written.
+pub record NothingDone (input left : Option (List ℕ)) (s : SessionState) (v : Option (List ℕ)) (t : SessionState) (w : Option (List ℕ)) : Type 0 where
+  pub reader : Keeps input left
+  pub session : t ≡ s
+  pub writer : Keeps v w
+
+-- A read failed. What was read is these whole lines and an unfinished one; the lines were executed, none of them is
+-- quit, and all their text was written.
+pub record ReadFails (core_size : ℕ) (input left : Option (List ℕ)) (s : SessionState) (v : Option (List ℕ)) (t : SessionState) (w : Option (List ℕ)) : Type 0 where
+  pub bytes : List ℕ
+  pub lines : List (List ℕ)
+  pub rest : List ℕ
+  pub text : List ℕ
+  pub consumed : Consumes input left bytes
+  pub splits : Splits bytes lines rest
+  pub goes_on : AllByRecursion (GoesOn core_size) lines
+  pub answers : Transcript core_size s lines t text
+  pub written : Appends v w text
+
+-- The lines and then the last one were executed; the text is that of the lines, and a beginning of the last
+-- one's, not all of it.
+pub record BrokenAt (core_size : ℕ) (s : SessionState) (lines : List (List ℕ)) (last : List ℕ) (t : SessionState) (text : List ℕ) : Type 0 where
+  pub between : SessionState
+  pub before : List ℕ
+  pub poor : Bool
+  pub count : ℕ
+  pub answers : Transcript core_size s lines between before
+  pub session : t ≡ (answer poor between (line_asks core_size last)).0
+  pub short : count < length (answer poor between (line_asks core_size last)).1
+  pub text_is : text ≡ before ++ take count (answer poor between (line_asks core_size last)).1
+
+-- the bytes are the whole lines, and then the last line, which has an LF or is all that is left
+pub data EndsIn (bytes : List ℕ) (lines : List (List ℕ)) (last : List ℕ) (rest : Option (List ℕ)) : Type 0 where
+  at_newline : (more : List ℕ) → bytes ≡ flat_map ended lines ++ (last ++ 10 ∷ more) → EndsIn bytes lines last rest
+  at_end : bytes ≡ flat_map ended lines ++ last → IsAtEnd rest → EndsIn bytes lines last rest
+
+-- A write failed. What was read is these lines, and a last one; they were executed, none before the last is quit, the
+-- text of the lines was written, and of the last one's a beginning, not all of it.
+pub record WriteFails (core_size : ℕ) (input left : Option (List ℕ)) (s : SessionState) (v : Option (List ℕ)) (t : SessionState) (w : Option (List ℕ)) : Type 0 where
+  pub bytes : List ℕ
+  pub lines : List (List ℕ)
+  pub last : List ℕ
+  pub text : List ℕ
+  pub consumed : Consumes input left bytes
+  pub ends : EndsIn bytes lines last left
+  pub each : AllByRecursion IsLine (lines ++ last ∷ [])
+  pub goes_on : AllByRecursion (GoesOn core_size) lines
+  pub broken : BrokenAt core_size s lines last t text
+  pub written : Appends v w text

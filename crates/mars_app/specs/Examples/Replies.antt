@@ -1,0 +1,64 @@
+-- Worked examples: the lines that the debugger answers with.
+use Rattle.std.specs.Prelude.{◌≡◌, ℕ, [], ◌∷◌, ◌++◌, Ok, Err, codes, refl}
+use Rattle.std.specs.Fmt.{digits}
+use Rattle.mars_cell.specs.declared.instruction.Cell.{Cell}
+use Rattle.mars_cell.specs.declared.instruction.Op.TheVariants as op
+use Rattle.mars_cell.specs.declared.instruction.Modifier.TheVariants as modifier
+use Rattle.mars_cell.specs.declared.instruction.Mode.TheVariants.{Direct}
+use Rattle.mars_core.specs.State.{State, ends}
+use Rattle.mars_session.specs.declared.calls.Standing.{Standing}
+use Rattle.mars_session.specs.declared.calls.Refusal.TheVariants.{CyclePassed, NothingToUndo, NotInHistory, Over}
+use Rattle.mars_app.specs.Debugger.Replies.{refusal_text, reply_text}
+use Rattle.mars_app.specs.Debugger.Readings.{line_at, list_text, queue_text, show_text, texts, warrior_text}
+
+abbrev standing : Standing
+standing = record { turns = 12; cycle = 5; next = 1; alive = 2; position = 3; last = 200000 }
+
+pub replies_are_written :
+    (reply_text (Ok standing) ≡ codes "turn 12 cycle 5 next 1 alive 2 at 3/200000\n")
+    × (reply_text (Err Over) ≡ codes "refused 8 Over\n")
+    × (reply_text (Err (CyclePassed 80000)) ≡ codes "refused 9 CyclePassed 80000\n")
+    × (reply_text (Err NothingToUndo) ≡ codes "refused 10 NothingToUndo\n")
+    × (reply_text (Err (NotInHistory 0 12)) ≡ codes "refused 12 NotInHistory 0 12\n")
+unfolding refusal_text digits
+replies_are_written = (refl, refl, refl, refl, refl)
+
+abbrev cell : ℕ → Cell
+cell b = record { op = op.Jmp; modifier = modifier.B; a_mode = Direct; a = 0; b_mode = Direct; b = b }
+
+-- a core of three cells; the first warrior has two processes, the second died in the fourth turn
+abbrev state : State
+state = record {
+  params = record { core_size = 3; processes = 8; cycles = 10; read_limit = 3; write_limit = 3; max_length = 1; distance = 1 };
+  core = cell 0 ∷ cell 1 ∷ cell 2 ∷ [];
+  queues = (2 ∷ 0 ∷ []) ∷ [] ∷ [];
+  deaths = record { warrior = 1; turns = 4 } ∷ [];
+  next = 0;
+  cycle = 2;
+  turns = 4;
+}
+
+-- a list goes around the core; an address outside it, and no cell or more than 1,000,000 of them, are refused
+pub cells_are_listed :
+    (list_text state 2 2 ≡ codes "2 JMP.B $0, $-1\n" ++ codes "0 JMP.B $0, $0\n")
+    × (list_text state 3 1 ≡ codes "refused 2 Address\n")
+    × (list_text state 3 0 ≡ codes "refused 1 Count\n")
+    × (list_text state 0 1000001 ≡ codes "refused 1 Count\n")
+unfolding list_text texts line_at refusal_text digits
+cells_are_listed = (refl, refl, refl, refl)
+
+pub queues_are_listed :
+    (queue_text state 0 ≡ codes "queue 0: 2 0\n")
+    × (queue_text state 1 ≡ codes "queue 1:\n")
+    × (queue_text state 2 ≡ codes "refused 4 NoSuchWarrior\n")
+unfolding queue_text refusal_text digits
+queues_are_listed = (refl, refl, refl)
+
+-- of several, one alive ends the battle
+pub battle_is_shown : show_text standing state ≡
+    codes "turn 12 cycle 5 next 1 alive 2 at 3/200000\n"
+    ++ codes "warrior 0 processes 2\n"
+    ++ codes "warrior 1 dead 4\n"
+    ++ codes "battle over\n"
+unfolding show_text texts warrior_text ends digits
+battle_is_shown = refl

@@ -1,0 +1,88 @@
+-- Which fault ends a run, and what went out before it.
+use Rattle.std.specs.Prelude.{◌≡◌, ⊤, ◌⊎◌, ℕ, false, true, List, ◌∷◌, ◌++◌, map, Option, Ok, Err, string_bytes}
+use Rattle.std.specs.Io.KnownBytes.{Keeps}
+use Rattle.std.specs.List.{flat_map}
+use Rattle.mars_cell.specs.Load.{load}
+use Rattle.mars_cell.specs.ParameterFaults.{checked_parameters}
+use Rattle.mars_cell.specs.Parameters.{Parameters}
+use Rattle.mars_cell.specs.Warriors.{WarriorValue}
+use Rattle.mars_cell.specs.Written.{load_text}
+use Rattle.mars_cell.specs.declared.fault.LoadFault.{LoadFault}
+use Rattle.mars_cell.specs.declared.fault.LoadFault.TheVariants as load_fault
+use Rattle.mars_cell.specs.declared.parameters.ParamFault.{ParamFault}
+use Rattle.mars_core.specs.State.{State}
+use Rattle.mars_cell.specs.Output.{CutShort}
+use Rattle.redcode_asm.specs.Assembly.{assembly}
+use Rattle.redcode_asm.specs.Formula.{formula_of}
+use Rattle.redcode_asm.specs.declared.fault.FormulaFault.TheVariants.{Expression}
+use Rattle.redcode_text.specs.Tokens.{Scanned}
+use Rattle.redcode_text.specs.declared.fault.ExprFault.{ExprFault}
+use Rattle.mars_app.specs.Contests.{ContestFails, contest, contest_size, listing}
+use Rattle.mars_app.specs.Debugging.{DebugsInPart, StartsNothing, Untouched, first_round, session_at}
+use Rattle.mars_app.specs.Loading.{AreLoaded, IsRead, IsUnread, is_load_file, largest_file, shown_name}
+use Rattle.mars_app.specs.Options.{AreBad, Ask, AskForHelp, parameters_of, value_of}
+use Rattle.mars_app.specs.Runs.{Asked}
+use Rattle.mars_app.specs.declared.fault.RunFault.{RunFault}
+use Rattle.mars_app.specs.declared.fault.RunFault.TheVariants as fault
+use Rattle.mars_app.specs.declared.files.FileFault.TheVariants as file
+use Rattle.mars_app.specs.declared.options.Options.{Options}
+
+-- the line of a load file's fault, or 0
+abbrev pub line_of : LoadFault → ℕ
+line_of (load_fault.Syntax line) = line
+line_of _ = 0
+
+-- the fault is that of the bytes of a file: of a load file, or of a source; it shows the file's name
+abbrev pub IsFaultOfFile : Parameters → ℕ → ℕ → List ℕ → List ℕ → RunFault → Type 0
+IsFaultOfFile p rounds count name bytes (fault.Load shown line f) =
+    (string_bytes shown ≡ shown_name name) × (is_load_file name ≡ true) × (load p.core_size p.max_length bytes ≡ Err f) × (line ≡ line_of f)
+IsFaultOfFile p rounds count name bytes (fault.Assembly shown line f) =
+    (string_bytes shown ≡ shown_name name) × (is_load_file name ≡ false) × (assembly p rounds count bytes ≡ Err f) × (line ≡ f.line)
+IsFaultOfFile p rounds count name bytes fault.OutOfMemory = ⊤
+IsFaultOfFile p rounds count name bytes _ = ⊥
+
+-- the file isn't read; the fault shows its name
+abbrev pub IsUnreadFile : (List ℕ → Option (List ℕ)) → List ℕ → RunFault → Type 0
+IsUnreadFile known name (fault.CannotRead shown) = (string_bytes shown ≡ shown_name name) × IsUnread (known name) largest_file file.CannotRead
+IsUnreadFile known name (fault.TooLarge shown) = (string_bytes shown ≡ shown_name name) × IsUnread (known name) largest_file file.TooLarge
+IsUnreadFile known name fault.OutOfMemory = ⊤
+IsUnreadFile known name _ = ⊥
+
+-- a file that isn't read, or that has no warrior
+abbrev pub FailsToLoad : (List ℕ → Option (List ℕ)) → Parameters → ℕ → ℕ → List ℕ → RunFault → Type 0
+FailsToLoad known p rounds count name f = IsUnreadFile known name f
+    ⊎ ((bytes : List ℕ) × IsRead known name bytes × IsFaultOfFile p rounds count name bytes f)
+
+-- the first file that fails; those before it have warriors
+pub record FirstFails (known : List ℕ → Option (List ℕ)) (p : Parameters) (rounds count : ℕ) (names : List (List ℕ)) (f : RunFault) : Type 0 where
+  pub before : List (List ℕ)
+  pub name : List ℕ
+  pub after : List (List ℕ)
+  pub parts : names ≡ before ++ name ∷ after
+  pub warriors : List WarriorValue
+  pub loaded : AreLoaded known p rounds count before warriors
+  pub fails : FailsToLoad known p rounds count name f
+
+-- Nothing was read or written, since the words are bad, or what they ask for isn't allowed, or has no formula, or a file
+-- fails, or memory is wanting; or a help or a load file was cut short; or the debugger or the contest didn't end well. The
+-- debugger alone reads the input.
+pub data RunFails (words : List (List ℕ)) (known : List ℕ → Option (List ℕ)) (input left v w : Option (List ℕ)) (f : RunFault) : Type 0 where
+  bad : f ≡ fault.Words → AreBad words → Untouched input left v w → RunFails words known input left v w f
+  starved : f ≡ fault.OutOfMemory → Untouched input left v w → RunFails words known input left v w f
+  unhelped : f ≡ fault.Output → AskForHelp words → Keeps input left → (text : List ℕ) → CutShort v w text → RunFails words known input left v w f
+  not_allowed : (o : Options) → Ask words (value_of o) → (e : ParamFault) → checked_parameters (parameters_of o) ≡ Err e
+      → f ≡ fault.Parameters e → Untouched input left v w → RunFails words known input left v w f
+  not_scored : (o : Options) → Ask words (value_of o) → (p : Parameters) → checked_parameters (parameters_of o) ≡ Ok p
+      → (e : ExprFault) → formula_of (string_bytes o.score) ≡ Err e → f ≡ fault.Formula (Expression e) → Untouched input left v w → RunFails words known input left v w f
+  not_loaded : (o : Options) → Ask words (value_of o) → (p : Parameters) → checked_parameters (parameters_of o) ≡ Ok p
+      → (s : Scanned) → formula_of (string_bytes o.score) ≡ Ok s
+      → FirstFails known p o.rounds (contest_size o) (map (λ name. string_bytes name) o.files.items) f → Untouched input left v w → RunFails words known input left v w f
+  not_written : (asked : Asked words known) → asked.options.load ≡ true → f ≡ fault.Output → Keeps input left
+      → CutShort v w (flat_map (load_text asked.parameters.core_size) asked.warriors) → RunFails words known input left v w f
+  not_debugged : (asked : Asked words known) → asked.options.load ≡ false → asked.options.debugger ≡ true
+      → StartsNothing f (first_round asked.options asked.parameters asked.warriors) input left v w
+      ⊎ ((s : State) × (first_round asked.options asked.parameters asked.warriors ≡ Ok s)
+      × DebugsInPart f (session_at asked.options.history s) s.params.core_size input left v w) → RunFails words known input left v w f
+  not_contested : (asked : Asked words known) → asked.options.load ≡ false → asked.options.debugger ≡ false → Keeps input left
+      → ContestFails f (contest asked.options asked.parameters asked.formula asked.warriors) asked.options.sorted v w
+      (listing asked.parameters.core_size asked.options.brief asked.warriors) → RunFails words known input left v w f

@@ -1,0 +1,13 @@
+-- What a reader of the contracts has to believe, in this order; Examples has worked examples of it.
+pub mod Limits
+pub mod CommandLine
+pub mod Options
+pub mod Loading
+pub mod Contests
+pub mod Debugger
+pub mod Debugging
+pub mod Runs
+pub mod Faults
+pub mod Status
+pub mod Examples
+pub mod Code

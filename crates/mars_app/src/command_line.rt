@@ -1,0 +1,326 @@
+//! The words that follow the program's name, as `clap` reads them.
+ghost use Rattle.std.specs.Prelude.{◌≡◌, false, IfOk, map, pos};
+ghost use Rattle.clap.specs.Simple.{app_of};
+ghost use Rattle.clap.specs.Walk.{rule_of};
+ghost use Rattle.clap.specs.declared.builder.value_parser.ValueParser.TheVariants.{Signed};
+ghost use Rattle.mars_app.specs.CommandLine.{contest_rules, core_rules, debugger_rules, file_rule, mars, output_rules, plain_mars, with_rules};
+ghost use Rattle.mars_app.specs.Code.WordTables.{reached, rule_of_word, valued};
+
+use clap::builder::ValueParser;
+use clap::{Arg, ArgAction, Command, value_parser};
+use mars_cell::{LARGEST_CORE, MOST_CYCLES, MOST_PROCESSES};
+use mars_match::GREATEST_SEED;
+use std::alloc::{AllocError, Global};
+
+/// How many rounds a match has at most.
+pub const MOST_ROUNDS: u32 = 100_000;
+
+/// How many places a history keeps at most beside the present one.
+pub const LONGEST_HISTORY: u32 = 1_000_000;
+
+/// What stands below the words in the help.
+const AFTER_HELP: &str = "\
+At most one of -e, --league and --load is given; -F is for two files, and for no league.
+
+Commands of the debugger, one a line:
+  step, run N, until C, undo, redo, goto T
+  edit A CELL, fill A B CELL, move W I A, kill W I, spawn W A
+  list A N, queue W, show, quit
+
+Status: 0 done, 1 a fault of input or files, 2 a fault of the words.
+
+Example: mars -r 100 -b -o imp.red dwarf.red
+More in README.md and docs/USING.md.";
+
+/// What follows a word.
+#[derive(Clone, Copy)]
+enum Value {
+    Nothing,
+    /// Nothing: the word asks for the help.
+    Help,
+    /// A number from 1 to a greatest one.
+    Number(u32),
+    /// A formula of points.
+    Formula,
+}
+
+impl Value {
+    /// Gives an argument the value that follows its word.
+    fn take(self, arg: Arg<'_>) -> Arg<'_>
+        ensures rule { rule_of result ≡ valued self (rule_of arg.entry) }
+        ensures local { result.global ≡ arg.entry.global }
+    {
+        match self {
+            Value::Nothing => arg.action(ArgAction::SetTrue),
+            Value::Help => arg.action(ArgAction::Help),
+            Value::Formula => arg.value_name("FORMULA"),
+            Value::Number(greatest) => arg.value_name("N").value_parser(number_parser(greatest)),
+        }
+    }
+}
+
+/// Takes the numbers from 1 to a greatest one.
+fn number_parser<'a>(greatest: u32) -> ValueParser<'a>
+    ensures { result ≡ Signed (pos 1) (pos greatest) }
+{
+    value_parser!(u32).range(1..=i64::from(greatest))
+}
+
+/// A word, with its line in the help.
+#[derive(Clone, Copy)]
+struct Word {
+    /// It stands behind two minus where the word has no letter.
+    name: &'static str,
+    /// It stands behind one minus.
+    letter: Option<char>,
+    value: Value,
+    /// The value where the word isn't given.
+    default: Option<&'static str>,
+    help: &'static str,
+}
+
+impl Word {
+    /// The word as `clap` takes it.
+    fn arg<'a>(&self, alloc: Global) -> Arg<'a>
+        ensures rule { rule_of result ≡ rule_of_word self.now }
+        ensures local { result.global ≡ false }
+    {
+        let arg = self.reach(self.value.take(Arg::new(alloc, self.name)));
+        let arg = arg.help(self.help);
+        match self.default {
+            None => arg,
+            Some(text) => arg.default_value(text),
+        }
+    }
+
+    /// Gives an argument the letter or the name of the word.
+    fn reach<'a>(&self, arg: Arg<'a>) -> Arg<'a>
+        ensures rule { rule_of result ≡ reached self.now.letter self.now.name.now (rule_of arg.entry) }
+        ensures local { result.global ≡ arg.entry.global }
+    {
+        match self.letter {
+            None => arg.long(self.name),
+            Some(letter) => arg.short(letter),
+        }
+    }
+}
+
+/// A row for each word on what is fought.
+const CONTEST: [Word; 5] = [
+    Word {
+        name: "rounds",
+        letter: Some('r'),
+        value: Value::Number(MOST_ROUNDS),
+        default: Some("1"),
+        help: "Rounds, 1 to 100000",
+    },
+    Word {
+        name: "fixed",
+        letter: Some('F'),
+        value: Value::Number(LARGEST_CORE),
+        default: None,
+        help: "Position of warrior 2, from the least distance to the core size less that",
+    },
+    Word {
+        name: "seed",
+        letter: None,
+        value: Value::Number(GREATEST_SEED),
+        default: Some("1"),
+        help: "Seed of the positions, 1 to 2147483646",
+    },
+    Word {
+        name: "score",
+        letter: None,
+        value: Value::Formula,
+        default: Some("(W*W-1)/S"),
+        help: "What a survivor gets, W being the warriors and S the survivors",
+    },
+    Word {
+        name: "league",
+        letter: None,
+        value: Value::Nothing,
+        default: None,
+        help: "Every pair of warriors fights",
+    },
+];
+
+/// The words on what is fought.
+fn contest_words() -> [Word; 5]
+    ensures { map rule_of_word result ≡ contest_rules }
+{
+    CONTEST
+}
+
+/// A row for each word on the core and its limits.
+const CORE: [Word; 7] = [
+    Word {
+        name: "core",
+        letter: Some('s'),
+        value: Value::Number(LARGEST_CORE),
+        default: Some("8000"),
+        help: "Core size, 1 to 1048576",
+    },
+    Word {
+        name: "cycles",
+        letter: Some('c'),
+        value: Value::Number(MOST_CYCLES),
+        default: Some("80000"),
+        help: "Cycle limit, 1 to 10000000",
+    },
+    Word {
+        name: "processes",
+        letter: Some('p'),
+        value: Value::Number(MOST_PROCESSES),
+        default: Some("8000"),
+        help: "Process limit, 1 to 65536",
+    },
+    Word {
+        name: "longest",
+        letter: Some('l'),
+        value: Value::Number(LARGEST_CORE),
+        default: Some("100"),
+        help: "Longest warrior, 1 to the core size",
+    },
+    Word {
+        name: "distance",
+        letter: Some('d'),
+        value: Value::Number(LARGEST_CORE),
+        default: Some("100"),
+        help: "Least distance, from the longest warrior to the core size",
+    },
+    Word {
+        name: "read-limit",
+        letter: None,
+        value: Value::Number(LARGEST_CORE),
+        default: None,
+        help: "How far is read, 1 to the core size [default: core size]",
+    },
+    Word {
+        name: "write-limit",
+        letter: None,
+        value: Value::Number(LARGEST_CORE),
+        default: None,
+        help: "How far is written, 1 to the core size [default: core size]",
+    },
+];
+
+/// The words on the core and its limits.
+fn core_words() -> [Word; 7]
+    ensures { map rule_of_word result ≡ core_rules }
+{
+    CORE
+}
+
+/// A row for each word on the debugger.
+const DEBUGGER: [Word; 2] = [
+    Word {
+        name: "debugger",
+        letter: Some('e'),
+        value: Value::Nothing,
+        default: None,
+        help: "Debugs the battle of the first round by the commands of standard input",
+    },
+    Word {
+        name: "history",
+        letter: None,
+        value: Value::Number(LONGEST_HISTORY),
+        default: Some("200000"),
+        help: "Places that the history keeps, 1 to 1000000",
+    },
+];
+
+/// The words on the debugger.
+fn debugger_words() -> [Word; 2]
+    ensures { map rule_of_word result ≡ debugger_rules }
+{
+    DEBUGGER
+}
+
+/// A row for each word on what is written.
+const OUTPUT: [Word; 4] = [
+    Word {
+        name: "brief",
+        letter: Some('b'),
+        value: Value::Nothing,
+        default: None,
+        help: "No listing of the warriors",
+    },
+    Word {
+        name: "sorted",
+        letter: Some('o'),
+        value: Value::Nothing,
+        default: None,
+        help: "Results sorted by points",
+    },
+    Word {
+        name: "load",
+        letter: None,
+        value: Value::Nothing,
+        default: None,
+        help: "Writes the load file of the one warrior",
+    },
+    Word {
+        name: "help",
+        letter: None,
+        value: Value::Help,
+        default: None,
+        help: "Prints this help",
+    },
+];
+
+/// The words on what is written.
+fn output_words() -> [Word; 4]
+    ensures { map rule_of_word result ≡ output_rules }
+{
+    OUTPUT
+}
+
+/// The command before it has a word; its help has no short one.
+fn plain_command<'a>(alloc: Global) -> Command<'a>
+    ensures { app_of result ≡ plain_mars }
+{
+    Command::new(alloc, "mars")
+        .about(
+            "Core War: fights matches and leagues of warriors, and debugs battles forwards and backwards",
+        )
+        .after_help(AFTER_HELP)
+        .no_binary_name(true)
+        .disable_help_flag(true)
+}
+
+/// The command with all its words.
+pub fn command<'a>(alloc: Global) -> Result<Command<'a>, AllocError>
+    ensures { IfOk result (λ command. app_of command ≡ mars) }
+{
+    let command = plain_command(alloc).arg(files(alloc))?;
+    let command = with_words(alloc, command, "Contest", &contest_words())?;
+    let command = with_words(alloc, command, "Core", &core_words())?;
+    let command = with_words(alloc, command, "Debugger", &debugger_words())?;
+    with_words(alloc, command, "Output", &output_words())
+}
+
+/// Adds words, which stand under a heading in the help.
+fn with_words<'a>(
+    alloc: Global,
+    command: Command<'a>,
+    heading: &'a str,
+    words: &[Word],
+) -> Result<Command<'a>, AllocError>
+    ensures { IfOk result (λ made. app_of made ≡ with_rules (app_of command.entry) (map rule_of_word words.now)) }
+{
+    let mut command = command.next_help_heading(heading);
+    for word in words {
+        command = command.arg(word.arg(alloc))?;
+    }
+    Ok(command)
+}
+
+/// The names of the warriors' files.
+fn files<'a>(alloc: Global) -> Arg<'a>
+    ensures rule { rule_of result ≡ file_rule }
+    ensures local { result.global ≡ false }
+{
+    Arg::new(alloc, "FILE").required(true).num_args(1..).help(
+        "1 to 16 warriors: sources of Redcode, and load files, whose names end in .load",
+    )
+}

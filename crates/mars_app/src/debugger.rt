@@ -1,0 +1,219 @@
+//! The debugger: it reads lines, makes their calls over a session, and writes what they answer.
+//!
+//! What it wrote is the transcript of exactly these lines, however they came in pieces, over any reader, writer and tape; after
+//! a failed read that of the whole lines, and after a failed write a beginning of it (`specs/Debugger/Transcript`). All this
+//! stands in arrays of fixed size, so that the calls of the session alone may take memory.
+ghost use Rattle.std.specs.Prelude.{◌≡◌, Bool, [], ◌∷◌, ◌<◌, ◌*◌, OnOk, OnErr};
+ghost use Rattle.std.specs.Io.KnownBytes.{Appends};
+ghost use Rattle.mars_cell.specs.Output.{CutShort};
+ghost use Rattle.mars_app.specs.Debugger.Transcript.{answer, core_size_of, Completes, NothingDone, ReadFails, TakesAtMost, WriteFails};
+ghost use Rattle.mars_app.specs.Code.Steps.{Breaks, BreaksAtEnd, Finishes, GoesThrough, Quits};
+
+mod line_buffer;
+mod pending;
+mod readings;
+mod replies;
+mod request;
+mod words;
+
+use crate::debugger::line_buffer::LineBuffer;
+use crate::debugger::readings::{write_list, write_queue, write_show};
+use crate::debugger::replies::reply_line;
+use crate::debugger::request::Request;
+use mars_cell::{WriteFault, write_text};
+use mars_session::{Session, Tape};
+use std::io::{Read, Write};
+
+/// Why the debugger ended before `quit` and the end of its input.
+#[derive(Clone, Copy, Debug, PartialEq, Eq)]
+pub enum DebugFault {
+    /// A read failed, or there were too many.
+    Read,
+    /// A write failed, or took no byte.
+    Write,
+}
+
+/// Whether the debugger goes on.
+#[derive(Clone, Copy, PartialEq, Eq)]
+pub enum Flow {
+    More,
+    Quit,
+}
+
+/// Does what a request asks for, and writes the answer.
+#[tactic(auto, unfolding(crate::specs::Debugger::Transcript::answer))]
+fn execute<W: Write, T: Tape>(
+    request: Request,
+    writer: &mut W,
+    session: &mut Session<T>,
+) -> Result<(), WriteFault>
+    ensures ok { OnOk result ((poor : Bool)
+        × (session.new ≡ (answer poor session.old request).0)
+        × Appends (W.contents writer.old) (W.contents writer.new) (answer poor session.old request).1) }
+    ensures err { OnErr result ((poor : Bool)
+        × (session.new ≡ (answer poor session.old request).0)
+        × CutShort (W.contents writer.old) (W.contents writer.new) (answer poor session.old request).1) }
+{
+    match request {
+        Request::Nothing | Request::Quit => Ok(()),
+        Request::Call(call) => {
+            let reply = session.call(call);
+            write_text(writer, reply_line(reply).as_str().as_bytes())
+        }
+        Request::List(address, count) => write_list(writer, session.battle(), address, count),
+        Request::Queue(warrior) => write_queue(writer, session.battle(), warrior),
+        Request::Show => write_show(writer, session.standing(), session.battle()),
+        Request::Unknown => write_text(writer, b"unknown\n"),
+    }
+}
+
+/// Takes one byte of the input.
+fn take_byte<W: Write, T: Tape>(
+    byte: u8,
+    line: &mut LineBuffer,
+    core_size: u32,
+    writer: &mut W,
+    session: &mut Session<T>,
+) -> Result<Flow, WriteFault>
+    requires { 0 < core_size }
+    ensures more { result ≡ Ok Flow.More → GoesThrough core_size (byte ∷ []) line.old session.old (W.contents writer.old)
+        line.new session.new (W.contents writer.new) }
+    ensures quit { result ≡ Ok Flow.Quit → Quits core_size (byte ∷ []) line.old session.old (W.contents writer.old)
+        session.new (W.contents writer.new) }
+    ensures err { OnErr result (Breaks core_size (byte ∷ []) line.old session.old (W.contents writer.old)
+        session.new (W.contents writer.new)) }
+{
+    if byte != b'\n' {
+        line.push(byte);
+        return Ok(Flow::More);
+    }
+    let request = line.take_request(core_size);
+    if request == Request::Quit {
+        return Ok(Flow::Quit);
+    }
+    match execute(request, writer, session) {
+        Ok(()) => Ok(Flow::More),
+        Err(fault) => Err(fault),
+    }
+}
+
+/// Takes some bytes of the input, up to a quit.
+fn take_bytes<W: Write, T: Tape>(
+    chunk: &[u8],
+    line: &mut LineBuffer,
+    core_size: u32,
+    writer: &mut W,
+    session: &mut Session<T>,
+) -> Result<Flow, WriteFault>
+    requires { 0 < core_size }
+    ensures more { result ≡ Ok Flow.More → GoesThrough core_size chunk.now line.old session.old (W.contents writer.old)
+        line.new session.new (W.contents writer.new) }
+    ensures quit { result ≡ Ok Flow.Quit → Quits core_size chunk.now line.old session.old (W.contents writer.old)
+        session.new (W.contents writer.new) }
+    ensures err { OnErr result (Breaks core_size chunk.now line.old session.old (W.contents writer.old)
+        session.new (W.contents writer.new)) }
+{
+    for byte in chunk {
+        match take_byte(*byte, line, core_size, writer, session) {
+            Ok(Flow::More) => {}
+            Ok(Flow::Quit) => return Ok(Flow::Quit),
+            Err(fault) => return Err(fault),
+        }
+    }
+    Ok(Flow::More)
+}
+
+/// Executes the last line, which has no LF, where there is one.
+fn take_last_line<W: Write, T: Tape>(
+    line: &mut LineBuffer,
+    core_size: u32,
+    writer: &mut W,
+    session: &mut Session<T>,
+) -> Result<(), WriteFault>
+    requires { 0 < core_size }
+    ensures ok { OnOk result (Finishes core_size line.old session.old (W.contents writer.old)
+        session.new (W.contents writer.new)) }
+    ensures err { OnErr result (BreaksAtEnd core_size line.old session.old (W.contents writer.old)
+        session.new (W.contents writer.new)) }
+{
+    if line.is_empty() {
+        return Ok(());
+    }
+    let request = line.take_request(core_size);
+    if request == Request::Quit {
+        return Ok(());
+    }
+    execute(request, writer, session)
+}
+
+/// The most bytes of one read.
+const CHUNK: usize = 4096;
+
+/// The most reads of the debugger.
+const MOST_READS: u64 = 4_294_967_296;
+
+/// Reads lines, up to `quit` or the end of the input, and answers each before the next, in at most so many reads.
+pub fn debug_within<R: Read, W: Write, T: Tape>(
+    reader: &mut R,
+    writer: &mut W,
+    session: &mut Session<T>,
+    reads: u64,
+) -> Result<(), DebugFault>
+    // All lines up to a quit, or to the end, are answered.
+    ensures ok { OnOk result (Completes (core_size_of session.old) (R.remaining reader.old) (R.remaining reader.new)
+        session.old (W.contents writer.old) session.new (W.contents writer.new)) }
+
+    // The whole lines that were read are answered, and an unfinished one is not.
+    ensures read { result ≡ Err DebugFault.Read → ReadFails (core_size_of session.old) (R.remaining reader.old) (R.remaining reader.new)
+        session.old (W.contents writer.old) session.new (W.contents writer.new) }
+
+    // The lines up to one are answered, and of that one's text not all is written.
+    ensures write { result ≡ Err DebugFault.Write → WriteFails (core_size_of session.old) (R.remaining reader.old) (R.remaining reader.new)
+        session.old (W.contents writer.old) session.new (W.contents writer.new) }
+
+    // Each read has at most so many bytes.
+    ensures few { TakesAtMost (4096 * reads) (R.remaining reader.old) (R.remaining reader.new) }
+
+    // With no read nothing is done.
+    ensures no_reads { reads ≡ 0 → (result ≡ Err DebugFault.Read) × NothingDone (R.remaining reader.old) (R.remaining reader.new)
+        session.old (W.contents writer.old) session.new (W.contents writer.new) }
+{
+    let core_size = session.battle().params().core_size();
+    let mut line = LineBuffer::new();
+    let mut chunk = [0u8; CHUNK];
+    'reads: for _ in 0..reads {
+        let count = match reader.read(&mut chunk) {
+            Ok(count) => count,
+            Err(_) => return Err(DebugFault::Read),
+        };
+        if count == 0 {
+            return match take_last_line(&mut line, core_size, writer, session) {
+                Ok(()) => Ok(()),
+                Err(WriteFault) => Err(DebugFault::Write),
+            };
+        }
+        match take_bytes(&chunk[..count], &mut line, core_size, writer, session) {
+            Ok(Flow::More) => {}
+            Ok(Flow::Quit) => return Ok(()),
+            Err(WriteFault) => return Err(DebugFault::Write),
+        }
+    }
+    Err(DebugFault::Read)
+}
+
+/// `debug_within` with at most 4,294,967,296 reads, of at most 4,096 bytes each.
+pub fn debug<R: Read, W: Write, T: Tape>(
+    reader: &mut R,
+    writer: &mut W,
+    session: &mut Session<T>,
+) -> Result<(), DebugFault>
+    ensures ok { OnOk result (Completes (core_size_of session.old) (R.remaining reader.old) (R.remaining reader.new)
+        session.old (W.contents writer.old) session.new (W.contents writer.new)) }
+    ensures read { result ≡ Err DebugFault.Read → ReadFails (core_size_of session.old) (R.remaining reader.old) (R.remaining reader.new)
+        session.old (W.contents writer.old) session.new (W.contents writer.new) }
+    ensures write { result ≡ Err DebugFault.Write → WriteFails (core_size_of session.old) (R.remaining reader.old) (R.remaining reader.new)
+        session.old (W.contents writer.old) session.new (W.contents writer.new) }
+    ensures few { TakesAtMost (4096 * 4294967296) (R.remaining reader.old) (R.remaining reader.new) }
+{
+    debug_within(reader, writer, session, MOST_READS)
+}

@@ -1,0 +1,62 @@
+//! The line that is being read.
+ghost use Rattle.std.specs.Prelude.{◌≡◌, ℕ, List, [], ◌∷◌, ◌++◌, ◌==◌, ◌<◌, length};
+ghost use Rattle.mars_app.specs.Debugger.Lines.{line_asks};
+
+use crate::debugger::request::{Request, read_request};
+use arrayvec::ArrayVec;
+
+pub const LONGEST_LINE: usize = 256;
+
+/// The unfinished line, up to 256 bytes of it.
+#[derive(Drop)]
+pub struct LineBuffer {
+    bytes: ArrayVec<u8, LONGEST_LINE>,
+    is_overlong: bool,
+}
+
+impl LineBuffer {
+    ghost use Rattle.mars_app.specs.Code.LineBuffer.{Holds};
+
+    pub fn new() -> LineBuffer
+        ensures { Holds result [] }
+    {
+        LineBuffer {
+            bytes: ArrayVec::new(),
+            is_overlong: false,
+        }
+    }
+
+    /// Takes one more byte of the line.
+    pub fn push(&mut self, byte: u8)
+        ensures { (line : List ℕ) → Holds self.old line → Holds self.new (line ++ byte ∷ []) }
+    {
+        if self.bytes.is_full() {
+            self.is_overlong = true;
+        } else {
+            self.bytes.push(byte);
+        }
+    }
+
+    /// Whether no byte of a line was taken.
+    pub fn is_empty(&self) -> bool
+        ensures { (line : List ℕ) → Holds self.now line → result ≡ (length line == 0) }
+    {
+        self.bytes.is_empty()
+    }
+
+    /// What the line asks for in a core of that size. The next line begins.
+    pub fn take_request(&mut self, core_size: u32) -> Request
+        requires { 0 < core_size }
+        ensures request { (line : List ℕ) → Holds self.old line → result ≡ line_asks core_size line }
+        ensures next { Holds self.new [] }
+    {
+        let request = if self.is_overlong {
+            Request::Unknown
+        } else {
+            read_request(self.bytes.as_slice(), core_size)
+        };
+        self.bytes.clear();
+        self.is_overlong = false;
+        request
+    }
+}

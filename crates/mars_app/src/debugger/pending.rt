@@ -1,0 +1,68 @@
+//! Text that waits to be written with what follows it.
+ghost use Rattle.std.specs.Prelude.{◌≡◌, ℕ, List, Option, [], ◌++◌, OnOk, OnErr};
+ghost use Rattle.std.specs.Io.KnownBytes.{Appends};
+ghost use Rattle.mars_cell.specs.Output.{CutShort};
+ghost use Rattle.mars_app.specs.Code.Waiting.{Waits};
+
+use arrayvec::ArrayString;
+use mars_cell::{Line, WriteFault, write_text};
+use std::io::Write;
+use std::marker::Model;
+
+/// How many bytes may wait.
+const ROOM: usize = 4096;
+
+/// Text that waits to be written, so that many short lines go out in few writes.
+#[derive(Drop)]
+pub struct Pending {
+    text: ArrayString<ROOM>,
+}
+
+impl Model for Pending {
+    ghost use Rattle.std.specs.Prelude.{List, ℕ};
+
+    ghost Value = { List ℕ };
+
+    ghost view = { λ p. p.text.bytes };
+}
+
+impl Pending {
+    /// Nothing waits.
+    pub fn new() -> Self
+        ensures { result ≡ [] }
+    {
+        Pending {
+            text: ArrayString::new(),
+        }
+    }
+
+    /// Writes all that waits.
+    pub fn write<W: Write>(&mut self, writer: &mut W) -> Result<(), WriteFault>
+        ensures ok { OnOk result ((old : Option (List ℕ)) (text : List ℕ) → Waits old (W.contents writer.old) self.old text → Appends old (W.contents writer.new) text) }
+        ensures err { OnErr result ((old : Option (List ℕ)) (text : List ℕ) → Waits old (W.contents writer.old) self.old text → CutShort old (W.contents writer.new) text) }
+        ensures empty { OnOk result (self.new ≡ []) }
+    {
+        match write_text(writer, self.text.as_str().as_bytes()) {
+            Ok(()) => {
+                self.text.clear();
+                Ok(())
+            }
+            Err(fault) => Err(fault),
+        }
+    }
+
+    /// Puts a line behind what waits, after that was written where there is no room for both.
+    pub fn push<W: Write>(&mut self, writer: &mut W, line: &Line) -> Result<(), WriteFault>
+        ensures ok { OnOk result ((old : Option (List ℕ)) (text : List ℕ) → Waits old (W.contents writer.old) self.old text → Waits old (W.contents writer.new) self.new (text ++ line.now.bytes)) }
+        ensures err { OnErr result ((old : Option (List ℕ)) (text : List ℕ) → Waits old (W.contents writer.old) self.old text → CutShort old (W.contents writer.new) text) }
+    {
+        if self.text.remaining_capacity() < line.len() {
+            match self.write(writer) {
+                Ok(()) => {}
+                Err(fault) => return Err(fault),
+            }
+        }
+        self.text.push_str(line.as_str());
+        Ok(())
+    }
+}

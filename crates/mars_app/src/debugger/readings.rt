@@ -1,0 +1,201 @@
+//! Writing what the lines answer that change nothing.
+ghost use Rattle.std.specs.Prelude.{◌≡◌, ◌<◌, ◌≤◌, ◌++◌, length, OnOk, OnErr};
+ghost use Rattle.std.specs.Io.KnownBytes.{Appends};
+ghost use Rattle.std.specs.List.{flat_map};
+ghost use Rattle.mars_cell.specs.Output.{CutShort};
+ghost use Rattle.mars_core.specs.State.{cell_at, queue_of};
+ghost use Rattle.arrayvec.specs.ArrayString.{array_string_len};
+ghost use Rattle.mars_app.specs.Debugger.Readings.{cell_line, line_at, list_text, most_listed, texts, queue_text, process_text, warrior_text, life_text, death_of, show_text, end_text};
+
+use crate::debugger::pending::Pending;
+use crate::debugger::replies::{fixed, refusal_line, standing_line};
+use mars_cell::{Line, WriteFault, numbered, push_number, write_text};
+use mars_core::{Battle, Death};
+use mars_session::{Refusal, Standing};
+use std::io::Write;
+
+/// The line of the cell at an address.
+fn cell_line(battle: &Battle, address: u32) -> Line
+    requires { address < battle.now.params.core_size }
+    ensures { result.bytes ≡ cell_line battle.now.params.core_size address (cell_at battle.now.core address) }
+{
+    let core_size = battle.params().core_size();
+    let cell = battle.cell(address).unwrap();
+    let mut line = numbered("", u64::from(address), " ");
+    line.push_str(cell.text(core_size).as_str());
+    line.push_str("\n");
+    line
+}
+
+/// Writes the lines of so many cells from an address on, around the core.
+fn write_cells<W: Write>(
+    writer: &mut W,
+    battle: &Battle,
+    address: u64,
+    count: u64,
+) -> Result<(), WriteFault>
+    requires address { address < battle.now.params.core_size }
+    requires count { count ≤ most_listed }
+    ensures ok { OnOk result (Appends (W.contents writer.old) (W.contents writer.new) (texts (line_at battle.now address) count)) }
+    ensures err { OnErr result (CutShort (W.contents writer.old) (W.contents writer.new) (texts (line_at battle.now address) count)) }
+{
+    let core_size = u64::from(battle.params().core_size());
+    let mut pending = Pending::new();
+    for i in 0..count {
+        let line = cell_line(battle, ((address + i) % core_size) as u32);
+        match pending.push(writer, &line) {
+            Ok(()) => {}
+            Err(fault) => return Err(fault),
+        }
+    }
+    pending.write(writer)
+}
+
+/// The most cells of one list.
+const MOST_LISTED: u64 = 1_000_000;
+
+/// Writes so many cells from an address on, around the core.
+#[tactic(auto, unfolding(crate::specs::Debugger::Readings::list_text))]
+pub fn write_list<W: Write>(
+    writer: &mut W,
+    battle: &Battle,
+    address: u64,
+    count: u64,
+) -> Result<(), WriteFault>
+    ensures ok { OnOk result (Appends (W.contents writer.old) (W.contents writer.new) (list_text battle.now address count)) }
+    ensures err { OnErr result (CutShort (W.contents writer.old) (W.contents writer.new) (list_text battle.now address count)) }
+{
+    if count == 0 || count > MOST_LISTED {
+        return write_text(writer, refusal_line(Refusal::Count).as_str().as_bytes());
+    }
+    if address >= u64::from(battle.params().core_size()) {
+        return write_text(writer, refusal_line(Refusal::Address).as_str().as_bytes());
+    }
+    write_cells(writer, battle, address, count)
+}
+
+/// A space and an address.
+fn process_part(address: u32) -> Line
+    ensures { result.bytes ≡ process_text address }
+{
+    numbered(" ", u64::from(address), "")
+}
+
+/// Writes a space and an address for each process of a warrior, the front first.
+fn write_processes<W: Write>(
+    writer: &mut W,
+    battle: &Battle,
+    warrior: usize,
+) -> Result<(), WriteFault>
+    ensures ok { OnOk result (Appends (W.contents writer.old) (W.contents writer.new) (flat_map process_text (queue_of battle.now.queues warrior))) }
+    ensures err { OnErr result (CutShort (W.contents writer.old) (W.contents writer.new) (flat_map process_text (queue_of battle.now.queues warrior))) }
+{
+    let mut pending = Pending::new();
+    for place in 0..battle.queue_len(warrior) {
+        let address = battle.process(warrior, place).unwrap();
+        match pending.push(writer, &process_part(address)) {
+            Ok(()) => {}
+            Err(fault) => return Err(fault),
+        }
+    }
+    pending.write(writer)
+}
+
+/// Writes the addresses of a warrior's processes, the front first.
+#[tactic(auto, unfolding(crate::specs::Debugger::Readings::queue_text))]
+pub fn write_queue<W: Write>(
+    writer: &mut W,
+    battle: &Battle,
+    warrior: u64,
+) -> Result<(), WriteFault>
+    ensures ok { OnOk result (Appends (W.contents writer.old) (W.contents writer.new) (queue_text battle.now warrior)) }
+    ensures err { OnErr result (CutShort (W.contents writer.old) (W.contents writer.new) (queue_text battle.now warrior)) }
+{
+    if warrior >= battle.warriors() as u64 {
+        return write_text(
+            writer,
+            refusal_line(Refusal::NoSuchWarrior).as_str().as_bytes(),
+        );
+    }
+    let head = numbered("queue ", warrior, ":");
+    write_text(writer, head.as_str().as_bytes())?;
+    write_processes(writer, battle, warrior as usize)?;
+    write_text(writer, b"\n")
+}
+
+/// The death of a warrior, where it died.
+fn find_death(deaths: &[Death], warrior: usize) -> Option<Death>
+    ensures { result ≡ death_of deaths.now warrior }
+{
+    deaths
+        .iter()
+        .copied()
+        .find(|death| death.warrior as usize == warrior)
+}
+
+/// Appends how a warrior fares.
+fn push_life(line: &mut Line, battle: &Battle, warrior: usize)
+    requires { array_string_len line.old < 100 }
+    ensures bytes { line.new.bytes ≡ line.old.bytes ++ life_text (queue_of battle.now.queues warrior) (death_of battle.now.deaths warrior) }
+    ensures len { array_string_len line.new < 150 }
+{
+    match find_death(battle.deaths(), warrior) {
+        Some(death) => {
+            line.push_str(" dead ");
+            push_number(line, u64::from(death.turns));
+        }
+        None => {
+            line.push_str(" processes ");
+            push_number(line, battle.queue_len(warrior) as u64);
+        }
+    }
+}
+
+/// The line of a warrior.
+#[tactic(auto, unfolding(crate::specs::Debugger::Readings::warrior_text))]
+fn warrior_line(battle: &Battle, warrior: usize) -> Line
+    ensures { result.bytes ≡ warrior_text battle.now warrior }
+{
+    let mut line = numbered("warrior ", warrior as u64, "");
+    push_life(&mut line, battle, warrior);
+    line.push_str("\n");
+    line
+}
+
+/// Writes the line of each warrior.
+fn write_warriors<W: Write>(writer: &mut W, battle: &Battle) -> Result<(), WriteFault>
+    ensures ok { OnOk result (Appends (W.contents writer.old) (W.contents writer.new) (texts (warrior_text battle.now) (length battle.now.queues))) }
+    ensures err { OnErr result (CutShort (W.contents writer.old) (W.contents writer.new) (texts (warrior_text battle.now) (length battle.now.queues))) }
+{
+    for warrior in 0..battle.warriors() {
+        let line = warrior_line(battle, warrior);
+        write_text(writer, line.as_str().as_bytes())?;
+    }
+    Ok(())
+}
+
+/// Whether the battle is over.
+fn end_line(battle: &Battle) -> Line
+    ensures { result.bytes ≡ end_text battle.now }
+{
+    if battle.is_over() {
+        fixed("battle over\n")
+    } else {
+        fixed("battle running\n")
+    }
+}
+
+/// Writes where the session stands, each warrior, and whether the battle is over.
+#[tactic(auto, unfolding(crate::specs::Debugger::Readings::show_text))]
+pub fn write_show<W: Write>(
+    writer: &mut W,
+    standing: Standing,
+    battle: &Battle,
+) -> Result<(), WriteFault>
+    ensures ok { OnOk result (Appends (W.contents writer.old) (W.contents writer.new) (show_text standing battle.now)) }
+    ensures err { OnErr result (CutShort (W.contents writer.old) (W.contents writer.new) (show_text standing battle.now)) }
+{
+    write_text(writer, standing_line(standing).as_str().as_bytes())?;
+    write_warriors(writer, battle)?;
+    write_text(writer, end_line(battle).as_str().as_bytes())
+}

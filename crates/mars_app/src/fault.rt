@@ -1,0 +1,55 @@
+//! What ends a run, and with which status.
+ghost use Rattle.std.specs.Prelude.{◌≡◌, ◌≤◌};
+
+use mars_cell::{LoadFault, ParamFault};
+use mars_core::BattleFault;
+use mars_match::PlaceFault;
+use redcode_asm::{AsmFault, FormulaFault};
+use redcode_text::ExprFault;
+use thiserror::Error;
+
+/// Why a run ends with another status than 0. It is displayed as the line for it.
+#[derive(Debug, Drop, Error)]
+pub enum RunFault {
+    #[error("mars: bad words")]
+    Words,
+    #[error("mars: parameters {0}")]
+    Parameters(ParamFault),
+    #[error("mars: formula {0}")]
+    Formula(FormulaFault),
+    #[error("mars: {0}: cannot read")]
+    CannotRead(String),
+    #[error("mars: {0}: too large")]
+    TooLarge(String),
+    #[error("mars: {0}: line {1}: {2}")]
+    Assembly(String, usize, AsmFault),
+    #[error("mars: {0}: line {1}: load {2}")]
+    Load(String, usize, LoadFault),
+    #[error("mars: placement {0}")]
+    Placement(PlaceFault),
+    #[error("mars: battle {0}")]
+    Battle(BattleFault),
+    #[error("mars: score {0}")]
+    Score(ExprFault),
+    #[error("mars: out of memory")]
+    OutOfMemory,
+    #[error("mars: cannot write")]
+    Output,
+    #[error("mars: cannot read the commands")]
+    Commands,
+}
+
+impl RunFault {
+    ghost use Rattle.mars_app.specs.Status.{status_of};
+
+    /// The exit status: 2 for a fault of the words, 1 for one of input or files.
+    pub fn status(&self) -> u8
+        ensures value { result ≡ status_of self.now }
+        ensures range { (1 ≤ result) × (result ≤ 2) }
+    {
+        match self {
+            RunFault::Words | RunFault::Parameters(_) | RunFault::Formula(_) => 2,
+            _ => 1,
+        }
+    }
+}

@@ -1,0 +1,325 @@
+//! The program `mars`, over files and streams that are handed in.
+ghost use Rattle.std.specs.Prelude.{◌≡◌, ◌≢◌, ◌≤◌, ◌⊎◌, ℕ, IfErr, IfOk, List, Ok, OnOk, Vec, length, map, string_bytes, vec_len};
+ghost use Rattle.std.specs.Global.{Global};
+ghost use Rattle.std.specs.Io.KnownBytes.{Appends, Keeps};
+ghost use Rattle.mars_core.specs.State.{State};
+ghost use Rattle.mars_match.specs.Answers.{IsAnswer};
+ghost use Rattle.mars_match.specs.Rounds.{placed_for};
+ghost use Rattle.mars_cell.specs.Output.{CutShort};
+ghost use Rattle.mars_app.specs.Contests.{contest_size};
+ghost use Rattle.mars_app.specs.Debugging.{DebugsInPart, DebugsWell, StartsNothing, Untouched, first_round, session_at};
+ghost use Rattle.mars_app.specs.Loading.{AllFit, FitsTwo, IsLoadFileOf};
+ghost use Rattle.mars_app.specs.Code.Allowed.{AreInRange, IsBetween};
+ghost use Rattle.mars_app.specs.Code.Settings.{AreSettingsOf, IsRefused, PlaysInPart, PlaysWell};
+ghost use Rattle.mars_app.specs.Options.{Ask, parameters_of, value_of};
+ghost use Rattle.mars_app.specs.Faults.{FailsToLoad, RunFails};
+ghost use Rattle.mars_app.specs.Runs.{RunsWell};
+ghost use Rattle.mars_app.specs.Status.{status_of};
+ghost use Rattle.mars_app.specs.declared.fault.RunFault.{RunFault};
+ghost use Rattle.mars_cell.specs.ParameterFaults.{checked_parameters};
+ghost use Rattle.mars_core.specs.Limits.{most_warriors};
+ghost use Rattle.mars_app.specs.Limits.{longest_history};
+
+use crate::contest::{match_fault, run_contest, write_part};
+use crate::debugger::{DebugFault, debug};
+use crate::fault::RunFault;
+use crate::files::WarriorFiles;
+use crate::loading::{Contest, load_file_of, load_warriors};
+use crate::options::{Options, WordsFault, read_options};
+use mars_cell::{ParamFault, Params, Warrior};
+use mars_core::Battle;
+use mars_match::{MatchFault, PlaceFault, Plan, place};
+use mars_session::{RingTape, Session};
+use redcode_asm::{Formula, FormulaFault};
+use std::alloc::Global;
+use std::io::{Read, Write};
+
+/// Runs the program on the words after its name, and gives its exit status.
+///
+/// With status 0 it has written the help, a load file, the transcript of a debugged battle, or the listing and results of a
+/// match or a league; another status is that of the first fault. A fault is one line on `faults`; where that can't be
+/// written, the status is the same. The debugger alone reads `input`.
+pub fn run<F: WarriorFiles, R: Read, W: Write, E: Write>(
+    alloc: Global,
+    words: &[String],
+    files: &F,
+    input: &mut R,
+    output: &mut W,
+    faults: &mut E,
+) -> u8
+    ensures status { result ≤ 2 }
+    ensures done { result ≡ 0 → RunsWell (map (λ word. string_bytes word) words.now) (F.known files.now) (R.remaining input.old) (R.remaining input.new) (W.contents output.old) (W.contents output.new) }
+    ensures failed { result ≢ 0 → (fault : RunFault) × (result ≡ status_of fault) × RunFails (map (λ word. string_bytes word) words.now) (F.known files.now) (R.remaining input.old) (R.remaining input.new) (W.contents output.old) (W.contents output.new) fault }
+{
+    match run_words(alloc, words, files, input, output) {
+        Ok(()) => 0,
+        Err(fault) => {
+            write_fault(alloc, &fault, faults);
+            fault.status()
+        }
+    }
+}
+
+/// Writes the line of a fault in one piece, so that lines of programs that run side by side don't mix; in several where
+/// memory is refused.
+pub fn write_fault<E: Write>(alloc: Global, fault: &RunFault, faults: &mut E) {
+    let _ = match format!(in alloc; "{fault}\n") {
+        Ok(line) => faults.write_all(line.as_str().as_bytes()),
+        Err(_) => writeln!(faults, "{fault}"),
+    };
+}
+
+fn run_words<F: WarriorFiles, R: Read, W: Write>(
+    alloc: Global,
+    words: &[String],
+    files: &F,
+    input: &mut R,
+    output: &mut W,
+) -> Result<(), RunFault>
+    ensures ok { OnOk result (RunsWell (map (λ word. string_bytes word) words.now) (F.known files.now) (R.remaining input.old) (R.remaining input.new) (W.contents output.old) (W.contents output.new)) }
+    ensures err { IfErr result (RunFails (map (λ word. string_bytes word) words.now) (F.known files.now) (R.remaining input.old) (R.remaining input.new) (W.contents output.old) (W.contents output.new)) }
+{
+    match read_options(alloc, words) {
+        Ok(options) => run_options(alloc, &options, files, input, output),
+        Err(WordsFault::BadWords) => Err(RunFault::Words),
+        Err(WordsFault::OutOfMemory) => Err(RunFault::OutOfMemory),
+        Err(WordsFault::Help(text)) => write_part(output, text.as_str().as_bytes()),
+    }
+}
+
+/// Does what the options ask for, whatever the words that said them.
+fn run_options<F: WarriorFiles, R: Read, W: Write>(
+    alloc: Global,
+    options: &Options,
+    files: &F,
+    input: &mut R,
+    output: &mut W,
+) -> Result<(), RunFault>
+    requires { AreInRange options.now }
+    ensures ok { OnOk result ((words : List (List ℕ)) → Ask words (value_of options.now)
+        → RunsWell words (F.known files.now) (R.remaining input.old) (R.remaining input.new) (W.contents output.old) (W.contents output.new)) }
+    ensures err { IfErr result (λ fault. (words : List (List ℕ)) → Ask words (value_of options.now)
+        → RunFails words (F.known files.now) (R.remaining input.old) (R.remaining input.new) (W.contents output.old) (W.contents output.new) fault) }
+{
+    let settings = Settings::new(alloc, options)?;
+    let done = settings.carry_out(alloc, options, files, input, output);
+    drop(settings);
+    done
+}
+
+/// What options come to before any file is read.
+#[derive(Drop)]
+struct Settings {
+    params: Params,
+    /// How a match or a league is held.
+    plan: Plan,
+}
+
+impl Settings {
+    /// Judges the parameters, and then the formula.
+    fn new(alloc: Global, options: &Options) -> Result<Settings, RunFault>
+        ensures ok { IfOk result (AreSettingsOf options.now) }
+        ensures err { IfErr result (IsRefused options.now) }
+    {
+        let params = match parameters(options) {
+            Ok(params) => params,
+            Err(fault) => return Err(RunFault::Parameters(fault)),
+        };
+        match Formula::new(alloc, options.score.as_bytes()) {
+            Ok(formula) => Ok(Settings {
+                params,
+                plan: Plan {
+                    rounds: options.rounds,
+                    seed: options.seed,
+                    fixed: options.fixed,
+                    formula,
+                },
+            }),
+            Err(FormulaFault::OutOfMemory) => Err(RunFault::OutOfMemory),
+            Err(FormulaFault::Expression(fault)) => {
+                Err(RunFault::Formula(FormulaFault::Expression(fault)))
+            }
+        }
+    }
+
+    /// Reads the warriors of the files, and does with them what the options ask for.
+    #[tactic(auto, using(crate::proofs::Positions::position_fits))]
+    fn carry_out<F: WarriorFiles, R: Read, W: Write>(
+        &self,
+        alloc: Global,
+        options: &Options,
+        files: &F,
+        input: &mut R,
+        output: &mut W,
+    ) -> Result<(), RunFault>
+        requires range { AreInRange options.now }
+        requires settings { AreSettingsOf options.now self.now }
+        ensures ok { OnOk result ((words : List (List ℕ)) → Ask words (value_of options.now)
+            → RunsWell words (F.known files.now) (R.remaining input.old) (R.remaining input.new) (W.contents output.old) (W.contents output.new)) }
+        ensures err { IfErr result (λ fault. (words : List (List ℕ)) → Ask words (value_of options.now)
+            → RunFails words (F.known files.now) (R.remaining input.old) (R.remaining input.new) (W.contents output.old) (W.contents output.new) fault) }
+    {
+        let contest = Contest {
+            params: &self.params,
+            rounds: options.rounds,
+            warriors: contest_size(options),
+        };
+        if options.load {
+            return write_load_file_of(alloc, files, options.files[0].as_str(), contest, output);
+        }
+        let warriors = load_warriors(alloc, files, options.files.as_slice(), contest)?;
+        let done = self.play(alloc, options, &warriors, input, output);
+        drop(warriors);
+        done
+    }
+
+    /// Debugs the battle of the warriors, or holds their contest.
+    fn play<R: Read, W: Write>(
+        &self,
+        alloc: Global,
+        options: &Options,
+        warriors: &[Warrior],
+        input: &mut R,
+        output: &mut W,
+    ) -> Result<(), RunFault>
+        requires settings { AreSettingsOf options.now self.now }
+        requires fit { AllFit self.now.params.core_size warriors.now }
+        requires some { 1 ≤ length warriors.now }
+        requires few { length warriors.now ≤ most_warriors }
+        requires position { FitsTwo self.now.params (length warriors.now) options.now.fixed }
+        requires history { IsBetween 1 longest_history options.now.history }
+        ensures ok { OnOk result (PlaysWell options.now self.now.params self.now.plan.formula warriors.now (R.remaining input.old) (R.remaining input.new) (W.contents output.old) (W.contents output.new)) }
+        ensures err { IfErr result (PlaysInPart options.now self.now.params self.now.plan.formula warriors.now (R.remaining input.old) (R.remaining input.new) (W.contents output.old) (W.contents output.new)) }
+    {
+        if options.debugger {
+            return debug_round(alloc, options, &self.params, warriors, input, output);
+        }
+        run_contest(alloc, options, &self.plan, &self.params, warriors, output)
+    }
+}
+
+/// The parameters that the words ask for: a limit that isn't given is the core size.
+fn parameters(options: &Options) -> Result<Params, ParamFault>
+    ensures value { result ≡ checked_parameters (parameters_of options.now) }
+    ensures core { IfOk result (λ p. p.core_size ≡ options.now.core) }
+    ensures distance { IfOk result (λ p. p.distance ≡ options.now.distance) }
+{
+    Params::new(
+        options.core,
+        options.processes,
+        options.cycles,
+        options.read_limit.unwrap_or(options.core),
+        options.write_limit.unwrap_or(options.core),
+        options.longest,
+        options.distance,
+    )
+}
+
+/// How many warriors meet: in a league two, else all.
+fn contest_size(options: &Options) -> u32
+    requires { vec_len options.now.files ≤ most_warriors }
+    ensures { result ≡ contest_size options.now }
+{
+    if options.league {
+        2
+    } else {
+        options.files.len() as u32
+    }
+}
+
+/// Writes the load file of a warrior's file.
+fn write_load_file_of<F: WarriorFiles, W: Write>(
+    alloc: Global,
+    files: &F,
+    name: &str,
+    contest: Contest<'_>,
+    output: &mut W,
+) -> Result<(), RunFault>
+    ensures ok { let c = contest.entry in OnOk result ((text : List ℕ)
+        × IsLoadFileOf (F.known files.now) c.params.now c.rounds c.warriors name.now text × Appends (W.contents output.old) (W.contents output.new) text) }
+    ensures err { let c = contest.entry in IfErr result (λ fault. (FailsToLoad (F.known files.now) c.params.now c.rounds c.warriors name.now fault × Keeps (W.contents output.old) (W.contents output.new))
+        ⊎ ((fault ≡ RunFault.Output) × (text : List ℕ)
+        × IsLoadFileOf (F.known files.now) c.params.now c.rounds c.warriors name.now text × CutShort (W.contents output.old) (W.contents output.new) text)) }
+{
+    let text = load_file_of(alloc, files, name, contest)?;
+    write_part(output, &text)
+}
+
+/// Debugs the battle of round 0 by the lines of the input.
+fn debug_round<R: Read, W: Write>(
+    alloc: Global,
+    options: &Options,
+    params: &Params,
+    warriors: &[Warrior],
+    input: &mut R,
+    output: &mut W,
+) -> Result<(), RunFault>
+    requires some { 1 ≤ length warriors.now }
+    requires few { length warriors.now ≤ most_warriors }
+    requires position { FitsTwo params.now (length warriors.now) options.now.fixed }
+    requires history { IsBetween 1 longest_history options.now.history }
+    ensures ok { OnOk result ((s : State) × (first_round options.now params.now warriors.now ≡ Ok s)
+        × DebugsWell (session_at options.now.history s) s.params.core_size (R.remaining input.old) (R.remaining input.new) (W.contents output.old) (W.contents output.new)) }
+    ensures err { IfErr result (λ fault. StartsNothing fault (first_round options.now params.now warriors.now) (R.remaining input.old) (R.remaining input.new) (W.contents output.old) (W.contents output.new)
+        ⊎ ((s : State) × (first_round options.now params.now warriors.now ≡ Ok s)
+        × DebugsInPart fault (session_at options.now.history s) s.params.core_size (R.remaining input.old) (R.remaining input.new) (W.contents output.old) (W.contents output.new))) }
+{
+    let (starts, _seed) = match place_first(alloc, options, params, warriors.len() as u32) {
+        Ok(placed) => placed,
+        Err(fault) => return Err(match_fault(fault)),
+    };
+    match Battle::new(alloc, params, warriors, &starts) {
+        Ok(battle) => debug_battle(alloc, battle, options.history, input, output),
+        Err(fault) => Err(match_fault(MatchFault::Battle(fault))),
+    }
+}
+
+/// Where the warriors of round 0 are laid, and the seed that is left.
+fn place_first(
+    alloc: Global,
+    options: &Options,
+    params: &Params,
+    warriors: u32,
+) -> Result<(Vec<u32>, u32), MatchFault>
+    requires some { 1 ≤ warriors }
+    requires few { warriors ≤ most_warriors }
+    requires position { FitsTwo params.now warriors options.now.fixed }
+    ensures value { IsAnswer (λ (placed : Vec ℕ Global × ℕ). (placed.0.items, placed.1)) (placed_for params.now warriors options.now.fixed options.now.seed) result }
+    ensures many { IfOk result (λ placed. vec_len placed.0 ≡ warriors) }
+{
+    let Some(position) = options.fixed else {
+        return match place(alloc, params, warriors, options.seed) {
+            Ok(placed) => Ok(placed),
+            Err(PlaceFault::OutOfMemory) => Err(MatchFault::OutOfMemory),
+            Err(fault) => Err(MatchFault::Place(fault)),
+        };
+    };
+    match vec![in alloc; 0, position] {
+        Ok(starts) => Ok((starts, options.seed)),
+        Err(_) => Err(MatchFault::OutOfMemory),
+    }
+}
+
+/// Debugs a battle by the lines of the input, with a history that keeps so many places beside the last one.
+fn debug_battle<R: Read, W: Write>(
+    alloc: Global,
+    battle: Battle,
+    history: u32,
+    input: &mut R,
+    output: &mut W,
+) -> Result<(), RunFault>
+    requires { IsBetween 1 longest_history history }
+    ensures ok { OnOk result (DebugsWell (session_at history battle) battle.params.core_size (R.remaining input.old) (R.remaining input.new) (W.contents output.old) (W.contents output.new)) }
+    ensures err { IfErr result (λ fault. ((fault ≡ RunFault.OutOfMemory) × Untouched (R.remaining input.old) (R.remaining input.new) (W.contents output.old) (W.contents output.new))
+        ⊎ DebugsInPart fault (session_at history battle) battle.params.core_size (R.remaining input.old) (R.remaining input.new) (W.contents output.old) (W.contents output.new)) }
+{
+    let Ok(tape) = RingTape::new(alloc, battle, history as usize) else {
+        return Err(RunFault::OutOfMemory);
+    };
+    let mut session = Session::new(tape, u64::from(history));
+    match debug(input, output, &mut session) {
+        Ok(()) => Ok(()),
+        Err(DebugFault::Read) => Err(RunFault::Commands),
+        Err(DebugFault::Write) => Err(RunFault::Output),
+    }
+}

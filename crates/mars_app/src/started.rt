@@ -1,0 +1,73 @@
+//! The program as it was started.
+ghost use Rattle.std.specs.Prelude.{◌≡◌, ◌≢◌, ◌⊎◌, ℕ, IfErr, List};
+ghost use Rattle.mars_app.specs.Debugging.{Untouched};
+ghost use Rattle.mars_app.specs.Faults.{RunFails};
+ghost use Rattle.mars_app.specs.Runs.{RunsWell};
+ghost use Rattle.mars_app.specs.Status.{status_of};
+ghost use Rattle.mars_app.specs.declared.fault.RunFault.{RunFault};
+
+use crate::fault::RunFault;
+use crate::files::WarriorFiles;
+use crate::runs::{run, write_fault};
+use std::alloc::Global;
+use std::env::{self, Env, FillError};
+use std::io::{ErrorKind, Read, Write};
+
+/// Runs the program on the words that it was started with, and gives its exit status, as `run` does.
+///
+/// A word that isn't UTF-8 is bad words: nothing is read from `input` or written on `output` then.
+pub fn start<V: Env, F: WarriorFiles, R: Read, W: Write, E: Write>(
+    alloc: Global,
+    env: &V,
+    files: &F,
+    input: &mut R,
+    output: &mut W,
+    faults: &mut E,
+) -> u8
+    ensures done { result ≡ 0 → (words : List (List ℕ)) × RunsWell words (F.known files.now) (R.remaining input.old) (R.remaining input.new) (W.contents output.old) (W.contents output.new) }
+    ensures failed { result ≢ 0 → (fault : RunFault) × (result ≡ status_of fault)
+        × (((fault ≡ RunFault.Words) × Untouched (R.remaining input.old) (R.remaining input.new) (W.contents output.old) (W.contents output.new))
+        ⊎ ((words : List (List ℕ)) × RunFails words (F.known files.now) (R.remaining input.old) (R.remaining input.new) (W.contents output.old) (W.contents output.new) fault)) }
+{
+    match words_behind_name(alloc, env) {
+        Ok(words) => run(alloc, words.as_slice(), files, input, output, faults),
+        Err(fault) => {
+            write_fault(alloc, &fault, faults);
+            fault.status()
+        }
+    }
+}
+
+/// The words behind the program's own name. The name isn't judged: whoever starts the program gives it, and it need not
+/// be text.
+fn words_behind_name<E: Env>(alloc: Global, env: &E) -> Result<Vec<String>, RunFault>
+    ensures { IfErr result (λ fault. (fault ≡ RunFault.Words) ⊎ (fault ≡ RunFault.OutOfMemory)) }
+{
+    let words = match env::args(&(BehindName(env), alloc)) {
+        Ok(words) => words,
+        Err(error) if error.kind() == ErrorKind::OutOfMemory => return Err(RunFault::OutOfMemory),
+        Err(_) => return Err(RunFault::Words),
+    };
+    let Ok(words) = words.collect::<Vec<String>>(alloc) else {
+        return Err(RunFault::OutOfMemory);
+    };
+    Ok(words)
+}
+
+/// An environment without the program's own name: its first word is the one behind that.
+#[derive(Drop)]
+struct BehindName<'e, E>(&'e E);
+
+impl<E: Env> Env for BehindName<'_, E> {
+    fn arg(&self, i: usize, buf: &mut [u8]) -> Result<usize, FillError> {
+        self.0.arg(i.saturating_add(1), buf)
+    }
+
+    fn var(&self, name: &str, buf: &mut [u8]) -> Result<usize, FillError> {
+        self.0.var(name, buf)
+    }
+
+    fn var_at(&self, i: usize, buf: &mut [u8]) -> Result<usize, FillError> {
+        self.0.var_at(i, buf)
+    }
+}

@@ -1,0 +1,117 @@
+//! The debugger takes no memory, and over a ring of records no command of it does. The test makes its objects, asks for
+//! memory once more, and holds whether that and all that comes after it is refused or not: scripts/refuse-memory refuses all
+//! requests from each on. Where the objects themselves are refused, there is nothing to show.
+use super::{AMPLE, IMP, Narrow, Pieces};
+use mars_cell::{Params, read_load};
+use mars_core::Battle;
+use mars_app::{DebugFault, debug_within};
+use mars_session::{RingTape, Session};
+use std::alloc::Global;
+use std::process::Abort;
+use std::test::Fail;
+
+/// Every kind of line.
+const INPUT: &[u8] =
+    b"step\nqueue 0\nrun 3\nuntil 5\nundo\nredo\ngoto 2\nedit 7 NOP.F $0, $0\nfill 3 4 NOP.F $1, $0\nspawn 0 5\nmove 0 0 3\nkill 0 1\nlist 2 4\nshow\nredo\nbad\nrun 200\n";
+
+/// Asks for memory, which is the first request of all that are refused.
+fn ask(alloc: Global) {
+    let _asked: Result<Vec<u64>, _> = Vec::with_capacity(alloc, 1);
+}
+
+/// The session that the program has, of one imp.
+fn imp_session(alloc: Global, params: &Params) -> Option<Session<RingTape>> {
+    let mut warriors = Vec::new(alloc);
+    warriors.push(read_load(alloc, IMP, params).ok()?).ok()?;
+    let battle = Battle::new(alloc, params, warriors.as_slice(), &[0]).ok();
+    drop(warriors);
+    let tape = RingTape::new(alloc, battle?, 100).ok()?;
+    Some(Session::new(tape, AMPLE))
+}
+
+/// A writer with so much room, and memory for it.
+fn writer(alloc: Global, room: usize) -> Option<Narrow> {
+    Some(Narrow {
+        bytes: Vec::with_capacity(alloc, 2000).ok()?,
+        size: 7,
+        room,
+    })
+}
+
+/// How the debugger is run: whether the reader fails at its end, the writer's room, and at most so many reads.
+#[derive(Clone, Copy)]
+struct Case {
+    fails: bool,
+    room: usize,
+    reads: u64,
+}
+
+impl Case {
+    /// What the debugger writes to a writer and answers.
+    fn debugged(
+        self,
+        session: &mut Session<RingTape>,
+        writer: &mut Narrow,
+    ) -> Result<(), DebugFault> {
+        let mut reader = Pieces {
+            rest: INPUT,
+            size: 3,
+            fails: self.fails,
+        };
+        debug_within(&mut reader, writer, session, self.reads)
+    }
+}
+
+/// A session answers this, and another one over which no memory is left does and writes the same.
+fn check_sessions(
+    rt: &impl Abort,
+    alloc: Global,
+    ample: &mut Session<RingTape>,
+    poor: &mut Session<RingTape>,
+    case: Case,
+    done: Result<(), DebugFault>,
+) {
+    let (Some(mut text), Some(mut poor_text)) = (writer(alloc, case.room), writer(alloc, case.room))
+    else {
+        return;
+    };
+    assert_eq!(rt; case.debugged(ample, &mut text), done);
+    ask(alloc);
+    assert_eq!(rt; case.debugged(poor, &mut poor_text), done);
+    assert!(rt; poor_text.bytes.as_slice() == text.bytes.as_slice());
+    assert_eq!(rt; poor.standing(), ample.standing());
+}
+
+/// So it is with this session and a new one.
+fn check_session(
+    rt: &impl Abort,
+    alloc: Global,
+    params: &Params,
+    ample: &mut Session<RingTape>,
+    case: Case,
+    done: Result<(), DebugFault>,
+) {
+    if let Some(mut poor) = imp_session(alloc, params) {
+        check_sessions(rt, alloc, ample, &mut poor, case, done);
+        drop(poor);
+    }
+}
+
+#[test]
+fn commands_over_a_ring(rt: HostRuntime) -> Result<(), Fail> {
+    let alloc = rt.alloc();
+    let params = Params::new(8, 8000, 80000, 8, 8, 1, 1)?;
+    for (fails, room, reads, done) in [
+        (false, 2000, 1000, Ok(())),
+        (true, 2000, 1000, Err(DebugFault::Read)),
+        (false, 2000, 20, Err(DebugFault::Read)),
+        (false, 100, 1000, Err(DebugFault::Write)),
+    ] {
+        let case = Case { fails, room, reads };
+        if let Some(mut ample) = imp_session(alloc, &params) {
+            check_session(&rt, alloc, &params, &mut ample, case, done);
+            drop(ample);
+        }
+    }
+    Ok(())
+}

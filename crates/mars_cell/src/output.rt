@@ -1,0 +1,76 @@
+//! Writing a text so that what went out of it is known, and lines of fixed size with numbers in them.
+ghost use Rattle.std.specs.Prelude.{◌≡◌, ◌+◌, ◌≤◌, ◌++◌, length, decimal, OnOk, OnErr};
+ghost use Rattle.std.specs.Io.KnownBytes.{Appends};
+ghost use Rattle.arrayvec.specs.ArrayString.{array_string_len};
+ghost use Rattle.mars_cell.specs.Output.{CutShort, right};
+
+use arrayvec::ArrayString;
+use itoa::Buffer;
+use std::io::Write;
+use thiserror::Error;
+
+/// A writer that failed, or that took no byte of a text.
+#[derive(Clone, Copy, Debug, PartialEq, Eq, Error)]
+#[error("cannot write")]
+pub struct WriteFault;
+
+/// Writes the whole text, or a beginning of it that isn't all of it. It takes no memory.
+pub fn write_text<W: Write>(writer: &mut W, text: &[u8]) -> Result<(), WriteFault>
+    ensures ok { OnOk result (Appends (W.contents writer.old) (W.contents writer.new) text.now) }
+    ensures err { OnErr result (CutShort (W.contents writer.old) (W.contents writer.new) text.now) }
+{
+    let mut start = 0;
+    while start < text.len() {
+        match writer.write(&text[start..]) {
+            Ok(0) => return Err(WriteFault),
+            Ok(count) => start += count,
+            Err(_) => return Err(WriteFault),
+        }
+    }
+    Ok(())
+}
+
+/// Room for the longest line, that of a result: four numbers of 20 digits with four spaces, and two names of 60 bytes with
+/// six more.
+pub const LINE: usize = 211;
+
+/// A line of the output, or a part of one.
+pub type Line = ArrayString<LINE>;
+
+/// Appends a number in decimal.
+pub fn push_number(line: &mut Line, number: u64)
+    requires { array_string_len line.old + 20 ≤ LINE }
+    ensures bytes { line.new.bytes ≡ line.old.bytes ++ decimal number }
+    ensures len { array_string_len line.new ≤ array_string_len line.old + 20 }
+{
+    let mut digits = Buffer::new();
+    line.push_str(digits.format(number));
+}
+
+/// Appends a text, right in so many places.
+pub fn push_right(line: &mut Line, text: &str, places: usize)
+    requires places { places ≤ 20 }
+    requires text { length text.now ≤ 20 }
+    requires room { array_string_len line.old + 20 ≤ LINE }
+    ensures bytes { line.new.bytes ≡ line.old.bytes ++ right places text.now }
+    ensures len { array_string_len line.new ≤ array_string_len line.old + 20 }
+{
+    for _place in text.len()..places {
+        line.push_str(" ");
+    }
+    line.push_str(text);
+}
+
+/// A line that begins with a number, with a word before it and one behind it.
+pub fn numbered(before: &str, number: u64, after: &str) -> Line
+    requires before { length before.now ≤ 40 }
+    requires after { length after.now ≤ 40 }
+    ensures bytes { result.bytes ≡ before.now ++ decimal number ++ after.now }
+    ensures len { array_string_len result ≤ length before.now + 20 + length after.now }
+{
+    let mut line = Line::new();
+    line.push_str(before);
+    push_number(&mut line, number);
+    line.push_str(after);
+    line
+}

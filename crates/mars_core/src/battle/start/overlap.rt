@@ -1,0 +1,94 @@
+//! Whether warriors would be laid over one another.
+ghost use Rattle.std.specs.Prelude.{◌≡◌, length, IfOk, IsOk, IfSome, IfErr, MatchOption, nat_lt, ◌+◌, ◌%◌, ◌≤◌, ◌∷◌, [], map, All, true, ◌||◌};
+ghost use Rattle.mars_core.specs.Start.{start_fault, start_state, is_inside as spec_is_inside, fields_inside as spec_fields_inside, laid, all_laid, first_processes, addresses_from, loaded_addresses, has_duplicate, overlap};
+ghost use Rattle.std.specs.List.{list_all};
+ghost use Rattle.mars_cell.specs.Parameters.{AreInRange};
+ghost use Rattle.std.proofs.Common.{replicate};
+ghost use Rattle.mars_cell.specs.Cells.{empty_cell, FitsCore};
+ghost use Rattle.mars_core.specs.Validity.{IsCore};
+ghost use Rattle.mars_core.specs.Queue.{addresses_of, Queue};
+ghost use Rattle.mars_core.specs.Code.Distances.{distance as spec_distance, share};
+
+use mars_cell::Warrior;
+
+/// Whether two loaded cells share an address.
+pub fn has_overlap(core_size: u32, warriors: &[Warrior], starts: &[u32]) -> bool
+    requires core_size { 1 ≤ core_size }
+    requires starts { length starts.now ≡ length warriors.now }
+    ensures { result ≡ overlap core_size warriors.now starts.now }
+{
+    for i in 0..warriors.len() {
+        if clashes(
+            core_size,
+            &warriors[i],
+            starts[i],
+            &warriors[i + 1..],
+            &starts[i + 1..],
+        ) {
+            return true;
+        }
+    }
+    false
+}
+
+/// Whether two of a warrior's cells share an address, or one shares one with the others'.
+#[tactic(auto, using(crate::proofs::Overlaps::row_has_duplicate))]
+fn clashes(
+    core_size: u32,
+    warrior: &Warrior,
+    start: u32,
+    others: &[Warrior],
+    starts: &[u32],
+) -> bool
+    requires core_size { 1 ≤ core_size }
+    requires starts { length starts.now ≡ length others.now }
+    ensures { let row = addresses_from core_size start (length warrior.now.cells) in
+        result ≡ (has_duplicate row || share row (loaded_addresses core_size others.now starts.now)) }
+{
+    warrior.cells().len() > core_size as usize
+        || meets_others(core_size, warrior, start, others, starts)
+}
+
+/// Whether a warrior's cells share an address with those of the others.
+fn meets_others(
+    core_size: u32,
+    warrior: &Warrior,
+    start: u32,
+    others: &[Warrior],
+    starts: &[u32],
+) -> bool
+    requires core_size { 1 ≤ core_size }
+    requires starts { length starts.now ≡ length others.now }
+    ensures { result ≡ share (addresses_from core_size start (length warrior.now.cells)) (loaded_addresses core_size others.now starts.now) }
+{
+    let len = warrior.cells().len();
+    for i in 0..others.len() {
+        let other = &others[i];
+        if rows_share(core_size, start, len, starts[i], other.cells().len()) {
+            return true;
+        }
+    }
+    false
+}
+
+/// Whether two rows of cells have an address in common: one of them starts within the other.
+#[tactic(auto, using(crate::proofs::Overlaps::rows_share))]
+fn rows_share(core_size: u32, start: u32, len: usize, other_start: u32, other_len: usize) -> bool
+    requires core_size { 1 ≤ core_size }
+    requires len { 1 ≤ len }
+    requires other_len { 1 ≤ other_len }
+    ensures { result ≡ share (addresses_from core_size start len) (addresses_from core_size other_start other_len) }
+{
+    (distance(core_size, start, other_start) as usize) < len
+        || (distance(core_size, other_start, start) as usize) < other_len
+}
+
+/// How far it is from one address up to another.
+#[tactic(auto, unfolding(crate::specs::Code::Distances::distance))]
+fn distance(core_size: u32, from: u32, to: u32) -> u32
+    requires { 1 ≤ core_size }
+    ensures { result ≡ spec_distance core_size from to }
+{
+    let size = u64::from(core_size);
+    ((u64::from(to) + (size - u64::from(from) % size)) % size) as u32
+}

@@ -1,0 +1,95 @@
+//! Whose turn it is, in which cycle, and whether the battle is over (the clock of `specs/State`).
+ghost use Rattle.std.specs.Prelude.{◌≡◌, ◌==◌, ◌&&◌, ◌+◌, ◌<◌, ◌≤◌, length, false, true, [], ℕ, List, IfSome, All, not, if◌then◌else◌, ◌++◌};
+ghost use Rattle.arrayvec.specs.ArrayVec.{array_vec_len};
+ghost use Rattle.mars_core.specs.Limits.{most_warriors};
+ghost use Rattle.mars_core.specs.State.{advanced as spec_advanced, is_over_of, state_of, live_from, survivors_of, ends, is_empty, cell_at as spec_cell_at};
+ghost use Rattle.mars_core.specs.Queue.{addresses_of};
+ghost use Rattle.mars_core.specs.Turn.{turn_of, turn_record, with_death, front_of, front_execution, accepted, queue_after, execution_of};
+ghost use Rattle.mars_core.specs.Code.Operands.{IsUnlimited, IsAddressed, a_evaluated, b_evaluated, addressed};
+ghost use Rattle.mars_core.specs.Code.Opcodes.{always_goes_on};
+ghost use Rattle.mars_core.specs.Code.Turns.{AreParts, GoesOnAt, made_atom, addresses_to};
+ghost use Rattle.mars_cell.specs.Limits.{most_cycles};
+ghost use Rattle.mars_core.specs.Validity.{IsCore};
+ghost use Rattle.std.specs.Option.{option_to_list};
+ghost use Rattle.mars_cell.specs.Cells.{FitsCore};
+ghost use Rattle.mars_core.specs.Addresses.{address_after as spec_address_after};
+
+use crate::queue::ProcessQueue;
+
+/// Whose turn it is, and in which cycle.
+#[derive(Clone, Copy, PartialEq, Eq)]
+pub struct Clock {
+    pub next: u32,
+    pub cycle: u32,
+}
+
+/// The clock after a turn: mostly the next warrior lives.
+#[inline(always)]
+#[tactic(auto, using(crate::proofs::Live::advanced_next, crate::proofs::Live::advanced_round))]
+pub fn clock_after_turn(queues: &[ProcessQueue], clock: Clock) -> Clock
+    requires few { length queues.now ≤ most_warriors }
+    requires next { clock.next < length queues.now }
+    requires cycle { clock.cycle ≤ most_cycles }
+    ensures { result ≡ spec_advanced (addresses_of queues.now) clock (clock.next + 1) }
+{
+    let next = clock.next as usize + 1;
+    if next < queues.len() {
+        if !queues[next].is_empty() {
+            return Clock {
+                next: next as u32,
+                cycle: clock.cycle,
+            };
+        }
+    } else if !queues[0].is_empty() {
+        return Clock {
+            next: 0,
+            cycle: clock.cycle + 1,
+        };
+    }
+    advanced(queues, clock, next)
+}
+
+/// The clock moved to the least live index from `from` on, else to the least one in the next cycle.
+#[tactic(auto, unfolding(crate::specs::State::advanced))]
+pub fn advanced(queues: &[ProcessQueue], clock: Clock, from: usize) -> Clock
+    requires few { length queues.now ≤ most_warriors }
+    requires cycle { clock.cycle ≤ most_cycles }
+    ensures { result ≡ spec_advanced (addresses_of queues.now) clock from }
+{
+    if let Some(next) = least_live(queues, from) {
+        return Clock {
+            next: next as u32,
+            cycle: clock.cycle,
+        };
+    }
+    match least_live(queues, 0) {
+        Some(next) => Clock {
+            next: next as u32,
+            cycle: clock.cycle + 1,
+        },
+        None => clock,
+    }
+}
+
+/// The least index from `from` on whose queue isn't empty.
+#[tactic(auto, using(crate::proofs::Live::queues_live_next, crate::proofs::Live::queues_live_here))]
+pub fn least_live(queues: &[ProcessQueue], from: usize) -> Option<usize>
+    ensures value { result ≡ live_from (addresses_of queues.now) from }
+    ensures bound { IfSome result (λ k. k < length queues.now) }
+{
+    for i in from..queues.len() {
+        if !queues[i].is_empty() {
+            return Some(i);
+        }
+    }
+    None
+}
+
+/// Whether a battle is over, from the numbers of its warriors and of those that live.
+#[inline(always)]
+#[tactic(auto, unfolding(crate::specs::State::ends))]
+pub fn is_over(cycles: u32, cycle: u32, warriors: usize, alive: usize) -> bool
+    ensures { (queues : List (List ℕ)) → length queues ≡ warriors → survivors_of queues ≡ alive → result ≡ ends cycles cycle queues }
+{
+    cycle == cycles || (warriors >= 2 && alive <= 1) || (warriors == 1 && alive == 0)
+}

@@ -1,0 +1,175 @@
+//! The fields that belong together under a modifier, and what an opcode does with each pair of numbers.
+ghost use Rattle.std.specs.Prelude.{◌≡◌, ◌<◌, ◌≤◌, None, true, if◌then◌else◌, IfSome};
+ghost use Rattle.mars_cell.specs.Cells.{FitsCore};
+ghost use Rattle.mars_cell.specs.Limits.{largest_core};
+ghost use Rattle.mars_core.specs.State.{cell_at as spec_cell_at};
+ghost use Rattle.mars_core.specs.Addresses.{address_after as spec_address_after};
+ghost use Rattle.mars_core.specs.Writes.{write_cell};
+ghost use Rattle.mars_core.specs.Validity.{IsCore};
+ghost use Rattle.mars_core.specs.Effect.{effect_of, pairs_of, takes_whole_cells as spec_takes_whole_cells, with_pairs as spec_with_pairs, all_pairs_pass as spec_all_pairs_pass, are_equal_cells as spec_are_equal_cells, are_equal as spec_are_equal, division};
+ghost use Rattle.mars_core.specs.Turn.{after_effect};
+ghost use Rattle.mars_core.specs.Code.Operands.{IsAddressed, unwritten, noted};
+ghost use Rattle.mars_core.specs.Code.Turns.{GoesOnAt, addresses_to};
+ghost use Rattle.mars_core.specs.Code.Opcodes.{always_goes_on, new_number as spec_new_number, passes_test as spec_passes_test};
+
+use crate::machine::address::{lowered, remainder};
+use mars_cell::{Cell, Field, Modifier, Op};
+
+/// Whether MOV, SEQ and SNE take whole cells.
+#[inline(always)]
+pub fn takes_whole_cells(modifier: Modifier) -> bool
+    ensures { result ≡ spec_takes_whole_cells modifier }
+{
+    matches!(modifier, Modifier::I)
+}
+
+/// The target, where the field of each pair of the modifier is the number that the opcode makes.
+#[inline(always)]
+pub fn with_pairs(
+    core_size: u32,
+    op: Op,
+    modifier: Modifier,
+    a: Cell,
+    b: Cell,
+    target: Cell,
+) -> Cell
+    requires core_size { (1 ≤ core_size) × (core_size ≤ largest_core) }
+    requires a { FitsCore core_size a }
+    requires b { FitsCore core_size b }
+    requires target { FitsCore core_size target }
+    requires no_divisor { (op ≡ Op.Div → ⊥) × (op ≡ Op.Mod → ⊥) }
+    ensures value { result ≡ spec_with_pairs (spec_new_number core_size op) a b (pairs_of modifier) target }
+    ensures fits { FitsCore core_size result }
+{
+    match modifier {
+        Modifier::A => Cell {
+            a: new_number(core_size, op, a.a, b.a),
+            ..target
+        },
+        Modifier::B => Cell {
+            b: new_number(core_size, op, a.b, b.b),
+            ..target
+        },
+        Modifier::Ab => Cell {
+            b: new_number(core_size, op, a.a, b.b),
+            ..target
+        },
+        Modifier::Ba => Cell {
+            a: new_number(core_size, op, a.b, b.a),
+            ..target
+        },
+        Modifier::F | Modifier::I => Cell {
+            a: new_number(core_size, op, a.a, b.a),
+            b: new_number(core_size, op, a.b, b.b),
+            ..target
+        },
+        Modifier::X => Cell {
+            a: new_number(core_size, op, a.b, b.a),
+            b: new_number(core_size, op, a.a, b.b),
+            ..target
+        },
+    }
+}
+
+/// The number that an opcode makes of one of the A-copy and one of the B-copy.
+#[inline(always)]
+pub fn new_number(core_size: u32, op: Op, x: u32, y: u32) -> u32
+    requires core_size { (1 ≤ core_size) × (core_size ≤ largest_core) }
+    requires x { x < core_size }
+    requires y { y < core_size }
+    requires divisor { op ≡ Op.Div → 1 ≤ x }
+    requires modulus { op ≡ Op.Mod → 1 ≤ x }
+    ensures value { result ≡ spec_new_number core_size op x y }
+    ensures inside { result < core_size }
+{
+    match op {
+        Op::Mov => x,
+        Op::Add => remainder(core_size, y + x),
+        Op::Sub => remainder(core_size, y + (core_size - x)),
+        Op::Mul => (u64::from(y) * u64::from(x) % u64::from(core_size)) as u32,
+        Op::Div => y / x,
+        Op::Mod => y % x,
+        Op::Djn => lowered(core_size, y),
+        _ => y,
+    }
+}
+
+/// Whether the operands are equal: their pairs, or as whole cells.
+#[inline(always)]
+#[tactic(auto, unfolding(crate::specs::Effect::are_equal))]
+pub fn are_equal(core_size: u32, modifier: Modifier, a: Cell, b: Cell) -> bool
+    requires core_size { (1 ≤ core_size) × (core_size ≤ largest_core) }
+    requires b { FitsCore core_size b }
+    ensures { result ≡ spec_are_equal modifier a b }
+{
+    if takes_whole_cells(modifier) {
+        are_equal_cells(a, b)
+    } else {
+        all_pairs_pass(core_size, Op::Seq, modifier, a, b)
+    }
+}
+
+/// Whether two cells are equal in all their parts. It isn't inlined into each arm, since it is large and seldom asked.
+#[inline(never)]
+fn are_equal_cells(a: Cell, b: Cell) -> bool
+    ensures { result ≡ spec_are_equal_cells a b }
+{
+    a == b
+}
+
+/// Whether every pair of the modifier passes the opcode's test.
+#[inline(always)]
+pub fn all_pairs_pass(core_size: u32, op: Op, modifier: Modifier, a: Cell, b: Cell) -> bool
+    requires core_size { (1 ≤ core_size) × (core_size ≤ largest_core) }
+    requires b { FitsCore core_size b }
+    ensures { result ≡ spec_all_pairs_pass (spec_passes_test core_size op) a b (pairs_of modifier) }
+{
+    match modifier {
+        Modifier::A => passes_test(core_size, op, a.a, b.a),
+        Modifier::B => passes_test(core_size, op, a.b, b.b),
+        Modifier::Ab => passes_test(core_size, op, a.a, b.b),
+        Modifier::Ba => passes_test(core_size, op, a.b, b.a),
+        Modifier::F | Modifier::I => {
+            passes_test(core_size, op, a.a, b.a) && passes_test(core_size, op, a.b, b.b)
+        }
+        Modifier::X => {
+            passes_test(core_size, op, a.a, b.b) && passes_test(core_size, op, a.b, b.a)
+        }
+    }
+}
+
+/// The test that an opcode makes of a number of the A-copy and one of the B-copy.
+#[inline(always)]
+fn passes_test(core_size: u32, op: Op, x: u32, y: u32) -> bool
+    requires core_size { (1 ≤ core_size) × (core_size ≤ largest_core) }
+    requires y { y < core_size }
+    ensures { result ≡ spec_passes_test core_size op x y }
+{
+    match op {
+        Op::Jmz | Op::Jmn => y == 0,
+        Op::Djn => lowered(core_size, y) == 0,
+        Op::Seq | Op::Sne => x == y,
+        Op::Slt => x < y,
+        _ => true,
+    }
+}
+
+/// The fields that belong together: one of the A-copy, and one of the B-side.
+pub fn pairs(modifier: Modifier) -> &'static [(Field, Field)]
+    ensures { result.now ≡ pairs_of modifier }
+{
+    match modifier {
+        Modifier::A => &[(Field::ANumber, Field::ANumber)],
+        Modifier::B => &[(Field::BNumber, Field::BNumber)],
+        Modifier::Ab => &[(Field::ANumber, Field::BNumber)],
+        Modifier::Ba => &[(Field::BNumber, Field::ANumber)],
+        Modifier::F | Modifier::I => &[
+            (Field::ANumber, Field::ANumber),
+            (Field::BNumber, Field::BNumber),
+        ],
+        Modifier::X => &[
+            (Field::ANumber, Field::BNumber),
+            (Field::BNumber, Field::ANumber),
+        ],
+    }
+}

@@ -1,5 +1,0 @@
-pub mod Bounds
-pub mod LinesOf
-pub mod Reading
-pub mod Waits
-pub mod Writing

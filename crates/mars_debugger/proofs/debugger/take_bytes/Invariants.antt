@@ -1,8 +1,0 @@
-use Rattle.std.proofs.Common.{take}
-use Rattle.mars_debugger.specs.Code.Steps.{GoesThrough}
-use Rattle.mars_debugger.proofs.debugger.take_bytes.Given as goal
-
-abbrev pub invariant-loop-byte : goal.invariant-loop-byte
-invariant-loop-byte g l = GoesThrough l.core_size (take l.byte-index l.chunk)
-    l.initial.line l.initial.session (g.W.Write.contents l.initial.writer)
-    l.line l.session (g.W.Write.contents l.writer)

@@ -1,3 +1,0 @@
--- Worked examples. The check computes each of them.
-pub mod Requests
-pub mod Replies

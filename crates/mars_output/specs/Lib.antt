@@ -1,2 +1,0 @@
--- What a reader of the contracts has to believe.
-pub mod Writing

@@ -1,7 +1,0 @@
-use Rattle.std.proofs.Common.{◌≡◌, drop}
-use Rattle.mars_program.specs.Loading.{file_named}
-use Rattle.mars_program.proofs.files.MemoryFilesWarriorFiles.read.Given as goal
-
--- no file before has the name
-abbrev pub invariant-loop-held : goal.invariant-loop-held
-invariant-loop-held l = file_named (drop l.held-index l.self.files.items) l.name ≡ file_named l.self.files.items l.name

@@ -1,4 +1,0 @@
-use Rattle.mars_program.proofs.started.start.Goals as goal
-
-pub returns-in-Ok-clause-done : goal.returns-in-Ok-clause-done
-returns-in-Ok-clause-done g c = λ zero. (_, c.run.ensures.done zero)

@@ -1,7 +1,0 @@
--- How the code holds and reaches what is defined. All of this serves the proofs alone.
-pub mod Settings
-pub mod Allowed
-pub mod Blames
-pub mod Words
-pub mod WordTables
-pub mod Plans

@@ -1,2 +1,0 @@
--- Worked examples. The check computes each of them.
-pub mod CommandLines
