@@ -4,7 +4,7 @@ import shutil
 
 TOP = os.path.dirname(os.path.dirname(os.path.realpath(__file__)))
 # The crate of the program, and the file that a proof of it leaves.
-CRATE = "mars_app"
+CRATE = "mars"
 BUILT = os.path.join(TOP, "crates", CRATE, "out", CRATE)
 
 

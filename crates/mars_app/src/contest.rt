@@ -9,7 +9,7 @@ ghost use Rattle.mars_match.specs.Tables.{RowValue};
 ghost use Rattle.mars_match.specs.declared.table.Table.{Table};
 ghost use Rattle.mars_cell.specs.Output.{CutShort};
 ghost use Rattle.mars_app.specs.Code.Plans.{planned};
-ghost use Rattle.mars_app.specs.Contests.{BreaksOff, ContestFails, fault_of, listed, listing, listing_from, listing_head};
+ghost use Rattle.mars_app.specs.Contests.{BreaksOff, ContestFails, fault_of, listed, listing, listing_head};
 ghost use Rattle.mars_app.specs.Loading.{AllFit, FitsTwo};
 ghost use Rattle.mars_core.specs.Limits.{most_warriors};
 

@@ -1,8 +1,7 @@
 //! The queues of processes: where a process goes on, and how its queue takes that.
-ghost use Rattle.std.specs.Prelude.{◌≡◌, ℕ, ◌+◌, ◌-◌, ◌<◌, ◌≤◌, ◌∷◌, [], ◌++◌, length, drop, take, All, IfOk, IfSome, IfNone, slice_get, slice_set, slice_index, remove, insert, ◌==◌, nat_lt, if◌then◌else◌, false};
+ghost use Rattle.std.specs.Prelude.{◌≡◌, ℕ, ◌+◌, ◌-◌, ◌<◌, ◌≤◌, ◌∷◌, [], ◌++◌, length, take, All, IfOk, IfSome, IfNone, slice_get, ◌==◌, nat_lt, if◌then◌else◌, false};
 ghost use Rattle.mars_core.specs.State.{is_empty as spec_is_empty};
 ghost use Rattle.mars_core.specs.Queue.{Queue as Contents};
-ghost use Rattle.mars_core.specs.Record.{without_last};
 ghost use Rattle.mars_core.specs.Code.Turns.{addresses_to};
 
 mod edit;

@@ -1,9 +1,9 @@
 //! Battles of a round, turned until they are over, and the warriors from each one on.
-ghost use Rattle.std.specs.Prelude.{◌≡◌, ℕ, ◌+◌, ◌%◌, ◌<◌, ◌≤◌, length, Some, None, IfSome, Ok, Err, MatchOption, MatchResult, IfOk, IfErr, IsOk, ◌≢◌, slice_index_or, false, Bool, Vec, ◌++◌, ◌∷◌, []};
+ghost use Rattle.std.specs.Prelude.{◌≡◌, ◌+◌, ◌%◌, ◌<◌, ◌≤◌, length, Some, None, IfSome, Ok, Err, MatchOption, MatchResult, IfOk, IfErr, IsOk, ◌≢◌, slice_index_or, false, Bool, Vec, ◌++◌, ◌∷◌, []};
 ghost use Rattle.std.specs.Global.{Global};
 ghost use Rattle.mars_core.specs.State.{State};
 ghost use Rattle.mars_match.specs.Answers.{IsAnswer};
-ghost use Rattle.mars_match.specs.Battles.{rotated, lives, end_of, in_load_order, count_fault, unless, started, fought, HasRoom};
+ghost use Rattle.mars_match.specs.Battles.{rotated, end_of, in_load_order, count_fault, unless, started, fought, HasRoom};
 ghost use Rattle.mars_core.specs.Start.{start_state, start_fault};
 ghost use Rattle.mars_core.specs.Limits.{most_warriors};
 

@@ -1,9 +1,9 @@
 //! Matches of several rounds, and leagues, in which every pair of warriors fights a match.
-ghost use Rattle.std.specs.Prelude.{◌≡◌, ℕ, ◌+◌, ◌%◌, ◌<◌, ◌≤◌, All, List, length, pos, ℤ, ◌-◌, Some, None, Ok, Err, IfSome, IfOk, IfErr, ◌≢◌, MatchOption, true, false, MatchResult, Vec, replicate, ◌*◌, drop, [], ◌∷◌};
+ghost use Rattle.std.specs.Prelude.{◌≡◌, ◌+◌, ◌%◌, ◌<◌, ◌≤◌, All, length, ℤ, ◌-◌, Some, None, Ok, Err, IfSome, IfOk, IfErr, ◌≢◌, MatchOption, true, false, MatchResult, Vec, replicate, ◌*◌, drop, [], ◌∷◌};
 ghost use Rattle.mars_core.specs.State.{State};
 ghost use Rattle.mars_match.specs.Answers.{IsAnswer};
-ghost use Rattle.mars_match.specs.Battles.{in_load_order, lives, count_fault, fought, HasRoom};
-ghost use Rattle.mars_match.specs.Rounds.{Outcome, placed_for, round_score, ended, fits_in_64, checked_rows, table_of};
+ghost use Rattle.mars_match.specs.Battles.{lives, count_fault, HasRoom};
+ghost use Rattle.mars_match.specs.Rounds.{placed_for, round_score, ended, fits_in_64, checked_rows, table_of};
 ghost use Rattle.mars_match.specs.declared.table.Table.{Table};
 ghost use Rattle.mars_match.specs.Tables.{RowValue};
 ghost use Rattle.mars_match.specs.Code.Tallies.{no_rounds as spec_no_rounds, outcome_by, tallied, IsOf, row_with, rows_with};

@@ -1,6 +1,6 @@
 //! Where the warriors of a battle are laid.
-ghost use Rattle.std.specs.Prelude.{◌≡◌, ℕ, ◌+◌, ◌-◌, ◌*◌, ◌%◌, ◌<◌, ◌≤◌, ◌^◌, ◌∷◌, [], All, length, IfOk, IfErr, IfSome};
-ghost use Rattle.mars_match.specs.Placement.{drawn as spec_drawn, seed_after, draws, ascending, spread, exchanged, room_for, starts_of, next_seed, place_fault, IsSpaced};
+ghost use Rattle.std.specs.Prelude.{◌≡◌, ◌+◌, ◌-◌, ◌*◌, ◌%◌, ◌<◌, ◌≤◌, ◌∷◌, All, length, IfOk, IfErr, IfSome};
+ghost use Rattle.mars_match.specs.Placement.{drawn as spec_drawn, seed_after, draws, spread, exchanged, starts_of, next_seed, place_fault, IsSpaced};
 ghost use Rattle.mars_core.specs.Limits.{most_warriors};
 ghost use Rattle.mars_cell.specs.Limits.{largest_core};
 

@@ -1,11 +1,8 @@
 //! Tables of results, and the sums of rounds that they are made of.
-ghost use Rattle.std.specs.Prelude.{◌≡◌, ◌+◌, ◌<◌, ◌≤◌, ◌^◌, ◌%◌, All, length, map};
+ghost use Rattle.std.specs.Prelude.{◌≡◌, ◌+◌, ◌<◌, ◌≤◌, ◌%◌, All, length};
 ghost use Rattle.mars_cell.specs.Warriors.{IsName};
-ghost use Rattle.mars_core.specs.State.{State};
-ghost use Rattle.mars_match.specs.Answers.{IsAnswer};
 ghost use Rattle.mars_match.specs.Battles.{in_load_order};
-ghost use Rattle.mars_match.specs.Rounds.{checked_rows};
-ghost use Rattle.mars_match.specs.Code.Tallies.{no_rounds as spec_no_rounds, added_if, all_added, IsOf, rows_with};
+ghost use Rattle.mars_match.specs.Code.Tallies.{no_rounds as spec_no_rounds, added_if, all_added, IsOf};
 
 use crate::fault::MatchFault;
 use crate::fights::is_alive;

@@ -1,6 +1,6 @@
 //! The commands, over any tape.
-ghost use Rattle.std.specs.Prelude.{◌≡◌, ℕ, ◌+◌, ◌≤◌, ◌<◌, [], Some, None, true, false, IfErr, OnOk, OnErr, MatchOption, length, ◌*◌, ◌-◌};
-ghost use Rattle.mars_session.specs.History.{History, position_of, last_of, marked, cut, accepted};
+ghost use Rattle.std.specs.Prelude.{◌≡◌, ◌+◌, ◌≤◌, ◌<◌, [], Some, None, false, IfErr, OnOk, OnErr, MatchOption, ◌*◌, ◌-◌};
+ghost use Rattle.mars_session.specs.History.{marked, cut, accepted};
 ghost use Rattle.mars_session.specs.Commands.{command_limit, turns_until, stops_at, until_bound, cells_between, fills, refusal_of, edit_states};
 ghost use Rattle.mars_core.specs.State.{is_over_of};
 ghost use Rattle.mars_core.specs.Turn.{turn_of};

@@ -1,12 +1,9 @@
 //! A tape of one battle and records.
 ghost use Rattle.std.proofs.Common.{refl, rules};
-ghost use Rattle.std.specs.Prelude.{◌≡◌, ℕ, ◌+◌, ◌-◌, ◌<◌, ◌≤◌, [], None, false, true, OnOk, IsOk, MatchOption, MatchResult, length, vec_len, vec_capacity};
-ghost use Rattle.mars_core.specs.State.{is_over_of};
-ghost use Rattle.mars_core.specs.Turn.{turn_of};
-ghost use Rattle.mars_core.specs.Edit.{edit_fault, edited};
-ghost use Rattle.mars_session.specs.History.{beginning, places, position_of, last_of, following, marked, cut, append, back, forward};
-ghost use Rattle.mars_session.specs.Memory.{Memory, never, kept, noted};
-ghost use Rattle.mars_session.specs.Tapes.{LeadsAt, TurnsNeverFell};
+ghost use Rattle.std.specs.Prelude.{◌≡◌, ◌+◌, ◌-◌, ◌<◌, ◌≤◌, None, false, true, MatchOption, MatchResult, vec_capacity};
+ghost use Rattle.mars_session.specs.History.{beginning, places, last_of, cut, back, forward};
+ghost use Rattle.mars_session.specs.Memory.{never};
+ghost use Rattle.mars_session.specs.Tapes.{LeadsAt};
 
 use crate::tapes::Tape;
 use mars_core::{Atom, Battle, Edit};

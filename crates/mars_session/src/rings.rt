@@ -1,13 +1,8 @@
 //! A tape that forgets.
 ghost use Rattle.std.proofs.Common.{refl, rules};
-ghost use Rattle.std.specs.Prelude.{◌≡◌, ℕ, ◌+◌, ◌-◌, ◌<◌, ◌≤◌, ◌^◌, [], None, Some, false, true, OnOk, OnErr, IsOk, MatchResult, length};
-ghost use Rattle.mars_core.specs.State.{is_over_of};
-ghost use Rattle.mars_core.specs.Turn.{turn_of};
-ghost use Rattle.mars_core.specs.Edit.{edit_fault, edited};
+ghost use Rattle.std.specs.Prelude.{◌≡◌, ◌+◌, ◌-◌, ◌<◌, ◌≤◌, ◌^◌, Some, false, true, MatchResult};
 ghost use Rattle.mars_session.specs.Limits.{longest_history};
-ghost use Rattle.mars_session.specs.History.{beginning, position_of, last_of, following, marked, cut, append, back, forward};
-ghost use Rattle.mars_session.specs.Memory.{Memory, kept, noted};
-ghost use Rattle.mars_session.specs.Tapes.{TurnsNeverFell};
+ghost use Rattle.mars_session.specs.History.{beginning, cut, back, forward};
 
 use crate::records::Records;
 use crate::tapes::Tape;

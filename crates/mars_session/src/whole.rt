@@ -1,13 +1,12 @@
 //! A tape of whole copies.
 ghost use Rattle.std.proofs.Common.{refl, rules};
-ghost use Rattle.std.specs.Prelude.{◌≡◌, ℕ, ◌+◌, ◌-◌, ◌<◌, ◌≤◌, [], None, false, true, OnOk, OnErr, IsOk, MatchResult, length, slice_set, vec_len, vec_capacity};
+ghost use Rattle.std.specs.Prelude.{◌≡◌, ◌+◌, ◌-◌, ◌<◌, ◌≤◌, None, false, true, OnOk, OnErr, IsOk, MatchResult, length, slice_set, vec_len};
 ghost use Rattle.mars_core.specs.State.{is_over_of};
 ghost use Rattle.mars_core.specs.Turn.{turn_of};
 ghost use Rattle.mars_core.specs.Edit.{edit_fault, edited};
 ghost use Rattle.mars_core.specs.Shape.{SameShape};
-ghost use Rattle.mars_session.specs.History.{History, beginning, marked, cut, append, back, forward};
-ghost use Rattle.mars_session.specs.Memory.{Memory, never, kept, noted};
-ghost use Rattle.mars_session.specs.Tapes.{TurnsNeverFell};
+ghost use Rattle.mars_session.specs.History.{beginning, cut, back, forward};
+ghost use Rattle.mars_session.specs.Memory.{never};
 ghost use Rattle.mars_session.specs.Code.Whole.{snapshot_at, whole_history, IsGrown};
 
 use crate::snapshots::Snapshot;

@@ -1,6 +1,5 @@
 //! The lines that the debugger answers with.
-ghost use Rattle.std.specs.Prelude.{◌≡◌, ◌+◌, ◌≤◌, ◌++◌, length, decimal};
-ghost use Rattle.arrayvec.specs.ArrayString.{array_string_len};
+ghost use Rattle.std.specs.Prelude.{◌≡◌, ◌≤◌, length};
 ghost use Rattle.mars_app.specs.Debugger.Replies.{standing_text, refusal_text, reply_text};
 
 use mars_cell::{LINE, Line, numbered, push_number};

@@ -1,5 +1,5 @@
 //! What a line of the debugger asks for.
-ghost use Rattle.std.specs.Prelude.{◌≡◌, ◌<◌, option_map};
+ghost use Rattle.std.specs.Prelude.{◌≡◌, ◌<◌};
 ghost use Rattle.mars_app.specs.declared.debugger.request.Command.TheVariants as command;
 ghost use Rattle.mars_app.specs.Debugger.Requests.{command_of, word_of, alone, one_number, two_numbers, three_numbers, with_arguments, request_of};
 

@@ -1,5 +1,5 @@
 //! Calls that are refused memory. Each test holds whichever one of its requests is refused, since a second try has memory:
-//! scripts/refuse-memory refuses each in turn.
+//! checks/memory refuses each in turn.
 ghost use Rattle.std.specs.Prelude.{All, IfOk};
 ghost use Rattle.mars_cell.specs.Cells.{FitsCore};
 

@@ -1,13 +1,12 @@
 //! How a battle starts: what refuses it, warriors in the core, and their first processes.
-ghost use Rattle.std.specs.Prelude.{◌≡◌, length, IfOk, IsOk, IfSome, IfErr, MatchOption, nat_lt, ◌+◌, ◌%◌, ◌≤◌, ◌∷◌, [], map, All, true, ◌||◌};
-ghost use Rattle.mars_core.specs.Start.{start_fault, start_state, is_inside as spec_is_inside, fields_inside as spec_fields_inside, laid, all_laid, first_processes, addresses_from, loaded_addresses, has_duplicate, overlap};
+ghost use Rattle.std.specs.Prelude.{◌≡◌, length, IfOk, IsOk, IfSome, IfErr, MatchOption, nat_lt, ◌+◌, ◌%◌, ◌≤◌, ◌∷◌, [], map, All, true};
+ghost use Rattle.mars_core.specs.Start.{start_fault, start_state, is_inside as spec_is_inside, fields_inside as spec_fields_inside, laid, all_laid, first_processes, overlap};
 ghost use Rattle.std.specs.List.{list_all};
 ghost use Rattle.mars_cell.specs.Parameters.{AreInRange};
 ghost use Rattle.std.proofs.Common.{replicate};
 ghost use Rattle.mars_cell.specs.Cells.{empty_cell, FitsCore};
 ghost use Rattle.mars_core.specs.Validity.{IsCore};
 ghost use Rattle.mars_core.specs.Queue.{addresses_of, Queue};
-ghost use Rattle.mars_core.specs.Code.Distances.{distance as spec_distance, share};
 
 mod overlap;
 

@@ -1,13 +1,7 @@
 //! Sums of addresses, modulo the size of the core, and pointers under a limit (`specs/Addresses`).
-ghost use Rattle.std.specs.Prelude.{◌≡◌, ◌<◌, ◌≤◌, false, None, ℕ, ◌+◌, ◌%◌, length, Some};
+ghost use Rattle.std.specs.Prelude.{◌≡◌, ◌<◌, ◌≤◌, false, ◌+◌, ◌%◌};
 ghost use Rattle.mars_cell.specs.Limits.{largest_core};
-ghost use Rattle.mars_core.specs.State.{cell_at as spec_cell_at};
 ghost use Rattle.mars_core.specs.Addresses.{address_after as spec_address_after, fold, raised as spec_raised, lowered as spec_lowered};
-ghost use Rattle.mars_core.specs.Validity.{IsCore};
-ghost use Rattle.mars_core.specs.Operand.{direct_operand, indirect_operand, evaluated, pointed_address, predecremented, postincremented};
-ghost use Rattle.mars_core.specs.Code.Operands.{IsUnlimited, IsAddressed, addressed, unwritten, noted};
-ghost use Rattle.mars_cell.specs.Cells.{FitsCore, field_of};
-ghost use Rattle.mars_core.specs.Writes.{write_cell, write_field};
 
 /// The remainder of a number below twice the size of the core: no division is needed.
 #[inline(always)]

@@ -1,9 +1,6 @@
 //! What edits and records do with a queue: processes at any place go out and in.
-ghost use Rattle.std.specs.Prelude.{◌≡◌, ℕ, ◌+◌, ◌-◌, ◌<◌, ◌≤◌, ◌∷◌, [], ◌++◌, length, drop, take, All, IfOk, IfSome, IfNone, slice_get, slice_set, slice_index, remove, insert, ◌==◌, nat_lt, if◌then◌else◌, false};
-ghost use Rattle.mars_core.specs.State.{is_empty as spec_is_empty};
-ghost use Rattle.mars_core.specs.Queue.{Queue as Contents};
+ghost use Rattle.std.specs.Prelude.{◌≡◌, ◌+◌, ◌-◌, ◌<◌, ◌≤◌, ◌∷◌, ◌++◌, length, drop, take, slice_set, slice_index, remove, insert, ◌==◌};
 ghost use Rattle.mars_core.specs.Record.{without_last};
-ghost use Rattle.mars_core.specs.Code.Turns.{addresses_to};
 
 use crate::queue::ProcessQueue;
 use std::mem;

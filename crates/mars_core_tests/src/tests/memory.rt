@@ -1,5 +1,5 @@
 //! Calls that are refused memory. Each test holds whichever one of its requests is refused, since a second try has memory:
-//! scripts/refuse-memory refuses each in turn.
+//! checks/memory refuses each in turn.
 use super::{check_clock, check_same, params};
 use mars_cell::{Params, Warrior, read_cell};
 use mars_core::{Battle, BattleFault};

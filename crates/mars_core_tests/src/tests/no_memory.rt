@@ -1,5 +1,5 @@
 //! Calls that take no memory. Each test makes its objects, asks for memory once more, and holds whether that and all that
-//! comes after it is refused or not: scripts/refuse-memory refuses all requests from each on. Where the objects themselves
+//! comes after it is refused or not: checks/memory refuses all requests from each on. Where the objects themselves
 //! are refused, there is nothing to show.
 ghost use Rattle.std.specs.Prelude.{◌≡◌, IfSome};
 ghost use Rattle.mars_core.specs.Leads.{Leads};

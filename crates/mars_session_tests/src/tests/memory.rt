@@ -1,5 +1,5 @@
 //! Calls that are refused memory, over each kind of tape. Each test holds whichever one of its requests is refused, since a
-//! second try has memory: scripts/refuse-memory refuses each in turn.
+//! second try has memory: checks/memory refuses each in turn.
 use super::{BLANK, COPIER, IDLE, check_call, check_reply, check_same, check_standing};
 use mars_cell::{Params, Warrior};
 use mars_core::Battle;

@@ -1,12 +1,8 @@
 //! A tape that is refused memory after so many growths, and counts the places that it goes over.
 ghost use Rattle.std.proofs.Common.{refl, rules};
-ghost use Rattle.std.specs.Prelude.{◌≡◌, ◌+◌, ◌≤◌, [], None, is_some, false, OnOk, IsOk};
-ghost use Rattle.mars_core.specs.State.{is_over_of};
-ghost use Rattle.mars_core.specs.Turn.{turn_of};
-ghost use Rattle.mars_core.specs.Edit.{edit_fault, edited};
-ghost use Rattle.mars_session.specs.History.{following, position_of, last_of, marked, cut, append, back, forward};
-ghost use Rattle.mars_session.specs.Memory.{Memory, never, kept, noted};
-ghost use Rattle.mars_session.specs.Tapes.{TurnsNeverFell};
+ghost use Rattle.std.specs.Prelude.{◌≡◌, ◌≤◌, false};
+ghost use Rattle.mars_session.specs.History.{following, cut, back, forward};
+ghost use Rattle.mars_session.specs.Memory.{never};
 
 use mars_core::{Battle, Edit};
 use mars_session::Tape;

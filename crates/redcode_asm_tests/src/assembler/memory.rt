@@ -1,5 +1,5 @@
 //! Calls that are refused memory. Each test holds whichever one of its requests is refused, since a second try has memory:
-//! scripts/refuse-memory refuses each in turn.
+//! checks/memory refuses each in turn.
 use mars_cell::{Params, Warrior};
 use redcode_asm::{AsmFault, AsmProblem, Formula, FormulaFault, assemble, assemble_load};
 use std::alloc::Global;

@@ -1,5 +1,5 @@
 //! Comment lines, among them directives.
-ghost use Rattle.std.specs.Prelude.{◌≡◌, ◌≤◌, ◌<◌, ◌+◌, ◌^◌, length, Ok};
+ghost use Rattle.std.specs.Prelude.{◌≤◌, ◌<◌, ◌+◌, ◌^◌, length, Ok};
 ghost use Rattle.redcode_text.specs.Code.Comments.{assert_at, with_author_text, with_name_text};
 ghost use Rattle.redcode_text.specs.Code.Readings.{reading_of};
 ghost use Rattle.redcode_text.specs.Lines.{comment_line};

@@ -1,5 +1,5 @@
 //! Lines that are neither FOR nor ROF.
-ghost use Rattle.std.specs.Prelude.{◌≡◌, ◌≤◌, ◌<◌, ◌+◌, ◌^◌, length, vec_len};
+ghost use Rattle.std.specs.Prelude.{◌≤◌, ◌<◌, ◌+◌, ◌^◌, length, vec_len};
 ghost use Rattle.redcode_text.specs.Views.{predefined_of};
 ghost use Rattle.redcode_text.specs.Code.Readings.{reading_of};
 ghost use Rattle.redcode_text.specs.Lines.{plain_line, tokens_line, equ_line};

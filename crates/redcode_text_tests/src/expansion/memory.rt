@@ -1,5 +1,5 @@
 //! Calls that are refused memory. Each test holds whichever one of its requests is refused, since a second try has memory:
-//! scripts/refuse-memory refuses each in turn.
+//! checks/memory refuses each in turn.
 use super::NAMES;
 use redcode_text::{
     Line, LineTokens, Program, TextFault, TextProblem, Token, TokenKind, expand, scan,

@@ -1,5 +1,5 @@
 //! Calls that take no memory. Each test asks for memory once, and holds whether that and all that comes after it is refused
-//! or not: scripts/refuse-memory refuses all requests from each on. Where its program is refused, there is nothing to show.
+//! or not: checks/memory refuses all requests from each on. Where its program is refused, there is nothing to show.
 use super::{NAMES, NoNames};
 use redcode_text::{
     ExprFault, Line, Program, Sign, Token, TokenKind, are_alike, check_shape, eval, expand,

@@ -1,5 +1,5 @@
 //! The debugger takes no memory, and over a ring of records no command of it does. The test makes its objects, asks for
-//! memory once more, and holds whether that and all that comes after it is refused or not: scripts/refuse-memory refuses all
+//! memory once more, and holds whether that and all that comes after it is refused or not: checks/memory refuses all
 //! requests from each on. Where the objects themselves are refused, there is nothing to show.
 use super::{AMPLE, IMP, Narrow, Pieces};
 use mars_cell::{Params, read_load};

@@ -1,0 +1,396 @@
+//! The words of the program: what is taken, their defaults and ranges, the help.
+
+use super::{Outcome, Played, answer, check_fault, check_played, check_well, files};
+use mars_app::{run, start};
+use std::alloc::Global;
+use std::env::{Env, FillError};
+use std::process::Abort;
+use std::test::Fail;
+
+const BAD_WORDS: &[&[&str]] = &[
+    &[],
+    &["-e"],
+    &["-e", "-e", "imp.load"],
+    &["-e", "-s", "0", "imp.load"],
+    &["-e", "-s", "1048577", "imp.load"],
+    &["-e", "-s", "x", "imp.load"],
+    &["-e", "-s", "8", "-s", "8", "imp.load"],
+    &["-e", "--read-limit", "0", "imp.load"],
+    &["-e", "--write-limit", "4294967297", "imp.load"],
+    &["-e", "-h", "imp.load"],
+    &["-e", "-q", "imp.load"],
+    &["-e", "--load", "imp.load"],
+    &["--league", "imp.load"],
+    &["-e", "--league", "imp.load", "stay.load"],
+    &["--league", "--load", "imp.load"],
+    &["-F", "200", "--league", "imp.load", "stay.load"],
+    &["--load", "imp.load", "stay.load"],
+    &["-F", "99", "imp.load", "stay.load"],
+    &["-F", "7901", "imp.load", "stay.load"],
+    &["-F", "200", "imp.load"],
+    &["-r", "100001", "imp.load"],
+    &["--seed", "2147483647", "imp.load"],
+];
+
+#[test]
+fn bad_words(rt: HostRuntime) -> Result<(), Fail> {
+    for row in BAD_WORDS {
+        check_fault(&rt, rt.alloc(), row, 2, b"mars: bad words\n")?;
+    }
+    Ok(())
+}
+
+/// Words, each with a number below its range and one above it.
+const OUT_OF_RANGE: &[(&str, &str, &str)] = &[
+    ("-r", "0", "100001"),
+    ("-s", "0", "1048577"),
+    ("-c", "0", "10000001"),
+    ("-p", "0", "65537"),
+    ("-l", "0", "1048577"),
+    ("-d", "0", "1048577"),
+    ("--seed", "0", "2147483647"),
+    ("--read-limit", "0", "1048577"),
+    ("--write-limit", "0", "1048577"),
+    ("--history", "0", "1000001"),
+];
+
+#[test]
+fn numbers_out_of_their_ranges(rt: HostRuntime) -> Result<(), Fail> {
+    for (word, below, above) in OUT_OF_RANGE {
+        for number in [below, above] {
+            let words = ["-e", word, number, "imp.load"];
+            check_fault(&rt, rt.alloc(), &words, 2, b"mars: bad words\n")?;
+        }
+    }
+    Ok(())
+}
+
+/// The words are taken: the one warrior asserts what they give, and its load file is written.
+fn check_taken(rt: &impl Abort, alloc: Global, words: &[&str]) -> Result<(), Fail> {
+    let answer = answer(alloc, words, b"")?;
+    assert_eq!(rt; answer.status, 0);
+    assert!(rt; answer.output.as_slice().starts_with(b";load 2 "));
+    assert!(rt;
+        answer
+            .output
+            .as_slice()
+            .ends_with(b"\nORG 0\nNOP.F $0, $0\n")
+    );
+    Ok(())
+}
+
+const DEFAULT_LIMITS: &[Played] = &[
+    // Reading and writing reach round the whole core: half of it on is not folded, one more is.
+    (
+        &["-e", "imp.load"],
+        b"edit 0 MOV.I $4000, $4000\nedit 4000 NOP.F $1, $1\nstep\nlist 4000 1\n",
+        b"turn 0 cycle 0 next 0 alive 1 at 1/1
+turn 0 cycle 0 next 0 alive 1 at 2/2
+turn 1 cycle 1 next 0 alive 1 at 3/3
+4000 NOP.F $1, $1
+",
+    ),
+    // So many places are kept beside the last one.
+    (
+        &["-e", "-c", "300000", "imp.load"],
+        b"run 200001\ngoto 0\n",
+        b"turn 200001 cycle 200001 next 0 alive 1 at 200000/200000
+refused 12 NotInHistory 1 200001
+",
+    ),
+];
+
+#[test]
+fn parameters_that_hold_where_no_word_gives_another(rt: HostRuntime) -> Result<(), Fail> {
+    check_taken(&rt, rt.alloc(), &["--load", "given.red"])?;
+    check_played(&rt, rt.alloc(), DEFAULT_LIMITS)
+}
+
+const LEAST_WORDS: &[&str] = &[
+    "--load",
+    "-r",
+    "1",
+    "-s",
+    "1",
+    "-c",
+    "1",
+    "-p",
+    "1",
+    "-l",
+    "1",
+    "-d",
+    "1",
+    "--seed",
+    "1",
+    "--read-limit",
+    "1",
+    "--write-limit",
+    "1",
+    "--history",
+    "1",
+    "least.red",
+];
+
+const GREATEST_WORDS: &[&str] = &[
+    "--load",
+    "-r",
+    "100000",
+    "-s",
+    "1048576",
+    "-c",
+    "10000000",
+    "-p",
+    "65536",
+    "-l",
+    "1048576",
+    "-d",
+    "1048576",
+    "--seed",
+    "2147483646",
+    "--read-limit",
+    "1048576",
+    "--write-limit",
+    "1048576",
+    "--history",
+    "1000000",
+    "greatest.red",
+];
+
+const LONGEST_HISTORY: &[Played] = &[(
+    &[
+        "-e",
+        "--history",
+        "1000000",
+        "-s",
+        "8",
+        "-l",
+        "1",
+        "-d",
+        "1",
+        "dead.load",
+    ],
+    b"run 1000000\n",
+    b"turn 1 cycle 0 next 0 alive 0 at 1/1\n",
+)];
+
+const LEAST_AND_GREATEST_POSITION: &[&[&str]] = &[
+    &["-b", "-c", "1", "-F", "100", "imp.load", "stay.load"],
+    &["-b", "-c", "1", "-F", "7900", "imp.load", "stay.load"],
+];
+
+#[test]
+fn least_and_greatest_numbers(rt: HostRuntime) -> Result<(), Fail> {
+    check_taken(&rt, rt.alloc(), LEAST_WORDS)?;
+    check_taken(&rt, rt.alloc(), GREATEST_WORDS)?;
+    check_played(&rt, rt.alloc(), LONGEST_HISTORY)?;
+    check_well(&rt, rt.alloc(), LEAST_AND_GREATEST_POSITION)
+}
+
+const LIMITS_OF_THEIR_OWN: &[Played] = &[(
+    &[
+        "-e",
+        "-s",
+        "8",
+        "-l",
+        "4",
+        "-d",
+        "4",
+        "--read-limit",
+        "4",
+        "--write-limit",
+        "8",
+        "limited.load",
+    ],
+    b"step\nlist 1 1\nlist 3 1\nlist 7 1\n",
+    b"turn 1 cycle 1 next 0 alive 1 at 1/1
+1 DAT.F $0, $0
+3 DAT.F $1, $0
+7 DAT.F $0, $0
+",
+)];
+
+#[test]
+fn reading_and_writing_have_limits_of_their_own(rt: HostRuntime) -> Result<(), Fail> {
+    check_played(&rt, rt.alloc(), LIMITS_OF_THEIR_OWN)
+}
+
+const PROCESSES_AND_CYCLES: &[Played] = &[(
+    &["-e", "-p", "2", "-c", "3", "stay.load"],
+    b"spawn 0 1\nspawn 0 2\nundo\nrun 9\nshow\n",
+    b"turn 0 cycle 0 next 0 alive 1 at 1/1
+refused 7 QueueFull
+turn 0 cycle 0 next 0 alive 1 at 0/1
+turn 3 cycle 3 next 0 alive 1 at 3/3
+turn 3 cycle 3 next 0 alive 1 at 3/3
+warrior 0 processes 1
+battle over
+",
+)];
+
+#[test]
+fn processes_and_cycles_have_limits_of_their_own(rt: HostRuntime) -> Result<(), Fail> {
+    check_played(&rt, rt.alloc(), PROCESSES_AND_CYCLES)
+}
+
+#[test]
+fn at_most_sixteen_files(rt: HostRuntime) -> Result<(), Fail> {
+    let mut words = ["imp.load"; 17];
+    check_fault(&rt, rt.alloc(), &words, 2, b"mars: bad words\n")?;
+    words[0] = "-b";
+    let answer = answer(rt.alloc(), &words, b"")?;
+    assert_eq!(rt; answer.status, 0);
+    Ok(())
+}
+
+const NUMBERS_AS_WORDS: &[&[&str]] = &[&["-e", "-s", "+8", "-l", "001", "-d", "1", "imp.load"]];
+
+#[test]
+fn numbers_as_words(rt: HostRuntime) -> Result<(), Fail> {
+    check_well(&rt, rt.alloc(), NUMBERS_AS_WORDS)
+}
+
+/// The whole help.
+const HELP: &str =
+    "Core War: fights matches and leagues of warriors, and debugs battles forwards and backwards
+
+Usage: mars [OPTIONS] <FILE>...
+
+Arguments:
+  <FILE>...  1 to 16 warriors: sources of Redcode, and load files, whose names end in .load
+
+Contest:
+  -r <N>                 Rounds, 1 to 100000 [default: 1]
+  -F <N>                 Position of warrior 2, from the least distance to the core size less that
+      --seed <N>         Seed of the positions, 1 to 2147483646 [default: 1]
+      --score <FORMULA>  What a survivor gets, W being the warriors and S the survivors [default: (W*W-1)/S]
+      --league           Every pair of warriors fights
+
+Core:
+  -s <N>                 Core size, 1 to 1048576 [default: 8000]
+  -c <N>                 Cycle limit, 1 to 10000000 [default: 80000]
+  -p <N>                 Process limit, 1 to 65536 [default: 8000]
+  -l <N>                 Longest warrior, 1 to the core size [default: 100]
+  -d <N>                 Least distance, from the longest warrior to the core size [default: 100]
+      --read-limit <N>   How far is read, 1 to the core size [default: core size]
+      --write-limit <N>  How far is written, 1 to the core size [default: core size]
+
+Debugger:
+  -e                 Debugs the battle of the first round by the commands of standard input
+      --history <N>  Places that the history keeps, 1 to 1000000 [default: 200000]
+
+Output:
+  -b          No listing of the warriors
+  -o          Results sorted by points
+      --load  Writes the load file of the one warrior
+      --help  Prints this help
+
+At most one of -e, --league and --load is given; -F is for two files, and for no league.
+
+Commands of the debugger, one a line:
+  step, run N, until C, undo, redo, goto T
+  edit A CELL, fill A B CELL, move W I A, kill W I, spawn W A
+  list A N, queue W, show, quit
+
+Status: 0 done, 1 a fault of input or files, 2 a fault of the words.
+
+Example: mars -r 100 -b -o imp.red dwarf.red
+More in README.md and docs/USING.md.
+";
+
+#[test]
+fn help(rt: HostRuntime) -> Result<(), Fail> {
+    let answer = answer(rt.alloc(), &["--help"], b"")?;
+    assert_eq!(rt; answer.status, 0);
+    assert!(rt; answer.faults.is_empty());
+    assert!(rt; answer.output.as_slice() == HELP.as_bytes());
+    // A bad word before it, or a number out of its range, is judged first.
+    for word in ["x", "0", "100001"] {
+        check_fault(
+            &rt,
+            rt.alloc(),
+            &["-r", word, "--help"],
+            2,
+            b"mars: bad words\n",
+        )?;
+    }
+    Ok(())
+}
+
+/// An environment of these arguments, of which the first is the program's name, and of no variables.
+#[derive(Drop)]
+struct Arguments(&'static [&'static [u8]]);
+
+impl Env for Arguments {
+    fn arg(&self, i: usize, buf: &mut [u8]) -> Result<usize, FillError> {
+        let Some(argument) = self.0.get(i) else {
+            return Err(FillError::NotPresent);
+        };
+        if argument.len() > buf.len() {
+            return Err(FillError::TooLong);
+        }
+        buf[..argument.len()].copy_from_slice(argument);
+        Ok(argument.len())
+    }
+
+    fn var(&self, _name: &str, _buf: &mut [u8]) -> Result<usize, FillError> {
+        Err(FillError::NotPresent)
+    }
+
+    fn var_at(&self, _i: usize, _buf: &mut [u8]) -> Result<usize, FillError> {
+        Err(FillError::NotPresent)
+    }
+}
+
+/// What a program answers that was started with these arguments.
+fn started(alloc: Global, arguments: &'static [&'static [u8]]) -> Result<Outcome, Fail> {
+    let (mut output, mut faults) = (Vec::new(alloc), Vec::new(alloc));
+    let mut input = b"".as_slice();
+    let files = files(alloc)?;
+    let environment = Arguments(arguments);
+    let status = start(
+        alloc,
+        &environment,
+        &files,
+        &mut input,
+        &mut output,
+        &mut faults,
+    );
+    drop(files);
+    Ok(Outcome {
+        status,
+        output,
+        faults,
+    })
+}
+
+/// Arguments, and the status and what is written with them.
+type Start = (&'static [&'static [u8]], u8, &'static [u8], &'static [u8]);
+
+/// The name need not be text, and isn't one of the words; each of these must be text.
+const STARTS: &[Start] = &[
+    (
+        &[b"\xff", b"--load", b"imp.load"],
+        0,
+        b";load 2 8000\n;name Unknown\n;author Anonymous\nORG 0\nMOV.I $0, $1\n",
+        b"",
+    ),
+    (
+        &[b"mars", b"imp.load", b"\xff"],
+        2,
+        b"",
+        b"mars: bad words\n",
+    ),
+    (&[b"--help"], 2, b"", b"mars: bad words\n"),
+];
+
+#[test]
+fn words_behind_the_name(rt: HostRuntime) -> Result<(), Fail> {
+    for (arguments, status, output, faults) in STARTS {
+        let answer = started(rt.alloc(), arguments)?;
+        let written = (answer.output.as_slice(), answer.faults.as_slice());
+        let is_right = answer.status == *status && written == (*output, *faults);
+        drop(answer);
+        assert!(&rt; is_right, "{status}");
+    }
+    Ok(())
+}
