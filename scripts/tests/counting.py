@@ -33,6 +33,13 @@ def check(name, got, expected=True):
         print(f"{name}:\nexpected: {expected!r}\ngot:      {got!r}")
 
 
+def holds(is_so, *told):
+    """Counts whether something is so, and prints what is told where it isn't."""
+    counts["passed" if is_so else "failed"] += 1
+    if not is_so:
+        print(*told)
+
+
 def skip(name, why):
     """Tells what can't be tried on this machine."""
     counts["skipped"] += 1

@@ -4,9 +4,9 @@
 //! such body proves anew how a session is dropped.
 ghost use Rattle.std.specs.Prelude.{Some, ◌<◌};
 
+use mars_app::{DebugFault, debug, debug_within};
 use mars_cell::{Params, Warrior, read_load};
 use mars_core::Battle;
-use mars_app::{DebugFault, debug, debug_within};
 use mars_session::{DeltaTape, RingTape, Session, Tape, WholeTape};
 use std::alloc::Global;
 use std::io;

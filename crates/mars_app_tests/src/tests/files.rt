@@ -3,8 +3,8 @@
 use super::{Played, answer, answer_over, check_fault, check_played, files};
 use mars_app::{FileFault, MemoryFiles, RunFault, SystemFiles};
 use mars_core::BattleFault;
-use std::fs;
 use std::alloc::Global;
+use std::fs;
 use std::process::Abort;
 use std::test::Fail;
 

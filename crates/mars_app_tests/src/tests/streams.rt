@@ -1,8 +1,8 @@
 //! Streams that fail or break off.
 
 use super::{answer, files, run_words};
-use std::io;
 use std::alloc::Global;
+use std::io;
 use std::io::{ErrorKind, Read, Write};
 use std::process::Abort;
 use std::test::Fail;

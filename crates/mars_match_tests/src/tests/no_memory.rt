@@ -2,9 +2,9 @@
 //! comes after it is refused or not: checks/memory refuses all requests from each on. Where the objects themselves
 //! are refused, there is nothing to show. The calls of the crates below stand here too.
 use super::{BY_DEFAULT, LEAGUE, Narrow};
+use mars_cell::WriteFault;
 use mars_cell::{Mode, Modifier, Op, Params, Warrior, default_modifier, read_cell};
 use mars_match::{Row, Table, write_results};
-use mars_cell::WriteFault;
 use redcode_asm::Formula;
 use redcode_text::ExprFault;
 use std::alloc::Global;

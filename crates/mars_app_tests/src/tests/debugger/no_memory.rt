@@ -2,9 +2,9 @@
 //! memory once more, and holds whether that and all that comes after it is refused or not: checks/memory refuses all
 //! requests from each on. Where the objects themselves are refused, there is nothing to show.
 use super::{AMPLE, IMP, Narrow, Pieces};
+use mars_app::{DebugFault, debug_within};
 use mars_cell::{Params, read_load};
 use mars_core::Battle;
-use mars_app::{DebugFault, debug_within};
 use mars_session::{RingTape, Session};
 use std::alloc::Global;
 use std::process::Abort;

@@ -1,0 +1,83 @@
+//! Runs to the end, beside the same turns one by one.
+
+use super::{OF_EIGHT, battle_of, check_clock, check_deaths, check_same, turn};
+use mars_core::{Battle, Death};
+use std::alloc::Global;
+use std::process::Abort;
+use std::test::Fail;
+
+/// Makes turns until the battle is over, at most 1000.
+fn step_to_end(battle: &mut Battle) {
+    for _ in 0..1000 {
+        if battle.turn().is_err() {
+            break;
+        }
+    }
+}
+
+/// Runs a battle to its end, and a copy of it by one turn after another: both end alike, after so many turns.
+fn check_run(rt: &impl Abort, alloc: Global, battle: &mut Battle, turns: u32) -> Result<(), Fail> {
+    let mut stepped = battle.copy(alloc)?;
+    step_to_end(&mut stepped);
+    battle.run_to_end();
+    assert!(rt; battle.is_over());
+    assert_eq!(rt; battle.turns(), turns);
+    check_same(rt, battle, &stepped);
+    Ok(())
+}
+
+const TWO_DEATHS: &[Death] = &[
+    Death {
+        warrior: 1,
+        turns: 2,
+    },
+    Death {
+        warrior: 2,
+        turns: 5,
+    },
+];
+
+#[test]
+fn runs_with_deaths(rt: HostRuntime) -> Result<(), Fail> {
+    let cells = [
+        (0, "SPL.B $0, }1"),
+        (2, "DAT.F $0, $0"),
+        (4, "JMP.B $1, <0"),
+    ];
+    let mut battle = battle_of(rt.alloc(), OF_EIGHT, &cells)?;
+    check_run(&rt, rt.alloc(), &mut battle, 5)?;
+    check_deaths(&rt, &battle, TWO_DEATHS);
+    // it is over already
+    check_run(&rt, rt.alloc(), &mut battle, 5)
+}
+
+#[test]
+fn runs_within_limits(rt: HostRuntime) -> Result<(), Fail> {
+    let cells = [
+        (0, "MOV.I $3, $3"),
+        (3, "SPL.B {2, >5"),
+        (6, "DIV.F }1, *7"),
+    ];
+    let mut battle = battle_of(rt.alloc(), (8, 4, 4, 6), &cells)?;
+    let mut turned = battle.copy(rt.alloc())?;
+    step_to_end(&mut turned);
+    check_run(&rt, rt.alloc(), &mut battle, turned.turns())
+}
+
+#[test]
+fn a_lone_run(rt: HostRuntime) -> Result<(), Fail> {
+    let mut battle = battle_of(rt.alloc(), OF_EIGHT, &[(0, "JMP.B $2, $0")])?;
+    check_run(&rt, rt.alloc(), &mut battle, 2)?;
+    assert_eq!(rt; battle.survivors(), 0);
+    Ok(())
+}
+
+#[test]
+fn imps_to_the_last_cycle(rt: HostRuntime) -> Result<(), Fail> {
+    let cells = [(0, "MOV.I $0, $1"), (8, "MOV.I $0, $1")];
+    let mut battle = battle_of(rt.alloc(), (16, 8, 16, 16), &cells)?;
+    check_run(&rt, rt.alloc(), &mut battle, 20)?;
+    check_clock(&rt, &battle, 0, 10, 20);
+    assert_eq!(rt; battle.survivors(), 2);
+    Ok(())
+}
