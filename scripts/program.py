@@ -16,5 +16,5 @@ def find_program(given=None):
     """The file of the program: the given one, or the built one, or one on the path."""
     program = given or (BUILT if os.path.exists(BUILT) else shutil.which("mars") or BUILT)
     if not os.path.isfile(program) or not os.access(program, os.X_OK):
-        raise NoProgram(f"no program: {program}")
+        raise NoProgram(f"no program: {program}" + ("" if given else "; `./mars --help` proves and builds it, --program FILE names another"))
     return os.path.abspath(program)

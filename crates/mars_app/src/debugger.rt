@@ -91,6 +91,7 @@ fn take_byte<W: Write, T: Tape>(
     if request == Request::Quit {
         return Ok(Flow::Quit);
     }
+    // A `match` in place of `?`, here and below: what `execute` says of a failed write is cited by the proof, and `?` hides it.
     match execute(request, writer, session) {
         Ok(()) => Ok(Flow::More),
         Err(fault) => Err(fault),

@@ -103,6 +103,7 @@ fn run_options<F: WarriorFiles, R: Read, W: Write>(
 {
     let settings = Settings::new(alloc, options)?;
     let done = settings.carry_out(alloc, options, files, input, output);
+    // By a call, since each way out of this body would prove the drop anew.
     drop(settings);
     done
 }
@@ -169,6 +170,7 @@ impl Settings {
         }
         let warriors = load_warriors(alloc, files, options.files.as_slice(), contest)?;
         let done = self.play(alloc, options, &warriors, input, output);
+        // By a call, as in `run_options`.
         drop(warriors);
         done
     }

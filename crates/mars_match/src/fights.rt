@@ -77,7 +77,7 @@ impl Lineup {
     }
 
     /// The warriors from one on, and then those before it.
-    pub fn from(&self, first: usize) -> &[Warrior]
+    pub fn starting_at(&self, first: usize) -> &[Warrior]
         requires { first ≤ length self.now }
         ensures { result.now ≡ rotated first self.now }
     {
@@ -154,9 +154,9 @@ fn start_round(
     let first = round as usize % lineup.len();
     let starts = rotated_starts(starts, first);
     let Some(mut battle) = last else {
-        return new_battle(alloc, params, lineup.from(first), starts.as_slice());
+        return new_battle(alloc, params, lineup.starting_at(first), starts.as_slice());
     };
-    match battle.restart(lineup.from(first), starts.as_slice()) {
+    match battle.restart(lineup.starting_at(first), starts.as_slice()) {
         Ok(()) => Ok(battle),
         Err(fault) => Err(MatchFault::Battle(fault)),
     }

@@ -1,6 +1,6 @@
 //! A tape of one battle and records.
 ghost use Rattle.std.proofs.Common.{refl, rules};
-ghost use Rattle.std.specs.Prelude.{◌≡◌, ◌+◌, ◌-◌, ◌<◌, ◌≤◌, None, false, true, MatchOption, MatchResult, vec_capacity};
+ghost use Rattle.std.specs.Prelude.{◌≡◌, ◌+◌, ◌-◌, ◌<◌, ◌≤◌, None, false, true, MatchOption, MatchResult, vec_capacity, IsOk};
 ghost use Rattle.mars_session.specs.History.{beginning, places, last_of, cut, back, forward};
 ghost use Rattle.mars_session.specs.Memory.{never};
 ghost use Rattle.mars_session.specs.Tapes.{LeadsAt};
@@ -34,7 +34,8 @@ impl Model for DeltaTape {
 impl DeltaTape {
     /// A tape at the one, marked place of a battle. It takes no memory yet, and so is never refused.
     pub fn new(alloc: Global, battle: Battle) -> Result<Self, Battle>
-        ensures { MatchResult result (λ t. t.history ≡ beginning battle) (λ b. b ≡ battle) }
+        ensures history { MatchResult result (λ t. t.history ≡ beginning battle) (λ b. b ≡ battle) }
+        ensures never { IsOk result }
     {
         Ok(DeltaTape {
             battle,

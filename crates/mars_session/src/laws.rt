@@ -74,7 +74,7 @@ pub fn calls_keep_tapes()
     ensures { CallsKeepTapes }
 {}
 
-/// So does every list of calls.
+/// Every list of calls keeps a tape: each place is a turn or an edit of the one before, and the first and the last are marked.
 pub fn scripts_keep_tapes()
     ensures { ScriptsKeepTapes }
 {}

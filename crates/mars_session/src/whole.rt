@@ -95,7 +95,7 @@ fn add_copies(
     Ok(())
 }
 
-/// Adds copies likewise. Where memory is refused, those that were added are given back.
+/// Adds unmarked copies of the place `at` until `n` follow it. Where memory is refused, those that were added are given back.
 fn grow(alloc: Global, copies: &mut Vec<Snapshot>, at: usize, n: u64) -> Result<(), AllocError>
     requires { at < vec_len copies.old }
     ensures grown { IsGrown copies.old.items copies.new.items at }

@@ -8,17 +8,17 @@ ghost use Rattle.redcode_asm.specs.Outcomes.{Answers};
 use crate::fault::AsmFault;
 use crate::warriors::program_warrior;
 use mars_cell::{Params, Warrior};
-use redcode_text::{Names, expand};
+use redcode_text::{PredefinedNames, expand};
 use std::alloc::Global;
 
 /// What VERSION stands for.
 const VERSION: i64 = 80;
 
 /// The values of the predefined names.
-fn predefined_names(params: &Params, rounds: u32, warriors: u32) -> Names
+fn predefined_names(params: &Params, rounds: u32, warriors: u32) -> PredefinedNames
     ensures { predefined_of result ≡ predefined params.now rounds warriors }
 {
-    Names {
+    PredefinedNames {
         core_size: i64::from(params.core_size()),
         max_processes: i64::from(params.processes()),
         max_cycles: i64::from(params.cycles()),
@@ -61,6 +61,7 @@ pub fn assemble(
         Err(fault) => return Err(AsmFault::of_text(fault)),
     };
     let warrior = program_warrior(alloc, &program, &predefined, params);
+    // By a call, since the drop of each of its fields in this body is dear to prove.
     drop(program);
     warrior
 }

@@ -71,8 +71,8 @@ impl<'a> Source<'a> {
     }
 }
 
-/// An assert holds where its value isn't 0.
-fn holds(value: i64) -> Result<(), AsmProblem>
+/// Judges the value of an assert, which holds where that isn't 0.
+fn judge_value(value: i64) -> Result<(), AsmProblem>
     ensures { result ≡ holds value }
 {
     if value == 0 {
@@ -109,7 +109,7 @@ impl<'a> Source<'a> {
     {
         let tokens = self.replace(alloc, &assert.tokens)?;
         match self.assert_value(assert.current_line, &tokens) {
-            Ok((value, is_fixed)) => match holds(value) {
+            Ok((value, is_fixed)) => match judge_value(value) {
                 Ok(()) => Ok(is_fixed),
                 Err(problem) => Err(problem),
             },
@@ -139,7 +139,7 @@ impl<'a> Source<'a> {
         Ok(())
     }
 
-    /// The same, with the line of a fault.
+    /// Whether an assert holds, looked for among those that are known to hold first; a fault has its line.
     fn check_assert_at<'l>(
         &self,
         alloc: Global,

@@ -182,7 +182,7 @@ impl<'a> Source<'a> {
         Ok(cell)
     }
 
-    /// The same, with the line of a fault.
+    /// The cell of an instruction, looked for among those that are known first; a fault has its line.
     fn cell_at<'l>(
         &self,
         alloc: Global,

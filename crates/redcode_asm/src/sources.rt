@@ -10,7 +10,7 @@ ghost use Rattle.redcode_asm.specs.Code.Sources.{placed_of};
 
 use crate::fault::AsmProblem;
 use crate::places::{Labels, Place, last_line};
-use redcode_text::{Env, NameTable, Names, Program, Token};
+use redcode_text::{Env, NameTable, PredefinedNames, Program, Token};
 use std::alloc::Global;
 
 /// A program with its labels, and the predefined names.
@@ -18,12 +18,12 @@ use std::alloc::Global;
 pub struct Source<'a> {
     pub program: &'a Program,
     pub labels: &'a Labels,
-    pub predefined: &'a Names,
+    pub predefined: &'a PredefinedNames,
     ghost table: { labels.now ≡ table_with [] (placed program.now) },
 }
 
 /// What the name of an index stands for behind so many instructions, where it is no label.
-fn known_value(predefined: &Names, names: &NameTable, current_line: u32, name: usize) -> Option<i64>
+fn known_value(predefined: &PredefinedNames, names: &NameTable, current_line: u32, name: usize) -> Option<i64>
     ensures { result ≡ predefined_value (with_current_line (predefined_of predefined.now) current_line) (name_at names.now name) }
 {
     predefined.value_at(current_line, names.word(name))

@@ -10,7 +10,7 @@ use crate::fault::{AsmFault, AsmProblem};
 use crate::places::{Labels, check_length};
 use crate::sources::Source;
 use mars_cell::{Cell, Params, Warrior};
-use redcode_text::{Names, Program};
+use redcode_text::{PredefinedNames, Program};
 use std::alloc::Global;
 
 /// The warrior of these cells, with the name and the author of a program.
@@ -68,7 +68,7 @@ impl<'a> Source<'a> {
 pub fn program_warrior(
     alloc: Global,
     program: &Program,
-    predefined: &Names,
+    predefined: &PredefinedNames,
     params: &Params,
 ) -> Result<Warrior, AsmFault>
     ensures value { Answers (λ warrior. warrior) result (warrior_of (predefined_of predefined.now) params.now program.now) }

@@ -11,8 +11,8 @@ use Rattle.std.specs.List.{list_all, list_any, prefix_len}
 use Rattle.std.specs.Str.Parse.{digits_value, digits_value_after}
 use Rattle.redcode_text.specs.declared.source.runs.LongRun.{LongRun}
 use Rattle.redcode_text.specs.declared.source.runs.RunKind.TheVariants.{Word}
-use Rattle.redcode_text.specs.declared.lexer.words.Front.{Front}
-use Rattle.redcode_text.specs.Code.Runs.{AreRuns, ArePlain, AreZeros, IsFront, stands}
+use Rattle.redcode_text.specs.declared.lexer.words.KnownStart.{KnownStart}
+use Rattle.redcode_text.specs.Code.Runs.{AreRuns, ArePlain, AreZeros, IsKnownStart, stands}
 use Rattle.redcode_text.specs.Tokens.{OpenLoop, Scanned, begins_name, begins_word, is_blank, is_word_byte, scan_from, word_len}
 use Rattle.redcode_text.proofs.Scans.{scan-blank}
 use Rattle.redcode_text.proofs.WordSteps.{word_len-more}
@@ -158,7 +158,7 @@ value-behind (suc n) (b ∷ bs) within zeros =
     ap (λ d. digits_value_after 10 (0 * 10 + digit_value d) bs) z ∙ value-behind n bs (omega (arith, within)) (λ i less. zeros (suc i) (omega (arith, less)))
 
 -- what is known of the front of a word that is cut behind it
-pub cut-front : (front : Front) (n : ℕ) (bs : List ℕ) → IsFront front bs → front.plain ≤ n → n ≤ length bs → IsFront front (take n bs)
+pub cut-front : (front : KnownStart) (n : ℕ) (bs : List ℕ) → IsKnownStart front bs → front.plain ≤ n → n ≤ length bs → IsKnownStart front (take n bs)
 cut-front front n bs is on within =
     record {
       within = omega (arith, on, length-take-le n bs within);

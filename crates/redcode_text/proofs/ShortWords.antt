@@ -7,7 +7,7 @@ use Rattle.std.specs.Char.{to_ascii_lowercase}
 use Rattle.std.specs.Str.{bytes_eq, str_eq_ignore_ascii_case, str_to_ascii_lowercase}
 use Rattle.std.proofs.lemmas.List.{length-map}
 use Rattle.std.proofs.lemmas.Slice.Eq.{bytes_eq-Decides}
-use Rattle.redcode_text.specs.declared.names.predefined.Names.{Names}
+use Rattle.redcode_text.specs.declared.names.predefined.PredefinedNames.{PredefinedNames}
 use Rattle.redcode_text.specs.Lines.{Predefined, operations, predefined_value, short, with_current_line}
 use Rattle.redcode_text.specs.Views.{predefined_of}
 
@@ -82,5 +82,5 @@ values-same (p ∷ ps) name fit =
     let b = both (has_word_length p.0) (list_all (λ p. has_word_length p.0) ps) fit in
     λ j. elim (word-same p.0 name b.0 j) as (λ _. Option ℤ) [ true ↦ Some p.1 | false ↦ values-same ps name b.1 j ]
 
-pub predefined-same : (names : Names) (line : ℕ) (name : List ℕ) → predefined_value (with_current_line (predefined_of names) line) (short name) ≡ predefined_value (with_current_line (predefined_of names) line) name
+pub predefined-same : (names : PredefinedNames) (line : ℕ) (name : List ℕ) → predefined_value (with_current_line (predefined_of names) line) (short name) ≡ predefined_value (with_current_line (predefined_of names) line) name
 predefined-same names line name = values-same (with_current_line (predefined_of names) line) name refl

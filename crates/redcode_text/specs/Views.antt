@@ -1,6 +1,6 @@
 -- What a value of the code means.
 use Rattle.std.specs.Prelude.{ℕ, List, [], ◌∷◌, Vec, codes}
-use Rattle.redcode_text.specs.declared.names.predefined.Names.{Names}
+use Rattle.redcode_text.specs.declared.names.predefined.PredefinedNames.{PredefinedNames}
 use Rattle.redcode_text.specs.declared.program.Assert as assert
 use Rattle.redcode_text.specs.declared.program.Line as line
 use Rattle.redcode_text.specs.declared.token.Token.{Token}
@@ -8,7 +8,7 @@ use Rattle.redcode_text.specs.Lines.{Assert, Line, Predefined}
 use Rattle.redcode_text.specs.Tokens.{Scanned}
 
 -- the names with their values
-abbrev pub predefined_of : Names → Predefined
+abbrev pub predefined_of : PredefinedNames → Predefined
 predefined_of n =
     (codes "CORESIZE", n.core_size) ∷ (codes "MAXPROCESSES", n.max_processes) ∷ (codes "MAXCYCLES", n.max_cycles) ∷ (codes "MAXLENGTH", n.max_length)
     ∷ (codes "MINDISTANCE", n.min_distance) ∷ (codes "ROUNDS", n.rounds) ∷ (codes "WARRIORS", n.warriors) ∷ (codes "VERSION", n.version) ∷ []

@@ -9,7 +9,7 @@ ghost use Rattle.redcode_text.specs.Outcomes.{Answers};
 ghost use Rattle.redcode_text.specs.Source.{tree_of, tree_of_rows};
 
 use crate::fault::{TextFault, TextProblem};
-use crate::names::predefined::Names;
+use crate::names::predefined::PredefinedNames;
 use crate::program::Program;
 use crate::reader::Reading;
 use crate::reader::repeat::read_all;
@@ -51,7 +51,7 @@ fn read_from_rows(
     alloc: Global,
     source: &[u8],
     rows: &[Row<'_>],
-    names: &Names,
+    names: &PredefinedNames,
 ) -> Result<Reading, TextFault>
     requires { RowsFit rows.now }
     ensures { Answers (λ reading. reading_of reading) result (flat (predefined_of names.now) (tree_of_rows (map row_of rows.now)) nothing_read) }
@@ -71,7 +71,7 @@ fn read_from_rows(
 
 /// Reads a source.
 #[tactic(auto, using(crate::proofs::SourceRows::rows_fit))]
-fn read_source(alloc: Global, bytes: &[u8], names: &Names) -> Result<Reading, TextFault>
+fn read_source(alloc: Global, bytes: &[u8], names: &PredefinedNames) -> Result<Reading, TextFault>
     ensures { Answers (λ reading. reading_of reading) result (flat (predefined_of names.now) (tree_of bytes.now) nothing_read) }
 {
     let Ok(runs) = long_runs(alloc, bytes) else {
@@ -104,7 +104,7 @@ fn read_source(alloc: Global, bytes: &[u8], names: &Names) -> Result<Reading, Te
 /// round, and in the replacements in counts, of which each count has at most 65,536. A long run of blanks counts once, and so
 /// does a long number; in each further round a long name is compared once, and one with joins is made anew.
 #[tactic(auto, unfolding(crate::specs::Expansion::expansion))]
-pub fn expand(alloc: Global, bytes: &[u8], names: &Names) -> Result<Program, TextFault>
+pub fn expand(alloc: Global, bytes: &[u8], names: &PredefinedNames) -> Result<Program, TextFault>
     ensures { Answers (λ program. program) result (expansion (predefined_of names.now) bytes.now) }
 {
     match read_source(alloc, bytes, names) {

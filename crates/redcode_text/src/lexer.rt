@@ -1,6 +1,6 @@
 //! The tokens of a line.
 ghost use Rattle.std.specs.Prelude.{◌≡◌, ◌≤◌, ◌<◌, ◌+◌, ◌^◌, ℕ, [], drop, length, slice_index, take, true, vec_len, IfOk, IfSome, IsAscii};
-ghost use Rattle.redcode_text.specs.Code.Runs.{AreRuns, IsFront, stands};
+ghost use Rattle.redcode_text.specs.Code.Runs.{AreRuns, IsKnownStart, stands};
 ghost use Rattle.redcode_text.specs.Outcomes.{Answers};
 ghost use Rattle.redcode_text.specs.Views.{scan_of};
 ghost use Rattle.redcode_text.specs.Code.Problems.{Gives};
@@ -14,7 +14,7 @@ mod words;
 use crate::characters::{begins_word, is_blank, word_len};
 use crate::fault::{TextFault, TextProblem};
 use crate::lexer::open_loops::OpenLoops;
-use crate::lexer::words::{Front, Spelled, Word, read_word};
+use crate::lexer::words::{KnownStart, Spelled, Word, read_word};
 use crate::names::NameTable;
 use crate::source::runs::{LongRun, RunKind};
 use crate::token::{Token, TokenKind, one_byte_sign, two_byte_sign};
@@ -59,18 +59,18 @@ fn read_sign(bytes: &[u8]) -> Result<Spelled, TextProblem>
 }
 
 /// The word that some bytes begin with, of whose front this is known.
-fn word_of<'a>(bytes: &'a [u8], front: Front) -> Word<'a>
-    requires { IsFront front bytes.now }
+fn word_of<'a>(bytes: &'a [u8], known: KnownStart) -> Word<'a>
+    requires { IsKnownStart known bytes.now }
     ensures bytes { result.bytes.now ≡ take (word_len bytes.now) bytes.now }
     ensures ascii { IsAscii result.bytes.now }
-    ensures front { IsFront result.front result.bytes.now }
+    ensures front { IsKnownStart result.known result.bytes.now }
     ensures within { length result.bytes.now ≤ length bytes.now }
     ensures some { begins_word bytes.now ≡ true → 1 ≤ length result.bytes.now }
 {
-    let len = front.plain + word_len(&bytes[front.plain..]);
+    let len = known.plain + word_len(&bytes[known.plain..]);
     Word {
         bytes: &bytes[..len],
-        front,
+        known,
     }
 }
 
@@ -80,9 +80,9 @@ fn read_token(
     loops: &OpenLoops,
     names: &mut NameTable,
     bytes: &[u8],
-    front: Front,
+    known: KnownStart,
 ) -> Result<Spelled, TextProblem>
-    requires { IsFront front bytes.now }
+    requires { IsKnownStart known bytes.now }
     ensures value { Gives (with_names names.new) result (token_at loops.now names.old bytes.now) }
     ensures len { IfOk result (λ s. (1 ≤ s.len) × (s.len ≤ length bytes.now)) }
 {
@@ -93,7 +93,7 @@ fn read_token(
         return Err(TextProblem::NotAscii);
     }
     if begins_word(bytes) {
-        return read_word(alloc, loops, names, word_of(bytes, front));
+        return read_word(alloc, loops, names, word_of(bytes, known));
     }
     read_sign(bytes)
 }
@@ -132,10 +132,10 @@ fn reach_of(text: Text<'_>, cursor: Cursor) -> Option<Reach>
 }
 
 /// What is known of the front of a word at a place of a text.
-fn front_of(text: Text<'_>, cursor: Cursor) -> Front
+fn known_start(text: Text<'_>, cursor: Cursor) -> KnownStart
     requires within { cursor.at < length text.bytes.now }
     requires fits { text.at + length text.bytes.now < 2 ^ 64 }
-    ensures { IsFront result (drop cursor.at text.entry.bytes.now) }
+    ensures { IsKnownStart result (drop cursor.at text.entry.bytes.now) }
 {
     let place = text.at + cursor.at;
     match reach_of(text, cursor) {
@@ -144,12 +144,12 @@ fn front_of(text: Text<'_>, cursor: Cursor) -> Front
                 kind: RunKind::Word(zeros_to),
                 to,
             },
-        ) => Front {
+        ) => KnownStart {
             place,
             plain: to - cursor.at,
             zeros: zeros_to.saturating_sub(place).min(to - cursor.at),
         },
-        _ => Front::unknown(place),
+        _ => KnownStart::unknown(place),
     }
 }
 
@@ -175,7 +175,7 @@ fn add_token(
         loops,
         names,
         &text.bytes[cursor.at..],
-        front_of(text, cursor),
+        known_start(text, cursor),
     ) {
         Ok(found) => found,
         Err(problem) => return Err(problem),

@@ -34,7 +34,7 @@
 //! - The readers of a `Program` give its parts. It has at most 65,536 lines; its name and its author can be printed.
 //! - `Program::substitute` gives tokens with each EQU name replaced, at most 65,536, or the first fault, exactly as
 //!   `specs/Equates` defines it.
-//! - `Names` has the values of the predefined names, `Names::value_at` one of them, `NameTable` the names of a text.
+//! - `PredefinedNames` has the values of the predefined names, `PredefinedNames::value_at` one of them, `NameTable` the names of a text.
 //! - `is_instruction` tells which lines are instructions, and `is_spelled` whether an operation is a word.
 //! - `are_alike` tells whether tokens are of the same kinds, and `key_of` gives a number by which such are found again.
 //! - `scan` gives the tokens and the names of a text of one line, or its first fault, exactly as `specs/Tokens` defines
@@ -64,6 +64,6 @@ pub use expression::{Env, eval};
 pub use fault::{ExprFault, TextFault, TextProblem};
 pub use lexer::{LineTokens, scan};
 pub use names::NameTable;
-pub use names::predefined::Names;
+pub use names::predefined::PredefinedNames;
 pub use program::{Assert, Line, Program, is_instruction, is_spelled};
 pub use token::{Sign, Token, TokenKind, are_alike, key_of};

@@ -164,7 +164,7 @@ impl NameTable {
         self.index_of_parts(alloc, front, digits, place)
     }
 
-    /// The same, of a name in its parts.
+    /// The index of a name in its two parts that stands at a place of the text; it is added where it is new.
     pub(crate) fn index_of_parts(
         &mut self,
         alloc: Global,

@@ -20,7 +20,7 @@ use crate::lexer::{Text, read_tokens};
 use crate::limits::{MAX_LINES, MAX_TOKENS};
 use crate::names::NameTable;
 use crate::names::equates::Equates;
-use crate::names::predefined::Names;
+use crate::names::predefined::PredefinedNames;
 use crate::names::set::NameSet;
 use crate::program::{Assert, Line};
 use crate::source::row::Row;
@@ -180,7 +180,7 @@ impl Reading {
     }
 
     /// Whether a name is predefined.
-    pub fn is_predefined(&self, names: &Names, name: usize) -> bool
+    pub fn is_predefined(&self, names: &PredefinedNames, name: usize) -> bool
         ensures { result ≡ is_predefined (predefined_of names.now) (reading_of self.now) name }
     {
         names.value_at(0, self.names.word(name)).is_some()

@@ -3,7 +3,7 @@
 //! A test hands its program to functions that borrow it, and then to `drop`: where it goes out of scope by itself, each such
 //! body proves anew how a program is dropped.
 use redcode_text::{
-    Assert, Env, ExprFault, Line, NameTable, Names, Program, Sign, TextFault, TextProblem, Token,
+    Assert, Env, ExprFault, Line, NameTable, PredefinedNames, Program, Sign, TextFault, TextProblem, Token,
     TokenKind, eval, expand,
 };
 use std::alloc::Global;
@@ -14,7 +14,7 @@ mod memory;
 mod no_memory;
 
 /// What the predefined names stand for.
-pub const NAMES: Names = Names {
+pub const NAMES: PredefinedNames = PredefinedNames {
     core_size: 8000,
     max_processes: 8000,
     max_cycles: 80_000,

@@ -12,8 +12,8 @@ unfolding the_machine
 steps_are_undone_and_redone = refl
 
 pub undo_from_the_middle_of_a_run : IsToldWithin 100
-    (Run 4 ∷ Goto 2 ∷ Undo ∷ Redo ∷ Goto 9 ∷ [])
-    (stands 4 4 4 ∷ stands 2 2 4 ∷ stands 0 0 4 ∷ stands 4 4 4 ∷ Err (NotInHistory 0 4) ∷ [])
+    (Run 4 ∷ Goto 2 ∷ Goto 9 ∷ Undo ∷ Redo ∷ Goto 9 ∷ [])
+    (stands 4 4 4 ∷ stands 2 2 4 ∷ Err (NotInHistory 0 4) ∷ stands 0 0 4 ∷ stands 4 4 4 ∷ Err (NotInHistory 0 4) ∷ [])
 unfolding the_machine
 undo_from_the_middle_of_a_run = refl
 
@@ -24,8 +24,8 @@ unfolding the_machine
 a_command_drops_what_follows = refl
 
 pub a_history_of_two_places : IsToldWithin 2
-    (Run 3 ∷ Run 2 ∷ Step ∷ Undo ∷ [])
-    (Err (JournalFull 2) ∷ stands 2 2 2 ∷ Err (JournalFull 0) ∷ stands 0 0 2 ∷ [])
+    (Run 3 ∷ Run 2 ∷ Step ∷ Undo ∷ Step ∷ [])
+    (Err (JournalFull 2) ∷ stands 2 2 2 ∷ Err (JournalFull 0) ∷ stands 0 0 2 ∷ stands 1 1 1 ∷ [])
 unfolding the_machine
 a_history_of_two_places = refl
 

@@ -1,6 +1,6 @@
 //! Edits of cells and processes in a history.
 
-use super::{Check, DeltaTape, RingTape, Start, WholeTape, check_call, check_process, check_queue, check_script, lone_tape, stayers, stayers_give};
+use super::{Check, IDLE, Start, check_call, check_process, check_queue, check_script, lone_tape, stayers, stayers_give};
 use mars_cell::{Cell, Mode, Modifier, Op};
 use mars_session::{Call, DeltaTape, Refusal, Reply, RingTape, Session, Standing, Tape, WholeTape};
 use std::alloc::Global;
@@ -145,4 +145,22 @@ fn each_killed_process_comes_back(rt: HostRuntime) -> Result<(), Fail> {
     check_kills::<WholeTape>(&rt, alloc)?;
     check_kills::<DeltaTape>(&rt, alloc)?;
     check_kills::<RingTape>(&rt, alloc)
+}
+
+/// A fill sets one cell after another, from the first to the last.
+fn check_filled(rt: &impl Abort, alloc: Global) -> Result<(), Fail> {
+    let mut session = Session::new(lone_tape::<DeltaTape>(alloc, 8, &[IDLE])?, 100);
+    assert!(rt; session.fill(2, 4, IDLE).is_ok());
+    let tape = session.into_tape();
+    for (place, address) in [2, 3, 4].into_iter().enumerate() {
+        let record = tape.atom(place).ok_or("a record")?;
+        assert_eq!(rt; record.cells.as_slice().first().map(|change| change.address), Some(address));
+    }
+    drop(tape);
+    Ok(())
+}
+
+#[test]
+fn cells_are_filled_in_their_order(rt: HostRuntime) -> Result<(), Fail> {
+    check_filled(&rt, rt.alloc())
 }

@@ -2,9 +2,9 @@
 ghost use Rattle.std.specs.Prelude.{◌≤◌};
 ghost use Rattle.mars_session.specs.Limits.{longest_history};
 
-use super::{BLANK, Check, IDLE, RingTape, check_script, gives, imp_battle};
+use super::{BLANK, Check, IDLE, check_script, gives, imp_battle};
 use mars_cell::Cell;
-use mars_session::{Call, Refusal, Reply, RingTape, Session};
+use mars_session::{Call, Refusal, Reply, RingTape, Session, Standing};
 use std::alloc::Global;
 use std::process::Abort;
 use std::test::Fail;

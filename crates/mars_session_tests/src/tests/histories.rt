@@ -2,7 +2,7 @@
 ghost use Rattle.std.specs.Prelude.{◌≡◌, false};
 
 use super::poor_tape::PoorTape;
-use super::{BLANK, Check, DeltaTape, IDLE, RingTape, Start, WholeTape, check_call, check_script, check_standing, gives, imp, imp_gives, limited_imp_gives, poor_imp, stayers_give};
+use super::{BLANK, Check, IDLE, Start, check_call, check_script, check_standing, gives, imp, imp_gives, limited_imp_gives, lone_tape, poor_imp, stayers_give};
 use mars_cell::Cell;
 use mars_session::{Call, DeltaTape, Refusal, Reply, RingTape, Session, Standing, Tape, WholeTape};
 use std::alloc::Global;
@@ -51,6 +51,7 @@ fn cell_of_an_undone_edit(rt: HostRuntime) -> Result<(), Fail> {
 const UNDO_FROM_THE_MIDDLE_OF_A_RUN: &[(Call, Reply)] = &[
     (Call::Run(4), imp_at!(4, 4, 4)),
     (Call::Goto(2), imp_at!(2, 2, 4)),
+    (Call::Goto(9), Err(Refusal::NotInHistory(0, 4))),
     (Call::Undo, imp_at!(0, 0, 4)),
     (Call::Redo, imp_at!(4, 4, 4)),
 ];
@@ -117,11 +118,45 @@ const HISTORY_OF_TWO_PLACES: &[(Call, Reply)] = &[
     (Call::Run(2), imp_at!(2, 2, 2)),
     (Call::Step, Err(Refusal::JournalFull(0))),
     (Call::Undo, imp_at!(0, 0, 2)),
+    (Call::Step, imp_at!(1, 1, 1)),
 ];
 
+/// The room is what is left behind the present place, not behind the last one.
 #[test]
 fn history_of_two_places(rt: HostRuntime) -> Result<(), Fail> {
     limited_imp_gives(&rt, rt.alloc(), 2, HISTORY_OF_TWO_PLACES)
+}
+
+/// A lone warrior dies in its first turn: one place is made, whatever was asked for, but room is judged by what was.
+const AN_EARLY_END: &[(Call, Reply)] = &[
+    (Call::Run(3), Err(Refusal::JournalFull(2))),
+    (Call::Until(3), Err(Refusal::JournalFull(2))),
+    (Call::Until(2), at!(1, 0, 0, 0, 1, 1)),
+    (Call::Step, Err(Refusal::Over)),
+    (Call::Run(0), Err(Refusal::Count)),
+    (Call::Until(0), Err(Refusal::Over)),
+    (Call::Until(2_000_000), Err(Refusal::Count)),
+    (Call::SetCell(7, IDLE), at!(1, 0, 0, 0, 2, 2)),
+    (Call::Spawn(0, 3), Err(Refusal::WarriorDead)),
+    (Call::Kill(0, 0), Err(Refusal::NoSuchProcess)),
+    (Call::Undo, at!(1, 0, 0, 0, 1, 2)),
+    (Call::Undo, at!(0, 0, 0, 1, 0, 2)),
+    (Call::Run(2), at!(1, 0, 0, 0, 1, 1)),
+];
+
+fn check_early_end<T: Start + Drop>(rt: &impl Abort, alloc: Global) -> Result<(), Fail>
+    requires { T.FORGETS ≡ false }
+{
+    let one = Session::new(lone_tape::<T>(alloc, 8, &[BLANK])?, 2);
+    let all = Session::new(lone_tape::<T>(alloc, 8, &[BLANK])?, 2);
+    gives(rt, alloc, one, all, AN_EARLY_END)
+}
+
+#[test]
+fn battles_that_end_early(rt: HostRuntime) -> Result<(), Fail> {
+    let alloc = rt.alloc();
+    check_early_end::<WholeTape>(&rt, alloc)?;
+    check_early_end::<DeltaTape>(&rt, alloc)
 }
 
 const GOTO_FINDS_THE_FIRST_OF_EQUAL_TURNS: &[(Call, Reply)] = &[

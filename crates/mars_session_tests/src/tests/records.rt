@@ -1,9 +1,9 @@
 //! The records between places.
 
-use super::{BLANK, COPIER, Check, DeltaTape, IDLE, RingTape, Start, WholeTape, check_call, check_cell, check_script, lone_tape};
+use super::{BLANK, COPIER, Check, IDLE, Start, check_call, check_cell, check_script, lone_tape};
 use mars_cell::{Cell, Mode, Modifier, Op};
 use mars_core::{Edit, Work};
-use mars_session::{Call, DeltaTape, RingTape, Session, Tape, WholeTape};
+use mars_session::{Call, DeltaTape, RingTape, Session, Standing, Tape, WholeTape};
 use std::alloc::Global;
 use std::process::Abort;
 use std::test::Fail;

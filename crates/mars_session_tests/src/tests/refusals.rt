@@ -1,7 +1,7 @@
 //! What is refused, and that it changes nothing.
 ghost use Rattle.std.specs.Prelude.{◌≡◌, false};
 
-use super::{BLANK, COPIER, Check, DeltaTape, IDLE, RingTape, Start, WholeTape, check_each, check_list, check_same, check_script, check_standing, imp, imp_gives, poor_imp, stayers_give};
+use super::{BLANK, COPIER, Check, IDLE, Start, check_each, check_list, check_same, check_script, check_standing, imp, imp_gives, poor_imp, stayers_give};
 use mars_cell::{Cell, Mode, Modifier, Op};
 use mars_session::{Call, DeltaTape, Refusal, Reply, RingTape, Standing, WholeTape};
 use std::alloc::Global;
@@ -10,6 +10,9 @@ use std::test::Fail;
 
 /// A cell whose A-number is outside a core of 8 cells.
 const OUTSIDE: Cell = direct!(Op::Dat, Modifier::F, 8, 0);
+
+/// A cell whose B-number is.
+const OUTSIDE_BY_B: Cell = direct!(Op::Dat, Modifier::F, 0, 8);
 
 const REFUSED_RUN: [(Call, Reply); 5] = [
     (Call::Step, imp_at!(1, 1, 1)),
@@ -79,6 +82,7 @@ const NUMBERS_PAST_EVERY_LIMIT: &[(Call, Reply)] = &[
     (Call::Fill(4, 2, IDLE), Err(Refusal::Address)),
     (Call::Fill(0, 8, IDLE), Err(Refusal::Address)),
     (Call::SetCell(1, OUTSIDE), Err(Refusal::FieldOutside)),
+    (Call::SetCell(1, OUTSIDE_BY_B), Err(Refusal::FieldOutside)),
     (Call::SetCell(8, OUTSIDE), Err(Refusal::Address)),
     (Call::Fill(0, 7, OUTSIDE), Err(Refusal::FieldOutside)),
     (Call::Fill(0, 1_000_000, IDLE), Err(Refusal::Count)),
@@ -87,6 +91,10 @@ const NUMBERS_PAST_EVERY_LIMIT: &[(Call, Reply)] = &[
     (Call::Spawn(4_294_967_296, 0), Err(Refusal::NoSuchWarrior)),
     (Call::Kill(0, 4_294_967_296), Err(Refusal::NoSuchProcess)),
     (Call::MoveProcess(0, 1, 5), Err(Refusal::NoSuchProcess)),
+    (Call::MoveProcess(0, 1, 8), Err(Refusal::Address)),
+    (Call::MoveProcess(1, 1, 8), Err(Refusal::Address)),
+    (Call::MoveProcess(1, 1, 5), Err(Refusal::NoSuchWarrior)),
+    (Call::Spawn(1, 8), Err(Refusal::Address)),
 ];
 
 #[test]

@@ -1,6 +1,6 @@
 -- Long runs of blanks, and long words, by their places in a source.
 use Rattle.std.specs.Prelude.{◌≡◌, ℕ, ◌+◌, ◌<◌, ◌≤◌, ◌&&◌, ◌||◌, ◌==◌, nat_le, Bool, List, length, get_or, slice_index, true}
-use Rattle.redcode_text.specs.declared.lexer.words.Front.{Front}
+use Rattle.redcode_text.specs.declared.lexer.words.KnownStart.{KnownStart}
 use Rattle.redcode_text.specs.declared.source.runs.LongRun.{LongRun}
 use Rattle.redcode_text.specs.declared.source.runs.RunKind.{RunKind}
 use Rattle.redcode_text.specs.declared.source.runs.RunKind.TheVariants.{Blanks, Word}
@@ -25,7 +25,7 @@ abbrev pub AreZeros : ℕ → List ℕ → Type 0
 AreZeros n bytes = (i : ℕ) → i < n → (slice_index bytes i == 48) ≡ true
 
 -- this is known of the front of a word
-pub record IsFront (front : Front) (bytes : List ℕ) : Type 0 where
+pub record IsKnownStart (front : KnownStart) (bytes : List ℕ) : Type 0 where
   pub within : front.plain ≤ length bytes
   pub plain : ArePlain front.plain bytes
   pub inside : front.zeros ≤ front.plain

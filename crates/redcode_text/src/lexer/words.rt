@@ -5,7 +5,7 @@ ghost use Rattle.std.specs.List.{list_all, prefix_len};
 ghost use Rattle.std.specs.Str.Parse.{digits_value};
 ghost use Rattle.redcode_text.specs.Code.Parts.{front_len};
 ghost use Rattle.redcode_text.specs.Code.Problems.{Gives};
-ghost use Rattle.redcode_text.specs.Code.Runs.{IsFront};
+ghost use Rattle.redcode_text.specs.Code.Runs.{IsKnownStart};
 ghost use Rattle.redcode_text.specs.Code.Scanning.{with_names};
 ghost use Rattle.redcode_text.specs.Tokens.{begins_name, joined, number_kind, plain_word_found, round_digits, round_of, word_found, word_token};
 
@@ -19,7 +19,7 @@ use std::alloc::{AllocError, Global};
 
 /// Where a word begins in the source, and what is known of its front without going over it.
 #[derive(Clone, Copy)]
-pub struct Front {
+pub struct KnownStart {
     pub place: usize,
     /// So many bytes are letters, digits and `_`.
     pub plain: usize,
@@ -27,13 +27,13 @@ pub struct Front {
     pub zeros: usize,
 }
 
-impl Front {
+impl KnownStart {
     /// Nothing is known but the place.
     pub fn unknown(place: usize) -> Self
         ensures plain { result.plain ≡ 0 }
         ensures zeros { result.zeros ≡ 0 }
     {
-        Front {
+        KnownStart {
             place,
             plain: 0,
             zeros: 0,
@@ -45,16 +45,16 @@ impl Front {
 #[derive(Clone, Copy)]
 pub struct Word<'a> {
     pub bytes: &'a [u8],
-    pub front: Front,
+    pub known: KnownStart,
 }
 
 /// A word without the zeros that are known to stand in front of it.
 fn past_zeros<'a>(word: Word<'a>) -> &'a [u8]
-    requires { IsFront word.front word.bytes.now }
+    requires { IsKnownStart word.known word.bytes.now }
     ensures digits { list_all is_ascii_digit word.entry.bytes.now ≡ list_all is_ascii_digit result.now }
     ensures value { digits_value 10 word.entry.bytes.now ≡ digits_value 10 result.now }
 {
-    &word.bytes[word.front.zeros..]
+    &word.bytes[word.known.zeros..]
 }
 
 /// The number that decimal digits spell, where it is below 2^64.
@@ -97,7 +97,7 @@ fn plain_word(
     len: usize,
 ) -> Result<Spelled, TextProblem>
     requires ascii { IsAscii word.bytes.now }
-    requires front { IsFront word.front word.bytes.now }
+    requires front { IsKnownStart word.known word.bytes.now }
     ensures value { Gives (with_names names.new) result (plain_word_found names.old len word.entry.bytes.now) }
     ensures len { IfOk result (λ s. s.len ≡ len) }
 {
@@ -109,7 +109,7 @@ fn plain_word(
     if !begins_name(word.bytes) {
         return Err(TextProblem::BadToken);
     }
-    match names.index_at(alloc, word.bytes, word.front.place) {
+    match names.index_at(alloc, word.bytes, word.known.place) {
         Ok(index) => Ok(Spelled {
             kind: TokenKind::Name(index),
             len,
@@ -127,7 +127,7 @@ fn joined_word(
     len: usize,
 ) -> Result<Spelled, TextProblem>
     requires ascii { IsAscii word.bytes.now }
-    requires front { IsFront word.front word.bytes.now }
+    requires front { IsKnownStart word.known word.bytes.now }
     ensures value { let bytes = word.entry.bytes.now in Gives (with_names names.new) result (word_found names.old len bytes (round_of loops.now bytes)) }
     ensures len { IfOk result (λ s. s.len ≡ len) }
 {
@@ -163,11 +163,11 @@ fn part_len(bytes: &[u8]) -> usize
 
 /// How many bytes of a word stand before its first join.
 fn first_part_len(word: Word<'_>) -> usize
-    requires { IsFront word.front word.bytes.now }
+    requires { IsKnownStart word.known word.bytes.now }
     ensures value { result ≡ prefix_len (λ b. not (b == 38)) word.entry.bytes.now }
     ensures within { result ≤ length word.entry.bytes.now }
 {
-    word.front.plain + part_len(&word.bytes[word.front.plain..])
+    word.known.plain + part_len(&word.bytes[word.known.plain..])
 }
 
 /// A word with the digits of counters in place of its joins.
@@ -216,7 +216,7 @@ fn long_name(
             len,
         });
     }
-    match names.index_of_parts(alloc, front.bytes, digits, front.front.place) {
+    match names.index_of_parts(alloc, front.bytes, digits, front.known.place) {
         Ok(index) => Ok(Spelled {
             kind: TokenKind::Name(index),
             len,
@@ -257,7 +257,7 @@ fn parted_word(
     };
     let word = Word {
         bytes: &bytes,
-        front: Front::unknown(front.front.place),
+        known: KnownStart::unknown(front.known.place),
     };
     joined_word(alloc, loops, names, word, len)
 }
@@ -270,19 +270,19 @@ pub fn read_word(
     word: Word<'_>,
 ) -> Result<Spelled, TextProblem>
     requires ascii { IsAscii word.bytes.now }
-    requires front { IsFront word.front word.bytes.now }
+    requires front { IsKnownStart word.known word.bytes.now }
     ensures value { Gives (with_names names.new) result (word_token loops.now names.old word.entry.bytes.now) }
     ensures len { IfOk result (λ s. s.len ≡ length word.entry.bytes.now) }
 {
     let len = word.bytes.len();
-    if !word.bytes[word.front.plain..].contains(&b'&') {
+    if !word.bytes[word.known.plain..].contains(&b'&') {
         return joined_word(alloc, loops, names, word, len);
     }
     let at = front_len(&word.bytes[..first_part_len(word)]);
     let end = join_word(alloc, loops, &word.bytes[at..])?;
     let front = Word {
         bytes: &word.bytes[..at],
-        front: word.front,
+        known: word.known,
     };
     parted_word(alloc, loops, names, front, &end, len)
 }

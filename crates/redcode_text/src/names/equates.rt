@@ -77,7 +77,7 @@ impl Equates {
         Some(lines)
     }
 
-    /// The same without hashing the name, where it stands at the place that was noted.
+    /// The lines of an EQU name, found without hashing it where it stands at the place that was noted.
     fn guess(&self, name: usize) -> Option<&[Vec<Token>]>
         ensures { IfSome result (λ lines. equate_lines self.now name ≡ Some (map (λ line. line.items) lines.now)) }
     {
@@ -164,7 +164,7 @@ impl Equates {
 
     /// Puts a token, or what it stands for, behind the tokens that stand.
     #[cycle(replacing)]
-    fn place(&self, depth: usize, token: Token, replaced: &mut Replaced) -> Result<(), TextProblem>
+    fn put(&self, depth: usize, token: Token, replaced: &mut Replaced) -> Result<(), TextProblem>
         ensures { Gives (λ _. replaced.new) result (replaced_token (replacing depth self.now) replaced.old token (token_lines self.now token.kind)) }
     {
         let TokenKind::Name(name) = token.kind else {
@@ -176,7 +176,7 @@ impl Equates {
         }
     }
 
-    /// The same for tokens, one after another.
+    /// Puts tokens, or what each stands for, one after another behind the tokens that stand.
     #[cycle(replacing)]
     fn replace_each(
         &self,
@@ -187,7 +187,7 @@ impl Equates {
         ensures { Gives (λ _. replaced.new) result (each_replaced self.now (replacing depth self.now) replaced.old tokens.now) }
     {
         for token in tokens {
-            self.place(depth, *token, replaced)?;
+            self.put(depth, *token, replaced)?;
         }
         Ok(())
     }
@@ -198,13 +198,13 @@ impl Equates {
     fn place_at_line(&self, token: Token, replaced: &mut Replaced) -> Result<(), TextFault>
         ensures { Answers (λ _. replaced.new) result (at_line token.line (replaced_token (replacing depth_limit self.now) replaced.old token (token_lines self.now token.kind))) }
     {
-        match self.place(MAX_NESTING, token, replaced) {
+        match self.put(MAX_NESTING, token, replaced) {
             Ok(()) => Ok(()),
             Err(problem) => Err(problem.at_line(token.line)),
         }
     }
 
-    /// The same for tokens, one after another.
+    /// Puts tokens of a source, or what each stands for, one after another; a fault has the line of its token.
     fn place_each(&self, tokens: &[Token], replaced: &mut Replaced) -> Result<(), TextFault>
         ensures { Answers (λ _. replaced.new) result (each_replaced_at_line self.now replaced.old tokens.now) }
     {

@@ -5,7 +5,7 @@ ghost use Rattle.redcode_text.specs.Lines.{predefined_value, with_current_line};
 
 /// The values of the predefined names, but for CURLINE.
 #[derive(Clone, Copy, Debug)]
-pub struct Names {
+pub struct PredefinedNames {
     /// CORESIZE
     pub core_size: i64,
     /// MAXPROCESSES
@@ -51,7 +51,7 @@ fn named(name: &str, value: i64) -> NamedValue<'_>
     NamedValue { name, value }
 }
 
-impl Names {
+impl PredefinedNames {
     /// The predefined names, but for CURLINE.
     fn table(&self) -> [NamedValue<'static>; 8]
         ensures { map (λ v. (v.name.now, v.value)) result ≡ predefined_of self.now }

@@ -9,7 +9,7 @@ ghost use Rattle.redcode_text.specs.Code.Rows.{row_of};
 
 use crate::fault::TextProblem;
 use crate::limits::MAX_NESTING;
-use crate::names::predefined::Names;
+use crate::names::predefined::PredefinedNames;
 use crate::reader::{Reading, keep_after, name_in_front};
 use crate::source::row::{LineKind, Row};
 use crate::token::Token;
@@ -20,7 +20,7 @@ impl Reading {
     pub fn read_equ(
         &mut self,
         alloc: Global,
-        names: &Names,
+        names: &PredefinedNames,
         at: usize,
         mut tokens: Vec<Token>,
     ) -> Result<(), TextProblem>
@@ -46,7 +46,7 @@ impl Reading {
     fn read_kind(
         &mut self,
         alloc: Global,
-        names: &Names,
+        names: &PredefinedNames,
         kind: LineKind,
         row: Row<'_>,
         tokens: Vec<Token>,
@@ -70,7 +70,7 @@ impl Reading {
     pub fn read_plain(
         &mut self,
         alloc: Global,
-        names: &Names,
+        names: &PredefinedNames,
         row: Row<'_>,
     ) -> Result<(), TextProblem>
         requires { row.at + length row.bytes.now < 2 ^ 64 }

@@ -8,7 +8,7 @@ ghost use Rattle.redcode_text.specs.Code.Problems.{Gives};
 ghost use Rattle.redcode_text.specs.Code.Used.{used};
 
 use crate::fault::TextProblem;
-use crate::names::predefined::Names;
+use crate::names::predefined::PredefinedNames;
 use crate::names::set::NameSet;
 use crate::program::{Line, is_end, is_instruction};
 use crate::reader::Reading;
@@ -41,7 +41,7 @@ fn colons(tokens: &[Token]) -> usize
 
 impl Reading {
     /// Whether a name may be a label of a line that has these labels so far.
-    fn may_label(&self, names: &Names, labels: &NameSet, name: usize) -> bool
+    fn may_label(&self, names: &PredefinedNames, labels: &NameSet, name: usize) -> bool
         ensures { result ≡ may_label (predefined_of names.now) (reading_of self.now) labels.now name }
     {
         !(self.is_label(name) || self.is_predefined(names, name) || labels.contains(name))
@@ -51,7 +51,7 @@ impl Reading {
     fn parts_with(
         &self,
         alloc: Global,
-        names: &Names,
+        names: &PredefinedNames,
         tokens: &[Token],
         known: &mut NameSet,
     ) -> Result<Parts, TextProblem>
@@ -101,7 +101,7 @@ impl Reading {
     pub fn parts_of(
         &self,
         alloc: Global,
-        names: &Names,
+        names: &PredefinedNames,
         tokens: &[Token],
     ) -> Result<Parts, TextProblem>
         ensures value { Gives (parts_at tokens.now) result (parts_of (predefined_of names.now) (reading_of self.now) tokens.now) }
@@ -235,7 +235,7 @@ impl Reading {
     }
 
     /// A line in its parts, whose operation is no EQU name.
-    fn add_plain(
+    fn add_ordinary(
         &mut self,
         alloc: Global,
         number: usize,
@@ -266,7 +266,7 @@ impl Reading {
     pub fn read_ordinary(
         &mut self,
         alloc: Global,
-        names: &Names,
+        names: &PredefinedNames,
         number: usize,
         depth: usize,
         tokens: &[Token],
@@ -280,7 +280,7 @@ impl Reading {
         };
         let rest = &tokens[parts.rest_at..];
         let Some(lines) = self.operation_lines(parts.operation) else {
-            return self.add_plain(alloc, number, parts, rest);
+            return self.add_ordinary(alloc, number, parts, rest);
         };
         if depth == 0 {
             return Err(TextProblem::EquDepth);
@@ -294,7 +294,7 @@ impl Reading {
     fn read_each(
         &mut self,
         alloc: Global,
-        names: &Names,
+        names: &PredefinedNames,
         number: usize,
         depth: usize,
         lines: &[Vec<Token>],

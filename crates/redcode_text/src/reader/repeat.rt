@@ -17,7 +17,7 @@ mod head;
 
 use crate::fault::{TextFault, TextProblem};
 use crate::lexer::open_loops::OpenLoop;
-use crate::names::predefined::Names;
+use crate::names::predefined::PredefinedNames;
 use crate::reader::Reading;
 use crate::reader::repeat::head::Head;
 use crate::source::row::{LineKind, Row};
@@ -44,7 +44,7 @@ impl Reading {
 /// Reads the row at a place, which is neither FOR nor ROF, and gives the next place.
 fn read_row(
     alloc: Global,
-    names: &Names,
+    names: &PredefinedNames,
     rows: &[Row<'_>],
     at: usize,
     reading: &mut Reading,
@@ -65,7 +65,7 @@ fn read_row(
 /// Reads the row of a FOR.
 fn read_for_row(
     alloc: Global,
-    names: &Names,
+    names: &PredefinedNames,
     row: Row<'_>,
     word_at: usize,
     reading: &mut Reading,
@@ -123,7 +123,7 @@ struct PairedRows<'a> {
 #[cycle(items)]
 fn read_items(
     alloc: Global,
-    names: &Names,
+    names: &PredefinedNames,
     source: PairedRows<'_>,
     first: usize,
     reading: &mut Reading,
@@ -158,7 +158,7 @@ fn read_items(
 #[cycle(items)]
 fn read_loop(
     alloc: Global,
-    names: &Names,
+    names: &PredefinedNames,
     source: PairedRows<'_>,
     at: usize,
     word_at: usize,
@@ -187,7 +187,7 @@ fn read_loop(
 #[cycle(items)]
 fn read_rounds(
     alloc: Global,
-    names: &Names,
+    names: &PredefinedNames,
     source: PairedRows<'_>,
     first: usize,
     head: Head,
@@ -221,7 +221,7 @@ fn read_rounds(
 /// Reads all rows, up to END.
 pub fn read_all(
     alloc: Global,
-    names: &Names,
+    names: &PredefinedNames,
     rows: &[Row<'_>],
     reading: &mut Reading,
 ) -> Result<(), TextFault>

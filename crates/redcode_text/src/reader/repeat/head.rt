@@ -15,7 +15,7 @@ use crate::expression::{Env, eval};
 use crate::fault::{ExprFault, TextProblem};
 use crate::limits::{MAX_COUNT, MAX_LOOPS};
 use crate::names::NameTable;
-use crate::names::predefined::Names;
+use crate::names::predefined::PredefinedNames;
 use crate::reader::{Reading, keep_after, name_in_front};
 use crate::source::row::Row;
 use crate::token::{Token, TokenKind};
@@ -34,7 +34,7 @@ pub struct Head {
 /// What names stand for in a count.
 #[derive(Clone, Copy)]
 struct CountNames<'a> {
-    predefined: &'a Names,
+    predefined: &'a PredefinedNames,
     names: &'a NameTable,
     current_line: u32,
 }
@@ -64,7 +64,7 @@ fn as_count(value: Result<i64, ExprFault>) -> Result<u32, TextProblem>
 
 impl Reading {
     /// Whether a name that isn't predefined is among the tokens.
-    fn has_label(&self, names: &Names, tokens: &[Token]) -> bool
+    fn has_label(&self, names: &PredefinedNames, tokens: &[Token]) -> bool
         ensures { result ≡ has_label (predefined_of names.now) (reading_of self.now) (kinds tokens.now) }
     {
         for token in tokens {
@@ -78,7 +78,7 @@ impl Reading {
     }
 
     /// What names stand for in a count here.
-    fn count_names<'a>(&'a self, predefined: &'a Names) -> CountNames<'a>
+    fn count_names<'a>(&'a self, predefined: &'a PredefinedNames) -> CountNames<'a>
         ensures predefined { result.predefined.now ≡ predefined.now }
         ensures names { result.names.now ≡ self.now.names }
         ensures line { result.current_line ≡ self.now.instructions }
@@ -91,17 +91,17 @@ impl Reading {
     }
 
     /// How often the body of a loop is read, where the value of its count is known.
-    fn known_count(&self, names: &Names, tokens: &[Token]) -> Option<Result<u32, TextProblem>>
+    fn known_count(&self, names: &PredefinedNames, tokens: &[Token]) -> Option<Result<u32, TextProblem>>
         ensures { IfSome result (λ count. count ≡ count_of (predefined_of names.now) (reading_of self.now) tokens.now) }
     {
         let value = self.equates.known_value(tokens, &self.count_names(names))?;
         Some(as_count(Ok(value)))
     }
 
-    /// The same, where these are the tokens with their EQU names replaced.
+    /// How often the body of a loop is read, by the tokens of its count with their EQU names replaced.
     fn replaced_count(
         &self,
-        names: &Names,
+        names: &PredefinedNames,
         tokens: &[Token],
         replaced: &[Token],
     ) -> Result<u32, TextProblem>
@@ -118,7 +118,7 @@ impl Reading {
     fn keep_count(
         &mut self,
         alloc: Global,
-        names: &Names,
+        names: &PredefinedNames,
         tokens: &[Token],
         replaced: &[Token],
     ) -> Result<(), TextProblem>
@@ -145,7 +145,7 @@ impl Reading {
     pub fn count_of(
         &mut self,
         alloc: Global,
-        names: &Names,
+        names: &PredefinedNames,
         tokens: &[Token],
     ) -> Result<u32, TextProblem>
         ensures value { Gives (λ count. count) result (count_of (predefined_of names.now) (reading_of self.old) tokens.now) }
@@ -182,7 +182,7 @@ impl Reading {
     pub fn read_head(
         &mut self,
         alloc: Global,
-        names: &Names,
+        names: &PredefinedNames,
         row: Row<'_>,
         word_at: usize,
     ) -> Result<Head, TextProblem>

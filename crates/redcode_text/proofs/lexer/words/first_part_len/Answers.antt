@@ -6,6 +6,6 @@ use Rattle.redcode_text.proofs.lexer.words.first_part_len.Goals as goal
 
 pub returns-clause-value : goal.returns-clause-value
 returns-clause-value c =
-    let word = c.args.word.bytes.now in let plain = c.args.word.front.plain in
+    let word = c.args.word.bytes.now in let plain = c.args.word.known.plain in
     ap (λ n. plain + n) (c.part_len.ensures.value ∙ ap (prefix_len (λ b. not (b == 38))) (take_rest word plain))
     ∙ sym (part-behind plain word c.requires.within c.requires.plain)

@@ -9,11 +9,11 @@ use Rattle.redcode_text.proofs.lexer.words.past_zeros.Goals as goal
 pub returns-clause-digits : goal.returns-clause-digits
 returns-clause-digits c =
     let word = c.args.word in
-    digits-behind word.front.zeros word.bytes.now (omega (arith, c.requires.within, c.requires.inside)) c.requires.zeros
-    ∙ ap (list_all is_ascii_digit) (sym (take_rest word.bytes.now word.front.zeros))
+    digits-behind word.known.zeros word.bytes.now (omega (arith, c.requires.within, c.requires.inside)) c.requires.zeros
+    ∙ ap (list_all is_ascii_digit) (sym (take_rest word.bytes.now word.known.zeros))
 
 pub returns-clause-value : goal.returns-clause-value
 returns-clause-value c =
     let word = c.args.word in
-    value-behind word.front.zeros word.bytes.now (omega (arith, c.requires.within, c.requires.inside)) c.requires.zeros
-    ∙ ap (digits_value 10) (sym (take_rest word.bytes.now word.front.zeros))
+    value-behind word.known.zeros word.bytes.now (omega (arith, c.requires.within, c.requires.inside)) c.requires.zeros
+    ∙ ap (digits_value 10) (sym (take_rest word.bytes.now word.known.zeros))

@@ -15,8 +15,8 @@ returns-then-not-contains-clause-value c =
     let word = c.args.word in let front = c.requires.front in
     rw
     (joined-none c.args.loops.now word.bytes.now (
-    joins-behind word.front.plain word.bytes.now front.within front.plain
-    ∙ ap (list_any (λ b. b == 38)) (sym (take_rest word.bytes.now word.front.plain))
+    joins-behind word.known.plain word.bytes.now front.within front.plain
+    ∙ ap (list_any (λ b. b == 38)) (sym (take_rest word.bytes.now word.known.plain))
     ∙ sym c.contains.ensures.value
     ∙ c.if-not-contains.true
     ))

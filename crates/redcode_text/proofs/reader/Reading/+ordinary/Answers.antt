@@ -12,7 +12,7 @@ read_ordinary-returns-in-Err t c = ordinary-fails (predefined_of c.args.names.no
 pub read_ordinary-returns-in_default : goal.read_ordinary-returns-in_default
 read_ordinary-returns-in_default t c =
     rw (ordinary-plain (predefined_of c.args.names.now) c.args.number c.args.tokens.now (reading_of c.args.self.now) c.args.depth (parts_at c.args.tokens.now c.in-Ok.parts) c.in-Ok.ensures.value (sym c.in_default.ensures))
-    (simp take_rest at c.add_plain.ensures)
+    (simp take_rest at c.add_ordinary.ensures)
 
 pub read_ordinary-returns : goal.read_ordinary-returns
 read_ordinary-returns t c =

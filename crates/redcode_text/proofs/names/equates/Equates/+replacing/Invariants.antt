@@ -5,8 +5,8 @@ use Rattle.redcode_text.proofs.names.equates.Equates.+replacing.Given as goal
 abbrev pub decreases-replace : goal.decreases-replace
 decreases-replace l = 3 * l.depth
 
-abbrev pub decreases-place : goal.decreases-place
-decreases-place l = 3 * l.depth + 1
+abbrev pub decreases-put : goal.decreases-put
+decreases-put l = 3 * l.depth + 1
 
 abbrev pub decreases-replace_each : goal.decreases-replace_each
 decreases-replace_each l = 3 * l.depth + 2

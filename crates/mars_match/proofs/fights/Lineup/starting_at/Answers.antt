@@ -2,7 +2,7 @@ use Rattle.std.proofs.Common.{◌≡◌, ◌≤◌, ◌∙◌, take, length, ap,
 use Rattle.std.proofs.lemmas.List.{length-take-le}
 use Rattle.mars_match.specs.Battles.{rotated, IsTwice}
 use Rattle.mars_match.proofs.Rotations.{rotated_part}
-use Rattle.mars_match.proofs.fights.Lineup.from.Goals as goal
+use Rattle.mars_match.proofs.fights.Lineup.starting_at.Goals as goal
 
 pub returns : goal.returns
 returns c =
