@@ -6,6 +6,10 @@ TOP = os.path.dirname(os.path.dirname(os.path.realpath(__file__)))
 # The crate of the program, and the file that a proof of it leaves.
 CRATE = "mars"
 BUILT = os.path.join(TOP, "crates", CRATE, "out", CRATE)
+# Where the program lies beside scripts that were installed.
+INSTALLED = os.path.join(os.path.dirname(TOP), "bin", "mars")
+# What a person calls the program here.
+NAME = "./mars" if os.path.isfile(os.path.join(TOP, "mars")) else "mars"
 
 
 class NoProgram(Exception):
@@ -13,8 +17,9 @@ class NoProgram(Exception):
 
 
 def find_program(given=None):
-    """The file of the program: the given one, or the built one, or one on the path."""
-    program = given or (BUILT if os.path.exists(BUILT) else shutil.which("mars") or BUILT)
+    """The file of the program: the given one, or the built one, or that of an install, or one on the path."""
+    known = (path for path in (BUILT, INSTALLED, shutil.which("mars")) if path and os.path.isfile(path))
+    program = given or next(known, BUILT)
     if not os.path.isfile(program) or not os.access(program, os.X_OK):
         raise NoProgram(f"no program: {program}" + ("" if given else "; `./mars --help` proves and builds it, --program FILE names another"))
     return os.path.abspath(program)

@@ -77,7 +77,7 @@ fn add_files(alloc: Global, files: &mut MemoryFiles) -> Result<(), Fail> {
     Ok(())
 }
 
-fn files(alloc: Global) -> Result<MemoryFiles, Fail> {
+fn memory_files(alloc: Global) -> Result<MemoryFiles, Fail> {
     let mut files = MemoryFiles::new(alloc);
     add_files(alloc, &mut files)?;
     Ok(files)
@@ -123,7 +123,7 @@ fn run_words<R: Read, W: Write, E: Write>(
 }
 
 fn answer(alloc: Global, words: &[&str], input: &[u8]) -> Result<Outcome, Fail> {
-    let files = files(alloc)?;
+    let files = memory_files(alloc)?;
     let answer = answer_over(alloc, &files, words, input);
     drop(files);
     answer

@@ -23,7 +23,12 @@ pub struct Source<'a> {
 }
 
 /// What the name of an index stands for behind so many instructions, where it is no label.
-fn known_value(predefined: &PredefinedNames, names: &NameTable, current_line: u32, name: usize) -> Option<i64>
+fn known_value(
+    predefined: &PredefinedNames,
+    names: &NameTable,
+    current_line: u32,
+    name: usize,
+) -> Option<i64>
     ensures { result ≡ predefined_value (with_current_line (predefined_of predefined.now) current_line) (name_at names.now name) }
 {
     predefined.value_at(current_line, names.word(name))

@@ -3,8 +3,8 @@
 //! A test hands its program to functions that borrow it, and then to `drop`: where it goes out of scope by itself, each such
 //! body proves anew how a program is dropped.
 use redcode_text::{
-    Assert, Env, ExprFault, Line, NameTable, PredefinedNames, Program, Sign, TextFault, TextProblem, Token,
-    TokenKind, eval, expand,
+    Assert, Env, ExprFault, Line, NameTable, PredefinedNames, Program, Sign, TextFault,
+    TextProblem, Token, TokenKind, eval, expand,
 };
 use std::alloc::Global;
 use std::process::Abort;

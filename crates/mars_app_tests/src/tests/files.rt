@@ -1,7 +1,7 @@
 //! Files of warriors: their sizes, those of the system, load files, and the faults of each.
 
-use super::{Played, answer, answer_over, check_fault, check_played, files};
-use mars_app::{FileFault, MemoryFiles, RunFault, SystemFiles};
+use super::{Played, answer, answer_over, check_fault, check_played, memory_files};
+use mars_app::{FileFault, MemoryFiles, RunFault, SystemFiles, WarriorFiles};
 use mars_core::BattleFault;
 use std::alloc::Global;
 use std::fs;

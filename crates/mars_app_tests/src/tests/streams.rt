@@ -1,6 +1,6 @@
 //! Streams that fail or break off.
 
-use super::{answer, files, run_words};
+use super::{answer, memory_files, run_words};
 use std::alloc::Global;
 use std::io;
 use std::io::{ErrorKind, Read, Write};
@@ -15,7 +15,7 @@ fn run_over<R: Read, W: Write, E: Write>(
     output: &mut W,
     faults: &mut E,
 ) -> Result<u8, Fail> {
-    let files = files(alloc)?;
+    let files = memory_files(alloc)?;
     let status = run_words(alloc, &files, words, input, output, faults);
     drop(files);
     status

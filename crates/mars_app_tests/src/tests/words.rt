@@ -1,6 +1,6 @@
 //! The words of the program: what is taken, their defaults and ranges, the help.
 
-use super::{Outcome, Played, answer, check_fault, check_played, check_well, files};
+use super::{Outcome, Played, answer, check_fault, check_played, check_well, memory_files};
 use mars_app::{run, start};
 use std::alloc::Global;
 use std::env::{Env, FillError};
@@ -345,7 +345,7 @@ impl Env for Arguments {
 fn started(alloc: Global, arguments: &'static [&'static [u8]]) -> Result<Outcome, Fail> {
     let (mut output, mut faults) = (Vec::new(alloc), Vec::new(alloc));
     let mut input = b"".as_slice();
-    let files = files(alloc)?;
+    let files = memory_files(alloc)?;
     let environment = Arguments(arguments);
     let status = start(
         alloc,

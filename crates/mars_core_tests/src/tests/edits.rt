@@ -1,6 +1,9 @@
 //! Edits, and copies of battles.
 
-use super::{NOP, OUTSIDE, check_clock, check_queue, check_refused, lone_battle, make_edit, make_turns, three_stay};
+use super::{
+    NOP, OUTSIDE, check_clock, check_queue, check_refused, lone_battle, make_edit, make_turns,
+    three_stay,
+};
 use mars_core::{Battle, BattleFault, Edit, EditFault, Over};
 use std::alloc::Global;
 use std::fmt::Display;

@@ -2,7 +2,10 @@
 ghost use Rattle.std.specs.Prelude.{◌≡◌, IfOk};
 ghost use Rattle.mars_core.specs.Leads.{Leads};
 
-use super::{NOP, OF_EIGHT, STAY, battle_of, check_queue, check_refused, go_back, go_forth, lone_battle, make_edit, make_turns, three_stay, turn, turn_and_back};
+use super::{
+    NOP, OF_EIGHT, STAY, battle_of, check_queue, check_refused, go_back, go_forth, lone_battle,
+    make_edit, make_turns, three_stay, turn, turn_and_back,
+};
 use mars_core::{Atom, Battle, Edit, EditFault};
 use std::alloc::Global;
 use std::process::Abort;

@@ -1,7 +1,10 @@
 //! Starts and restarts, and what refuses them.
 
 use super::memory::one_cells;
-use super::{NOP, OF_EIGHT, OUTSIDE, battle_of, cell, check_cells, check_clock, check_deaths, check_queue, check_restart, laid_out, one_cell, params};
+use super::{
+    NOP, OF_EIGHT, OUTSIDE, battle_of, cell, check_cells, check_clock, check_deaths, check_queue,
+    check_restart, laid_out, one_cell, params,
+};
 use mars_cell::{Cell, Params, Warrior};
 use mars_core::{Battle, BattleFault};
 use std::alloc::Global;

@@ -1,6 +1,9 @@
 //! Turns: operands, limits, opcodes with their modifiers, processes, and who has the next turn.
 
-use super::{NOP, OF_EIGHT, Sizes, battle_of, check_cells, check_clock, check_deaths, check_queue, lone_battle, make_turns, params, turn, turn_and_back};
+use super::{
+    NOP, OF_EIGHT, Sizes, battle_of, check_cells, check_clock, check_deaths, check_queue,
+    lone_battle, make_turns, params, turn, turn_and_back,
+};
 use mars_core::{Atom, Battle, Death};
 use std::alloc::Global;
 use std::process::Abort;

@@ -1,7 +1,10 @@
 //! Leagues: every pair once.
 ghost use Rattle.std.specs.Prelude.{◌-◌, Some};
 
-use super::{BY_DEFAULT, DEAD, ONE_ROUND, Outcome, Plans, STAY, check_outcome, fits_two, imp_and_stay, one_cell, one_cells, plan_of, sizes};
+use super::{
+    BY_DEFAULT, DEAD, ONE_ROUND, Outcome, Plans, STAY, check_outcome, fits_two, imp_and_stay,
+    one_cell, one_cells, plan_of, sizes,
+};
 use mars_cell::{Params, Warrior};
 use mars_match::{MatchFault, PlaceFault, Table, league};
 use redcode_text::ExprFault;

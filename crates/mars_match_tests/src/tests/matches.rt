@@ -1,7 +1,10 @@
 //! Matches: points, wins, ties and losses.
 ghost use Rattle.std.specs.Prelude.{◌-◌, Some};
 
-use super::{BY_DEFAULT, DEAD, ONE_ROUND, Outcome, Plans, STAY, TOO_MANY, check_outcome, held, imp_and_stay, one_cells, sizes};
+use super::{
+    BY_DEFAULT, DEAD, ONE_ROUND, Outcome, Plans, STAY, TOO_MANY, check_outcome, held, imp_and_stay,
+    one_cells, sizes,
+};
 use mars_cell::{Params, Warrior};
 use mars_core::BattleFault;
 use mars_match::{MatchFault, PlaceFault};

@@ -2,8 +2,7 @@
 //! comes after it is refused or not: checks/memory refuses all requests from each on. Where the objects themselves
 //! are refused, there is nothing to show. The calls of the crates below stand here too.
 use super::{BY_DEFAULT, LEAGUE, Narrow};
-use mars_cell::WriteFault;
-use mars_cell::{Mode, Modifier, Op, Params, Warrior, default_modifier, read_cell};
+use mars_cell::{Mode, Modifier, Op, Params, Warrior, WriteFault, default_modifier, read_cell};
 use mars_match::{Row, Table, write_results};
 use redcode_asm::Formula;
 use redcode_text::ExprFault;

@@ -1,6 +1,9 @@
 //! Edits of cells and processes in a history.
 
-use super::{Check, IDLE, Start, check_call, check_process, check_queue, check_script, lone_tape, stayers, stayers_give};
+use super::{
+    Check, IDLE, Start, check_call, check_process, check_queue, check_script, lone_tape, stayers,
+    stayers_give,
+};
 use mars_cell::{Cell, Mode, Modifier, Op};
 use mars_session::{Call, DeltaTape, Refusal, Reply, RingTape, Session, Standing, Tape, WholeTape};
 use std::alloc::Global;
@@ -152,9 +155,12 @@ fn check_filled(rt: &impl Abort, alloc: Global) -> Result<(), Fail> {
     let mut session = Session::new(lone_tape::<DeltaTape>(alloc, 8, &[IDLE])?, 100);
     assert!(rt; session.fill(2, 4, IDLE).is_ok());
     let tape = session.into_tape();
-    for (place, address) in [2, 3, 4].into_iter().enumerate() {
+    for (place, address) in [(0, 2), (1, 3), (2, 4)] {
         let record = tape.atom(place).ok_or("a record")?;
-        assert_eq!(rt; record.cells.as_slice().first().map(|change| change.address), Some(address));
+        assert_eq!(rt;
+            record.cells.as_slice().first().map(|change| change.address),
+            Some(address)
+        );
     }
     drop(tape);
     Ok(())

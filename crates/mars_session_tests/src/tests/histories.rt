@@ -2,7 +2,10 @@
 ghost use Rattle.std.specs.Prelude.{◌≡◌, false};
 
 use super::poor_tape::PoorTape;
-use super::{BLANK, Check, IDLE, Start, check_call, check_script, check_standing, gives, imp, imp_gives, limited_imp_gives, lone_tape, poor_imp, stayers_give};
+use super::{
+    BLANK, Check, IDLE, Start, check_call, check_script, check_standing, gives, imp, imp_gives,
+    limited_imp_gives, lone_tape, poor_imp, stayers_give,
+};
 use mars_cell::Cell;
 use mars_session::{Call, DeltaTape, Refusal, Reply, RingTape, Session, Standing, Tape, WholeTape};
 use std::alloc::Global;

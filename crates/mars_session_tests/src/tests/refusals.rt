@@ -1,7 +1,10 @@
 //! What is refused, and that it changes nothing.
 ghost use Rattle.std.specs.Prelude.{◌≡◌, false};
 
-use super::{BLANK, COPIER, Check, IDLE, Start, check_each, check_list, check_same, check_script, check_standing, imp, imp_gives, poor_imp, stayers_give};
+use super::{
+    BLANK, COPIER, Check, IDLE, Start, check_each, check_list, check_same, check_script,
+    check_standing, imp, imp_gives, poor_imp, stayers_give,
+};
 use mars_cell::{Cell, Mode, Modifier, Op};
 use mars_session::{Call, DeltaTape, Refusal, Reply, RingTape, Standing, WholeTape};
 use std::alloc::Global;

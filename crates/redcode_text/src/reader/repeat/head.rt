@@ -91,7 +91,11 @@ impl Reading {
     }
 
     /// How often the body of a loop is read, where the value of its count is known.
-    fn known_count(&self, names: &PredefinedNames, tokens: &[Token]) -> Option<Result<u32, TextProblem>>
+    fn known_count(
+        &self,
+        names: &PredefinedNames,
+        tokens: &[Token],
+    ) -> Option<Result<u32, TextProblem>>
         ensures { IfSome result (λ count. count ≡ count_of (predefined_of names.now) (reading_of self.now) tokens.now) }
     {
         let value = self.equates.known_value(tokens, &self.count_names(names))?;
