@@ -59,7 +59,7 @@ def load_file_of(contest, file, entry, text):
     the text has that word, the load file is cut out of the listing of the warrior's match with itself.
     """
     if b"WARRIORS" in text:
-        answer = contest.run(contest.words, [entry, entry])
+        answer = contest.run([word for word in contest.words if not word.startswith("--score=")], [entry, entry])
     else:
         answer = contest.run(["--load", *(word for word in contest.words if not word.startswith("-F="))], [entry])
     found = LOAD_FILE.search(checked(answer, file, entry))
@@ -121,7 +121,7 @@ class Progress:
 
 
 @dataclass
-class Ring:
+class Arena:
     """Where a contest is fought, what is kept of it, and its warriors by their numbers."""
     contest: object
     place: object
@@ -165,14 +165,17 @@ class Ring:
 
 
 @contextmanager
-def ring(given):
+def arena(given):
     """The files of a script's words, entered."""
     program = find_program(given.program)
     with passing_folder() as folder:
         contest = Contest(program, words_of(given), given.time_limit, folder)
-        place = cluster(contest, given.scheduler, given.worker_program or "mars") if given.scheduler else threads(contest, given.jobs)
-        with Results(given.results, digest_of(read_file(program)), contest.words) as results, place as opened:
-            yield Ring(contest, opened, results, enter_all(contest, given.files, given.jobs))
+        if given.scheduler:
+            opened = cluster(contest, given.scheduler, given.worker_program or "mars")
+        else:
+            opened = threads(contest, given.jobs)
+        with Results(given.results, digest_of(read_file(program)), contest.words) as results, opened as place:
+            yield Arena(contest, place, results, enter_all(contest, given.files, given.jobs))
 
 
 def words_of(given):
