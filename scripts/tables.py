@@ -5,7 +5,7 @@ import struct
 import sys
 import zlib
 from dataclasses import dataclass
-from xml.sax.saxutils import escape
+from html import escape
 
 from battles import Fault
 
