@@ -23,6 +23,7 @@ ROW = re.compile(r"^ *(-?\d+) +(\d+) +(\d+) +(\d+)  ", re.M)
 LOAD_FILE = re.compile(r"^;load 2 \d+\n;name (.*)\n;author (.*)\n(?:.+\n)*", re.M)
 # faults of status 1 that are of no warrior
 OF_ALL = ("mars: placement", "mars: score")
+ADDRESS = re.compile(r"((tcp|tls)://)?(\[[0-9a-fA-F:]+\]|[^\s/:\[\]]+):\d+")
 # the most bytes of a file that mars reads
 LARGEST = 1048576
 
@@ -228,6 +229,8 @@ class Words(argparse.ArgumentParser):
         given.files += files
         if len(given.files) < 2:
             self.error(least)
+        if given.scheduler is not None and not ADDRESS.fullmatch(given.scheduler):
+            self.error("--scheduler ADDRESS is HOST:PORT, as in first.lan:8786")
         if given.worker_program and not given.scheduler:
             self.error("--worker-program goes with --scheduler")
         return given

@@ -125,7 +125,7 @@ def next_answers(done, handed_out):
         raise Fault("the scheduler has gone") from None
     except Exception as error:
         # What is handed out raises nothing of its own: a worker can't take it, or a match has ended several workers.
-        raise Fault(f"the workers: {error}") from None
+        raise Fault(f"the workers: {' '.join(str(error).split())}") from None
 
 
 @contextmanager
