@@ -1,0 +1,258 @@
+"""Matches of warriors that were read once: what league and bench share, with the words that both take.
+
+Each file is read once and assembled once, and fights as a load file: so /dev/stdin and <(..) are warriors, too.
+"""
+import argparse
+import os
+import re
+import sys
+import time
+from concurrent.futures import ThreadPoolExecutor
+from contextlib import contextmanager
+from dataclasses import dataclass
+
+from battles import Fault, split_words
+from hills import settings_of
+from places import Contest, cluster, digest_of, passing_folder, read_file, threads, write_file
+from program import NoProgram, find_program
+from results import Results
+
+# the words of mars that a match is given
+WORDS = ("-r", "-s", "-c", "-p", "-l", "-d", "-F", "--seed", "--score", "--read-limit", "--write-limit")
+ROW = re.compile(r"^ *(-?\d+) +(\d+) +(\d+) +(\d+)  ", re.M)
+LOAD_FILE = re.compile(r"^;load 2 \d+\n;name (.*)\n;author (.*)\n(?:.+\n)*", re.M)
+# faults of status 1 that are of no warrior
+OF_ALL = ("mars: placement", "mars: score")
+ADDRESS = re.compile(r"((tcp|tls)://)?(\[[0-9a-fA-F:]+\]|[^\s/:\[\]]+):\d+")
+# the most bytes of a file that mars reads
+LARGEST = 1048576
+
+
+@dataclass
+class Warrior:
+    """A warrior as it fights: by a file of the contest's folder, and known by the digest of that."""
+    file: str
+    name: str
+    author: str
+    entry: str
+    digest: str
+
+
+class Left(Exception):
+    """A fault that leaves a warrior or a match out."""
+
+
+def checked(answer, who, entry=None):
+    """The output of a run. A fault is told of `who`, who fights by that entry; one of the words, the core or the score ends all."""
+    status, output, fault = answer
+    if status == 0 and output:
+        return output
+    if status == 2 or fault.startswith(OF_ALL):
+        raise Fault(fault, status)
+    of_entry = f"mars: {entry}: "
+    raise Left(f"mars: {who}: {fault.removeprefix(of_entry)}" if fault.startswith(of_entry) else f"{who}: {fault}")
+
+
+def load_file_of(contest, file, entry, text):
+    """The load file of a warrior, as a match of its name and its author in its text.
+
+    In a match WARRIORS is 2, and `--load` takes it as 1. A name is only in a source that has it letter by letter. So where
+    the text has that word, the load file is cut out of the listing of the warrior's match with itself.
+    """
+    if b"WARRIORS" in text:
+        answer = contest.run([word for word in contest.words if not word.startswith("--score=")], [entry, entry])
+    else:
+        answer = contest.run(["--load", *(word for word in contest.words if not word.startswith("-F="))], [entry])
+    found = LOAD_FILE.search(checked(answer, file, entry))
+    if not found:
+        raise Fault(f"{contest.program} writes no load file")
+    return found
+
+
+def enter(contest, number, file):
+    """The warrior of a file, as a load file in the contest's folder. One that mars wouldn't read fights as the file is."""
+    ending = ".load" if file.endswith(".load") else ".red"
+    try:
+        text = read_file(file)
+    except OSError:
+        raise Left(f"mars: {file}: cannot read") from None
+    write_file(contest.folder, f"{number}{ending}", text)
+    load_file = load_file_of(contest, file, f"{number}{ending}", text)
+    if len(load_file[0]) <= LARGEST:
+        ending, text = ".load", load_file[0].encode()
+        write_file(contest.folder, f"{number}{ending}", text)
+    return Warrior(file, load_file[1], load_file[2], f"{number}{ending}", digest_of(ending.encode() + text))
+
+
+def enter_all(contest, files, jobs):
+    """For each file its warrior, or the fault that leaves it out."""
+    def entered(numbered):
+        try:
+            return enter(contest, *numbered)
+        except Left as left:
+            return left
+    with ThreadPoolExecutor(jobs) as pool:
+        return list(pool.map(entered, enumerate(files)))
+
+
+def counts_of(contest, output):
+    """The first one's points, wins, ties and losses, and the second one's points, by the table of a match."""
+    rows = ROW.findall(output)
+    if len(rows) != 2:
+        raise Fault(f"{contest.program} writes no table of a match")
+    return tuple(int(number) for number in (*rows[0], rows[1][0]))
+
+
+class Progress:
+    """Shows on a terminal how many matches are done, and the time that is left by the pace of those that were fought."""
+
+    def __init__(self, count):
+        self.count, self.begun, self.shown = count, time.monotonic(), 0.0
+
+    def show(self, done, fought):
+        now = time.monotonic()
+        if sys.stderr.isatty() and (now - self.shown >= 0.1 or done == self.count):
+            self.shown = now
+            left = round((now - self.begun) / fought * (self.count - done))
+            print(f"\r\033[K{done}/{self.count} matches, {left // 60} min {left % 60} s left", end="", file=sys.stderr, flush=True)
+
+    def end(self):
+        if self.shown:
+            print("\r\033[K", end="", file=sys.stderr, flush=True)
+
+
+@dataclass
+class Arena:
+    """Where a contest is fought, what is kept of it, and its warriors by their numbers."""
+    contest: object
+    place: object
+    results: object
+    entered: list
+
+    def faults(self):
+        """Those of the warriors that were left out."""
+        return [str(one) for one in self.entered if isinstance(one, Left)]
+
+    def present(self):
+        """The numbers of the others."""
+        return [number for number, one in enumerate(self.entered) if not isinstance(one, Left)]
+
+    def keys(self, pair):
+        return [self.entered[number].digest for number in pair]
+
+    def fight(self, pairs):
+        """Fights these pairs, but for those that were kept. Gives the counts of each, and the faults of those without."""
+        counts, faults, progress = {}, {}, Progress(len(pairs))
+
+        def to_fight():
+            for pair in pairs:
+                kept = self.results.find(*self.keys(pair))
+                if kept:
+                    counts[pair] = kept
+                else:
+                    yield pair, [self.entered[number].entry for number in pair]
+        try:
+            for fought, (pair, answer) in enumerate(self.place.answers(to_fight()), 1):
+                try:
+                    who = " against ".join(self.entered[number].file for number in pair)
+                    counts[pair] = counts_of(self.contest, checked(answer, who))
+                    self.results.keep(*self.keys(pair), counts[pair])
+                except Left as left:
+                    faults[pair] = str(left)
+                progress.show(len(counts) + len(faults), fought)
+        finally:
+            progress.end()
+        return counts, [faults[pair] for pair in sorted(faults)]
+
+
+@contextmanager
+def arena(given):
+    """The files of a script's words, entered."""
+    program = find_program(given.program)
+    with passing_folder() as folder:
+        contest = Contest(program, words_of(given), given.time_limit, folder)
+        if given.scheduler:
+            opened = cluster(contest, given.scheduler, given.worker_program or "mars")
+        else:
+            opened = threads(contest, given.jobs)
+        with Results(given.results, digest_of(read_file(program)), contest.words) as results, opened as place:
+            yield Arena(contest, place, results, enter_all(contest, given.files, given.jobs))
+
+
+def words_of(given):
+    """The words of mars: those of the hill, but for those that were given beside it."""
+    words = {word: value for word, value in vars(given).items() if word in WORDS and value is not None}
+    return [f"{word}={value}" for word, value in {**settings_of(given.hill), **words}.items()]
+
+
+def count(text):
+    number = int(text)
+    if number < 1:
+        raise ValueError
+    return number
+
+
+def positive(text):
+    number = float(text)
+    if not 0 < number < float("inf"):
+        raise ValueError
+    return number
+
+
+class Words(argparse.ArgumentParser):
+    """Reads the words that league and bench take, with those of mars. Its help is the text of the script."""
+
+    def __init__(self, help_text):
+        super().__init__(description=help_text, allow_abbrev=False)
+        self.add_argument("-r", "--rounds", dest="-r")
+        for word in WORDS[1:]:
+            self.add_argument(word, dest=word)
+        self.add_argument("--hill", default="94nop")
+        self.add_argument("--jobs", type=count, default=os.cpu_count() or 1)
+        self.add_argument("--time-limit", type=positive)
+        self.add_argument("--results")
+        self.add_argument("--program")
+        self.add_argument("--scheduler")
+        self.add_argument("--worker-program")
+        self.add_argument("files", nargs="*")
+
+    def format_help(self):
+        return self.description
+
+    def error(self, message):
+        raise Fault(f"{message} (--help tells the words)", 2)
+
+    def read(self, least):
+        """What was given. Fewer than two files are refused by what is asked for at least."""
+        own, files = split_words(sys.argv[1:])
+        given = self.parse_intermixed_args(own)
+        given.files += files
+        if len(given.files) < 2:
+            self.error(least)
+        if given.scheduler is not None and not ADDRESS.fullmatch(given.scheduler):
+            self.error("--scheduler ADDRESS is HOST:PORT, as in first.lan:8786")
+        if given.worker_program and not given.scheduler:
+            self.error("--worker-program goes with --scheduler")
+        return given
+
+
+def script(name, main):
+    """Does what a script does, and ends it with the status of that. What ends it early is told in one line."""
+    for stream in (sys.stdout, sys.stderr):
+        stream.reconfigure(errors="surrogateescape")
+    try:
+        status = main()
+        sys.stdout.flush()
+        sys.exit(status)
+    except Fault as fault:
+        print(f"{name}: {fault}", file=sys.stderr)
+        sys.exit(fault.status)
+    except NoProgram as fault:
+        print(f"{name}: {fault}", file=sys.stderr)
+        sys.exit(2)
+    except KeyboardInterrupt:
+        print(f"{name}: stopped", file=sys.stderr)
+        sys.exit(130)
+    except BrokenPipeError:
+        os.dup2(os.open(os.devnull, os.O_WRONLY), sys.stdout.fileno())
+        sys.exit(1)

@@ -1,0 +1,165 @@
+"""Where matches are fought: by threads on this machine, or by the workers of a Dask cluster.
+
+Both are executors. A worker is sent the texts of its warriors, and the functions of this file: it needs the program alone.
+"""
+import hashlib
+import logging
+import os
+import queue
+import shutil
+import socket
+import subprocess
+import sys
+import tempfile
+from collections.abc import Callable
+from concurrent.futures import CancelledError, ThreadPoolExecutor
+from contextlib import contextmanager
+from dataclasses import dataclass
+from itertools import islice
+
+from battles import Fault
+
+# Matches that a scheduler hands on as one, since each such costs some milliseconds; and how many such it has at most.
+BUNDLE = 8
+AT_A_SCHEDULER = 500
+NO_PACKAGE = ("--scheduler: {} has no package distributed: apt-get install python3-distributed, "
+              "and start Debian's own Python: /usr/bin/python3 {} ..")
+
+
+def digest_of(content):
+    return hashlib.sha256(content).hexdigest()
+
+
+def read_file(*path):
+    with open(os.path.join(*path), "rb") as file:
+        return file.read()
+
+
+def write_file(folder, name, content):
+    with open(os.path.join(folder, name), "wb") as file:
+        file.write(content)
+
+
+@contextmanager
+def passing_folder():
+    """A folder that goes when it is left, and when this process ends, by whatever: then the pipe to its remover is closed."""
+    folder = tempfile.mkdtemp(prefix="mars-")
+    remover = subprocess.Popen(["sh", "-c", 'read -r _; rm -rf -- "$1"', "sh", folder],
+                               stdin=subprocess.PIPE, start_new_session=True)
+    try:
+        yield folder
+    finally:
+        remover.communicate()
+
+
+def run(program, words, folder, files, time_limit):
+    """Starts the program in a folder, on words and files. Gives its status, its output and its fault.
+
+    The status is None where the limit of time ended it, and 2 where it can't be started.
+    """
+    try:
+        done = subprocess.run([program, *words, "--", *files], cwd=folder, stdin=subprocess.DEVNULL,
+                              capture_output=True, timeout=time_limit)
+    except subprocess.TimeoutExpired:
+        return None, "", f"more than {time_limit:g} seconds"
+    except OSError as error:
+        return 2, "", f"{error.filename}: {error.strerror}"
+    output, fault = (text.decode("utf-8", "replace") for text in (done.stdout, done.stderr))
+    return done.returncode, output, fault.strip() or f"the program ended with status {done.returncode}"
+
+
+def run_there(program, digest, words, texts, bundle, time_limit):
+    """On a worker: the answer of `run` to each match of a bundle. First it is looked whether the worker has that program."""
+    found = shutil.which(program)
+    if not found or digest_of(read_file(found)) != digest:
+        fault = f"{found} isn't the program of this league" if found else f"no program {program}"
+        return [(2, "", f"{socket.gethostname()}: {fault}")] * len(bundle)
+    with passing_folder() as folder:
+        for name, text in texts.items():
+            write_file(folder, name, text)
+        return [run(found, words, folder, files, time_limit) for files in bundle]
+
+
+@dataclass
+class Contest:
+    """What all matches have in common: the program, its words, the seconds that a match may take, and the folder of the files."""
+    program: str
+    words: list
+    time_limit: float
+    folder: str
+
+    def run(self, words, files):
+        return run(self.program, words, self.folder, files, self.time_limit)
+
+    def fight(self, bundle):
+        return [self.run(["-b", *self.words], files) for files in bundle]
+
+
+@dataclass
+class Place:
+    """How a bundle of matches is handed out, how many are in one, and how many bundles are out at a time."""
+    submit: Callable
+    bundle: int
+    at_a_time: int
+
+    def answers(self, matches):
+        """Hands out matches, each a name and its two files. Gives each name with the answer of `run`, as they come."""
+        done, handed_out, matches = queue.SimpleQueue(), {}, iter(matches)
+        while bundle := list(islice(matches, self.bundle)):
+            if len(handed_out) == self.at_a_time:
+                yield from next_answers(done, handed_out)
+            names, files = zip(*bundle)
+            future = self.submit(files)
+            handed_out[future] = names
+            future.add_done_callback(done.put)
+        while handed_out:
+            yield from next_answers(done, handed_out)
+
+
+def next_answers(done, handed_out):
+    """The answers of the bundle that is done next."""
+    future = done.get()
+    try:
+        return zip(handed_out.pop(future), future.result())
+    except CancelledError:
+        raise Fault("the scheduler has gone") from None
+    except Exception as error:
+        # What is handed out raises nothing of its own: a worker can't take it, or a match has ended several workers.
+        raise Fault(f"the workers: {' '.join(str(error).split())}") from None
+
+
+@contextmanager
+def threads(contest, jobs):
+    """So many matches at a time here. What hasn't begun when it is left is dropped."""
+    pool = ThreadPoolExecutor(jobs)
+    try:
+        yield Place(lambda bundle: pool.submit(contest.fight, bundle), 1, 2 * jobs)
+    finally:
+        pool.shutdown(cancel_futures=True)
+
+
+@contextmanager
+def cluster(contest, address, program):
+    """The workers of a Dask scheduler, with this program there. What hasn't ended when it is left is dropped."""
+    try:
+        import cloudpickle
+        import distributed
+    except ImportError:
+        raise Fault(NO_PACKAGE.format(sys.executable, sys.argv[0]), 2) from None
+    # Dask logs a traceback for each match that is dropped; what ends a league comes as a fault.
+    logging.disable()
+    # The workers don't have this file: its functions go to them as they are.
+    cloudpickle.register_pickle_by_value(sys.modules[__name__])
+    try:
+        client = distributed.Client(address, timeout=10, set_as_default=False)
+    except (OSError, ValueError) as error:
+        raise Fault(f"--scheduler {address}: {error}") from None
+    with client:
+        if not client.nthreads():
+            print("no worker yet: the matches wait for one", file=sys.stderr)
+        executor, digest = client.get_executor(pure=False), digest_of(read_file(contest.program))
+
+        def submit(bundle):
+            texts = {name: read_file(contest.folder, name) for files in bundle for name in files}
+            return executor.submit(run_there, program, digest, ["-b", *contest.words], texts, bundle, contest.time_limit)
+        yield Place(submit, BUNDLE, AT_A_SCHEDULER)
