@@ -1,0 +1,18 @@
+use Rattle.std.proofs.Common.{◌≡◌, Ok, get_or, refl, rules, sym, take}
+use Rattle.mars_cell.specs.Load.{load}
+use Rattle.mars_c.proofs.Steps.{reads_more}
+use Rattle.mars_c.proofs.loading.read_all.Goals as goal
+
+pub loop-i-preserved : goal.loop-i-preserved
+loop-i-preserved c =
+    let p = c.args.params.now in
+    let ns = c.args.lengths.now in
+    let i = c.loop-i.i in
+    let rest = c.loop-i.rest.now in
+    let n = get_or ns i 0 in
+    let w = c.in_ok-warrior.warrior in
+    let split = c.in-Some.ensures.cases in
+    let one : load p.core_size p.max_length (take n rest) ≡ Ok w = rw (sym split.1) c.in_ok-warrior.ensures in (
+      search rules,
+      rw (c.in-Ok.ensures.items, split.2) (reads_more p n w rest split.0 one c.args.loads.now ns i 0 c.loop-i.warriors.items c.loop-i-test.true refl c.loop-i.invariant.1),
+    )

@@ -1,0 +1,39 @@
+-- What settings ask for.
+use Rattle.std.specs.Prelude.{◌≡◌, ◌≤◌, ◌-◌, ◌==◌, ℕ, if◌then◌else◌, IfSome, List, None, Ok, Option, Some}
+use Rattle.mars_cell.specs.Parameters.{Parameters}
+use Rattle.mars_cell.specs.ParameterFaults.{checked_parameters}
+use Rattle.redcode_asm.specs.Formula.{formula_of}
+use Rattle.mars_c.specs.declared.settings.MarsSettings.{MarsSettings}
+use Rattle.mars_c.specs.declared.settings.Terms.{Terms}
+
+-- a limit of 0 is the core size
+abbrev pub limit_of : ℕ → ℕ → ℕ
+limit_of limit core = if limit == 0 then core else limit
+
+-- the parameters of settings
+abbrev pub asked : MarsSettings → Parameters
+asked s = record {
+  core_size = s.core;
+  processes = s.processes;
+  cycles = s.cycles;
+  read_limit = limit_of s.read_limit s.core;
+  write_limit = limit_of s.write_limit s.core;
+  max_length = s.longest;
+  distance = s.distance;
+}
+
+-- a position of 0 is none
+abbrev pub position_of : ℕ → Option ℕ
+position_of position = if position == 0 then None else Some position
+
+-- a position is for two warriors, and leaves each the least distance
+abbrev pub FitsPosition : Parameters → ℕ → Option ℕ → Type 0
+FitsPosition p warriors fixed = IfSome fixed (λ position. (warriors ≡ 2) × (p.distance ≤ position) × (position ≤ p.core_size - p.distance))
+
+-- what settings and a formula come to
+pub record AreTerms (s : MarsSettings) (text : List ℕ) (t : Terms) : Type 0 where
+  pub params : checked_parameters (asked s) ≡ Ok t.params
+  pub formula : formula_of text ≡ Ok t.plan.formula
+  pub rounds : t.plan.rounds ≡ s.rounds
+  pub seed : t.plan.seed ≡ s.seed
+  pub fixed : t.plan.fixed ≡ position_of s.position

@@ -1,0 +1,111 @@
+-- What contests of load files come to.
+use Rattle.std.specs.Prelude.{◌≡◌, ◌≤◌, ℕ, ◌+◌, pos, ◌+ℤ◌, ◌∷◌, [], ◌++◌, codes, drop, List, map, Ok, Option, Some, take, ⊤, length}
+use Rattle.mars_cell.specs.Load.{load}
+use Rattle.mars_cell.specs.Parameters.{Parameters}
+use Rattle.mars_cell.specs.Warriors.{WarriorValue}
+use Rattle.mars_match.specs.Leagues.{league_of}
+use Rattle.mars_match.specs.Rounds.{table_of}
+use Rattle.mars_match.specs.Tables.{RowValue}
+use Rattle.mars_app.specs.Debugging.{DebugsWell, session_at}
+use Rattle.mars_cell.specs.ParameterFaults.{checked_parameters}
+use Rattle.mars_core.specs.Start.{start_state}
+use Rattle.mars_core.specs.State.{State}
+use Rattle.mars_match.specs.Rounds.{placed_for}
+use Rattle.redcode_asm.specs.LoadFiles.{assembled_load}
+use Rattle.mars_c.specs.Asked.{AreTerms, asked}
+use Rattle.mars_c.specs.declared.rows.MarsRow.{MarsRow}
+use Rattle.mars_c.specs.declared.settings.MarsSettings.{MarsSettings}
+use Rattle.mars_c.specs.declared.settings.Terms.{Terms}
+
+-- the numbers of a row
+abbrev pub plain_row : RowValue → MarsRow
+plain_row row = record { points = row.points; wins = row.wins; ties = row.ties; losses = row.losses }
+
+-- load files that lie one behind the other: each has as many bytes as its length says, and these bytes are left
+abbrev pub Reads : Parameters → List ℕ → List ℕ → List WarriorValue → List ℕ → Type 0
+Reads p bytes [] [] rest = bytes ≡ rest
+Reads p bytes [] (w ∷ ws) rest = ⊥
+Reads p bytes (n ∷ ns) [] rest = ⊥
+Reads p bytes (n ∷ ns) (w ∷ ws) rest = (n ≤ length bytes) × (load p.core_size p.max_length (take n bytes) ≡ Ok w) × Reads p (drop n bytes) ns ws rest
+
+-- the warriors of such load files, where no bytes are left
+abbrev pub AreLoads : Parameters → List ℕ → List ℕ → List WarriorValue → Type 0
+AreLoads p bytes lengths ws = Reads p bytes lengths ws []
+
+-- the rows of a match of these load files
+abbrev pub IsMatch : MarsSettings → List ℕ → List ℕ → List ℕ → List RowValue → Type 0
+IsMatch s text loads lengths rows = (t : Terms) × (ws : List WarriorValue)
+    × AreTerms s text t × AreLoads t.params loads lengths ws
+    × (table_of t.params ws t.plan.formula t.plan.fixed t.plan.rounds t.plan.seed ≡ Ok rows)
+
+-- the rows of a league of these load files
+abbrev pub IsLeague : MarsSettings → List ℕ → List ℕ → List ℕ → List RowValue → Type 0
+IsLeague s text loads lengths rows = (t : Terms) × (ws : List WarriorValue)
+    × AreTerms s text t × AreLoads t.params loads lengths ws
+    × (league_of t.params ws t.plan.formula t.plan.fixed t.plan.rounds t.plan.seed ≡ Ok rows)
+
+-- the rows of the caller hold those of a match, or of a league
+abbrev pub HoldsMatch : MarsSettings → List ℕ → List ℕ → List ℕ → List MarsRow → Type 0
+HoldsMatch s text loads lengths place = (rows : List RowValue) × IsMatch s text loads lengths rows × (place ≡ map plain_row rows)
+
+abbrev pub HoldsLeague : MarsSettings → List ℕ → List ℕ → List ℕ → List MarsRow → Type 0
+HoldsLeague s text loads lengths place = (rows : List RowValue) × IsLeague s text loads lengths rows × (place ≡ map plain_row rows)
+
+-- the load file of a source
+abbrev pub IsLoadFile : MarsSettings → ℕ → List ℕ → List ℕ → Type 0
+IsLoadFile s warriors source text = (p : Parameters) × (checked_parameters (asked s) ≡ Ok p) × (assembled_load p s.rounds warriors source ≡ Ok text)
+
+-- the buffer begins with a text of this length, and goes on as it was
+abbrev pub BeginsWith : List ℕ → ℕ → List ℕ → List ℕ → Type 0
+BeginsWith text count before after = (count ≡ length text) × (count ≤ length before) × (after ≡ text ++ drop count before)
+
+-- the buffer holds the load file of a source
+abbrev pub HoldsLoadFile : MarsSettings → ℕ → List ℕ → ℕ → List ℕ → List ℕ → Type 0
+HoldsLoadFile s warriors source count before after = (text : List ℕ) × IsLoadFile s warriors source text × BeginsWith text count before after
+
+-- the battle of the first round, as the debugger begins with it
+abbrev pub IsFirstBattle : Terms → List WarriorValue → State → Type 0
+IsFirstBattle t ws s = (starts : List ℕ) × (left : ℕ) × (placed_for t.params (length ws) t.plan.fixed t.plan.seed ≡ Ok (starts, left)) × (s ≡ start_state t.params ws starts)
+
+-- what the debugger answers to lines over a battle
+abbrev pub IsTranscript : State → ℕ → List ℕ → List ℕ → Type 0
+IsTranscript s history lines text = (left : Option (List ℕ)) × DebugsWell (session_at history s) s.params.core_size (Some lines) left (Some []) (Some text)
+
+-- what the debugger answers to lines over the first round of these load files
+abbrev pub Debugs : MarsSettings → List ℕ → List ℕ → ℕ → List ℕ → List ℕ → Type 0
+Debugs s loads lengths history lines text = (t : Terms) × (ws : List WarriorValue) × (battle : State)
+    × AreTerms s (codes "0") t × AreLoads t.params loads lengths ws × IsFirstBattle t ws battle × IsTranscript battle history lines text
+
+-- the buffer holds the debugger's answers
+abbrev pub HoldsTranscript : MarsSettings → List ℕ → List ℕ → ℕ → List ℕ → ℕ → List ℕ → List ℕ → Type 0
+HoldsTranscript s loads lengths history lines count before after = (text : List ℕ) × Debugs s loads lengths history lines text × BeginsWith text count before after
+
+-- what a candidate got in its match with an opponent
+abbrev pub IsMet : Terms → WarriorValue → WarriorValue → MarsRow → Type 0
+IsMet t candidate opponent row = (first : RowValue) × (others : List RowValue)
+    × (table_of t.params (candidate ∷ opponent ∷ []) t.plan.formula t.plan.fixed t.plan.rounds t.plan.seed ≡ Ok (first ∷ others)) × (row ≡ plain_row first)
+
+abbrev pub no_rounds : MarsRow
+no_rounds = record { points = pos 0; wins = 0; ties = 0; losses = 0 }
+
+abbrev pub plus : MarsRow → MarsRow → MarsRow
+plus a b = record { points = a.points +ℤ b.points; wins = a.wins + b.wins; ties = a.ties + b.ties; losses = a.losses + b.losses }
+
+-- a row and what a candidate got in its matches with the opponents, one after the other, come to the sum
+abbrev pub SumsTo : Terms → WarriorValue → MarsRow → List WarriorValue → MarsRow → Type 0
+SumsTo t candidate before [] sum = before ≡ sum
+SumsTo t candidate before (opponent ∷ opponents) sum =
+    (row : MarsRow) × IsMet t candidate opponent row × SumsTo t candidate (plus before row) opponents sum
+
+-- the sums of the candidates, in order
+abbrev pub AreSums : Terms → List WarriorValue → List WarriorValue → List MarsRow → Type 0
+AreSums t opponents [] [] = ⊤
+AreSums t opponents [] (sum ∷ sums) = ⊥
+AreSums t opponents (candidate ∷ candidates) [] = ⊥
+AreSums t opponents (candidate ∷ candidates) (sum ∷ sums) = SumsTo t candidate no_rounds opponents sum × AreSums t opponents candidates sums
+
+-- the sums of as many candidates as there are rows, which come before the opponents
+abbrev pub HoldsSums : MarsSettings → List ℕ → List ℕ → List ℕ → List MarsRow → Type 0
+HoldsSums s text loads lengths place = (t : Terms) × (ws : List WarriorValue)
+    × AreTerms s text t × AreLoads t.params loads lengths ws
+    × AreSums t (drop (length place) ws) (take (length place) ws) place

@@ -1,0 +1,16 @@
+//! The kit for C: an assembler, matches, leagues, populations and the debugger, as calls of a static library.
+//!
+//! Each export takes settings, texts and places for its results, and answers a number: 0 where it has done what it was asked
+//! for, else what `fault` tells more about. Nothing outlives a call, and nothing is shared between calls, so that threads
+//! may call at once, each with values of its own. The header is `include/mars.h`.
+#![tactic(auto)]
+
+mod contests;
+mod debugging;
+mod exports;
+mod faults;
+mod loading;
+mod numbers;
+mod population;
+mod rows;
+mod settings;

@@ -1,0 +1,111 @@
+//! The numbers of faults, as the program prints them.
+
+use crate::faults::SettingsFault;
+use mars_cell::{LoadFault, ParamFault};
+use mars_core::BattleFault;
+use mars_match::PlaceFault;
+use redcode_asm::AsmProblem;
+use redcode_text::{ExprFault, TextProblem};
+
+pub fn settings_number(fault: SettingsFault) -> u32 {
+    match fault {
+        SettingsFault::Rounds => 1,
+        SettingsFault::Seed => 2,
+        SettingsFault::Position => 3,
+        SettingsFault::Warriors => 4,
+        SettingsFault::Lengths => 5,
+        SettingsFault::History => 6,
+        SettingsFault::Rows => 7,
+    }
+}
+
+pub fn parameter_number(fault: ParamFault) -> u32 {
+    match fault {
+        ParamFault::CoreSize => 1,
+        ParamFault::Processes => 2,
+        ParamFault::Cycles => 3,
+        ParamFault::Limit => 4,
+        ParamFault::Length => 5,
+        ParamFault::Distance => 6,
+    }
+}
+
+pub fn expression_number(fault: ExprFault) -> u32 {
+    match fault {
+        ExprFault::Syntax => 1,
+        ExprFault::Unknown => 2,
+        ExprFault::DivideByZero => 3,
+        ExprFault::Range => 4,
+        ExprFault::Depth => 5,
+    }
+}
+
+pub fn load_number(fault: LoadFault) -> u32 {
+    match fault {
+        LoadFault::Syntax(_) => 1,
+        LoadFault::TooLong => 2,
+        LoadFault::Empty => 3,
+        LoadFault::BadOrigin => 4,
+        LoadFault::OutOfMemory => 5,
+        LoadFault::Version => 6,
+    }
+}
+
+pub fn placement_number(fault: PlaceFault) -> u32 {
+    match fault {
+        PlaceFault::NoRoom => 1,
+        PlaceFault::BadSeed => 2,
+        PlaceFault::OutOfMemory => 3,
+    }
+}
+
+pub fn battle_number(fault: BattleFault) -> u32 {
+    match fault {
+        BattleFault::NoWarrior => 1,
+        BattleFault::TooMany => 2,
+        BattleFault::Overlap => 3,
+        BattleFault::StartOutside => 4,
+        BattleFault::FieldOutside => 5,
+        BattleFault::OutOfMemory => 6,
+    }
+}
+
+pub fn assembly_number(problem: AsmProblem) -> u32 {
+    match problem {
+        AsmProblem::Text(_) => 1,
+        AsmProblem::Operation => 2,
+        AsmProblem::Operand => 3,
+        AsmProblem::Expression(_) => 4,
+        AsmProblem::AssertFailed => 5,
+        AsmProblem::BadOrigin => 6,
+        AsmProblem::Empty => 7,
+        AsmProblem::TooLong => 8,
+        AsmProblem::OutOfMemory => 9,
+    }
+}
+
+/// The numbers of the text's problem and of the expression's fault within an assembly's; 0 where there is none.
+pub fn problem_numbers(problem: AsmProblem) -> (u32, u32) {
+    match problem {
+        AsmProblem::Text(TextProblem::Expression(fault)) => (10, expression_number(fault)),
+        AsmProblem::Text(problem) => (text_number(problem), 0),
+        AsmProblem::Expression(fault) => (0, expression_number(fault)),
+        _ => (0, 0),
+    }
+}
+
+fn text_number(problem: TextProblem) -> u32 {
+    match problem {
+        TextProblem::NotAscii => 1,
+        TextProblem::BadToken => 2,
+        TextProblem::UnclosedFor => 3,
+        TextProblem::RofAlone => 4,
+        TextProblem::BadCount => 5,
+        TextProblem::LabelInCount => 6,
+        TextProblem::Duplicate => 7,
+        TextProblem::EquDepth => 8,
+        TextProblem::TooLong => 9,
+        TextProblem::Expression(_) => 10,
+        TextProblem::OutOfMemory => 11,
+    }
+}

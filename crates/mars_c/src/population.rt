@@ -1,0 +1,125 @@
+//! A population: each candidate against each opponent.
+ghost use Rattle.std.specs.Prelude.{◌≡◌, IfOk, IfSome, OnErr, OnOk};
+ghost use Rattle.mars_c.specs.Contests.{AreSums, HoldsSums, IsMet, SumsTo, no_rounds, plus};
+ghost use Rattle.mars_c.specs.Asked.{FitsPosition};
+
+use crate::faults::{Refusal, SettingsFault};
+use crate::loading::read_all;
+use crate::rows::MarsRow;
+use crate::settings::{MarsSettings, Terms, make_terms};
+use mars_cell::Warrior;
+use mars_match::rounds;
+use redcode_text::ExprFault;
+use std::alloc::Global;
+
+/// The row of a candidate in its match with an opponent.
+fn meet(
+    alloc: Global,
+    terms: &Terms,
+    candidate: &Warrior,
+    opponent: &Warrior,
+) -> Result<MarsRow, Refusal>
+    requires { FitsPosition terms.now.params 2 terms.now.plan.fixed }
+    ensures { IfOk result (IsMet terms.now candidate.now opponent.now) }
+{
+    let (Ok(one), Ok(other)) = (candidate.copy(), opponent.copy()) else {
+        return Err(Refusal::OutOfMemory);
+    };
+    let table = rounds(alloc, &terms.params, &[one, other], &terms.plan);
+    match table {
+        Ok(table) => match table.rows.get(0) {
+            Some(row) => Ok(MarsRow::of(row)),
+            None => Err(Refusal::OutOfMemory),
+        },
+        Err(fault) => Err(Refusal::from(fault)),
+    }
+}
+
+/// Two rows, added; none where a sum doesn't fit.
+fn added(sum: MarsRow, row: MarsRow) -> Option<MarsRow>
+    ensures { IfSome result (λ more. more ≡ plus sum row) }
+{
+    Some(MarsRow {
+        points: sum.points.checked_add(row.points)?,
+        wins: sum.wins.checked_add(row.wins)?,
+        ties: sum.ties.checked_add(row.ties)?,
+        losses: sum.losses.checked_add(row.losses)?,
+    })
+}
+
+/// The sum of a candidate's rows, one for each opponent.
+fn sum_of(
+    alloc: Global,
+    terms: &Terms,
+    candidate: &Warrior,
+    opponents: &[Warrior],
+) -> Result<MarsRow, Refusal>
+    requires { FitsPosition terms.now.params 2 terms.now.plan.fixed }
+    ensures { IfOk result (SumsTo terms.now candidate.now no_rounds opponents.now) }
+{
+    let mut sum = MarsRow {
+        points: 0,
+        wins: 0,
+        ties: 0,
+        losses: 0,
+    };
+    for opponent in opponents {
+        let row = meet(alloc, terms, candidate, opponent)?;
+        let Some(more) = added(sum, row) else {
+            return Err(Refusal::Score(ExprFault::Range));
+        };
+        sum = more;
+    }
+    Ok(sum)
+}
+
+/// The sums of all candidates.
+fn sums_of(
+    alloc: Global,
+    terms: &Terms,
+    candidates: &[Warrior],
+    opponents: &[Warrior],
+) -> Result<Vec<MarsRow>, Refusal>
+    requires { FitsPosition terms.now.params 2 terms.now.plan.fixed }
+    ensures { IfOk result (λ sums. AreSums terms.now opponents.now candidates.now sums.items) }
+{
+    let Ok(mut sums) = Vec::with_capacity(alloc, candidates.len()) else {
+        return Err(Refusal::OutOfMemory);
+    };
+    for candidate in candidates {
+        let sum = sum_of(alloc, terms, candidate, opponents)?;
+        if sums.push(sum).is_err() {
+            return Err(Refusal::OutOfMemory);
+        }
+    }
+    Ok(sums)
+}
+
+/// Gives the sums of the candidates, which are as many warriors as there are rows, to the caller; the others are the
+/// opponents.
+pub fn population_into(
+    alloc: Global,
+    settings: &MarsSettings,
+    formula: &[u8],
+    loads: &[u8],
+    lengths: &[usize],
+    place: &mut [MarsRow],
+) -> Result<(), Refusal>
+    ensures ok { OnOk result (HoldsSums settings.now formula.now loads.now lengths.now place.new) }
+    ensures err { OnErr result (place.new ≡ place.old) }
+{
+    if place.len() > lengths.len() {
+        return Err(Refusal::Settings(SettingsFault::Rows));
+    }
+    let terms = make_terms(alloc, settings, formula, 2)?;
+    let warriors = read_all(alloc, &terms.params, loads, lengths)?;
+    let (candidates, opponents) = warriors.split_at(place.len());
+    let sums = sums_of(alloc, &terms, candidates, opponents)?;
+    drop(warriors);
+    drop(terms);
+    if sums.len() != place.len() {
+        return Err(Refusal::Settings(SettingsFault::Rows));
+    }
+    place.copy_from_slice(&sums);
+    Ok(())
+}

@@ -1,0 +1,59 @@
+//! Rows as numbers.
+ghost use Rattle.std.specs.Prelude.{◌≡◌, ◌≢◌, Err, IfOk, OnErr, OnOk, length, map};
+ghost use Rattle.mars_c.specs.Contests.{plain_row};
+
+use crate::faults::{Refusal, SettingsFault};
+use mars_match::Row;
+use std::alloc::Global;
+
+/// How one warrior fared.
+#[repr(C)]
+#[derive(Clone, Copy)]
+pub struct MarsRow {
+    pub points: i64,
+    pub wins: u64,
+    pub ties: u64,
+    pub losses: u64,
+}
+
+impl MarsRow {
+    /// The numbers of a row.
+    pub fn of(row: &Row) -> MarsRow
+        ensures { result ≡ plain_row row.now }
+    {
+        MarsRow {
+            points: row.points(),
+            wins: row.wins(),
+            ties: row.ties(),
+            losses: row.losses(),
+        }
+    }
+}
+
+/// The numbers of rows.
+fn plain_rows(alloc: Global, rows: &[Row]) -> Result<Vec<MarsRow>, Refusal>
+    ensures { IfOk result (λ plain. plain.items ≡ map plain_row rows.now) }
+{
+    let Ok(mut plain) = Vec::with_capacity(alloc, rows.len()) else {
+        return Err(Refusal::OutOfMemory);
+    };
+    for row in rows {
+        if plain.push(MarsRow::of(row)).is_err() {
+            return Err(Refusal::OutOfMemory);
+        }
+    }
+    Ok(plain)
+}
+
+/// Gives rows to the caller, in a place for exactly as many.
+pub fn give_rows(alloc: Global, rows: &[Row], place: &mut [MarsRow]) -> Result<(), Refusal>
+    ensures ok { OnOk result (place.new ≡ map plain_row rows.now) }
+    ensures err { OnErr result (place.new ≡ place.old) }
+{
+    let plain = plain_rows(alloc, rows)?;
+    if plain.len() != place.len() {
+        return Err(Refusal::Settings(SettingsFault::Rows));
+    }
+    place.copy_from_slice(&plain);
+    Ok(())
+}
