@@ -2,8 +2,9 @@
 ghost use Rattle.std.specs.Prelude.{◌≡◌, IfOk, OnErr, OnOk};
 ghost use Rattle.mars_c.specs.Contests.{HoldsLeague, HoldsMatch, IsLeague, IsMatch};
 
-use crate::faults::{Refusal, SettingsFault};
+use crate::faults::Refusal;
 use crate::loading::read_all;
+use crate::ranges::SettingsFault;
 use crate::rows::{MarsRow, give_rows};
 use crate::settings::{MarsSettings, make_terms};
 use mars_match::{Table, league, rounds};

@@ -5,8 +5,9 @@ ghost use Rattle.mars_c.specs.Contests.{Debugs, IsFirstBattle, IsTranscript};
 ghost use Rattle.mars_core.specs.Limits.{most_warriors};
 ghost use Rattle.mars_c.specs.Asked.{FitsPosition};
 
-use crate::faults::{Refusal, SettingsFault};
+use crate::faults::Refusal;
 use crate::loading::read_all;
+use crate::ranges::SettingsFault;
 use crate::settings::{MarsSettings, Terms, make_terms};
 use mars_app::debug;
 use mars_cell::Warrior;

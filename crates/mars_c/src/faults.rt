@@ -4,32 +4,14 @@ ghost use Rattle.mars_c.specs.Codes.{code_of};
 
 use crate::numbers::{
     assembly_number, battle_number, expression_number, load_number, parameter_number,
-    placement_number, problem_numbers, settings_number,
+    placement_number, problem_numbers,
 };
+use crate::ranges::SettingsFault;
 use mars_cell::{LoadFault, ParamFault};
 use mars_core::BattleFault;
 use mars_match::{MatchFault, PlaceFault};
 use redcode_asm::{AsmFault, AsmProblem};
 use redcode_text::ExprFault;
-
-/// Which setting is out of its range.
-#[derive(Clone, Copy)]
-pub enum SettingsFault {
-    /// The rounds aren't from 1 to 100,000.
-    Rounds,
-    /// The seed isn't from 1 to 2,147,483,646.
-    Seed,
-    /// A position is given for other than two warriors, or doesn't leave the least distance.
-    Position,
-    /// There are too few or too many warriors.
-    Warriors,
-    /// The lengths together aren't those of the load files.
-    Lengths,
-    /// The history isn't from 1 to 1,000,000 places.
-    History,
-    /// There isn't a row for each warrior.
-    Rows,
-}
 
 /// Why a call wasn't done.
 #[derive(Clone, Copy)]
@@ -114,7 +96,7 @@ fn told(refusal: Refusal) -> MarsFault
 {
     match refusal {
         Refusal::OutOfMemory => numbered(1, 0),
-        Refusal::Settings(fault) => numbered(2, settings_number(fault)),
+        Refusal::Settings(fault) => numbered(2, fault.number()),
         Refusal::Parameters(fault) => numbered(3, parameter_number(fault)),
         Refusal::Formula(fault) => numbered(4, expression_number(fault)),
         Refusal::Assembly(fault) => assembly(fault),

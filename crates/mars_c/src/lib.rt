@@ -12,5 +12,6 @@ mod faults;
 mod loading;
 mod numbers;
 mod population;
+mod ranges;
 mod rows;
 mod settings;

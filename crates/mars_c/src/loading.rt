@@ -3,7 +3,8 @@ ghost use Rattle.std.specs.Prelude.{◌≡◌, IfOk, Ok, length, vec_len};
 ghost use Rattle.mars_cell.specs.Load.{load};
 ghost use Rattle.mars_c.specs.Contests.{AreLoads};
 
-use crate::faults::{Refusal, SettingsFault};
+use crate::faults::Refusal;
+use crate::ranges::SettingsFault;
 use mars_cell::{LoadFault, Params, Warrior, read_load};
 use std::alloc::Global;
 

@@ -1,23 +1,10 @@
 //! The numbers of faults, as the program prints them.
 
-use crate::faults::SettingsFault;
 use mars_cell::{LoadFault, ParamFault};
 use mars_core::BattleFault;
 use mars_match::PlaceFault;
 use redcode_asm::AsmProblem;
 use redcode_text::{ExprFault, TextProblem};
-
-pub fn settings_number(fault: SettingsFault) -> u32 {
-    match fault {
-        SettingsFault::Rounds => 1,
-        SettingsFault::Seed => 2,
-        SettingsFault::Position => 3,
-        SettingsFault::Warriors => 4,
-        SettingsFault::Lengths => 5,
-        SettingsFault::History => 6,
-        SettingsFault::Rows => 7,
-    }
-}
 
 pub fn parameter_number(fault: ParamFault) -> u32 {
     match fault {

@@ -3,8 +3,9 @@ ghost use Rattle.std.specs.Prelude.{◌≡◌, IfOk, IfSome, OnErr, OnOk};
 ghost use Rattle.mars_c.specs.Contests.{AreSums, HoldsSums, IsMet, SumsTo, no_rounds, plus};
 ghost use Rattle.mars_c.specs.Asked.{FitsPosition};
 
-use crate::faults::{Refusal, SettingsFault};
+use crate::faults::Refusal;
 use crate::loading::read_all;
+use crate::ranges::SettingsFault;
 use crate::rows::MarsRow;
 use crate::settings::{MarsSettings, Terms, make_terms};
 use mars_cell::Warrior;

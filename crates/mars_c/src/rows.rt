@@ -2,7 +2,8 @@
 ghost use Rattle.std.specs.Prelude.{◌≡◌, ◌≢◌, Err, IfOk, OnErr, OnOk, length, map};
 ghost use Rattle.mars_c.specs.Contests.{plain_row};
 
-use crate::faults::{Refusal, SettingsFault};
+use crate::faults::Refusal;
+use crate::ranges::SettingsFault;
 use mars_match::Row;
 use std::alloc::Global;
 

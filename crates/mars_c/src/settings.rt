@@ -4,7 +4,8 @@ ghost use Rattle.redcode_asm.specs.Formula.{formula_of as spec_formula_of};
 ghost use Rattle.mars_cell.specs.ParameterFaults.{checked_parameters};
 ghost use Rattle.mars_c.specs.Asked.{AreTerms, FitsPosition, asked, limit_of, position_of};
 
-use crate::faults::{Refusal, SettingsFault};
+use crate::faults::Refusal;
+use crate::ranges::SettingsFault;
 use mars_cell::Params;
 use mars_match::{GREATEST_SEED, Plan};
 use redcode_asm::{Formula, FormulaFault};

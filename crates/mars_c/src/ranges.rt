@@ -1,0 +1,35 @@
+//! Which of a caller's numbers is out of its range.
+
+/// Which setting is out of its range.
+#[derive(Clone, Copy)]
+pub enum SettingsFault {
+    /// The rounds aren't from 1 to 100,000.
+    Rounds,
+    /// The seed isn't from 1 to 2,147,483,646.
+    Seed,
+    /// A position is given for other than two warriors, or doesn't leave the least distance.
+    Position,
+    /// There are too few or too many warriors.
+    Warriors,
+    /// The lengths together aren't those of the load files.
+    Lengths,
+    /// The history isn't from 1 to 1,000,000 places.
+    History,
+    /// There isn't a row for each warrior.
+    Rows,
+}
+
+impl SettingsFault {
+    /// Its number in `include/mars.h`.
+    pub fn number(self) -> u32 {
+        match self {
+            SettingsFault::Rounds => 1,
+            SettingsFault::Seed => 2,
+            SettingsFault::Position => 3,
+            SettingsFault::Warriors => 4,
+            SettingsFault::Lengths => 5,
+            SettingsFault::History => 6,
+            SettingsFault::Rows => 7,
+        }
+    }
+}

@@ -1,0 +1,115 @@
+/* The Core War kit as a library: an assembler, matches, leagues, populations and the debugger.
+ *
+ * Each call answers 0 where it has done what it was asked for, else one of the numbers of MARS_DONE and so on; the same
+ * number, and more, stands in *fault. Where the answer isn't 0, rows and buffers are as they were.
+ *
+ * Nothing outlives a call and nothing is shared: threads may call at once, each with rows, buffers and faults of its own.
+ * Memory comes from malloc and goes back to free within the call. No call is made from a signal handler, or from the forked
+ * child of a process with threads.
+ *
+ * The caller owes that each pointer leads to as many readable (const) or writable values as the length behind it says, that
+ * what is written overlaps nothing else that is handed in, and that no pointer is null, one with the length 0 too.
+ */
+#ifndef MARS_H
+#define MARS_H
+
+#include <stddef.h>
+#include <stdint.h>
+
+#ifdef __cplusplus
+extern "C" {
+#endif
+
+/* What calls answer, and what `number` in a fault is then. */
+enum {
+    MARS_DONE = 0,
+    MARS_OUT_OF_MEMORY = 1,
+    /* 1 rounds, 2 seed, 3 position, 4 how many warriors, 5 lengths and load files differ, 6 history, 7 how many rows */
+    MARS_SETTINGS = 2,
+    /* 1 CoreSize, 2 Processes, 3 Cycles, 4 Limit, 5 Length, 6 Distance */
+    MARS_PARAMETERS = 3,
+    /* 1 Syntax, 2 Unknown, 3 DivideByZero, 4 Range, 5 Depth */
+    MARS_FORMULA = 4,
+    /* 1 Text, 2 Operation, 3 Operand, 4 Expression, 5 AssertFailed, 6 BadOrigin, 7 Empty, 8 TooLong */
+    MARS_ASSEMBLY = 5,
+    /* 1 Syntax, 2 TooLong, 3 Empty, 4 BadOrigin, 6 Version */
+    MARS_LOAD = 6,
+    /* 1 NoRoom, 2 BadSeed */
+    MARS_PLACEMENT = 7,
+    /* 1 NoWarrior, 2 TooMany, 3 Overlap, 4 StartOutside, 5 FieldOutside */
+    MARS_BATTLE = 8,
+    /* as for a formula */
+    MARS_SCORE = 9,
+    /* the buffer is shorter than what is to be written; *length says how long that is */
+    MARS_ROOM = 10
+};
+
+/* How contests are held. */
+typedef struct {
+    uint32_t core;        /* cells, 1 to 1048576 */
+    uint32_t processes;   /* of a warrior, 1 to 65536 */
+    uint32_t cycles;      /* of a round, 1 to 10000000 */
+    uint32_t read_limit;  /* cells, 1 to the core size; 0 is the core size */
+    uint32_t write_limit; /* cells, 1 to the core size; 0 is the core size */
+    uint32_t longest;     /* cells of a warrior, 1 to the core size */
+    uint32_t distance;    /* cells between first cells, from `longest` to the core size */
+    uint32_t rounds;      /* of a match, 1 to 100000 */
+    uint32_t seed;        /* of the first round's positions, 1 to 2147483646 */
+    uint32_t position;    /* of the second of two warriors in each round, from `distance` to the core size less it; 0: drawn */
+} MarsSettings;
+
+/* How a warrior fared. */
+typedef struct {
+    int64_t points;  /* by the formula */
+    uint64_t wins;   /* rounds survived alone */
+    uint64_t ties;   /* rounds survived with others */
+    uint64_t losses; /* rounds not survived */
+} MarsRow;
+
+/* Why a call wasn't done; what doesn't apply is 0. */
+typedef struct {
+    uint32_t code;       /* the call's answer */
+    uint32_t number;     /* of the fault, as above */
+    uint32_t problem;    /* of MARS_ASSEMBLY 1: 1 NotAscii, 2 BadToken, 3 UnclosedFor, 4 RofAlone, 5 BadCount, 6 LabelInCount,
+                            7 Duplicate, 8 EquDepth, 9 TooLong, 10 Expression */
+    uint32_t expression; /* of MARS_ASSEMBLY 4, or of problem 10: as for a formula */
+    uint64_t line;       /* of a source or a load file, from 1 */
+    uint64_t warrior;    /* the index of a load file, from 0 */
+} MarsFault;
+
+/* Assembles a source to a load file of version 2, into the front of the buffer. *length is its length in bytes, also where the
+ * answer is MARS_ROOM. `warriors` is what WARRIORS stands for, and settings->rounds what ROUNDS does; seed and position aren't
+ * looked at. */
+uint32_t mars_assemble(const MarsSettings *settings, uint32_t warriors,
+                       const uint8_t *source, size_t source_length,
+                       uint8_t *buffer, size_t buffer_length, size_t *length, MarsFault *fault);
+
+/* Fights a match of 1 to 16 warriors. Their load files lie one behind the other in `loads`, `lengths` has the bytes of each, and
+ * there is a row for each, in the same order. `formula` is what a survivor gets, as "(W*W-1)/S". */
+uint32_t mars_match(const MarsSettings *settings, const uint8_t *formula, size_t formula_length,
+                    const uint8_t *loads, size_t loads_length, const size_t *lengths, size_t warriors,
+                    MarsRow *rows, size_t row_count, MarsFault *fault);
+
+/* Fights a league of up to 65536 warriors: a match of every two. There is a row for each, and no position. */
+uint32_t mars_league(const MarsSettings *settings, const uint8_t *formula, size_t formula_length,
+                     const uint8_t *loads, size_t loads_length, const size_t *lengths, size_t warriors,
+                     MarsRow *rows, size_t row_count, MarsFault *fault);
+
+/* Fights a match of each candidate with each opponent, the candidate first. The first `row_count` warriors are the candidates,
+ * the others the opponents; each row is the sum of a candidate's rows. Each load file is read once. */
+uint32_t mars_population(const MarsSettings *settings, const uint8_t *formula, size_t formula_length,
+                         const uint8_t *loads, size_t loads_length, const size_t *lengths, size_t warriors,
+                         MarsRow *rows, size_t row_count, MarsFault *fault);
+
+/* Debugs the battle of the first round: `lines` are what the debugger reads, and the buffer gets what it answers. `history` is
+ * how many places can be gone back, 1 to 1000000. *length is the length of the answers, also where the answer is MARS_ROOM. */
+uint32_t mars_debug(const MarsSettings *settings,
+                    const uint8_t *loads, size_t loads_length, const size_t *lengths, size_t warriors,
+                    uint32_t history, const uint8_t *lines, size_t lines_length,
+                    uint8_t *buffer, size_t buffer_length, size_t *length, MarsFault *fault);
+
+#ifdef __cplusplus
+}
+#endif
+
+#endif
