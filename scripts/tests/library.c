@@ -1,0 +1,104 @@
+/* Calls each export with ample memory, and then with each request for memory refused, alone and with all from it on. Each answer
+ * is that with ample memory, or want of memory, which leaves rows and buffers as they were; and all memory is given back.
+ * It is linked with --wrap for malloc, realloc and free. Prints `N passed, M failed`. */
+#include <mars.h>
+#include <stdio.h>
+#include <stdlib.h>
+#include <string.h>
+
+void *__real_malloc(size_t size);
+void *__real_realloc(void *old, size_t size);
+void __real_free(void *old);
+
+static long left, rest, held, refusals;
+
+static int is_refused(void) {
+    if (left == 0 || --left > 0) return 0;
+    refusals++;
+    left = rest;
+    return 1;
+}
+
+void *__wrap_malloc(size_t size) {
+    void *made = is_refused() ? NULL : __real_malloc(size);
+    held += made != NULL;
+    return made;
+}
+
+void *__wrap_realloc(void *old, size_t size) {
+    void *made = is_refused() ? NULL : __real_realloc(old, size);
+    held += old == NULL && made != NULL;
+    return made;
+}
+
+void __wrap_free(void *old) {
+    held -= old != NULL;
+    __real_free(old);
+}
+
+static const MarsSettings SETTINGS = {800, 800, 8000, 0, 0, 20, 20, 3, 1, 0};
+static const char SOURCE[] = ";name Loops\nstep EQU 4\ni FOR 3\nx&i ADD #step, x01\nROF\nMOV 2, @2\nJMP -2\nEND x02\n";
+static const char LINES[] = "step\nrun 5\nundo\nshow\nlist 0 5\nquit\n";
+static const char FORMULA[] = "(W*W-1)/S";
+static uint8_t loads[4096];
+static size_t lengths[3], all;
+
+/* What a call left. */
+typedef struct {
+    uint8_t text[2048];
+    size_t length;
+    MarsRow rows[3];
+    MarsFault fault;
+    uint32_t answer;
+} Left;
+
+static void call(int which, Left *got) {
+    memset(got, 7, sizeof *got);
+    const uint8_t *formula = (const uint8_t *)FORMULA;
+    size_t bytes = strlen(FORMULA);
+    if (which == 0) got->answer = mars_assemble(&SETTINGS, 2, (const uint8_t *)SOURCE, strlen(SOURCE), got->text, sizeof got->text, &got->length, &got->fault);
+    if (which == 1) got->answer = mars_match(&SETTINGS, formula, bytes, loads, all, lengths, 3, got->rows, 3, &got->fault);
+    if (which == 2) got->answer = mars_league(&SETTINGS, formula, bytes, loads, all, lengths, 3, got->rows, 3, &got->fault);
+    if (which == 3) got->answer = mars_population(&SETTINGS, formula, bytes, loads, all, lengths, 3, got->rows, 2, &got->fault);
+    if (which == 4) got->answer = mars_debug(&SETTINGS, loads, all, lengths, 3, 50, (const uint8_t *)LINES, strlen(LINES), got->text, sizeof got->text, &got->length, &got->fault);
+}
+
+static int is_kept(const Left *got, const Left *blank) {
+    return memcmp(got->text, blank->text, sizeof got->text) == 0 && memcmp(got->rows, blank->rows, sizeof got->rows) == 0;
+}
+
+static int holds(int which, long each) {
+    Left ample, got, blank;
+    memset(&blank, 7, sizeof blank);
+    left = rest = 0;
+    call(which, &ample);
+    if (ample.answer != MARS_DONE || held) return 0;
+    for (long request = 1;; request++) {
+        long before = refusals;
+        left = request, rest = each;
+        call(which, &got);
+        left = 0;
+        if (held) return 0;
+        if (got.answer == MARS_DONE ? memcmp(&got, &ample, sizeof got) != 0 : got.answer != MARS_OUT_OF_MEMORY || !is_kept(&got, &blank)) return 0;
+        if (refusals == before) return request > 1;
+    }
+}
+
+int main(void) {
+    int passed = 0, failed = 0;
+    Left first;
+    call(0, &first);
+    for (int i = 0; i < 3; i++) {
+        memcpy(loads + all, first.text, first.length);
+        lengths[i] = first.length;
+        all += first.length;
+    }
+    for (int which = 0; which < 5; which++)
+        for (long each = 0; each < 2; each++) {
+            int is_so = holds(which, each);
+            passed += is_so, failed += !is_so;
+            if (!is_so) printf("call %d, %s refused\n", which, each ? "all from one on" : "one");
+        }
+    printf("%d passed, %d failed\n", passed, failed);
+    return failed != 0;
+}
