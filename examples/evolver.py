@@ -1,0 +1,92 @@
+#!/usr/bin/env python3
+"""Evolves a warrior for the nano settings against a few opponents, and prints its load file.
+
+usage: examples/evolver.py [SECONDS [SEED]]      60 seconds and seed 1 if left out
+
+It needs the library: scripts/library builds it into build/, where python/mars.py finds it. In each generation the best warriors
+stay, children of theirs with changed cells take the place of the others, and one call fights all of them against all opponents.
+"""
+import os
+import random
+import sys
+import time
+from dataclasses import dataclass
+
+sys.path.insert(0, os.path.join(os.path.dirname(os.path.realpath(__file__)), "..", "python"))
+import mars  # noqa: E402
+
+OPPONENTS = [
+    "MOV 0, 1",
+    "ADD #4, 3\nMOV 2, @2\nJMP -2\nDAT #0, #0",
+    "SPL 0, <-9\nMOV 3, <2\nJMP -1\nDAT 0, -4",
+    "SPL.AB #-4, #-8\nMOV.I 65, <-4\nDJN.BA #61, <-5\nSPL.BA #5, <0\nDJN.BA #61, <-5",
+    "SPL.A #9, }-4\nMOV.I *5, {41\nMOV.I 40, {-5\nDJN.A #9, <50",
+]
+OPCODES = "DAT MOV MOV ADD SUB JMP JMZ JMN DJN SNE SEQ SPL SPL".split()
+MODIFIERS, MODES = "A B AB BA F X I I".split(), "#$$@*<>{}"
+SIZE, BEST, ROUNDS = 100, 15, 20
+
+
+def cell(dice):
+    """A random cell."""
+    number = lambda: f"{dice.choice(MODES)}{dice.randrange(-9, 10) if dice.randrange(3) else dice.randrange(80)}"
+    return f"{dice.choice(OPCODES)}.{dice.choice(MODIFIERS)} {number()}, {number()}"
+
+
+def child(dice, one, other):
+    """Cells of two parents, of which some are put in, taken away or replaced."""
+    cells = one[: dice.randrange(len(one) + 1)] + other[dice.randrange(len(other)) :] if dice.randrange(3) == 0 else list(one)
+    for _ in range(dice.choice([1, 1, 2])):
+        place = dice.randrange(len(cells) + 1)
+        cells[place : place + dice.randrange(2)] = [cell(dice)] * dice.randrange(2)
+    return cells[:5] or [cell(dice)]
+
+
+def warrior(cells):
+    return mars.Warrior("\n".join([";load 2 80", ";name Evolved", ";author evolver.py", "ORG 0", *cells, ""]).encode())
+
+
+@dataclass
+class Candidate:
+    """Cells, and the points of each generation that they have fought in."""
+    cells: list
+    points: list
+
+    def mean(self):
+        return sum(self.points) / len(self.points)
+
+
+def fight(candidates, opponents, seed):
+    """Lets all candidates fight all opponents, in one call; the best on the mean come first."""
+    rows = mars.population([warrior(one.cells) for one in candidates], opponents, rounds=ROUNDS, seed=seed, settings=mars.NANO)
+    for one, row in zip(candidates, rows):
+        one.points.append(row.points)
+    candidates.sort(key=Candidate.mean, reverse=True)
+
+
+def measure(cells, opponents):
+    """The points a round of cells in many rounds that no generation has fought."""
+    row = mars.population([warrior(cells)], opponents, rounds=2000, seed=1_000_000_007, settings=mars.NANO)[0]
+    return row.points / (2000 * len(opponents))
+
+
+def main():
+    if len(sys.argv) > 3 or not all(word.isdigit() for word in sys.argv[1:]):
+        sys.exit(__doc__)
+    given = [int(word) for word in sys.argv[1:]]
+    seconds, seed = given + [60, 1][len(given):]
+    dice, end = random.Random(seed), time.monotonic() + seconds
+    opponents = [mars.Warrior.assemble(text, mars.NANO) for text in OPPONENTS]
+    candidates, count = [Candidate([cell(dice) for _ in range(5)], []) for _ in range(SIZE)], 0
+    while time.monotonic() < end:
+        count += 1
+        fight(candidates, opponents, count)
+        best = candidates[:BEST]
+        if count & (count - 1) == 0:
+            print(f"generation {count}: {measure(best[0].cells, opponents):.2f} points a round", file=sys.stderr)
+        candidates = best + [Candidate(child(dice, dice.choice(best).cells, dice.choice(best).cells), []) for _ in range(SIZE - BEST)]
+    print(f"after {count} generations: {measure(candidates[0].cells, opponents):.2f} points a round", file=sys.stderr)
+    print(warrior(candidates[0].cells), end="")
+
+
+main()
