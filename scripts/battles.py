@@ -344,3 +344,23 @@ class Debugger:
             count = min(LONGEST, self.core_size - len(cells))
             cells += [line.partition(" ")[2] for line in self.ask(f"list {len(cells)} {count}", count)]
         return cells
+
+
+def check_writable(name):
+    """Tells, before the work that a file is for, that it can't be written."""
+    is_new = not os.path.exists(name)
+    try:
+        open(name, "ab").close()
+        if is_new:
+            os.remove(name)
+    except OSError as fault:
+        raise Fault(f"{name}: {fault.strerror}") from None
+
+
+def write_file(name, data):
+    """Writes the bytes of a file."""
+    try:
+        with open(name, "wb") as file:
+            file.write(data)
+    except OSError as fault:
+        raise Fault(f"{name}: {fault.strerror}") from None

@@ -1,195 +1,303 @@
 """Pictures of battles: time goes down, the core goes across. `scripts/look picture` writes them.
 
-A picture is read off the debugger row by row: what changed in a row, by whom, and where processes stand after it. Then it
-is drawn as SVG.
+A picture is a table of rows, some turns each, and of columns, some cells each, in three layers: who has written last there,
+who wrote, whose processes stand there. It is drawn as SVG, which is light or dark as its reader likes, or in points as PNG.
 """
-import colorsys
-import itertools
+import struct
+import textwrap
+import zlib
+from collections import Counter, defaultdict
 from dataclasses import dataclass
+from itertools import groupby
 from xml.sax.saxutils import escape
 
-from battles import Debugger
+from battles import Fault
+from captions import DARK, LIGHT, fate, named, outcome, round_numbers, settings
+from films import ending_of, film_of, filmed
+from letters import HEIGHT as LETTER_HEIGHT, WIDTH as LETTER_WIDTH, points
 
-LARGEST_PICTURE = 300000
-# a row has no more turns than this, so that the debugger's history holds them
-LONGEST_ROW = 500000
-WIDTH, HEIGHT = 800, 600
-MARGIN_LEFT, MARGIN_TOP, MARGIN_RIGHT, MARGIN_BOTTOM = 80, 60, 20, 20
-LEGEND_LINE = 20
-COLOURS = ("#c81e1e", "#1e50c8", "#1e8c3c", "#b46400", "#7828b4", "#008ca0", "#b41e78", "#646464")
+COLUMNS, ROWS = 400, 300
+# of an SVG: its plot, what stands beside it, the height of a line, and how many letters one has
+WIDTH, HEIGHT, LEFT, RIGHT, LINE, LETTERS = 800, 600, 80, 20, 18, (92, 125)
+# of a PNG: its plot at least, what stands beside it, and how many points a point of a letter is wide
+PLOT, MARGIN, SIZE = (1000, 750), 112, 2
+ADVANCE, LEAD = LETTER_WIDTH * SIZE, (LETTER_HEIGHT + 3) * SIZE
+SIZE_OF_TITLE = ' font-size="16"'
+KEY = "strong: processes; lighter: written; pale: written last; dashed: a death"
+# how much of a warrior's colour each layer has: what is owned, what is written, where processes stand
+PARTS = (.3, .6, 1.0)
+# the numbers of colours in a PNG; and the ground of a picture, that of its plot, and its letters, in light and dark
+PLOT_GROUND, INK = 1, 2
+LIGHT_GROUND, DARK_GROUND = ("#ffffff", "#f4f3ef", "#1e2126"), ("#0e1115", "#1a1f26", "#e9ebee")
 
 
 @dataclass
-class Slice:
-    """A row of a picture: the cells that changed in it, each with who changed it, and where processes stand after it."""
-    writes: dict
-    processes: list
+class Picture:
+    """A picture: its captions, the turns and cells that it shows, and three layers of rows of columns, each with the number
+    of a warrior or None. `fates` has for each warrior its name and its end."""
+    title: str
+    settings: str
+    fates: list
+    deaths: list
+    turns: range
+    cells: range
+    layers: list
 
 
-def halve(debugger, spans, after):
-    """Halves each span of more than one turn: the cell differs over its ends, and is at the later one what it is after."""
-    middles = {}
-    for at, (low, high) in spans.items():
-        if high - low > 1:
-            middles.setdefault((low + high) // 2, []).append(at)
-    commands, asked = [], []
-    for middle in sorted(middles):
-        commands += [f"goto {middle}", *(f"list {at} 1" for at in middles[middle])]
-        asked += [None, *((at, middle) for at in middles[middle])]
-    for question, reply in zip(asked, debugger.ask_each(commands)):
-        if question:
-            at, middle = question
-            low, high = spans[at]
-            spans[at] = (low, middle) if reply.partition(" ")[2] == after[at] else (middle, high)
-    return bool(middles)
+def leader(counts, turn):
+    """Who has most cells; of those that have as many, each in turn."""
+    most = max(counts.values(), default=0)
+    leaders = sorted(warrior for warrior, count in counts.items() if count == most > 0)
+    return leaders[turn % len(leaders)] if leaders else None
 
 
-def writers(debugger, first, last, before, after):
-    """For each cell that differs after two turns, a warrior that changed it in between: by bisection, for all cells at
-    once. Where two warriors changed a cell, one of them is found."""
-    spans = {at: (first, last) for at, (old, new) in enumerate(zip(before, after)) if old != new}
-    while halve(debugger, spans, after):
-        pass
-    who = {turn: debugger.goto(turn).next for turn in sorted({low for low, _ in spans.values()})}
-    debugger.goto(last)
-    return {at: who[low] for at, (low, _) in spans.items()}
+class Table:
+    """The rows of a picture of these cells in so many columns, as they come."""
+
+    def __init__(self, cells, columns):
+        self.cells, self.columns = cells, columns
+        self.owner, self.owned = {}, defaultdict(Counter)
+        self.layers = [], [], []
+
+    def counted(self, addresses):
+        """How many of the addresses each warrior has in each column."""
+        counts = defaultdict(Counter)
+        for at, warrior in addresses:
+            if at in self.cells:
+                counts[self.column(at)][warrior] += 1
+        return counts
+
+    def column(self, address):
+        return (address - self.cells.start) * self.columns // len(self.cells)
+
+    def own(self, writes):
+        """Lets each cell belong to who wrote it."""
+        for at, warrior in writes.items():
+            if at in self.cells:
+                owned = self.owned[self.column(at)]
+                if at in self.owner:
+                    owned[self.owner[at]] -= 1
+                owned[warrior] += 1
+                self.owner[at] = warrior
+
+    def add(self, writes, stands):
+        """Adds a row."""
+        self.own(writes)
+        row = len(self.layers[0])
+        standing = self.counted((at, warrior) for warrior, addresses in enumerate(stands) for at in addresses)
+        for layer, counts in zip(self.layers, (self.owned, self.counted(writes.items()), standing)):
+            layer.append([leader(counts[column], row + column) if column in counts else None for column in range(self.columns)])
 
 
-def slices(debugger, warriors, last, rows):
-    """The rows of a picture, one after the other."""
-    before = debugger.core()
-    for row in range(rows):
-        start, end = row * last // rows, (row + 1) * last // rows
-        debugger.standing(f"run {end - start}")
-        after = debugger.core()
-        yield Slice(writers(debugger, start, end, before, after), [debugger.queue(warrior) for warrior in range(warriors)])
-        before = after
+def rows_of(frames):
+    """Of each frame of a piece who wrote which cells, and where processes stand. The first one is in the piece before, but
+    for that of turn 0."""
+    first, *others = frames
+    return [({at: warrior for at, (warrior, _) in frame.writes.items()}, [list(stand) for stand in frame.stands])
+            for frame in ([first] if first.standing.turn == 0 else []) + others]
 
 
-def colour(warrior):
-    if warrior < len(COLOURS):
-        return COLOURS[warrior]
-    red, green, blue = colorsys.hls_to_rgb(warrior * 0.381966 % 1, 0.4, 0.6)
-    return f"#{round(255 * red):02x}{round(255 * green):02x}{round(255 * blue):02x}"
+def cells_of(text, core_size):
+    """The range of cells that `A-B` says, or the whole core."""
+    low, _, high = (text or f"0-{core_size - 1}").partition("-")
+    if not (low.isdecimal() and high.isdecimal() and int(low) <= int(high) < core_size):
+        raise Fault(f"--cells {text}: A-B, from 0 to {core_size - 1}, as in 0-99", 2)
+    return range(int(low), int(high) + 1)
 
 
-def mixed(shade, part):
-    """So much of a colour, in white."""
-    values = [int(shade[at:at + 2], 16) for at in (1, 3, 5)]
-    return "#" + "".join(f"{round(255 - part * (255 - value)):02x}" for value in values)
+def picture_of(program, battle, warriors, part, cells, columns):
+    """The picture of a part of a battle."""
+    cells = cells_of(cells, battle.words.number("-s"))
+    ending = ending_of(program, battle, warriors)
+    film = film_of(program, battle, warriors, part, ending.last)
+    table = Table(cells, min(columns, len(cells)))
+    rows = [row for piece in filmed(film, rows_of) for row in piece]
+    for writes, _ in rows[:film.hidden + 1]:
+        table.own(writes)
+    for writes, stands in rows[film.hidden + 1:]:
+        table.add(writes, stands)
+    told = ", ".join(f"{name} {' '.join(map(str, [value] if isinstance(value, int) else value))}"
+                     for name, value in settings(battle, ending.starts))
+    fates = [f"{number} {warrior.name} {fate(warriors, ending.deaths, number)}" for number, warrior in enumerate(warriors)]
+    title = f"{named(warriors)}: {outcome(warriors, ending.deaths)}, {ending.last} turns"
+    return Picture(title, told, fates, ending.deaths, range(film.ends[film.hidden], film.ends[-1]), cells, list(table.layers))
 
 
-PROCESS, WRITE, OWN = 1.0, 0.5, 0.18
+def mixed(shade, ground, part):
+    """So much of a colour, on a ground."""
+    values = [(int(shade[at:at + 2], 16), int(ground[at:at + 2], 16)) for at in (1, 3, 5)]
+    return "#" + "".join(f"{round(below + part * (value - below)):02x}" for value, below in values)
 
 
-def grids(start, rows, core_size, columns):
-    """Three tables of rows and columns, each with a warrior or None: who owns, who wrote, whose process stands there."""
-    def column(address):
-        return address * columns // core_size
+def ticks(picture):
+    """Round numbers of cells and of turns, each with how far it is across, or down."""
+    cells, turns = picture.cells, picture.turns
+    across = [(at, (at - cells.start) / len(cells)) for at in round_numbers(cells.start, cells.stop, 9)]
+    return across, [(turn, (turn - turns.start) / len(turns)) for turn in round_numbers(turns.start, turns.stop, 9)]
 
-    owner = [None] * columns
-    for address, warrior in start.items():
-        owner[column(address)] = warrior
-    owns, writes, stands = [], [], []
-    for row in rows:
-        written, standing = [None] * columns, [None] * columns
-        for address, warrior in row.writes.items():
-            owner[column(address)] = written[column(address)] = warrior
-        for warrior, addresses in enumerate(row.processes):
-            for address in addresses:
-                standing[column(address)] = warrior
-        owns.append(owner[:])
-        writes.append(written)
-        stands.append(standing)
-    return owns, writes, stands
+
+def falls(picture):
+    """Each warrior that dies within the picture, and how far down."""
+    return [(warrior, (death - picture.turns.start) / len(picture.turns)) for warrior, death in enumerate(picture.deaths)
+            if death is not None and picture.turns.start < death <= picture.turns.stop]
 
 
 def runs(line):
     """The runs of equal values of a line but None: where each begins, its length, and its value."""
     at = 0
-    for value, group in itertools.groupby(line):
+    for value, group in groupby(line):
         length = len(list(group))
         if value is not None:
             yield at, length, value
         at += length
 
 
-def layer(grid, part, is_down):
-    """A table as SVG: a line for each run, across or down, all those of a colour in one path."""
-    paths = {}
-    for number, line in enumerate(zip(*grid) if is_down else grid):
+def paths(rows, letter, is_down):
+    """A layer as SVG: a line for each run, across or down, all those of a warrior in one path."""
+    steps = defaultdict(list)
+    for number, line in enumerate(zip(*rows) if is_down else rows):
         for at, length, warrior in runs(line):
-            step = f"M{number} {at}v{length}" if is_down else f"M{at} {number}h{length}"
-            paths.setdefault(warrior, []).append(step)
+            steps[warrior].append(f"M{number} {at}v{length}" if is_down else f"M{at} {number}h{length}")
     shift = "translate(.5 0)" if is_down else "translate(0 .5)"
-    lines = [f'<path stroke="{mixed(colour(warrior), part)}" d="{"".join(steps)}"/>'
-             for warrior, steps in sorted(paths.items())]
+    lines = [f'<path class="{letter}{warrior}" d="{"".join(steps[warrior])}"/>' for warrior in sorted(steps)]
     return "\n".join([f'<g transform="{shift}">', *lines, "</g>"])
 
 
-def shorter(grid, part):
-    """A table as SVG, across or down, whichever is shorter."""
-    return min(layer(grid, part, False), layer(grid, part, True), key=len)
+def shorter(rows, letter):
+    """A layer as SVG, across or down, whichever is shorter."""
+    return min(paths(rows, letter, False), paths(rows, letter, True), key=len)
 
 
-def frame(names, deaths, core_size, last):
-    """What stands round the picture: its title, the scales, the deaths and the legend."""
-    title = f"{last} turns down, {core_size} cells across"
-    key = "strong: where processes stand; lighter: what is written; pale: what was written last; dashed: a death"
-    yield f'<text x="{MARGIN_LEFT}" y="20" font-size="16">{title}</text>'
-    yield f'<text x="{MARGIN_LEFT}" y="37">{key}</text>'
-    for part in range(5):
-        x, y = MARGIN_LEFT + WIDTH * part // 4, MARGIN_TOP + HEIGHT * part // 4
-        anchor = ("start", "middle", "middle", "middle", "end")[part]
-        yield f'<text x="{x}" y="{MARGIN_TOP - 6}" text-anchor="{anchor}">{core_size * part // 4}</text>'
-        yield f'<text x="{MARGIN_LEFT - 6}" y="{y + 4}" text-anchor="end">{last * part // 4}</text>'
-    for warrior, death in enumerate(deaths):
-        if death is not None:
-            y = MARGIN_TOP + HEIGHT * death / last
-            yield f'<path stroke="{colour(warrior)}" stroke-dasharray="6 4" d="M{MARGIN_LEFT} {y:.1f}h{WIDTH}"/>'
-    for warrior, name in enumerate(names):
-        y = MARGIN_TOP + HEIGHT + 24 + LEGEND_LINE * warrior
-        for place, part in enumerate((PROCESS, WRITE, OWN)):
-            x = MARGIN_LEFT + 22 * place
-            yield f'<rect x="{x}" y="{y - 11}" width="20" height="13" fill="{mixed(colour(warrior), part)}"/>'
-        end = "lives" if deaths[warrior] is None else f"dies in turn {deaths[warrior]}"
-        yield f'<text x="{MARGIN_LEFT + 74}" y="{y}">{escape(name)} {end}</text>'
+def styles(colours, grounds, count):
+    """The colours of an SVG: a class for each warrior in each layer, and those of the ground, the plot and the letters."""
+    page, plot, ink = grounds
+    lines = [f".page{{fill:{page}}} .plot{{fill:{plot}}} text{{fill:{ink}}}"]
+    for warrior in range(count):
+        shades = [mixed(colours[warrior], plot, part) for part in PARTS]
+        lines.append(" ".join(f".{letter}{warrior}{{stroke:{shade};fill:{shade}}}" for letter, shade in zip("owp", shades)))
+    return "\n".join(lines)
 
 
-def draw(names, deaths, core_size, last, start, rows, columns):
-    """The text of the picture."""
-    owns, writes, stands = grids(start, rows, core_size, columns)
-    width = MARGIN_LEFT + WIDTH + MARGIN_RIGHT
-    height = MARGIN_TOP + HEIGHT + MARGIN_BOTTOM + LEGEND_LINE * len(names) + 10
+def headings(picture, of_title, of_others):
+    """The lines above the plot, with so many letters at most in one of the title and of the others."""
+    return textwrap.wrap(picture.title, of_title), [line for text in (picture.settings, KEY)
+                                                    for line in textwrap.wrap(text, of_others)]
+
+
+def scale(picture, top):
+    """Round numbers of cells over the plot of an SVG, and of turns beside it; and where warriors die."""
+    across, down = ticks(picture)
+    for at, part in across:
+        yield f'<text x="{LEFT + WIDTH * part:.1f}" y="{top - 6}" text-anchor="middle">{at}</text>'
+    for turn, part in down:
+        yield f'<text x="{LEFT - 6}" y="{top + HEIGHT * part + 4:.1f}" text-anchor="end">{turn}</text>'
+    for warrior, part in falls(picture):
+        yield f'<path class="p{warrior}" stroke-dasharray="6 4" d="M{LEFT} {top + HEIGHT * part:.1f}h{WIDTH}"/>'
+
+
+def legend(picture, top):
+    """The warriors under the plot of an SVG."""
+    for warrior, text in enumerate(picture.fates):
+        y = top + HEIGHT + 24 + LINE * warrior
+        for place, letter in enumerate("pwo"):
+            yield f'<rect class="{letter}{warrior}" x="{LEFT + 22 * place}" y="{y - 11}" width="20" height="13"/>'
+        yield f'<text x="{LEFT + 74}" y="{y}">{escape(text)}</text>'
+
+
+def svg(picture):
+    """The picture as SVG."""
+    owned, written, standing = picture.layers
+    titles, others = headings(picture, *LETTERS)
+    top = LINE * (len(titles) + len(others)) + 30
+    width, height = LEFT + WIDTH + RIGHT, top + HEIGHT + LINE * len(picture.fates) + 22
     return "\n".join([
         f'<svg xmlns="http://www.w3.org/2000/svg" viewBox="0 0 {width} {height}" font-family="sans-serif" font-size="12">',
-        f"<title>{escape(', '.join(names))}</title>",
-        f'<rect width="{width}" height="{height}" fill="#ffffff"/>',
-        f'<rect x="{MARGIN_LEFT}" y="{MARGIN_TOP}" width="{WIDTH}" height="{HEIGHT}" fill="#f6f6f6"/>',
-        f'<g transform="translate({MARGIN_LEFT} {MARGIN_TOP}) scale({WIDTH / columns:g} {HEIGHT / len(rows):g})" '
-        'fill="none" stroke-width="1" shape-rendering="crispEdges">',
-        shorter(owns, OWN), shorter(writes, WRITE), shorter(stands, PROCESS), "</g>",
-        *frame(names, deaths, core_size, last),
-        "</svg>", ""])
+        f"<title>{escape(picture.title)}</title>",
+        f"<style>\n{styles(LIGHT, LIGHT_GROUND, len(picture.fates))}\n@media (prefers-color-scheme: dark) {{",
+        f"{styles(DARK, DARK_GROUND, len(picture.fates))}\n}}\n</style>",
+        f'<rect class="page" width="{width}" height="{height}"/>',
+        f'<rect class="plot" x="{LEFT}" y="{top}" width="{WIDTH}" height="{HEIGHT}"/>',
+        f'<g transform="translate({LEFT} {top}) scale({WIDTH / len(owned[0]):g} {HEIGHT / len(owned):g})" '
+        'stroke-width="1" shape-rendering="crispEdges">',
+        shorter(owned, "o"), shorter(written, "w"), shorter(standing, "p"), "</g>",
+        *(f'<text x="{LEFT}" y="{LINE * number + 22}"{SIZE_OF_TITLE if number < len(titles) else ""}>{escape(text)}</text>'
+          for number, text in enumerate(titles + others)),
+        *scale(picture, top), *legend(picture, top), "</svg>", ""])
 
 
-def picture_of(program, battle, warriors, rows, columns):
-    """The picture of a battle. It goes over the battle twice: first to its end, then row by row."""
-    core_size = battle.words.number("-s")
-    with Debugger(program, battle.keeping(1)) as debugger:
-        starts = [debugger.queue(number)[0] - warrior.origin for number, warrior in enumerate(warriors)]
-        standing, deaths = debugger.run_to_end()
-    start = {(starts[number] + offset) % core_size: number
-             for number, warrior in enumerate(warriors) for offset in range(len(warrior.cells))}
-    last = standing.turn
-    count = min(last, max(rows, last // LONGEST_ROW + 1))
-    kept = last // count + 1 + len(battle.commands)
-    with Debugger(program, battle.keeping(kept)) as debugger:
-        read = list(slices(debugger, len(warriors), last, count))
-    columns = min(columns, core_size)
-    names = [f"{number} {warrior.name}" for number, warrior in enumerate(warriors)]
-    text = draw(names, deaths, core_size, last, start, read, columns)
-    while len(text) > LARGEST_PICTURE and columns > 1:
-        columns = max(1, columns * 3 // 4)
-        text = draw(names, deaths, core_size, last, start, read, columns)
-    return text
+def shade_of(warrior, layer):
+    """The number of the colour that a warrior has in a layer of a PNG."""
+    return 3 + len(PARTS) * warrior + layer
+
+
+class Points:
+    """A picture in points, each with the number of a colour."""
+
+    def __init__(self, width, height):
+        self.lines = [bytearray(width) for _ in range(height)]
+
+    def box(self, left, top, width, height, colour):
+        for line in self.lines[top:top + height]:
+            line[left:left + width] = bytes([colour]) * len(line[left:left + width])
+
+    def write(self, left, top, text, colour=INK, size=SIZE):
+        """Writes a line of text; what doesn't fit is left out."""
+        for x, y in points(text):
+            if left + size * x >= 0:
+                self.box(left + size * x, top + size * y, size, size, colour)
+
+    def png(self, palette):
+        """The file of the picture, in these colours."""
+        def chunk(name, data):
+            return struct.pack(">I", len(data)) + name + data + struct.pack(">I", zlib.crc32(name + data))
+        head = struct.pack(">IIBBBBB", len(self.lines[0]), len(self.lines), 8, 3, 0, 0, 0)
+        colours = bytes.fromhex("".join(colour[1:] for colour in palette))
+        data = zlib.compress(b"".join(b"\0" + line for line in self.lines), 9)
+        return b"\x89PNG\r\n\x1a\n" + chunk(b"IHDR", head) + chunk(b"PLTE", colours) + chunk(b"IDAT", data) + chunk(b"IEND", b"")
+
+
+def plot(canvas, picture, top, across, down):
+    """Draws the three layers, a cell of the table in so many points."""
+    for row, lines in enumerate(zip(*picture.layers)):
+        colours = bytearray([PLOT_GROUND]) * len(lines[0])
+        for layer, line in enumerate(lines):
+            for at, length, warrior in runs(line):
+                colours[at:at + length] = bytes([shade_of(warrior, layer)]) * length
+        points_across = b"".join(bytes([colour]) * across for colour in colours)
+        for line in canvas.lines[top + row * down:top + (row + 1) * down]:
+            line[MARGIN:MARGIN + len(points_across)] = points_across
+
+
+def mark(canvas, picture, top, width, height):
+    """Draws round numbers, deaths and the legend round the plot."""
+    across, down = ticks(picture)
+    for at, part in across:
+        canvas.write(MARGIN + round(width * part) - len(str(at)) * ADVANCE // 2, top - LEAD, str(at))
+    for turn, part in down:
+        canvas.write(MARGIN - 8 - len(str(turn)) * ADVANCE, top + round(height * part) - LEAD // 2 + SIZE, str(turn))
+    for warrior, part in falls(picture):
+        for left in range(MARGIN, MARGIN + width, 20):
+            canvas.box(left, top + round(height * part), min(12, MARGIN + width - left), 2, shade_of(warrior, 2))
+    for warrior, text in enumerate(picture.fates):
+        y = top + height + LEAD * (warrior + 1)
+        for place in range(3):
+            canvas.box(MARGIN + 32 * place, y, 28, 7 * SIZE, shade_of(warrior, 2 - place))
+        canvas.write(MARGIN + 108, y, text)
+
+
+def png(picture):
+    """The picture as PNG, in the light colours."""
+    rows, columns = len(picture.layers[0]), len(picture.layers[0][0])
+    across, down = -(-PLOT[0] // columns), -(-PLOT[1] // rows)
+    width, height = columns * across, rows * down
+    titles, others = headings(picture, width // (3 * ADVANCE // 2), width // ADVANCE)
+    top = LEAD * (3 * len(titles) // 2 + len(others) + 1) + LEAD * 3 // 2
+    canvas = Points(MARGIN + width + MARGIN // 2, top + height + LEAD * (len(picture.fates) + 2))
+    canvas.box(MARGIN, top, width, height, PLOT_GROUND)
+    for number, text in enumerate(titles):
+        canvas.write(MARGIN, 12 + number * LEAD * 3 // 2, text, size=SIZE * 3 // 2)
+    for number, text in enumerate(others):
+        canvas.write(MARGIN, 12 + len(titles) * LEAD * 3 // 2 + number * LEAD, text)
+    plot(canvas, picture, top, across, down)
+    mark(canvas, picture, top, width, height)
+    return canvas.png([*LIGHT_GROUND, *(mixed(colour, LIGHT_GROUND[1], part) for colour in LIGHT for part in PARTS)])
