@@ -10,6 +10,12 @@ SETTINGS = {"-s": "core", "-c": "cycles", "-p": "processes", "-l": "length", "-d
             "--seed": "seed", "--read-limit": "read limit", "--write-limit": "write limit"}
 
 
+def coloured(colours, battle):
+    """The colours of a battle's warriors: each has the same one in all rounds of a match, whoever begins."""
+    count = len(battle.words.files)
+    return [colours[(number + battle.first) % count] for number in range(count)]
+
+
 def named(warriors):
     """The names of the warriors of a battle."""
     names = [warrior.name for warrior in warriors]
@@ -42,7 +48,7 @@ def outcome(warriors, deaths):
 def fate(warriors, deaths, number):
     """How the battle ends for a warrior."""
     if deaths[number] is not None:
-        return f"died in turn {deaths[number]}"
+        return f"died in turn {deaths[number]:,}"
     if len(warriors) == 1:
         return "lives"
     return "wins" if deaths.count(None) == 1 else "ties"

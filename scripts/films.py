@@ -17,8 +17,9 @@ from operator import ne
 
 from battles import Battle, Debugger, Fault, LONGEST, Standing, told
 
-# the most cells that are read between the frames of a film: some ten seconds of one processor
-LOOKED_AT = 64000000
+# the most cells that are read between the frames of a film, some ten seconds of one processor; and how many cells a look at
+# the core costs besides its own
+LOOKED_AT, A_LOOK = 70000000, 500
 # what is before the part that is shown is gone through in so many frames
 FRAMES_BEFORE = 100
 # the most turns between two looks at the core, so that the debugger's history holds them
@@ -145,7 +146,7 @@ def parts(first, last, count):
 
 def grain_of(turns, core_size):
     """After how many turns the core is looked at, so that a film of so many turns is read in bounded time."""
-    return min(LONGEST_GRAIN, max(1, -(-turns * core_size // LOOKED_AT)))
+    return min(LONGEST_GRAIN, max(1, -(-turns * (core_size + A_LOOK) // LOOKED_AT)))
 
 
 def film_of(program, battle, warriors, part, last):
@@ -230,9 +231,9 @@ def pieces_of(ends, count):
 
 
 def told_on_terminal(text, is_end):
-    """Writes how far a film is over what was written so far, where there is a terminal."""
+    """Writes how far a film is over what was written so far, where there is a terminal, and takes it away at the end."""
     if sys.stderr.isatty():
-        print(f"\r{text}", end="\n" if is_end else "", file=sys.stderr, flush=True)
+        print("\r\033[K" if is_end else f"\r{text}", end="", file=sys.stderr, flush=True)
 
 
 def leave_interrupts():

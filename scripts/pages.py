@@ -14,10 +14,11 @@ from html import escape
 from itertools import accumulate
 
 from battles import LONGEST, command_line
-from captions import DARK, LIGHT, named, outcome, settings
+from captions import DARK, LIGHT, coloured, fate, named, outcome, settings
 from films import ending_of, film_of, filmed
 
-TEMPLATE = os.path.join(os.path.dirname(os.path.realpath(__file__)), "page.html")
+HERE = os.path.dirname(os.path.realpath(__file__))
+TEMPLATE, INDEX = os.path.join(HERE, "page.html"), os.path.join(HERE, "index.html")
 BATTLE = '<script id="battle" type="text/plain">'
 FRAMES = 600
 EMPTY = "DAT.F $0, $0"
@@ -80,8 +81,9 @@ def unpacked(page):
 
 def head_of(film, ending, prepare):
     """What a page knows besides its frames."""
-    warriors = [{"name": warrior.name, "author": warrior.title.rpartition(" by ")[2], "death": death, "grave": grave}
-                for warrior, death, grave in zip(film.warriors, ending.deaths, ending.graves)]
+    warriors = [{"name": warrior.name, "author": warrior.title.rpartition(" by ")[2], "death": ending.deaths[number],
+                 "grave": ending.graves[number], "fate": fate(film.warriors, ending.deaths, number)}
+                for number, warrior in enumerate(film.warriors)]
     return {"size": film.battle.words.number("-s"), "last": ending.last, "empty": EMPTY, "warriors": warriors,
             "outcome": outcome(film.warriors, ending.deaths), "settings": settings(film.battle, ending.starts),
             "command": command_line(film.battle), "prepare": prepare, "longest": LONGEST,
@@ -92,8 +94,37 @@ def page_of(program, battle, warriors, part, prepare=""):
     """The page of a part of a battle. `prepare` is a command that prints what lays the battle out, where one does."""
     ending = ending_of(program, battle, warriors)
     film = film_of(program, battle, warriors, part, ending.last)
-    fields = {"TITLE": escape(named(warriors)), "LIGHT": ",".join(LIGHT), "DARK": ",".join(DARK),
+    fields = {"TITLE": escape(named(warriors)), "LIGHT": ",".join(coloured(LIGHT, battle)), "DARK": ",".join(coloured(DARK, battle)),
               "DATA": "\n".join([packed(head_of(film, ending, prepare)), *filmed(film, piece)])}
     with open(TEMPLATE, encoding="utf-8") as file:
         text = re.sub("@(TITLE|LIGHT|DARK|DATA)@", lambda field: fields[field[1]], file.read())
     return Page(text, len(film.ends) - film.hidden, film.coarsest())
+
+
+@dataclass
+class Line:
+    """A round in an index: its page, its number, the outcome for each warrior, its turns, the words that debug it."""
+    page: str
+    number: int
+    outcomes: list
+    turns: int
+    words: str
+
+
+def row(cells, element="td"):
+    """A row of a table. What is a pair is a text and the class of its cell."""
+    told = [cell if isinstance(cell, tuple) else (cell, "") for cell in cells]
+    return "<tr>" + "".join(f"<{element}{name and f' class={name}'}>{text}</{element}>" for text, name in told) + "</tr>"
+
+
+def index_of(warriors, lines, sums):
+    """The page of a match: a row for each round with a link to its page, and the sums of each warrior."""
+    rows = [row([f'<a href="{line.page}">{line.number}</a>', *[(what, what) for what in line.outcomes], f"{line.turns:,}",
+                 f"<code>{escape(line.words)}</code>"]) for line in lines]
+    names = [escape(warrior.name) for warrior in warriors]
+    told = [row([f"{name} by {escape(warrior.title.rpartition(' by ')[2])}", *map(str, counts)])
+            for name, warrior, counts in zip(names, warriors, sums)]
+    fields = {"TITLE": escape(named(warriors)), "HEAD": row(["Round", *names, "Turns", "To debug it"], "th"),
+              "ROWS": "\n".join(rows), "SUMS": "\n".join([row(["Warrior", "Wins", "Ties", "Losses"], "th"), *told])}
+    with open(INDEX, encoding="utf-8") as file:
+        return re.sub("@(TITLE|HEAD|ROWS|SUMS)@", lambda field: fields[field[1]], file.read())

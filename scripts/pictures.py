@@ -12,7 +12,7 @@ from itertools import groupby
 from xml.sax.saxutils import escape
 
 from battles import Fault
-from captions import DARK, LIGHT, fate, named, outcome, round_numbers, settings
+from captions import DARK, LIGHT, coloured, fate, named, outcome, round_numbers, settings
 from films import ending_of, film_of, filmed
 from letters import HEIGHT as LETTER_HEIGHT, WIDTH as LETTER_WIDTH, points
 
@@ -39,6 +39,8 @@ class Picture:
     settings: str
     fates: list
     deaths: list
+    light: list
+    dark: list
     turns: range
     cells: range
     layers: list
@@ -119,8 +121,9 @@ def picture_of(program, battle, warriors, part, cells, columns):
     told = ", ".join(f"{name} {' '.join(map(str, [value] if isinstance(value, int) else value))}"
                      for name, value in settings(battle, ending.starts))
     fates = [f"{number} {warrior.name} {fate(warriors, ending.deaths, number)}" for number, warrior in enumerate(warriors)]
-    title = f"{named(warriors)}: {outcome(warriors, ending.deaths)}, {ending.last} turns"
-    return Picture(title, told, fates, ending.deaths, range(film.ends[film.hidden], film.ends[-1]), cells, list(table.layers))
+    title = f"{named(warriors)}: {outcome(warriors, ending.deaths)}, {ending.last:,} turns"
+    return Picture(title, told, fates, ending.deaths, coloured(LIGHT, battle), coloured(DARK, battle),
+                   range(film.ends[film.hidden], film.ends[-1]), cells, list(table.layers))
 
 
 def mixed(shade, ground, part):
@@ -168,12 +171,12 @@ def shorter(rows, letter):
     return min(paths(rows, letter, False), paths(rows, letter, True), key=len)
 
 
-def styles(colours, grounds, count):
+def styles(colours, grounds):
     """The colours of an SVG: a class for each warrior in each layer, and those of the ground, the plot and the letters."""
     page, plot, ink = grounds
     lines = [f".page{{fill:{page}}} .plot{{fill:{plot}}} text{{fill:{ink}}}"]
-    for warrior in range(count):
-        shades = [mixed(colours[warrior], plot, part) for part in PARTS]
+    for warrior, colour in enumerate(colours):
+        shades = [mixed(colour, plot, part) for part in PARTS]
         lines.append(" ".join(f".{letter}{warrior}{{stroke:{shade};fill:{shade}}}" for letter, shade in zip("owp", shades)))
     return "\n".join(lines)
 
@@ -213,8 +216,8 @@ def svg(picture):
     return "\n".join([
         f'<svg xmlns="http://www.w3.org/2000/svg" viewBox="0 0 {width} {height}" font-family="sans-serif" font-size="12">',
         f"<title>{escape(picture.title)}</title>",
-        f"<style>\n{styles(LIGHT, LIGHT_GROUND, len(picture.fates))}\n@media (prefers-color-scheme: dark) {{",
-        f"{styles(DARK, DARK_GROUND, len(picture.fates))}\n}}\n</style>",
+        f"<style>\n{styles(picture.light, LIGHT_GROUND)}\n@media (prefers-color-scheme: dark) {{",
+        f"{styles(picture.dark, DARK_GROUND)}\n}}\n</style>",
         f'<rect class="page" width="{width}" height="{height}"/>',
         f'<rect class="plot" x="{LEFT}" y="{top}" width="{WIDTH}" height="{HEIGHT}"/>',
         f'<g transform="translate({LEFT} {top}) scale({WIDTH / len(owned[0]):g} {HEIGHT / len(owned):g})" '
@@ -300,4 +303,4 @@ def png(picture):
         canvas.write(MARGIN, 12 + len(titles) * LEAD * 3 // 2 + number * LEAD, text)
     plot(canvas, picture, top, across, down)
     mark(canvas, picture, top, width, height)
-    return canvas.png([*LIGHT_GROUND, *(mixed(colour, LIGHT_GROUND[1], part) for colour in LIGHT for part in PARTS)])
+    return canvas.png([*LIGHT_GROUND, *(mixed(colour, LIGHT_GROUND[1], part) for colour in picture.light for part in PARTS)])
