@@ -39,10 +39,10 @@ def outcome(warriors, deaths):
     """Who won."""
     living = [warrior.name for warrior, death in zip(warriors, deaths) if death is None]
     if not living:
-        return "nobody lives"
+        return "Nobody lives"
     if len(living) == 1:
         return f"{living[0]} {'wins' if len(warriors) > 1 else 'lives'}"
-    return f"a tie of {joined(living)}"
+    return f"A tie of {joined(living)}"
 
 
 def fate(warriors, deaths, number):

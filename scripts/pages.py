@@ -22,6 +22,10 @@ TEMPLATE, INDEX = os.path.join(HERE, "page.html"), os.path.join(HERE, "index.htm
 BATTLE = '<script id="battle" type="text/plain">'
 FRAMES = 600
 EMPTY = "DAT.F $0, $0"
+# how many cells a page lists, the one that is looked at in the middle
+LISTED = 9
+EXACT = ("The core was looked at every {:,} turns: what changes and changes back in between isn’t seen, and of two warriors that "
+         "write a cell in between one is shown.")
 
 
 @dataclass
@@ -85,20 +89,40 @@ def head_of(film, ending, prepare):
                  "grave": ending.graves[number], "fate": fate(film.warriors, ending.deaths, number)}
                 for number, warrior in enumerate(film.warriors)]
     return {"size": film.battle.words.number("-s"), "last": ending.last, "empty": EMPTY, "warriors": warriors,
-            "outcome": outcome(film.warriors, ending.deaths), "settings": settings(film.battle, ending.starts),
             "command": command_line(film.battle), "prepare": prepare, "longest": LONGEST,
             "hidden": film.hidden, "grain": film.coarsest()}
+
+
+def legend(warriors):
+    """A row for each warrior in the table of a page, whose script fills in the numbers."""
+    return "".join(f'<tr style="--warrior: var(--warrior-{number})"><td><button title="Shows it alone"><i></i><span><strong>'
+                   f"{escape(warrior.name)}</strong><small></small></span></button></td><td></td><td></td></tr>"
+                   for number, warrior in enumerate(warriors))
+
+
+def texts(film, ending):
+    """What a page says from its start to its end."""
+    values = [(name, value if isinstance(value, list) else [value]) for name, value in settings(film.battle, ending.starts)]
+    return {"TITLE": escape(named(film.warriors)), "LEGEND": legend(film.warriors),
+            "OUTCOME": escape(outcome(film.warriors, ending.deaths)),
+            "SETTINGS": " · ".join(f"{name} {', '.join(f'{number:,}' for number in numbers)}" for name, numbers in values),
+            "LISTING": "<li><span></span><span></span><em></em></li>" * LISTED,
+            "EXACT": EXACT.format(film.coarsest()) if film.coarsest() > 1 else ""}
+
+
+def filled(template, fields):
+    """A template with texts in place of its fields."""
+    with open(template, encoding="utf-8") as file:
+        return re.sub(f"@({'|'.join(fields)})@", lambda field: fields[field[1]], file.read())
 
 
 def page_of(program, battle, warriors, part, prepare=""):
     """The page of a part of a battle. `prepare` is a command that prints what lays the battle out, where one does."""
     ending = ending_of(program, battle, warriors)
     film = film_of(program, battle, warriors, part, ending.last)
-    fields = {"TITLE": escape(named(warriors)), "LIGHT": ",".join(coloured(LIGHT, battle)), "DARK": ",".join(coloured(DARK, battle)),
-              "DATA": "\n".join([packed(head_of(film, ending, prepare)), *filmed(film, piece)])}
-    with open(TEMPLATE, encoding="utf-8") as file:
-        text = re.sub("@(TITLE|LIGHT|DARK|DATA)@", lambda field: fields[field[1]], file.read())
-    return Page(text, len(film.ends) - film.hidden, film.coarsest())
+    data = "\n".join([packed(head_of(film, ending, prepare)), *filmed(film, piece)])
+    colours = {"LIGHT": ",".join(coloured(LIGHT, battle)), "DARK": ",".join(coloured(DARK, battle))}
+    return Page(filled(TEMPLATE, {**texts(film, ending), **colours, "DATA": data}), len(film.ends) - film.hidden, film.coarsest())
 
 
 @dataclass
@@ -126,5 +150,4 @@ def index_of(warriors, lines, sums):
             for name, warrior, counts in zip(names, warriors, sums)]
     fields = {"TITLE": escape(named(warriors)), "HEAD": row(["Round", *names, "Turns", "To debug it"], "th"),
               "ROWS": "\n".join(rows), "SUMS": "\n".join([row(["Warrior", "Wins", "Ties", "Losses"], "th"), *told])}
-    with open(INDEX, encoding="utf-8") as file:
-        return re.sub("@(TITLE|HEAD|ROWS|SUMS)@", lambda field: fields[field[1]], file.read())
+    return filled(INDEX, fields)

@@ -121,7 +121,7 @@ def picture_of(program, battle, warriors, part, cells, columns):
     told = ", ".join(f"{name} {' '.join(map(str, [value] if isinstance(value, int) else value))}"
                      for name, value in settings(battle, ending.starts))
     fates = [f"{number} {warrior.name} {fate(warriors, ending.deaths, number)}" for number, warrior in enumerate(warriors)]
-    title = f"{named(warriors)}: {outcome(warriors, ending.deaths)}, {ending.last:,} turns"
+    title = f"{named(warriors)}. {outcome(warriors, ending.deaths)}, {ending.last:,} turns"
     return Picture(title, told, fates, ending.deaths, coloured(LIGHT, battle), coloured(DARK, battle),
                    range(film.ends[film.hidden], film.ends[-1]), cells, list(table.layers))
 
