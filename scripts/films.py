@@ -212,7 +212,8 @@ def frames_of(camera, film, ends):
     for start, end in zip(ends, ends[1:]):
         looks, writes = parts(start, end, -(-(end - start) // film.grain)), {}
         for low, high in zip(looks, looks[1:]):
-            standing, before, core = camera.standing(f"run {high - low}"), core, camera.core_lines()
+            standing, before = camera.standing(f"run {high - low}"), core
+            core = camera.core_lines()
             writes.update(writers(camera, low, high, before, core))
         yield moment(camera, standing, writes, core)
 
@@ -230,15 +231,15 @@ def pieces_of(ends, count):
     return [ends[first:last + 1] for first, last in zip(cuts, cuts[1:])]
 
 
-def told_on_terminal(text, is_end):
-    """Writes how far a film is over what was written so far, where there is a terminal, and takes it away at the end."""
+def told_on_terminal(text):
+    """Writes a line over the one that says how far a film is, where there is a terminal."""
     if sys.stderr.isatty():
-        print("\r\033[K" if is_end else f"\r{text}", end="", file=sys.stderr, flush=True)
+        print(f"\r\033[K{text}", end="", file=sys.stderr, flush=True)
 
 
-def leave_interrupts():
-    """Ctrl-C ends the script alone, which then ends its processes."""
-    signal.signal(signal.SIGINT, signal.SIG_IGN)
+def end_at_once():
+    """Ctrl-C ends the processes of a film without a word; the script that started them tells it."""
+    signal.signal(signal.SIGINT, signal.SIG_DFL)
 
 
 def filmed(film, develop):
@@ -246,13 +247,14 @@ def filmed(film, develop):
     workers = os.cpu_count() or 1
     pieces = pieces_of(film.ends, workers * PIECES_EACH)
     done, ahead, waiting = 0, iter(pieces), deque()
-    with ProcessPoolExecutor(workers, initializer=leave_interrupts) as pool:
+    with ProcessPoolExecutor(workers, initializer=end_at_once) as pool:
         try:
-            for piece in pieces:
+            for _ in pieces:
                 waiting.extend((ends, pool.submit(shoot, film, ends, develop)) for ends in islice(ahead, 2 * workers - len(waiting)))
                 ends, future = waiting.popleft()
                 yield future.result()
                 done += len(ends) - 1
-                told_on_terminal(f"{done}/{len(film.ends) - 1} frames", done == len(film.ends) - 1)
+                told_on_terminal(f"{done}/{len(film.ends) - 1} frames")
         finally:
+            told_on_terminal("")
             pool.shutdown(cancel_futures=True)

@@ -3,9 +3,7 @@
 A picture is a table of rows, some turns each, and of columns, some cells each, in three layers: who has written last there,
 who wrote, whose processes stand there. It is drawn as SVG, which is light or dark as its reader likes, or in points as PNG.
 """
-import struct
 import textwrap
-import zlib
 from collections import Counter, defaultdict
 from dataclasses import dataclass
 from itertools import groupby
@@ -15,6 +13,7 @@ from battles import Fault
 from captions import DARK, LIGHT, coloured, fate, named, outcome, round_numbers, settings
 from films import ending_of, film_of, filmed
 from letters import HEIGHT as LETTER_HEIGHT, WIDTH as LETTER_WIDTH, points
+from png import png_of
 
 COLUMNS, ROWS = 400, 300
 # of an SVG: its plot, what stands beside it, the height of a line, and how many letters one has
@@ -249,15 +248,6 @@ class Points:
             if left + size * x >= 0:
                 self.box(left + size * x, top + size * y, size, size, colour)
 
-    def png(self, palette):
-        """The file of the picture, in these colours."""
-        def chunk(name, data):
-            return struct.pack(">I", len(data)) + name + data + struct.pack(">I", zlib.crc32(name + data))
-        head = struct.pack(">IIBBBBB", len(self.lines[0]), len(self.lines), 8, 3, 0, 0, 0)
-        colours = bytes.fromhex("".join(colour[1:] for colour in palette))
-        data = zlib.compress(b"".join(b"\0" + line for line in self.lines), 9)
-        return b"\x89PNG\r\n\x1a\n" + chunk(b"IHDR", head) + chunk(b"PLTE", colours) + chunk(b"IDAT", data) + chunk(b"IEND", b"")
-
 
 def plot(canvas, picture, top, across, down):
     """Draws the three layers, a cell of the table in so many points."""
@@ -303,4 +293,5 @@ def png(picture):
         canvas.write(MARGIN, 12 + len(titles) * LEAD * 3 // 2 + number * LEAD, text)
     plot(canvas, picture, top, across, down)
     mark(canvas, picture, top, width, height)
-    return canvas.png([*LIGHT_GROUND, *(mixed(colour, LIGHT_GROUND[1], part) for colour in picture.light for part in PARTS)])
+    colours = [*LIGHT_GROUND, *(mixed(colour, LIGHT_GROUND[1], part) for colour in picture.light for part in PARTS)]
+    return png_of(canvas.lines, [bytes.fromhex(colour[1:]) for colour in colours])
