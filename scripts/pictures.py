@@ -112,11 +112,11 @@ def picture_of(program, battle, warriors, part, cells, columns):
     ending = ending_of(program, battle, warriors)
     film = film_of(program, battle, warriors, part, ending.last)
     table = Table(cells, min(columns, len(cells)))
-    rows = [row for piece in filmed(film, rows_of) for row in piece]
-    for writes, _ in rows[:film.hidden + 1]:
-        table.own(writes)
-    for writes, stands in rows[film.hidden + 1:]:
-        table.add(writes, stands)
+    for number, row in enumerate(row for piece in filmed(film, rows_of) for row in piece):
+        if number > film.hidden:
+            table.add(*row)
+        else:
+            table.own(row[0])
     told = ", ".join(f"{name} {' '.join(map(str, [value] if isinstance(value, int) else value))}"
                      for name, value in settings(battle, ending.starts))
     fates = [f"{number} {warrior.name} {fate(warriors, ending.deaths, number)}" for number, warrior in enumerate(warriors)]
