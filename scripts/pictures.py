@@ -1,32 +1,22 @@
 """Pictures of battles: time goes down, the core goes across. `scripts/look picture` writes them.
 
 A picture is a table of rows, some turns each, and of columns, some cells each, in three layers: who has written last there,
-who wrote, whose processes stand there. It is drawn as SVG, which is light or dark as its reader likes, or in points as PNG.
+who wrote, whose processes stand there. `svg_pictures.py` and `png_pictures.py` draw it.
 """
 import textwrap
 from collections import Counter, defaultdict
 from dataclasses import dataclass
 from itertools import groupby
-from xml.sax.saxutils import escape
 
 from battles import Fault
 from captions import DARK, LIGHT, coloured, fate, named, outcome, round_numbers, settings
 from films import ending_of, film_of, filmed
-from letters import HEIGHT as LETTER_HEIGHT, WIDTH as LETTER_WIDTH, points
-from png import png_of
 
 COLUMNS, ROWS = 400, 300
-# of an SVG: its plot, what stands beside it, the height of a line, and how many letters one has
-WIDTH, HEIGHT, LEFT, RIGHT, LINE, LETTERS = 800, 600, 80, 20, 18, (92, 125)
-# of a PNG: its plot at least, what stands beside it, and how many points a point of a letter is wide
-PLOT, MARGIN, SIZE = (1000, 750), 112, 2
-ADVANCE, LEAD = LETTER_WIDTH * SIZE, (LETTER_HEIGHT + 3) * SIZE
-SIZE_OF_TITLE = ' font-size="16"'
 KEY = "strong: processes; lighter: written; pale: written last; dashed: a death"
 # how much of a warrior's colour each layer has: what is owned, what is written, where processes stand
 PARTS = (.3, .6, 1.0)
-# the numbers of colours in a PNG; and the ground of a picture, that of its plot, and its letters, in light and dark
-PLOT_GROUND, INK = 1, 2
+# the ground of a picture, that of its plot, and its letters, in light and dark
 LIGHT_GROUND, DARK_GROUND = ("#ffffff", "#f4f3ef", "#1e2126"), ("#0e1115", "#1a1f26", "#e9ebee")
 
 
@@ -144,6 +134,12 @@ def falls(picture):
             if death is not None and picture.turns.start < death <= picture.turns.stop]
 
 
+def headings(picture, of_title, of_others):
+    """The lines above the plot, with so many letters at most in one of the title and of the others."""
+    return textwrap.wrap(picture.title, of_title), [line for text in (picture.settings, KEY)
+                                                    for line in textwrap.wrap(text, of_others)]
+
+
 def runs(line):
     """The runs of equal values of a line but None: where each begins, its length, and its value."""
     at = 0
@@ -152,146 +148,3 @@ def runs(line):
         if value is not None:
             yield at, length, value
         at += length
-
-
-def paths(rows, letter, is_down):
-    """A layer as SVG: a line for each run, across or down, all those of a warrior in one path."""
-    steps = defaultdict(list)
-    for number, line in enumerate(zip(*rows) if is_down else rows):
-        for at, length, warrior in runs(line):
-            steps[warrior].append(f"M{number} {at}v{length}" if is_down else f"M{at} {number}h{length}")
-    shift = "translate(.5 0)" if is_down else "translate(0 .5)"
-    lines = [f'<path class="{letter}{warrior}" d="{"".join(steps[warrior])}"/>' for warrior in sorted(steps)]
-    return "\n".join([f'<g transform="{shift}">', *lines, "</g>"])
-
-
-def shorter(rows, letter):
-    """A layer as SVG, across or down, whichever is shorter."""
-    return min(paths(rows, letter, False), paths(rows, letter, True), key=len)
-
-
-def styles(colours, grounds):
-    """The colours of an SVG: a class for each warrior in each layer, and those of the ground, the plot and the letters."""
-    page, plot, ink = grounds
-    lines = [f".page{{fill:{page}}} .plot{{fill:{plot}}} text{{fill:{ink}}}"]
-    for warrior, colour in enumerate(colours):
-        shades = [mixed(colour, plot, part) for part in PARTS]
-        lines.append(" ".join(f".{letter}{warrior}{{stroke:{shade};fill:{shade}}}" for letter, shade in zip("owp", shades)))
-    return "\n".join(lines)
-
-
-def headings(picture, of_title, of_others):
-    """The lines above the plot, with so many letters at most in one of the title and of the others."""
-    return textwrap.wrap(picture.title, of_title), [line for text in (picture.settings, KEY)
-                                                    for line in textwrap.wrap(text, of_others)]
-
-
-def scale(picture, top):
-    """Round numbers of cells over the plot of an SVG, and of turns beside it; and where warriors die."""
-    across, down = ticks(picture)
-    for at, part in across:
-        yield f'<text x="{LEFT + WIDTH * part:.1f}" y="{top - 6}" text-anchor="middle">{at}</text>'
-    for turn, part in down:
-        yield f'<text x="{LEFT - 6}" y="{top + HEIGHT * part + 4:.1f}" text-anchor="end">{turn}</text>'
-    for warrior, part in falls(picture):
-        yield f'<path class="p{warrior}" stroke-dasharray="6 4" d="M{LEFT} {top + HEIGHT * part:.1f}h{WIDTH}"/>'
-
-
-def legend(picture, top):
-    """The warriors under the plot of an SVG."""
-    for warrior, text in enumerate(picture.fates):
-        y = top + HEIGHT + 24 + LINE * warrior
-        for place, letter in enumerate("pwo"):
-            yield f'<rect class="{letter}{warrior}" x="{LEFT + 22 * place}" y="{y - 11}" width="20" height="13"/>'
-        yield f'<text x="{LEFT + 74}" y="{y}">{escape(text)}</text>'
-
-
-def svg(picture):
-    """The picture as SVG."""
-    owned, written, standing = picture.layers
-    titles, others = headings(picture, *LETTERS)
-    top = LINE * (len(titles) + len(others)) + 30
-    width, height = LEFT + WIDTH + RIGHT, top + HEIGHT + LINE * len(picture.fates) + 22
-    return "\n".join([
-        f'<svg xmlns="http://www.w3.org/2000/svg" viewBox="0 0 {width} {height}" font-family="sans-serif" font-size="12">',
-        f"<title>{escape(picture.title)}</title>",
-        f"<style>\n{styles(picture.light, LIGHT_GROUND)}\n@media (prefers-color-scheme: dark) {{",
-        f"{styles(picture.dark, DARK_GROUND)}\n}}\n</style>",
-        f'<rect class="page" width="{width}" height="{height}"/>',
-        f'<rect class="plot" x="{LEFT}" y="{top}" width="{WIDTH}" height="{HEIGHT}"/>',
-        f'<g transform="translate({LEFT} {top}) scale({WIDTH / len(owned[0]):g} {HEIGHT / len(owned):g})" '
-        'stroke-width="1" shape-rendering="crispEdges">',
-        shorter(owned, "o"), shorter(written, "w"), shorter(standing, "p"), "</g>",
-        *(f'<text x="{LEFT}" y="{LINE * number + 22}"{SIZE_OF_TITLE if number < len(titles) else ""}>{escape(text)}</text>'
-          for number, text in enumerate(titles + others)),
-        *scale(picture, top), *legend(picture, top), "</svg>", ""])
-
-
-def shade_of(warrior, layer):
-    """The number of the colour that a warrior has in a layer of a PNG."""
-    return 3 + len(PARTS) * warrior + layer
-
-
-class Points:
-    """A picture in points, each with the number of a colour."""
-
-    def __init__(self, width, height):
-        self.lines = [bytearray(width) for _ in range(height)]
-
-    def box(self, left, top, width, height, colour):
-        for line in self.lines[top:top + height]:
-            line[left:left + width] = bytes([colour]) * len(line[left:left + width])
-
-    def write(self, left, top, text, colour=INK, size=SIZE):
-        """Writes a line of text; what doesn't fit is left out."""
-        for x, y in points(text):
-            if left + size * x >= 0:
-                self.box(left + size * x, top + size * y, size, size, colour)
-
-
-def plot(canvas, picture, top, across, down):
-    """Draws the three layers, a cell of the table in so many points."""
-    for row, lines in enumerate(zip(*picture.layers)):
-        colours = bytearray([PLOT_GROUND]) * len(lines[0])
-        for layer, line in enumerate(lines):
-            for at, length, warrior in runs(line):
-                colours[at:at + length] = bytes([shade_of(warrior, layer)]) * length
-        points_across = b"".join(bytes([colour]) * across for colour in colours)
-        for line in canvas.lines[top + row * down:top + (row + 1) * down]:
-            line[MARGIN:MARGIN + len(points_across)] = points_across
-
-
-def mark(canvas, picture, top, width, height):
-    """Draws round numbers, deaths and the legend round the plot."""
-    across, down = ticks(picture)
-    for at, part in across:
-        canvas.write(MARGIN + round(width * part) - len(str(at)) * ADVANCE // 2, top - LEAD, str(at))
-    for turn, part in down:
-        canvas.write(MARGIN - 8 - len(str(turn)) * ADVANCE, top + round(height * part) - LEAD // 2 + SIZE, str(turn))
-    for warrior, part in falls(picture):
-        for left in range(MARGIN, MARGIN + width, 20):
-            canvas.box(left, top + round(height * part), min(12, MARGIN + width - left), 2, shade_of(warrior, 2))
-    for warrior, text in enumerate(picture.fates):
-        y = top + height + LEAD * (warrior + 1)
-        for place in range(3):
-            canvas.box(MARGIN + 32 * place, y, 28, 7 * SIZE, shade_of(warrior, 2 - place))
-        canvas.write(MARGIN + 108, y, text)
-
-
-def png(picture):
-    """The picture as PNG, in the light colours."""
-    rows, columns = len(picture.layers[0]), len(picture.layers[0][0])
-    across, down = -(-PLOT[0] // columns), -(-PLOT[1] // rows)
-    width, height = columns * across, rows * down
-    titles, others = headings(picture, width // (3 * ADVANCE // 2), width // ADVANCE)
-    top = LEAD * (3 * len(titles) // 2 + len(others) + 1) + LEAD * 3 // 2
-    canvas = Points(MARGIN + width + MARGIN // 2, top + height + LEAD * (len(picture.fates) + 2))
-    canvas.box(MARGIN, top, width, height, PLOT_GROUND)
-    for number, text in enumerate(titles):
-        canvas.write(MARGIN, 12 + number * LEAD * 3 // 2, text, size=SIZE * 3 // 2)
-    for number, text in enumerate(others):
-        canvas.write(MARGIN, 12 + len(titles) * LEAD * 3 // 2 + number * LEAD, text)
-    plot(canvas, picture, top, across, down)
-    mark(canvas, picture, top, width, height)
-    colours = [*LIGHT_GROUND, *(mixed(colour, LIGHT_GROUND[1], part) for colour in picture.light for part in PARTS)]
-    return png_of(canvas.lines, [bytes.fromhex(colour[1:]) for colour in colours])
