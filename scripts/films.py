@@ -250,7 +250,8 @@ def filmed(film, develop):
     with ProcessPoolExecutor(workers, initializer=end_at_once) as pool:
         try:
             for _ in pieces:
-                waiting.extend((ends, pool.submit(shoot, film, ends, develop)) for ends in islice(ahead, 2 * workers - len(waiting)))
+                free = 2 * workers - len(waiting)
+                waiting.extend((ends, pool.submit(shoot, film, ends, develop)) for ends in islice(ahead, free))
                 ends, future = waiting.popleft()
                 yield future.result()
                 done += len(ends) - 1

@@ -24,8 +24,8 @@ FRAMES = 600
 EMPTY = "DAT.F $0, $0"
 # how many cells a page lists, the one that is looked at in the middle
 LISTED = 9
-EXACT = ("The core was looked at every {:,} turns: what changes and changes back in between isn’t seen, and of two warriors that "
-         "write a cell in between one is shown.")
+EXACT = ("The core was looked at every {:,} turns: what changes and changes back in between isn’t seen, and of two warriors "
+         "that write a cell in between one is shown.")
 
 
 @dataclass
