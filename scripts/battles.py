@@ -111,6 +111,26 @@ def as_given(text):
     return text
 
 
+class ScriptParser(argparse.ArgumentParser):
+    """Reads the words of a script; those of mars stand behind `--`. What is wrong is told in one line."""
+
+    def __init__(self):
+        super().__init__(add_help=False, allow_abbrev=False)
+        self.add_argument("-h", "--help", action="store_true")
+        self.add_argument("--program")
+        self.hint = ""
+
+    def read(self, arguments):
+        """What is said to the script, and the words of mars."""
+        own, rest = split_words(arguments)
+        if "--" not in arguments:
+            self.hint = "; the words of mars stand behind `--`, as in -- examples/dwarf.red examples/imp.red"
+        return self.parse_intermixed_args(own), rest
+
+    def error(self, message):
+        raise Fault(message + self.hint, 2)
+
+
 class WordsParser(argparse.ArgumentParser):
     def error(self, message):
         raise Fault(f"the words of mars: {message}", 2)

@@ -166,9 +166,11 @@ class Session:
         with self.staying():
             self.look.reach_end()
             end = self.place()
-        limit = self.look.last + self.history - self.changes_ahead(self.standing())
+        ahead = self.changes_ahead(self.standing())
         with self.staying() as place:
             if is_forward:
+                # so far that the history still has this place then
+                limit = place.turn + self.history - ahead
                 found = search_forward(self.look, conditions, place.turn, limit, lambda: self.was_stopped)
             else:
                 found = search_back(self.look, conditions, place.turn, lambda: self.was_stopped)
