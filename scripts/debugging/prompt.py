@@ -13,11 +13,31 @@ HISTORY_FILE = "core-war-debug"
 
 
 class Prompt:
-    """Reads commands for a session until the user leaves."""
+    """Reads commands for a session until the user leaves. At a terminal a Ctrl-C drops the line that is typed, and else
+    lets each question to the debugger be answered, and stops a search between two."""
 
     def __init__(self, session):
         self.session = session
         self.is_terminal = session.style.is_terminal
+
+    def stop(self, *_):
+        self.session.was_stopped = True
+
+    def run(self):
+        """Makes one command after the other."""
+        if self.is_terminal:
+            signal.signal(signal.SIGINT, self.stop)
+        while True:
+            try:
+                self.session.tell_forgotten()
+                sys.stdout.flush()
+                self.make(self.read().strip())
+            except Left:
+                return
+            except KeyboardInterrupt:
+                if not self.is_terminal:
+                    raise
+                print()
 
     def text(self):
         """What stands before a line: the turns made, the cycle, and whose turn is next."""
@@ -26,54 +46,44 @@ class Prompt:
         return f"turn {standing.turn} cycle {standing.cycle}, {state}> "
 
     def read(self):
-        """A line; at the end of the input that is a Left."""
+        """A line; at the end of the input the user leaves."""
         try:
-            # readline is told which parts of the prompt take no room on the screen
-            return input(re.sub("(\x1b[^m]*m)", "\x01\\1\x02", self.text()) if self.is_terminal else "")
+            return self.read_at_terminal() if self.is_terminal else input()
         except EOFError:
             if self.is_terminal:
                 print()
             raise Left from None
 
-    def run(self):
-        """Makes one command after the other."""
-        while True:
-            try:
-                self.make(self.read().strip())
-            except Left:
-                return
-            except KeyboardInterrupt:
-                if not self.is_terminal:
-                    raise
-                print()
-            self.session.tell_forgotten()
-            sys.stdout.flush()
+    def read_at_terminal(self):
+        # readline is told which parts of the prompt take no room on the screen
+        text = re.sub("(\x1b[^m]*m)", "\x01\\1\x02", self.text())
+        signal.signal(signal.SIGINT, signal.default_int_handler)
+        try:
+            return input(text)
+        finally:
+            signal.signal(signal.SIGINT, self.stop)
 
     def make(self, line):
         """Makes a command, or again the last one; a fault of it is told, and one of the program ends the script."""
         session = self.session
         line = line or (session.repeated if self.is_terminal else "")
-        word, _, rest = line.partition(" ")
-        session.repeated = ""
-        if not word:
+        session.repeated, session.was_stopped = "", False
+        if not line:
             return
+        word, _, rest = line.partition(" ")
         try:
             entry = find_command(word)
             if not entry:
                 raise Fault(f"`{word}` is no command, or short for several: help tells them")
             session.repeated = line if entry.repeats else ""
-            with self.stoppable():
-                entry.act(session, rest.strip())
+            entry.act(session, rest.strip())
         except Stopped:
-            print("Stopped: the battle stands where it stood.")
+            print("\nStopped: the battle stands where it stood.")
         except Fault as fault:
             if session.debugger.process.poll() is not None:
                 raise
             session.repeated = ""
             print(fault)
-
-    def stoppable(self):
-        return Stopping(self.session) if self.is_terminal else Stopping(None)
 
     def complete(self, text, number):
         """The word of that number which completes what is typed."""
@@ -83,25 +93,6 @@ class Prompt:
         if typed and find_command(typed[0]) is COMMANDS["help"]:
             words = list(COMMANDS)
         return ([f"{word} " for word in words if word.startswith(text)] + [None])[number]
-
-
-class Stopping:
-    """While a command is made, a Ctrl-C lets each question to the debugger be answered, and stops a search between two."""
-
-    def __init__(self, session):
-        self.session = session
-
-    def stop(self, *_):
-        self.session.was_stopped = True
-
-    def __enter__(self):
-        if self.session:
-            self.session.was_stopped = False
-            self.before = signal.signal(signal.SIGINT, self.stop)
-
-    def __exit__(self, *_):
-        if self.session:
-            signal.signal(signal.SIGINT, self.before)
 
 
 def edit_lines(prompt):
