@@ -9,8 +9,11 @@ import os
 import re
 import shlex
 import subprocess
+import sys
 import tempfile
 from dataclasses import dataclass, field
+
+from program import NoProgram
 
 TOP = os.path.dirname(os.path.dirname(os.path.realpath(__file__)))
 BUILT = os.path.join(TOP, "crates/mars_app/out/mars_app")
@@ -32,6 +35,19 @@ class Fault(Exception):
     def __init__(self, text, status=1):
         super().__init__(text)
         self.status = status
+
+
+def script(name, main):
+    """Runs a script by its words. What ends it, a fault or Ctrl-C, is told in one line."""
+    try:
+        main(sys.argv[1:])
+    except (Fault, NoProgram) as fault:
+        print(f"{name}: {fault}", file=sys.stderr)
+        sys.exit(getattr(fault, "status", 2))
+    except KeyboardInterrupt:
+        sys.exit(f"{name}: stopped")
+    except BrokenPipeError:
+        sys.exit(1)
 
 
 def find_program(given):
@@ -118,6 +134,7 @@ class ScriptParser(argparse.ArgumentParser):
         super().__init__(add_help=False, allow_abbrev=False)
         self.add_argument("-h", "--help", action="store_true")
         self.add_argument("--program")
+        self.add_argument("--hill")
         self.hint = ""
 
     def read(self, arguments):
@@ -136,8 +153,15 @@ class WordsParser(argparse.ArgumentParser):
         raise Fault(f"the words of mars: {message}", 2)
 
 
-def read_words(words):
-    """The words of a battle. Those of the output count nothing here: `-e`, `-b`, `-o`, `--score`. Streams are taken in."""
+def settings(hill):
+    """The words that a hill sets, with their numbers; none without a hill."""
+    from hills import settings_of  # which stands on this module
+    return settings_of(hill) if hill else {}
+
+
+def read_words(words, hill=None):
+    """The words of a battle, with the settings of a hill where they have no other. Those of the output count nothing here:
+    `-e`, `-b`, `-o`, `--score`. Streams are taken in."""
     parser = WordsParser(add_help=False, allow_abbrev=False)
     for word in NUMBERS:
         parser.add_argument(word, type=int, dest=word)
@@ -150,7 +174,8 @@ def read_words(words):
         raise Fault("the words of mars: --league and --load make no battle", 2)
     if not read["files"]:
         raise Fault("no warriors: their files stand behind --, as in -- examples/dwarf.red examples/imp.red", 2)
-    return Words([taken_in(path) for path in read["files"]], {word: read[word] for word in NUMBERS if read[word] is not None})
+    numbers = {word: read[word] for word in NUMBERS if read[word] is not None}
+    return Words([taken_in(path) for path in read["files"]], {**settings(hill), **numbers})
 
 
 def told(fault, status):
