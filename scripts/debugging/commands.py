@@ -225,7 +225,8 @@ CONDITIONS = """A CONDITION, forward by `until`, back by `back`, or set as a bre
   ends W         warrior W lost a process
   dies W         warrior W died
 An address A is a number, a label, `.` (where the next process stands), or one of these with +N or -N.
-The first letters of a command do. An empty line makes the last command again. Ctrl-C stops a search, Ctrl-D leaves."""
+The first letters of a command do. An empty line makes the last command again.
+Ctrl-C stops a search, Ctrl-D leaves."""
 
 
 @command("help [COMMAND]", "tells the commands, or one of them", "h", "?")
