@@ -7,6 +7,9 @@ from dataclasses import dataclass
 
 from battles import Fault
 
+# so many turns further back are looked at for what another warrior made
+FAR = 100
+
 
 @dataclass
 class Turn:
@@ -30,8 +33,9 @@ class Look:
         self.measure()
 
     def measure(self):
-        """Reads which turns the history has."""
+        """Reads which turns the history has, and forgets what was known of another one."""
         self.first, self.last = self.debugger.kept_turns()
+        self.known = {}
 
     def reach(self, turn):
         """Goes to the first place after so many turns."""
@@ -107,8 +111,17 @@ class Look:
         return found
 
     def last_change(self, address, before, part=str):
-        """The last turn before the given one that changed the cell, or that part of it, or None. It searches back piece
-        by piece, and each piece turn by turn: a bisection would find some change, and not always the last one."""
+        """The last turn before the given one that changed the cell, or that part of it, or None. What was found is kept:
+        it's the answer for the turns between it and the one that was asked for, too."""
+        found, asked = self.known.get((address, part), (None, 0))
+        if not (found or 0) < before <= asked:
+            found = self.search_change(address, before, part)
+            self.known[address, part] = found, before
+        return found
+
+    def search_change(self, address, before, part):
+        """The same, searched back piece by piece, and each piece turn by turn: a bisection would find some change, and not
+        always the last one."""
         last, length = before - 1, 64
         while last > self.first:
             first = max(self.first, last - length)
@@ -127,18 +140,22 @@ class Look:
             turn -= 1
         return found
 
-    def strange_change(self, turn):
-        """The turn of another warrior that made the cell that a turn executed what it was, by its last change or by that
-        of its opcode, or None."""
-        before = turn.number
+    def strange_change(self, number):
+        """The turn of another warrior that made the cell, which a turn executes, what it is then, by its last change or by
+        that of its opcode, or None."""
+        warrior = self.stand_before(number).next
+        address = self.debugger.queue(warrior)[0]
         for part in (str, opcode):
-            found = self.last_change(turn.address, before, part)
+            found = self.last_change(address, number, part)
             if found is None:
                 return None
-            if self.stand_before(found).next != turn.warrior:
+            if self.stand_before(found).next != warrior:
                 return self.turn(found)
-            before = found + 1
         return None
+
+    def last_strayed(self, warrior, last, count):
+        """Of so many turns of a warrior up to the given one the last one that executes what another one made, or None."""
+        return next((turn for turn in reversed(self.own_turns(warrior, last, count)) if self.strange_change(turn)), None)
 
 
 def opcode(cell):
@@ -168,16 +185,17 @@ def tell_change(look, address, before):
 def tell_cause(look, address, cell, before):
     """Prints how a cell came about before a turn: its last change, and that of its opcode. Gives the turn of the former."""
     found = tell_change(look, address, before)
-    became = look.last_change(address, found + 1, opcode) if found else None
+    became = look.last_change(address, before, opcode) if found else None
     if became not in (None, found):
         print(f"It became a {opcode(cell)} in turn {became}:")
         tell(look, look.turn(became))
     return found
 
 
-def tell_stray(look, turn, told):
-    """Prints who else made the cell that a turn executed what it was, where another warrior did and it wasn't told yet."""
-    strange = look.strange_change(turn)
+def tell_executed(look, number, told):
+    """Prints a turn, and who else made the cell that it executed, where another warrior did and it wasn't told yet."""
+    turn, strange = look.turn(number), look.strange_change(number)
+    tell(look, turn)
     if strange and (strange.number, turn.address) not in told:
         told.add((strange.number, turn.address))
         old = next(old for address, old, _ in strange.changes if address == turn.address)
@@ -186,14 +204,18 @@ def tell_stray(look, turn, told):
 
 
 def tell_turns_before(look, warrior, death, count):
-    """Prints so many turns of a warrior before that of its death, and where it executed what another one had written."""
+    """Prints so many turns of a warrior before that of its death, and where it executed what another one had made. Where
+    neither these nor the last turn did, the last turn further back that did is told."""
     own, told = look.own_turns(warrior, death - 1, count), set()
     if own:
         print("Its turns before that:")
     for number in own:
-        turn = look.turn(number)
-        tell(look, turn)
-        tell_stray(look, turn, told)
+        tell_executed(look, number, told)
+    if own and not told and not look.strange_change(death):
+        strayed = look.last_strayed(warrior, own[0] - 1, FAR)
+        if strayed:
+            print("Further back it executed what another had made:")
+            tell_executed(look, strayed, told)
 
 
 def tell_death(look, warrior, count):
