@@ -145,12 +145,7 @@ def spawn(session, rest):
 
 
 def print_cells(session, first, count):
-    """Prints cells, also over the end of the core."""
-    size = session.debugger.core_size
-    upto = min(count, size - first)
-    lines = session.ask(f"list {first} {upto}", upto if 1 <= count <= LONGEST else 1)
-    if upto < count <= size:
-        lines += session.ask(f"list 0 {count - upto}", count - upto)
+    lines = session.ask(f"list {first} {count}", count if 1 <= count <= LONGEST else 1)
     print(*session.teller.cells(lines), sep="\n")
 
 
@@ -163,9 +158,11 @@ def list_cells(session, rest):
             print(end="\n" if number else "")
             print_cells(session, (address - AROUND // 2) % size, min(AROUND, size))
         return
-    words = rest.split()
-    first = session.address(words[0])
-    count = int(words[1]) if words[1:] and words[1].isdecimal() else min(CELLS, size)
+    address, _, count = rest.partition(" ")
+    first = session.address(address)
+    if count and not count.isdecimal():
+        raise Fault(f"`{count}` is no number of cells")
+    count = int(count or min(CELLS, size))
     print_cells(session, first, count)
     session.repeated = f"list {(first + count) % size} {count}"
 

@@ -20,7 +20,8 @@ class Style:
 
     def names(self, warriors):
         """What each warrior is called: its number and its name, in its colour."""
-        return [self.paint(f"{number} {warrior.name}", PAINTS[number % len(PAINTS)]) for number, warrior in enumerate(warriors)]
+        return [self.paint(f"{number} {warrior.name}", PAINTS[number % len(PAINTS)])
+                for number, warrior in enumerate(warriors)]
 
 
 def some(texts):
@@ -78,10 +79,16 @@ class Teller:
         count = len(self.debugger.queue(warrior))
         return f"{self.named[warrior]}: " + (counted(count, "process") if death is None else f"died in turn {death}")
 
+    def processes(self, warrior, queue):
+        """Where the processes of a warrior stand."""
+        where = f"{counted(len(queue), 'process')}, at {self.places(queue)}" if queue else "none"
+        return f"{self.named[warrior]}: {where}"
+
     def difference(self, cells, queues):
         """What differs from the cells and the queues that were before."""
-        changed = [self.change(at, old, new) for at, (old, new) in enumerate(zip(cells, self.debugger.core())) if old != new]
-        moved = [f"{self.named[warrior]}: {counted(len(new), 'process')}, at {self.places(new)}" if new else f"{self.named[warrior]}: none"
+        after = enumerate(zip(cells, self.debugger.core()))
+        changed = [self.change(address, old, new) for address, (old, new) in after if old != new]
+        moved = [self.processes(warrior, new)
                  for warrior, (old, new) in enumerate(zip(queues, self.debugger.queues())) if old != new]
         return "; ".join([some(changed)] * bool(changed) + moved) or "nothing differs"
 
