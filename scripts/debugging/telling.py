@@ -29,8 +29,8 @@ def some(texts):
     return ", ".join(texts[:FEW]) + (f" and {len(texts) - FEW} more" if len(texts) > FEW else "")
 
 
-def counted(count, word):
-    return f"{count} {word}" if count == 1 else f"{count} {word}es"
+def processes(count):
+    return f"{count} process" + ("" if count == 1 else "es")
 
 
 class Teller:
@@ -77,11 +77,11 @@ class Teller:
     def state(self, warrior, death):
         """Whether a warrior lives."""
         count = len(self.debugger.queue(warrior))
-        return f"{self.named[warrior]}: " + (counted(count, "process") if death is None else f"died in turn {death}")
+        return f"{self.named[warrior]}: " + (processes(count) if death is None else f"died in turn {death}")
 
     def processes(self, warrior, queue):
         """Where the processes of a warrior stand."""
-        where = f"{counted(len(queue), 'process')}, at {self.places(queue)}" if queue else "none"
+        where = f"{processes(len(queue))}, at {self.places(queue)}" if queue else "none"
         return f"{self.named[warrior]}: {where}"
 
     def difference(self, cells, queues):
