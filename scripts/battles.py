@@ -204,20 +204,36 @@ class Row:
     losses: int
 
 
-def fight(program, words):
-    """Fights the match: its warriors, and the table of its results."""
-    done = subprocess.run([program, *words.as_list()], capture_output=True, text=True, errors="replace")
-    if done.returncode:
-        raise told(done.stderr, done.returncode)
-    listing, _, results = done.stdout.rpartition("  points   wins   ties losses  warrior\n")
+def listed(listing):
+    """The warriors of a listing."""
     warriors = []
     for part in listing.strip().split("\n\n"):
         # The head of the load file says the size of the core and the names, which are known.
         head, _size, _name, _author, origin, *cells = part.split("\n")
         title = re.fullmatch(r"warrior \d+: (.*), \d+ instructions", head)[1]
         warriors.append(Warrior(title, cells, int(origin.split()[1])))
-    rows = [Row(*map(int, line.split()[:4])) for line in results.splitlines()]
-    return warriors, rows
+    return warriors
+
+
+def fight(program, words):
+    """Fights the match: its warriors, and the table of its results."""
+    done = subprocess.run([program, *words.as_list()], capture_output=True, text=True, errors="replace")
+    if done.returncode:
+        raise told(done.stderr, done.returncode)
+    listing, _, results = done.stdout.rpartition("  points   wins   ties losses  warrior\n")
+    return listed(listing), [Row(*map(int, line.split()[:4])) for line in results.splitlines()]
+
+
+def warriors_of(program, words):
+    """The warriors of the match, by the listing that mars writes before it fights; the fight is ended there."""
+    with subprocess.Popen([program, *words.as_list()], stdout=subprocess.PIPE, stderr=subprocess.PIPE, text=True,
+                          errors="replace") as process:
+        # an empty line stands behind each warrior; where a file has a fault there is no listing
+        parts = ["".join(itertools.takewhile(str.strip, process.stdout)) for _ in words.files]
+        if not parts[0]:
+            raise told(process.stderr.read(), process.wait())
+        process.kill()
+    return listed("\n".join(parts))
 
 
 def next_seed(seed):
