@@ -13,10 +13,7 @@ import sys
 import tempfile
 from dataclasses import dataclass, field
 
-from program import NoProgram
-
-TOP = os.path.dirname(os.path.dirname(os.path.realpath(__file__)))
-BUILT = os.path.join(TOP, "crates/mars_app/out/mars_app")
+from program import NAME, NoProgram, find_program  # noqa: F401  (find_program serves the scripts)
 
 # the words of a battle that take a number, with what mars takes where one isn't given
 NUMBERS = {"-r": 1, "-s": 8000, "-c": 80000, "-p": 8000, "-l": 100, "-d": 100, "-F": None,
@@ -48,14 +45,6 @@ def script(name, main):
         sys.exit(f"{name}: stopped")
     except BrokenPipeError:
         sys.exit(1)
-
-
-def find_program(given):
-    """The file of the program: the given one, or the built one, or `./mars`."""
-    program = given or (BUILT if os.path.exists(BUILT) else os.path.join(TOP, "mars"))
-    if not os.path.isfile(program) or not os.access(program, os.X_OK):
-        raise Fault(f"no program: {program}", 2)
-    return os.path.abspath(program)
 
 
 def split_words(arguments):
@@ -325,7 +314,7 @@ def battle_of_round(words, warriors, number):
 
 def command_line(battle):
     """The words that debug the battle, for the shell."""
-    return as_given(shlex.join(["./mars", "-e", *battle.words.as_list()]))
+    return as_given(shlex.join([NAME, "-e", *battle.words.as_list()]))
 
 
 @dataclass

@@ -12,6 +12,11 @@ INSTALLED = os.path.join(os.path.dirname(TOP), "bin", "mars")
 NAME = "./mars" if os.path.isfile(os.path.join(TOP, "mars")) else "mars"
 
 
+def called(script):
+    """What a person calls a script here."""
+    return f"scripts/{script}" if NAME == "./mars" else f"mars-{script}"
+
+
 class NoProgram(Exception):
     """There is no program to run; its text says which was asked for."""
 
