@@ -192,9 +192,9 @@ def tell_cause(look, address, cell, before):
     return found
 
 
-def tell_executed(look, number, told):
-    """Prints a turn, and who else made the cell that it executed, where another warrior did and it wasn't told yet."""
-    turn, strange = look.turn(number), look.strange_change(number)
+def tell_executed(look, number, strange, told):
+    """Prints a turn, and the turn of another warrior that made what it executed, if there is one and it wasn't told yet."""
+    turn = look.turn(number)
     tell(look, turn)
     if strange and (strange.number, turn.address) not in told:
         told.add((strange.number, turn.address))
@@ -207,15 +207,17 @@ def tell_turns_before(look, warrior, death, count):
     """Prints so many turns of a warrior before that of its death, and where it executed what another one had made. Where
     neither these nor the last turn did, the last turn further back that did is told."""
     own, told = look.own_turns(warrior, death - 1, count), set()
+    # the last turns are asked for first, since what is found for them holds for most of those before
+    strange = {number: look.strange_change(number) for number in [death, *reversed(own)]}
     if own:
         print("Its turns before that:")
     for number in own:
-        tell_executed(look, number, told)
-    if own and not told and not look.strange_change(death):
+        tell_executed(look, number, strange[number], told)
+    if own and not any(strange.values()):
         strayed = look.last_strayed(warrior, own[0] - 1, FAR)
         if strayed:
             print("Further back it executed what another had made:")
-            tell_executed(look, strayed, told)
+            tell_executed(look, strayed, look.strange_change(strayed), told)
 
 
 def tell_death(look, warrior, count):
