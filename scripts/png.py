@@ -1,4 +1,4 @@
-"""Pictures as PNG files, each point with the number of a colour among 256 at most."""
+"""Pictures as PNG files, each point with the number of a colour among 256 at most, or with three bytes of its own."""
 import struct
 import zlib
 from collections import Counter
@@ -12,11 +12,21 @@ def chunk(name, data):
     return struct.pack(">I", len(data)) + name + data + struct.pack(">I", zlib.crc32(name + data))
 
 
+def file_of(width, kind, lines, *between):
+    """The file of a picture of these lines, with what stands between its head and them."""
+    head = struct.pack(">IIBBBBB", width, len(lines), 8, kind, 0, 0, 0)
+    data = zlib.compress(b"".join(b"\0" + bytes(line) for line in lines), 9)
+    return START + b"".join((chunk(b"IHDR", head), *between, chunk(b"IDAT", data), chunk(b"IEND", b"")))
+
+
 def png_of(lines, palette):
     """The file of a picture: its lines, a byte for each point, and its colours, each of three bytes."""
-    head = struct.pack(">IIBBBBB", len(lines[0]), len(lines), 8, 3, 0, 0, 0)
-    data = zlib.compress(b"".join(b"\0" + bytes(line) for line in lines), 9)
-    return START + chunk(b"IHDR", head) + chunk(b"PLTE", b"".join(palette)) + chunk(b"IDAT", data) + chunk(b"IEND", b"")
+    return file_of(len(lines[0]), 3, lines, chunk(b"PLTE", b"".join(palette)))
+
+
+def true_png_of(lines):
+    """The file of a picture: its lines, three bytes for each point."""
+    return file_of(len(lines[0]) // RGB, 2, lines)
 
 
 def chunks_of(data):
