@@ -13,7 +13,8 @@ import sys
 import tempfile
 from dataclasses import dataclass, field
 
-from program import NAME, NoProgram, find_program  # noqa: F401  (find_program serves the scripts)
+from hills import settings_of
+from program import NAME, Fault, find_program  # noqa: F401  (find_program serves the scripts)
 
 # the words of a battle that take a number, with what mars takes where one isn't given
 NUMBERS = {"-r": 1, "-s": 8000, "-c": 80000, "-p": 8000, "-l": 100, "-d": 100, "-F": None,
@@ -26,21 +27,13 @@ LONGEST = 1000000
 LARGEST_FILE = 1048576
 
 
-class Fault(Exception):
-    """What ends a script: its text, and the exit status."""
-
-    def __init__(self, text, status=1):
-        super().__init__(text)
-        self.status = status
-
-
 def script(name, main):
     """Runs a script by its words. What ends it, a fault or Ctrl-C, is told in one line."""
     try:
         main(sys.argv[1:])
-    except (Fault, NoProgram) as fault:
+    except Fault as fault:
         print(f"{name}: {fault}", file=sys.stderr)
-        sys.exit(getattr(fault, "status", 2))
+        sys.exit(fault.status)
     except KeyboardInterrupt:
         sys.exit(f"{name}: stopped")
     except BrokenPipeError:
@@ -142,12 +135,6 @@ class WordsParser(argparse.ArgumentParser):
         raise Fault(f"the words of mars: {message}", 2)
 
 
-def settings(hill):
-    """The words that a hill sets, with their numbers; none without a hill."""
-    from hills import settings_of  # which stands on this module
-    return settings_of(hill) if hill else {}
-
-
 def read_words(words, hill=None):
     """The words of a battle, with the settings of a hill where they have no other. Those of the output count nothing here:
     `-e`, `-b`, `-o`, `--score`. Streams are taken in."""
@@ -164,7 +151,7 @@ def read_words(words, hill=None):
     if not read["files"]:
         raise Fault("no warriors: their files stand behind --, as in -- examples/dwarf.red examples/imp.red", 2)
     numbers = {word: read[word] for word in NUMBERS if read[word] is not None}
-    return Words([taken_in(path) for path in read["files"]], {**settings(hill), **numbers})
+    return Words([taken_in(path) for path in read["files"]], {**(settings_of(hill) if hill else {}), **numbers})
 
 
 def told(fault, status):

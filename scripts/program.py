@@ -17,8 +17,19 @@ def called(script):
     return f"scripts/{script}" if NAME == "./mars" else f"mars-{script}"
 
 
-class NoProgram(Exception):
+class Fault(Exception):
+    """What ends a script: its text, and the exit status."""
+
+    def __init__(self, text, status=1):
+        super().__init__(text)
+        self.status = status
+
+
+class NoProgram(Fault):
     """There is no program to run; its text says which was asked for."""
+
+    def __init__(self, text):
+        super().__init__(text, 2)
 
 
 def find_program(given=None):
