@@ -166,6 +166,19 @@ const FAULTS: &[(&[&str], u8, &[u8])] = &[
     ),
     (&["-e", "no.load"], 1, b"mars: no.load: cannot read\n"),
     (
+        &["-b", "k\u{e4}fer.red"],
+        1,
+        b"mars: k\xc3\xa4fer.red: cannot read\n",
+    ),
+    (
+        &[
+            "-b",
+            "longlonglonglonglonglonglonglonglonglonglonglonglonglonglonglonglonglonglonglonglonglonglonglonglonglonglonglonglonglonglonglonglonglonglonglonglonglonglonglonglonglonglonglonglonglonglonglonglonglonglonglonglonglonglonglonglonglonglonglonglonglonglonglonglonglonglonglonglonglonglonglonglonglonglong.red",
+        ],
+        1,
+        b"mars: longlonglonglonglonglonglonglonglonglonglonglonglonglonglonglonglonglonglonglonglonglonglonglonglonglonglonglonglonglonglonglonglonglonglonglonglonglonglonglonglonglonglonglonglonglonglonglonglonglonglonglonglonglonglonglonglonglonglonglonglonglonglonglonglonglonglonglonglonglonglonglonglonglonglong.red: cannot read\n",
+    ),
+    (
         &["-e", "half.load"],
         1,
         b"mars: half.load: line 1: load 1 Syntax\n",
