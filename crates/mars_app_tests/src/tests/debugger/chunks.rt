@@ -1,25 +1,11 @@
 //! Inputs of more bytes than one read has, and replies of more bytes than wait at once: both are 4,096.
 use super::{Narrow, Pieces, imp_session};
+use crate::tests::{repeat, repeated};
 use mars_app::debug;
 use mars_session::{RingTape, Session};
 use std::alloc::Global;
 use std::process::Abort;
 use std::test::Fail;
-
-/// Appends a text so many times.
-fn repeat(all: &mut Vec<u8>, text: &[u8], count: u32) -> Result<(), Fail> {
-    for _ in 0..count {
-        all.extend_from_slice(text)?;
-    }
-    Ok(())
-}
-
-/// A text so many times.
-fn repeated(alloc: Global, text: &[u8], count: u32) -> Result<Vec<u8>, Fail> {
-    let mut all = Vec::new(alloc);
-    repeat(&mut all, text, count)?;
-    Ok(all)
-}
 
 /// The session writes this for an input in pieces of one size, to a writer that takes as many bytes at a time.
 fn check_written(
@@ -79,10 +65,10 @@ const CORE: &[u8] = b"0 MOV.I $0, $1\n1 DAT.F $0, $0\n2 DAT.F $0, $0\n3 DAT.F $0
     4 DAT.F $0, $0\n5 DAT.F $0, $0\n6 DAT.F $0, $0\n7 DAT.F $0, $0\n";
 
 #[test]
-fn a_list_of_1000_cells(rt: HostRuntime) -> Result<(), Fail> {
+fn a_list_of_2000_cells(rt: HostRuntime) -> Result<(), Fail> {
     let alloc = rt.alloc();
-    let cells = repeated(alloc, CORE, 125)?;
-    check_imp(&rt, alloc, b"list 0 1000\n", &cells)
+    let cells = repeated(alloc, CORE, 250)?;
+    check_imp(&rt, alloc, b"list 0 2000\n", &cells)
 }
 
 /// After these spawns the queue is this line.
@@ -96,11 +82,11 @@ fn check_queue(rt: &impl Abort, alloc: Global, spawns: &[u8], queue: &[u8]) -> R
 }
 
 #[test]
-fn a_queue_of_2000_processes(rt: HostRuntime) -> Result<(), Fail> {
+fn a_queue_of_3000_processes(rt: HostRuntime) -> Result<(), Fail> {
     let alloc = rt.alloc();
-    let spawns = repeated(alloc, b"spawn 0 1\n", 1999)?;
+    let spawns = repeated(alloc, b"spawn 0 1\n", 2999)?;
     let mut queue = Vec::from_slice(alloc, b"queue 0: 0")?;
-    repeat(&mut queue, b" 1", 1999)?;
+    repeat(&mut queue, b" 1", 2999)?;
     repeat(&mut queue, b"\n", 1)?;
     check_queue(&rt, alloc, &spawns, &queue)
 }
