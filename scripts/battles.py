@@ -4,14 +4,17 @@ A battle is given by the words of mars, as `./mars -e` takes them. `Debugger` ke
 it commands, and reads its replies.
 """
 import argparse
+import itertools
 import os
 import re
 import shlex
 import subprocess
+import sys
+import tempfile
 from dataclasses import dataclass, field
 
-TOP = os.path.dirname(os.path.dirname(os.path.realpath(__file__)))
-BUILT = os.path.join(TOP, "crates/mars_app/out/mars_app")
+from hills import settings_of
+from program import NAME, Fault, find_program  # noqa: F401  (find_program serves the scripts)
 
 # the words of a battle that take a number, with what mars takes where one isn't given
 NUMBERS = {"-r": 1, "-s": 8000, "-c": 80000, "-p": 8000, "-l": 100, "-d": 100, "-F": None,
@@ -20,22 +23,21 @@ NUMBERS = {"-r": 1, "-s": 8000, "-c": 80000, "-p": 8000, "-l": 100, "-d": 100, "
 PIECE = 8000
 # the most turns that the debugger makes by a command, and the most cells that it lists
 LONGEST = 1000000
+# the longest file that mars reads
+LARGEST_FILE = 1048576
 
 
-class Fault(Exception):
-    """What ends a script: its text, and the exit status."""
-
-    def __init__(self, text, status=1):
-        super().__init__(text)
-        self.status = status
-
-
-def find_program(given):
-    """The file of the program: the given one, or the built one, or `./mars`."""
-    program = given or (BUILT if os.path.exists(BUILT) else os.path.join(TOP, "mars"))
-    if not os.path.isfile(program) or not os.access(program, os.X_OK):
-        raise Fault(f"no program: {program}", 2)
-    return os.path.abspath(program)
+def script(name, main):
+    """Runs a script by its words. What ends it, a fault or Ctrl-C, is told in one line."""
+    try:
+        main(sys.argv[1:])
+    except Fault as fault:
+        print(f"{name}: {fault}", file=sys.stderr)
+        sys.exit(fault.status)
+    except KeyboardInterrupt:
+        sys.exit(f"{name}: stopped")
+    except BrokenPipeError:
+        sys.exit(1)
 
 
 def split_words(arguments):
@@ -73,13 +75,69 @@ class Words:
         return [text for word, value in self.numbers.items() for text in (word, str(value))] + self.files
 
 
+# the files into which streams were taken, with the names of the streams; the folder of these files goes when the script ends
+taken = {}
+FOLDER = None
+
+
+def is_stream(path):
+    """Whether a file can be read only once, or only by this process: a pipe, a terminal, what lies in /dev or /proc."""
+    is_of_process = os.path.abspath(path).startswith(("/dev/", "/proc/"))
+    return os.path.exists(path) and not os.path.isdir(path) and (is_of_process or not os.path.isfile(path))
+
+
+def taken_in(path):
+    """The path; for a stream that of a file into which it was read, so that the battle can be fought more than once."""
+    global FOLDER
+    if not is_stream(path):
+        return path
+    FOLDER = FOLDER or tempfile.TemporaryDirectory()
+    copy = os.path.join(FOLDER.name, f"{len(taken)}-{os.path.basename(path)}")
+    try:
+        with open(path, "rb") as stream, open(copy, "wb") as file:
+            file.write(stream.read(LARGEST_FILE + 1))
+    except OSError as fault:
+        raise Fault(f"{path}: {fault.strerror}") from None
+    taken[copy] = path
+    return copy
+
+
+def as_given(text):
+    """The text with the names of streams in place of the files into which they were taken."""
+    for copy, path in taken.items():
+        text = text.replace(copy, path)
+    return text
+
+
+class ScriptParser(argparse.ArgumentParser):
+    """Reads the words of a script; those of mars stand behind `--`. What is wrong is told in one line."""
+
+    def __init__(self):
+        super().__init__(add_help=False, allow_abbrev=False)
+        self.add_argument("-h", "--help", action="store_true")
+        self.add_argument("--program")
+        self.add_argument("--hill")
+        self.hint = ""
+
+    def read(self, arguments):
+        """What is said to the script, and the words of mars."""
+        own, rest = split_words(arguments)
+        if "--" not in arguments:
+            self.hint = "; the words of mars stand behind `--`, as in -- examples/dwarf.red examples/imp.red"
+        return self.parse_intermixed_args(own), rest
+
+    def error(self, message):
+        raise Fault(message + self.hint, 2)
+
+
 class WordsParser(argparse.ArgumentParser):
     def error(self, message):
         raise Fault(f"the words of mars: {message}", 2)
 
 
-def read_words(words):
-    """The words of a battle. Those of the output count nothing here: `-e`, `-b`, `-o`, `--score`."""
+def read_words(words, hill=None):
+    """The words of a battle, with the settings of a hill where they have no other. Those of the output count nothing here:
+    `-e`, `-b`, `-o`, `--score`. Streams are taken in."""
     parser = WordsParser(add_help=False, allow_abbrev=False)
     for word in NUMBERS:
         parser.add_argument(word, type=int, dest=word)
@@ -92,12 +150,13 @@ def read_words(words):
         raise Fault("the words of mars: --league and --load make no battle", 2)
     if not read["files"]:
         raise Fault("no warriors: their files stand behind --, as in -- examples/dwarf.red examples/imp.red", 2)
-    return Words(read["files"], {word: read[word] for word in NUMBERS if read[word] is not None})
+    numbers = {word: read[word] for word in NUMBERS if read[word] is not None}
+    return Words([taken_in(path) for path in read["files"]], {**(settings_of(hill) if hill else {}), **numbers})
 
 
 def told(fault, status):
     """The fault of the program, in its own words."""
-    return Fault(fault.strip() or f"mars ended with status {status}", status or 1)
+    return Fault(as_given(fault.strip()) or f"mars ended with status {status}", status or 1)
 
 
 @dataclass
@@ -121,20 +180,36 @@ class Row:
     losses: int
 
 
-def fight(program, words):
-    """Fights the match: its warriors, and the table of its results."""
-    done = subprocess.run([program, *words.as_list()], capture_output=True, text=True, errors="replace")
-    if done.returncode:
-        raise told(done.stderr, done.returncode)
-    listing, _, results = done.stdout.rpartition("  points   wins   ties losses  warrior\n")
+def listed(listing):
+    """The warriors of a listing."""
     warriors = []
     for part in listing.strip().split("\n\n"):
         # The head of the load file says the size of the core and the names, which are known.
         head, _size, _name, _author, origin, *cells = part.split("\n")
         title = re.fullmatch(r"warrior \d+: (.*), \d+ instructions", head)[1]
         warriors.append(Warrior(title, cells, int(origin.split()[1])))
-    rows = [Row(*map(int, line.split()[:4])) for line in results.splitlines()]
-    return warriors, rows
+    return warriors
+
+
+def fight(program, words):
+    """Fights the match: its warriors, and the table of its results."""
+    done = subprocess.run([program, *words.as_list()], capture_output=True, text=True, errors="replace")
+    if done.returncode:
+        raise told(done.stderr, done.returncode)
+    listing, _, results = done.stdout.rpartition("  points   wins   ties losses  warrior\n")
+    return listed(listing), [Row(*map(int, line.split()[:4])) for line in results.splitlines()]
+
+
+def warriors_of(program, words):
+    """The warriors of the match, by the listing that mars writes before it fights; the fight is ended there."""
+    with subprocess.Popen([program, *words.as_list()], stdout=subprocess.PIPE, stderr=subprocess.PIPE, text=True,
+                          errors="replace") as process:
+        # an empty line stands behind each warrior; where a file has a fault there is no listing
+        parts = ["".join(itertools.takewhile(str.strip, process.stdout)) for _ in words.files]
+        if not parts[0]:
+            raise told(process.stderr.read(), process.wait())
+        process.kill()
+    return listed("\n".join(parts))
 
 
 def next_seed(seed):
@@ -164,10 +239,12 @@ class Battle:
     commands: list = field(default_factory=list)
     # the number of the warrior, in the order of the match, that has the first turn
     first: int = 0
+    # where the first cell of each warrior lies, in the order of their turns
+    starts: list = field(default_factory=list)
 
     def keeping(self, places):
         """The battle with so many places in the debugger's history."""
-        return Battle(self.words.with_numbers(history=places), self.commands, self.first)
+        return Battle(self.words.with_numbers(history=places), self.commands, self.first, self.starts)
 
 
 def starts_of(words, seed):
@@ -203,43 +280,57 @@ def battles_of(words, warriors):
         starts, following = starts_of(words, seed)
         first = k % count
         turned = words.rotated(first)
+        moved = [(start - starts[first]) % core_size for start in starts[first:] + starts[:first]]
         if first == 0:
-            yield Battle(words if words.number("-F") is not None or count == 1 else words.with_numbers(seed=seed))
+            laid = words if words.number("-F") is not None or count == 1 else words.with_numbers(seed=seed)
+            yield Battle(laid, [], first, moved)
         elif count == 2:
-            yield Battle(turned.with_numbers(seed=None, F=core_size - starts[1]), [], first)
+            yield Battle(turned.with_numbers(seed=None, F=core_size - starts[1]), [], first, moved)
         else:
-            moved = [(start - starts[first]) % core_size for start in starts[first:] + starts[:first]]
-            yield Battle(turned, laid_out(turned, warriors[first:] + warriors[:first], moved), first)
+            yield Battle(turned, laid_out(turned, warriors[first:] + warriors[:first], moved), first, moved)
         seed = following
+
+
+def battle_of_round(words, warriors, number):
+    """The battle of a round of the match, and its warriors in the order of their turns."""
+    battle = next(itertools.islice(battles_of(words, warriors), number, None), None) if number >= 0 else None
+    if battle is None:
+        raise Fault(f"--round {number}: the match has the rounds 0 to {words.number('-r') - 1}", 2)
+    return battle, warriors[battle.first:] + warriors[:battle.first]
 
 
 def command_line(battle):
     """The words that debug the battle, for the shell."""
-    return shlex.join(["./mars", "-e", *battle.words.as_list()])
+    return as_given(shlex.join([NAME, "-e", *battle.words.as_list()]))
 
 
 @dataclass
 class Standing:
-    """Where the debugger stands: turns made, complete cycles, whose turn is next, how many live."""
+    """Where the debugger stands: turns made, complete cycles, whose turn is next, how many live, and its place in the
+    history with the last one."""
     turn: int
     cycle: int
     next: int
     alive: int
+    place: int
+    last_place: int
 
 
-STANDING = re.compile(r"turn (\d+) cycle (\d+) next (\d+) alive (\d+) at \d+/\d+")
+STANDING = re.compile(r"turn (\d+) cycle (\d+) next (\d+) alive (\d+) at (\d+)/(\d+)")
 
 
 class Debugger:
-    """One process of `mars -e`. It asks by commands and gives what the replies say."""
+    """One process of `mars -e`. It asks by commands and gives what the replies say. A Ctrl-C at the terminal doesn't reach
+    it, so that what was asked is still answered."""
 
     def __init__(self, program, battle):
         self.core_size = battle.words.number("-s")
         self.warriors = len(battle.words.files)
-        self.is_laid_out = bool(battle.commands)
+        # how many commands lay the battle out before its first turn
+        self.laying = len(battle.commands)
         self.process = subprocess.Popen([program, "-e", *battle.words.as_list()], stdin=subprocess.PIPE,
                                         stdout=subprocess.PIPE, stderr=subprocess.PIPE, text=True,
-                                        errors="replace")
+                                        errors="replace", start_new_session=True)
         self.show()
         for reply in self.ask_each(battle.commands):
             self.checked(reply)
@@ -270,13 +361,13 @@ class Debugger:
         except OSError:
             raise told(self.process.stderr.read(), self.process.wait()) from None
 
-    def ask_each(self, commands):
-        """The reply to each of many commands that are answered by one line."""
+    def ask_each(self, commands, lines=1):
+        """The lines that answer many commands, so many lines for each."""
         replies, piece, size = [], [], 0
         for command in [*commands, None]:
             if piece and (command is None or size + len(command) >= PIECE):
                 self.send("\n".join(piece) + "\n")
-                replies += [self.read_line() for _ in piece]
+                replies += [self.read_line() for _ in range(lines * len(piece))]
                 piece, size = [], 0
             if command is not None:
                 piece.append(command)
@@ -300,16 +391,16 @@ class Debugger:
         return self.checked(self.ask(command)[0])
 
     def read_show(self):
-        """The rest of a reply to `show`: for each warrior the turn of its death, or None."""
+        """The rest of a reply to `show`: for each warrior the turn of its death, or None; and whether the battle is over."""
         deaths = []
         for _ in range(self.warriors):
             _, _, state, number = self.read_line().split()
             deaths.append(int(number) if state == "dead" else None)
-        self.read_line()
+        self.is_over = self.read_line() == "battle over"
         return deaths
 
     def show(self):
-        """Where the debugger stands, and for each warrior the turn of its death, or None."""
+        """Where the debugger stands, and for each warrior the turn of its death, or None; `is_over` tells the rest."""
         return self.standing("show"), self.read_show()
 
     def run_to_end(self):
@@ -318,21 +409,25 @@ class Debugger:
             pass
         return self.show()
 
-    def first_turn(self):
-        """The first turn after which the history still has the battle; the refusal of a turn after the last one tells it."""
-        last = self.run_to_end()[0].turn
-        return int(self.ask(f"goto {last + 1}")[0].split()[3])
+    def kept_turns(self):
+        """The first and the last turn after which the history has the battle: the refusal of a turn that none has tells."""
+        first, last = self.ask(f"goto {10 ** 17}")[0].split()[-2:]
+        return int(first), int(last)
 
     def goto(self, turn):
-        """Goes to the place after so many turns."""
-        if turn == 0 and self.is_laid_out:
-            self.standing("goto 1")
-            return self.standing("undo")
-        return self.standing(f"goto {turn}")
+        """Goes to the first place after so many turns; for turn 0 that is where the battle is laid out."""
+        standing = self.standing(f"goto {turn}")
+        if turn == 0 and self.laying:
+            standing = self.checked(self.ask_each(["redo"] * self.laying)[-1])
+        return standing
 
     def queue(self, warrior):
         """Where the processes of a warrior stand, the next one first."""
         return [int(address) for address in self.ask(f"queue {warrior}")[0].partition(":")[2].split()]
+
+    def queues(self):
+        """The same for each warrior."""
+        return [self.queue(warrior) for warrior in range(self.warriors)]
 
     def cell(self, address):
         return self.ask(f"list {address} 1")[0].partition(" ")[2]
@@ -344,3 +439,23 @@ class Debugger:
             count = min(LONGEST, self.core_size - len(cells))
             cells += [line.partition(" ")[2] for line in self.ask(f"list {len(cells)} {count}", count)]
         return cells
+
+
+def check_writable(name):
+    """Tells, before the work that a file is for, that it can't be written."""
+    is_new = not os.path.exists(name)
+    try:
+        open(name, "ab").close()
+        if is_new:
+            os.remove(name)
+    except OSError as fault:
+        raise Fault(f"{name}: {fault.strerror}") from None
+
+
+def write_file(name, data):
+    """Writes the bytes of a file."""
+    try:
+        with open(name, "wb") as file:
+            file.write(data)
+    except OSError as fault:
+        raise Fault(f"{name}: {fault.strerror}") from None

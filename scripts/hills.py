@@ -1,5 +1,5 @@
 """The settings of known hills, those of docs/PMARS.md, as words of mars."""
-from battles import Fault
+from program import Fault
 
 # The first one's are those that mars takes by itself.
 HILLS = {

@@ -14,7 +14,7 @@ from dataclasses import dataclass
 from battles import Fault, split_words
 from hills import settings_of
 from places import Contest, cluster, digest_of, passing_folder, read_file, threads, write_file
-from program import NoProgram, find_program
+from program import find_program
 from results import Results
 
 # the words of mars that a match is given
@@ -247,9 +247,6 @@ def script(name, main):
     except Fault as fault:
         print(f"{name}: {fault}", file=sys.stderr)
         sys.exit(fault.status)
-    except NoProgram as fault:
-        print(f"{name}: {fault}", file=sys.stderr)
-        sys.exit(2)
     except KeyboardInterrupt:
         print(f"{name}: stopped", file=sys.stderr)
         sys.exit(130)

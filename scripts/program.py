@@ -12,8 +12,24 @@ INSTALLED = os.path.join(os.path.dirname(TOP), "bin", "mars")
 NAME = "./mars" if os.path.isfile(os.path.join(TOP, "mars")) else "mars"
 
 
-class NoProgram(Exception):
+def called(script):
+    """What a person calls a script here."""
+    return f"scripts/{script}" if NAME == "./mars" else f"mars-{script}"
+
+
+class Fault(Exception):
+    """What ends a script: its text, and the exit status."""
+
+    def __init__(self, text, status=1):
+        super().__init__(text)
+        self.status = status
+
+
+class NoProgram(Fault):
     """There is no program to run; its text says which was asked for."""
+
+    def __init__(self, text):
+        super().__init__(text, 2)
 
 
 def find_program(given=None):

@@ -1,13 +1,12 @@
 """What a league is written as: its table, as CSV or JSON, and the matrix of who beats whom, as text or as a picture."""
 import csv
 import json
-import struct
 import sys
-import zlib
 from dataclasses import dataclass
 from html import escape
 
 from battles import Fault
+from png import true_png_of
 
 COLUMNS = ("points", "wins", "ties", "losses")
 # A cell of a picture is mixed from these, by the rounds that were won, tied and lost.
@@ -129,12 +128,7 @@ def png_of(league):
     """The cells of the matrix as PNG, each some pixels wide."""
     side = max(1, PIXELS // max(1, len(league.order)))
     lines = [b"".join(bytes(colour(league.against(mine, other))) * side for other in league.order) for mine in league.order]
-    width = side * len(league.order)
-
-    def chunk(kind, content):
-        return struct.pack(">I", len(content)) + kind + content + struct.pack(">I", zlib.crc32(kind + content))
-    return b"".join((b"\x89PNG\r\n\x1a\n", chunk(b"IHDR", struct.pack(">IIBBBBB", width, width, 8, 2, 0, 0, 0)),
-                     chunk(b"IDAT", zlib.compress(b"".join((b"\0" + line) * side for line in lines))), chunk(b"IEND", b"")))
+    return true_png_of([line for line in lines for _ in range(side)])
 
 
 def write_picture(league, path):

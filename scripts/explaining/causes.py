@@ -87,6 +87,8 @@ def unclosed_for(source, line):
     for other in source.lines[line.number:]:
         if not other.operation and len(other.labels) == 1 and not other.rest and like(other.labels[0], ["ROF"]):
             yield f"Line {other.number}: is `{other.labels[0]}` meant as ROF?"
+        if other.is_("ROF") and other.labels:
+            yield f"Line {other.number}: no label goes before ROF, so it ends no loop here. Write `{other.labels[0]}` on a line of its own before it."
 
 
 def rof_alone(source, line):

@@ -36,6 +36,21 @@ fn words_of(alloc: Global, words: &[&str]) -> Result<Vec<String>, Fail> {
     Ok(all)
 }
 
+/// Appends a text so many times.
+fn repeat(all: &mut Vec<u8>, text: &[u8], count: u32) -> Result<(), Fail> {
+    for _ in 0..count {
+        all.extend_from_slice(text)?;
+    }
+    Ok(())
+}
+
+/// A text so many times.
+fn repeated(alloc: Global, text: &[u8], count: u32) -> Result<Vec<u8>, Fail> {
+    let mut all = Vec::new(alloc);
+    repeat(&mut all, text, count)?;
+    Ok(all)
+}
+
 const FILES: &[(&str, &[u8])] = &[
     ("imp.load", IMP),
     ("stay.load", b"JMP 0, 0"),

@@ -14,6 +14,7 @@ use std::io::{ErrorKind, Read, Write};
 use std::process::Abort;
 use std::test::Fail;
 
+mod chunks;
 mod no_memory;
 
 /// A reader that gives its bytes in pieces, and then fails or ends.

@@ -1,6 +1,6 @@
 //! Files of warriors: their sizes, those of the system, load files, and the faults of each.
 
-use super::{Played, answer, answer_over, check_fault, check_played, memory_files};
+use super::{Played, answer_over, check_fault, check_played, repeat, repeated};
 use mars_app::{FileFault, MemoryFiles, RunFault, SystemFiles, WarriorFiles};
 use mars_core::BattleFault;
 use std::alloc::Global;
@@ -75,6 +75,35 @@ const LOAD_FILES: &[Played] = &[
 #[test]
 fn load_files(rt: HostRuntime) -> Result<(), Fail> {
     check_played(&rt, rt.alloc(), LOAD_FILES)
+}
+
+/// The load file of this source is this one.
+fn check_load_file(
+    rt: &impl Abort,
+    alloc: Global,
+    source: &[u8],
+    expected: &[u8],
+) -> Result<(), Fail> {
+    let mut files = MemoryFiles::new(alloc);
+    files.add(alloc, "long.red", source)?;
+    let words = ["--load", "-l", "300", "-d", "300", "long.red"];
+    let answer = answer_over(alloc, &files, &words, b"");
+    drop(files);
+    let answer = answer?;
+    assert_eq!(rt; answer.status, 0);
+    assert!(rt; answer.output.as_slice() == expected);
+    Ok(())
+}
+
+const HEAD: &[u8] = b";load 2 8000\n;name Unknown\n;author Anonymous\nORG 0\n";
+
+#[test]
+fn a_load_file_of_more_than_4096_bytes(rt: HostRuntime) -> Result<(), Fail> {
+    let alloc = rt.alloc();
+    let source = repeated(alloc, b"NOP 9, 10\n", 300)?;
+    let mut text = Vec::from_slice(alloc, HEAD)?;
+    repeat(&mut text, b"NOP.F $9, $10\n", 300)?;
+    check_load_file(&rt, alloc, &source, &text)
 }
 
 /// The file was written for a core of 8 cells.
@@ -165,6 +194,19 @@ const FAULTS: &[(&[&str], u8, &[u8])] = &[
         b"mars: placement 1 NoRoom\n",
     ),
     (&["-e", "no.load"], 1, b"mars: no.load: cannot read\n"),
+    (
+        &["-b", "k\u{e4}fer.red"],
+        1,
+        b"mars: k\xc3\xa4fer.red: cannot read\n",
+    ),
+    (
+        &[
+            "-b",
+            "longlonglonglonglonglonglonglonglonglonglonglonglonglonglonglonglonglonglonglonglonglonglonglonglonglonglonglonglonglonglonglonglonglonglonglonglonglonglonglonglonglonglonglonglonglonglonglonglonglonglonglonglonglonglonglonglonglonglonglonglonglonglonglonglonglonglonglonglonglonglonglonglonglonglong.red",
+        ],
+        1,
+        b"mars: longlonglonglonglonglonglonglonglonglonglonglonglonglonglonglonglonglonglonglonglonglonglonglonglonglonglonglonglonglonglonglonglonglonglonglonglonglonglonglonglonglonglonglonglonglonglonglonglonglonglonglonglonglonglonglonglonglonglonglonglonglonglonglonglonglonglonglonglonglonglonglonglonglonglong.red: cannot read\n",
+    ),
     (
         &["-e", "half.load"],
         1,

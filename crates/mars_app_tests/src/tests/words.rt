@@ -242,6 +242,22 @@ fn at_most_sixteen_files(rt: HostRuntime) -> Result<(), Fail> {
     Ok(())
 }
 
+/// The greatest core, the longest listing, and a help that is asked for beside a file.
+const WELL: &[&[&str]] = &[
+    &["-e", "-s", "1048576", "imp.load"],
+    &[
+        "-c", "10", "imp.load", "imp.load", "imp.load", "imp.load", "imp.load", "imp.load",
+        "imp.load", "imp.load", "imp.load", "imp.load", "imp.load", "imp.load", "imp.load",
+        "imp.load", "imp.load", "imp.load",
+    ],
+    &["imp.load", "--help"],
+];
+
+#[test]
+fn what_is_large_ends_well(rt: HostRuntime) -> Result<(), Fail> {
+    check_well(&rt, rt.alloc(), WELL)
+}
+
 const NUMBERS_AS_WORDS: &[&[&str]] = &[&["-e", "-s", "+8", "-l", "001", "-d", "1", "imp.load"]];
 
 #[test]
@@ -366,7 +382,7 @@ fn started(alloc: Global, arguments: &'static [&'static [u8]]) -> Result<Outcome
 /// Arguments, and the status and what is written with them.
 type Start = (&'static [&'static [u8]], u8, &'static [u8], &'static [u8]);
 
-/// The name need not be text, and isn't one of the words; each of these must be text.
+/// The name need not be text, and isn't one of the words; each of these must be text, and counts: of 41 the last is no file.
 const STARTS: &[Start] = &[
     (
         &[b"\xff", b"--load", b"imp.load"],
@@ -379,6 +395,55 @@ const STARTS: &[Start] = &[
         2,
         b"",
         b"mars: bad words\n",
+    ),
+    (
+        &[
+            b"mars",
+            b"-r",
+            b"1",
+            b"--seed",
+            b"1",
+            b"--score",
+            b"W",
+            b"-s",
+            b"8000",
+            b"-c",
+            b"10",
+            b"-p",
+            b"2",
+            b"-l",
+            b"1",
+            b"-d",
+            b"1",
+            b"--read-limit",
+            b"8",
+            b"--write-limit",
+            b"8",
+            b"--history",
+            b"5",
+            b"-b",
+            b"-o",
+            b"--league",
+            b"imp.load",
+            b"imp.load",
+            b"imp.load",
+            b"imp.load",
+            b"imp.load",
+            b"imp.load",
+            b"imp.load",
+            b"imp.load",
+            b"imp.load",
+            b"imp.load",
+            b"imp.load",
+            b"imp.load",
+            b"imp.load",
+            b"imp.load",
+            b"imp.load",
+            b"none.load",
+        ],
+        1,
+        b"",
+        b"mars: none.load: cannot read\n",
     ),
     (&[b"--help"], 2, b"", b"mars: bad words\n"),
 ];

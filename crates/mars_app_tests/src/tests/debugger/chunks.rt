@@ -1,0 +1,92 @@
+//! Inputs of more bytes than one read has, and replies of more bytes than wait at once: both are 4,096.
+use super::{Narrow, Pieces, imp_session};
+use crate::tests::{repeat, repeated};
+use mars_app::debug;
+use mars_session::{RingTape, Session};
+use std::alloc::Global;
+use std::process::Abort;
+use std::test::Fail;
+
+/// The session writes this for an input in pieces of one size, to a writer that takes as many bytes at a time.
+fn check_written(
+    rt: &impl Abort,
+    alloc: Global,
+    session: &mut Session<RingTape>,
+    size: usize,
+    input: &[u8],
+    expected: &[u8],
+) {
+    let mut reader = Pieces {
+        rest: input,
+        size: size.max(1),
+        fails: false,
+    };
+    let mut writer = Narrow {
+        bytes: Vec::new(alloc),
+        size,
+        room: 100_000,
+    };
+    assert_eq!(rt; debug(&mut reader, &mut writer, session), Ok(()));
+    assert!(rt; writer.bytes.as_slice() == expected, "{size}");
+}
+
+/// So it is for pieces of few bytes, and of a byte less and more than 4,096.
+fn check_sizes(
+    rt: &impl Abort,
+    alloc: Global,
+    session: &mut Session<RingTape>,
+    input: &[u8],
+    expected: &[u8],
+) {
+    for size in [1usize, 7, 4095, 4096, 4097] {
+        check_written(rt, alloc, session, size, input, expected);
+    }
+}
+
+/// So it is for a session of one imp.
+fn check_imp(rt: &impl Abort, alloc: Global, input: &[u8], expected: &[u8]) -> Result<(), Fail> {
+    let mut session = imp_session(rt, alloc)?;
+    check_sizes(rt, alloc, &mut session, input, expected);
+    drop(session);
+    Ok(())
+}
+
+/// A line has 9 bytes, so that reads of 4,096 end within lines.
+#[test]
+fn inputs_of_more_than_one_read(rt: HostRuntime) -> Result<(), Fail> {
+    let alloc = rt.alloc();
+    let lines = repeated(alloc, b"list 0 1\n", 1000)?;
+    let replies = repeated(alloc, b"0 MOV.I $0, $1\n", 1000)?;
+    check_imp(&rt, alloc, &lines, &replies)
+}
+
+/// The core of one imp.
+const CORE: &[u8] = b"0 MOV.I $0, $1\n1 DAT.F $0, $0\n2 DAT.F $0, $0\n3 DAT.F $0, $0\n\
+    4 DAT.F $0, $0\n5 DAT.F $0, $0\n6 DAT.F $0, $0\n7 DAT.F $0, $0\n";
+
+#[test]
+fn a_list_of_2000_cells(rt: HostRuntime) -> Result<(), Fail> {
+    let alloc = rt.alloc();
+    let cells = repeated(alloc, CORE, 250)?;
+    check_imp(&rt, alloc, b"list 0 2000\n", &cells)
+}
+
+/// After these spawns the queue is this line.
+fn check_queue(rt: &impl Abort, alloc: Global, spawns: &[u8], queue: &[u8]) -> Result<(), Fail> {
+    let mut session = imp_session(rt, alloc)?;
+    let (mut input, mut output) = (spawns, Vec::new(alloc));
+    assert_eq!(rt; debug(&mut input, &mut output, &mut session), Ok(()));
+    check_sizes(rt, alloc, &mut session, b"queue 0\n", queue);
+    drop(session);
+    Ok(())
+}
+
+#[test]
+fn a_queue_of_3000_processes(rt: HostRuntime) -> Result<(), Fail> {
+    let alloc = rt.alloc();
+    let spawns = repeated(alloc, b"spawn 0 1\n", 2999)?;
+    let mut queue = Vec::from_slice(alloc, b"queue 0: 0")?;
+    repeat(&mut queue, b" 1", 2999)?;
+    repeat(&mut queue, b"\n", 1)?;
+    check_queue(&rt, alloc, &spawns, &queue)
+}
