@@ -13,7 +13,10 @@ import time
 from dataclasses import dataclass
 
 sys.path.insert(0, os.path.join(os.path.dirname(os.path.realpath(__file__)), "..", "python"))
-import mars  # noqa: E402
+try:
+    import mars  # noqa: E402
+except ImportError:
+    sys.exit("evolver: there is no mars.py: it is in the kit's folder python/, and can be copied beside this file")
 
 OPPONENTS = [
     "MOV 0, 1",
@@ -70,11 +73,19 @@ def measure(cells, opponents):
     return row.points / (2000 * len(opponents))
 
 
+def given():
+    """The seconds and the seed of the words."""
+    words = sys.argv[1:]
+    if {"-h", "--help"} & set(words):
+        sys.exit(print(__doc__.strip()))
+    if len(words) > 2 or not all(word.isdigit() for word in words):
+        print("usage: examples/evolver.py [SECONDS [SEED]]", file=sys.stderr)
+        sys.exit(2)
+    return [int(word) for word in words] + [60, 1][len(words):]
+
+
 def main():
-    if len(sys.argv) > 3 or not all(word.isdigit() for word in sys.argv[1:]):
-        sys.exit(__doc__)
-    given = [int(word) for word in sys.argv[1:]]
-    seconds, seed = given + [60, 1][len(given):]
+    seconds, seed = given()
     dice, end = random.Random(seed), time.monotonic() + seconds
     opponents = [mars.Warrior.assemble(text, mars.NANO) for text in OPPONENTS]
     candidates, count = [Candidate([cell(dice) for _ in range(5)], []) for _ in range(SIZE)], 0
@@ -89,4 +100,9 @@ def main():
     print(warrior(candidates[0].cells), end="")
 
 
-main()
+try:
+    main()
+except (OSError, mars.Fault) as fault:
+    sys.exit(f"evolver: {fault}")
+except KeyboardInterrupt:
+    sys.exit("evolver: stopped")
