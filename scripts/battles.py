@@ -15,10 +15,8 @@ from dataclasses import dataclass, field
 
 from hills import settings_of
 from program import NAME, Fault, find_program  # noqa: F401  (find_program serves the scripts)
+from settings import NUMBERS
 
-# the words of a battle that take a number, with what mars takes where one isn't given
-NUMBERS = {"-r": 1, "-s": 8000, "-c": 80000, "-p": 8000, "-l": 100, "-d": 100, "-F": None,
-           "--read-limit": None, "--write-limit": None, "--seed": 1, "--history": 200000}
 # commands are sent in pieces that a pipe holds, so that neither side waits for the other
 PIECE = 8000
 # the most turns that the debugger makes by a command, and the most cells that it lists
@@ -55,7 +53,7 @@ class Words:
     numbers: dict = field(default_factory=dict)
 
     def number(self, word):
-        return self.numbers.get(word, NUMBERS[word])
+        return self.numbers.get(word, NUMBERS[word].default)
 
     def with_numbers(self, **changes):
         """The words with other numbers; None takes one away. `F=5` is `-F 5`, `seed=5` is `--seed 5`."""

@@ -11,11 +11,12 @@ from concurrent.futures import ThreadPoolExecutor
 from contextlib import contextmanager
 from dataclasses import dataclass
 
-from battles import Fault, split_words
+from battles import Fault, Words as BattleWords, is_stream, split_words, taken
 from hills import settings_of
 from places import Contest, cluster, digest_of, passing_folder, read_file, threads, write_file
 from program import find_program
 from results import Results
+from settings import NUMBERS
 
 # the words of mars that a match is given
 WORDS = ("-r", "-s", "-c", "-p", "-l", "-d", "-F", "--seed", "--score", "--read-limit", "--write-limit")
@@ -137,6 +138,17 @@ class Arena:
         """The numbers of the others."""
         return [number for number, one in enumerate(self.entered) if not isinstance(one, Left)]
 
+    def battle_words(self, pair):
+        """The words of a pair's match, for its debugger. Of a warrior that came by a stream the file is what was read of it."""
+        files = []
+        for one in map(self.entered.__getitem__, pair):
+            entry = os.path.join(self.contest.folder, one.entry)
+            if is_stream(one.file):
+                taken[entry] = one.file
+            files.append(entry if is_stream(one.file) else one.file)
+        numbers = {word: int(value) for word, _, value in (text.partition("=") for text in self.contest.words) if word in NUMBERS}
+        return BattleWords(files, numbers)
+
     def keys(self, pair):
         return [self.entered[number].digest for number in pair]
 
@@ -190,6 +202,12 @@ def count(text):
     if number < 1:
         raise ValueError
     return number
+
+
+def ranges(text):
+    """Numbers and ranges of numbers, as in 0,3,7-9."""
+    ends = [part.partition("-") for part in text.split(",")]
+    return [range(int(first), int(last if dash else first) + 1) for first, dash, last in ends]
 
 
 def positive(text):

@@ -18,7 +18,7 @@ from captions import DARK, LIGHT, coloured, fate, named, outcome, settings
 from films import ending_of, film_of, filmed
 
 HERE = os.path.dirname(os.path.realpath(__file__))
-TEMPLATE, INDEX = os.path.join(HERE, "page.html"), os.path.join(HERE, "index.html")
+TEMPLATE = os.path.join(HERE, "page.html")
 BATTLE = '<script id="battle" type="text/plain">'
 FRAMES = 600
 EMPTY = "DAT.F $0, $0"
@@ -123,31 +123,3 @@ def page_of(program, battle, warriors, part, prepare=""):
     data = "\n".join([packed(head_of(film, ending, prepare)), *filmed(film, piece)])
     colours = {"LIGHT": ",".join(coloured(LIGHT, battle)), "DARK": ",".join(coloured(DARK, battle))}
     return Page(filled(TEMPLATE, {**texts(film, ending), **colours, "DATA": data}), len(film.ends) - film.hidden, film.coarsest())
-
-
-@dataclass
-class Line:
-    """A round in an index: its page, its number, the outcome for each warrior, its turns, the words that debug it."""
-    page: str
-    number: int
-    outcomes: list
-    turns: int
-    words: str
-
-
-def row(cells, element="td"):
-    """A row of a table. What is a pair is a text and the class of its cell."""
-    told = [cell if isinstance(cell, tuple) else (cell, "") for cell in cells]
-    return "<tr>" + "".join(f"<{element}{name and f' class={name}'}>{text}</{element}>" for text, name in told) + "</tr>"
-
-
-def index_of(warriors, lines, sums):
-    """The page of a match: a row for each round with a link to its page, and the sums of each warrior."""
-    rows = [row([f'<a href="{line.page}">{line.number}</a>', *[(what, what) for what in line.outcomes], f"{line.turns:,}",
-                 f"<code>{escape(line.words)}</code>"]) for line in lines]
-    names = [escape(warrior.name) for warrior in warriors]
-    told = [row([f"{name} by {escape(warrior.title.rpartition(' by ')[2])}", *map(str, counts)])
-            for name, warrior, counts in zip(names, warriors, sums)]
-    fields = {"TITLE": escape(named(warriors)), "HEAD": row(["Round", *names, "Turns", "To debug it"], "th"),
-              "ROWS": "\n".join(rows), "SUMS": "\n".join([row(["Warrior", "Wins", "Ties", "Losses"], "th"), *told])}
-    return filled(INDEX, fields)

@@ -3,32 +3,13 @@ import re
 from dataclasses import dataclass, field
 
 from explaining.source import like
+from settings import NUMBERS
 
 
-@dataclass
-class Word:
-    meaning: str = ""
-    least: int = 0
-    greatest: int = 0
-    default: int = 0
-    kind: str = "number"
-
-
-WORDS = {
-    "-r": Word("rounds", 1, 100_000, 1),
-    "-s": Word("core size", 1, 1_048_576, 8000),
-    "-c": Word("cycle limit", 1, 10_000_000, 80_000),
-    "-p": Word("process limit", 1, 65_536, 8000),
-    "-l": Word("longest warrior", 1, 1_048_576, 100),
-    "-d": Word("least distance", 1, 1_048_576, 100),
-    "-F": Word("position of the second warrior", 1, 1_048_576),
-    "--read-limit": Word("read limit", 1, 1_048_576),
-    "--write-limit": Word("write limit", 1, 1_048_576),
-    "--seed": Word("seed", 1, 2_147_483_646, 1),
-    "--history": Word("number of places in the history", 1, 1_000_000, 200_000),
-    "--score": Word("formula", kind="text"),
-    **{name: Word(kind="flag") for name in ("-e", "-b", "-o", "--league", "--load", "--help")},
-}
+FLAGS = ("-e", "-b", "-o", "--league", "--load", "--help")
+FORMULA = "--score"
+# all words of the program; those of numbers with what they take
+WORDS = {**NUMBERS, FORMULA: None, **dict.fromkeys(FLAGS)}
 # Words of other programs, pMARS above all, with what to do.
 PMARS = {
     "-=": "the score formula is `--score`",
@@ -55,7 +36,7 @@ class Given:
 
     def number(self, name):
         value = self.values.get(name)
-        return int(value) if value is not None and re.match(r"\+?\d+$", value) else WORDS[name].default
+        return int(value) if value is not None and re.match(r"\+?\d+$", value) else NUMBERS[name].default
 
     def has_asked_help(self):
         return "--help" in self.values
@@ -89,7 +70,7 @@ def read_words(words):
 def read_long(given, name, value, words):
     if name not in WORDS:
         given.faults.append(no_such_word(name))
-    elif WORDS[name].kind == "flag":
+    elif name in FLAGS:
         given.take(name, None)
         if value is not None:
             given.faults.append(f"`{name}` takes no value.")
@@ -104,7 +85,7 @@ def read_letters(given, letters, words):
         if name not in WORDS:
             given.faults.append(no_such_word(name))
             return
-        if WORDS[name].kind != "flag":
+        if name not in FLAGS:
             take_value(given, name, letters[letters.startswith("="):] if letters else None, words)
             return
         given.take(name, None)
@@ -115,21 +96,21 @@ def read_letters(given, letters, words):
 
 def take_value(given, name, value, words):
     """Takes the value of a word, which stands with it or is the next word."""
-    word = WORDS[name]
-    if value is None and words and (not words[0].startswith("-") or words[0] == "-" or is_signed(word, words[0])):
+    if value is None and words and (not words[0].startswith("-") or words[0] == "-" or is_signed(name, words[0])):
         value = words.pop(0)
     if value is None:
         given.faults.append(f"`{name}` has no value.")
-        if words and word.kind == "text":
+        if words and name == FORMULA:
             given.faults.append(f"A value that begins with `-` is joined by `=`: `{name}={words[0]}`.")
         return
     given.take(name, value)
-    if word.kind == "number" and not is_between(value, word.least, word.greatest):
-        given.faults.append(f"`{name}` takes a number from {word.least} to {word.greatest} ({word.meaning}), not `{value}`.")
+    number = NUMBERS.get(name)
+    if number and not is_between(value, number.least, number.greatest):
+        given.faults.append(f"`{name}` takes a number from {number.least} to {number.greatest} ({number.meaning}), not `{value}`.")
 
 
-def is_signed(word, value):
-    return word.kind == "number" and re.match(r"-\d+$", value)
+def is_signed(name, value):
+    return name in NUMBERS and re.match(r"-\d+$", value)
 
 
 def is_between(value, least, greatest):

@@ -2,7 +2,7 @@
 use Rattle.std.specs.Prelude.{◌≡◌, ⊤, ℕ, ◌-◌, ◌<◌, ◌≤◌, List, [], ◌∷◌, All, Bool, Option, None, Some, IfSome, IsNone, String, length, Vec, if◌then◌else◌, codes, encode_utf8, nat_eq, string_bytes}
 use Rattle.std.specs.Global.{Global}
 use Rattle.std.specs.Str.{bytes_eq, chars}
-use Rattle.std.specs.Char.{is_ascii_control}
+use Rattle.std.specs.Char.{is_control}
 use Rattle.std.specs.List.{ends_with, flat_map}
 use Rattle.std.specs.Result.{result_ok}
 use Rattle.mars_cell.specs.Cells.{FitsCore}
@@ -24,7 +24,7 @@ FitsTwo p warriors fixed = IfSome fixed (λ position. (warriors ≡ 2) × (p.dis
 
 -- a file's name in the line of a fault: each control character is ?, so that the fault stays one line
 abbrev pub shown_character : ℕ → ℕ
-shown_character c = if is_ascii_control c then 63 else c
+shown_character c = if is_control c then 63 else c
 
 abbrev pub shown_name : List ℕ → List ℕ
 shown_name name = flat_map (λ c. encode_utf8 (shown_character c)) (chars name)

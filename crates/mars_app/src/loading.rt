@@ -109,7 +109,7 @@ fn shown_name(alloc: Global, name: &str) -> Result<String, AllocError>
 fn shown_character(character: char) -> char
     ensures { result ≡ shown_character character }
 {
-    if character.is_ascii_control() {
+    if character.is_control() {
         '?'
     } else {
         character

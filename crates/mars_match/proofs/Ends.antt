@@ -10,7 +10,8 @@ use Rattle.mars_core.specs.Turn.{turn_of, after_turns}
 use Rattle.mars_core.specs.Shape.{SameShape}
 use Rattle.mars_core.proofs.CallerLemmas.{shape-turn_of}
 use Rattle.mars_core.specs.declared.battle.start.BattleFault.{BattleFault}
-use Rattle.mars_match.specs.Battles.{unless, end_of, started, fought, in_load_order, survivors_of_round, round_fault, round_start, rotated, HasRoom}
+use Rattle.mars_match.specs.Battles.{unless, end_of, started, fought, in_load_order, survivors_of_round, round_fault, round_start, rotated}
+use Rattle.mars_match.specs.Code.Lineups.{HasRoom}
 use Rattle.mars_match.specs.declared.fault.MatchFault.{MatchFault}
 use Rattle.mars_match.proofs.Rotations.{length-rotated}
 

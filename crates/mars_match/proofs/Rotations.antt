@@ -2,7 +2,8 @@
 use Rattle.std.proofs.Common.{◌≡◌, ◌∙◌, ap, ℕ, ◌+◌, ◌-◌, ◌<◌, ◌≤◌, List, length, take, drop, get_or, arith}
 use Rattle.std.proofs.Math.Seq.{take-append-add}
 use Rattle.std.proofs.lemmas.List.{length-drop, length-take-le, length-append, drop-append-le, get_or-drop, get_or-take, get_or_append_left, get_or-append_right}
-use Rattle.mars_match.specs.Battles.{rotated, IsTwice}
+use Rattle.mars_match.specs.Battles.{rotated}
+use Rattle.mars_match.specs.Code.Lineups.{IsTwice}
 
 module _ {X : Type 0} where
   -- a part of a list that stands twice

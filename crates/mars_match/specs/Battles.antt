@@ -1,5 +1,5 @@
 -- The battle of a round, and who survives it.
-use Rattle.std.specs.Prelude.{◌≡◌, ℕ, ◌+◌, ◌-◌, ◌*◌, ◌%◌, Bool, not, ◌==◌, nat_lt, if◌then◌else◌, List, ◌++◌, length, map, take, drop, Option, None, Some, Result, Ok, Err}
+use Rattle.std.specs.Prelude.{ℕ, ◌-◌, ◌*◌, ◌%◌, Bool, not, ◌==◌, nat_lt, if◌then◌else◌, List, ◌++◌, length, map, take, drop, Option, None, Some, Result, Ok, Err}
 use Rattle.mars_core.specs.Limits.{most_warriors}
 use Rattle.mars_cell.specs.Parameters.{Parameters}
 use Rattle.mars_cell.specs.Warriors.{WarriorValue}
@@ -14,11 +14,6 @@ use Rattle.mars_match.specs.declared.fault.MatchFault.TheVariants as fault
 -- the list from item n on, and then the items before it
 abbrev pub rotated : {X : Type 0} → ℕ → List X → List X
 rotated n xs = drop n xs ++ take n xs
-
--- the list holds so many items, and then the same once more
-pub record IsTwice {X : Type 0} (count : ℕ) (xs : List X) : Type 0 where
-  pub many : length xs ≡ count + count
-  pub twice : xs ≡ take count xs ++ take count xs
 
 -- the battle when it is over: a battle has at most as many turns as its cycles have for its warriors
 unfoldable pub end_of : State → State
@@ -60,8 +55,3 @@ started p warriors starts k = unless (round_fault p warriors starts k) (round_st
 -- who survives round k, in load order, or why it can't start
 abbrev pub fought : Parameters → List WarriorValue → List ℕ → ℕ → Result (List Bool) MatchFault
 fought p warriors starts k = unless (round_fault p warriors starts k) (survivors_of_round p warriors starts k)
-
--- a battle in whose memory one of so many warriors can start
-pub record HasRoom (p : Parameters) (count : ℕ) (s : State) : Type 0 where
-  pub params : s.params ≡ p
-  pub warriors : length s.queues ≡ count

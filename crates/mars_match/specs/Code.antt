@@ -2,3 +2,4 @@
 pub mod Tallies
 pub mod LeagueSteps
 pub mod Levels
+pub mod Lineups

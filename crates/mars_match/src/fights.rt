@@ -3,7 +3,8 @@ ghost use Rattle.std.specs.Prelude.{◌≡◌, ◌+◌, ◌%◌, ◌<◌, ◌≤
 ghost use Rattle.std.specs.Global.{Global};
 ghost use Rattle.mars_core.specs.State.{State};
 ghost use Rattle.mars_match.specs.Answers.{IsAnswer};
-ghost use Rattle.mars_match.specs.Battles.{rotated, end_of, in_load_order, count_fault, unless, started, fought, HasRoom};
+ghost use Rattle.mars_match.specs.Battles.{rotated, end_of, in_load_order, count_fault, unless, started, fought};
+ghost use Rattle.mars_match.specs.Code.Lineups.{HasRoom};
 ghost use Rattle.mars_core.specs.Start.{start_state, start_fault};
 ghost use Rattle.mars_core.specs.Limits.{most_warriors};
 
@@ -24,7 +25,7 @@ pub struct Lineup {
 impl Model for Lineup {
     ghost use Rattle.std.specs.Prelude.{◌≡◌, ◌++◌, List, take, length};
     ghost use Rattle.mars_cell.specs.Warriors.{WarriorValue};
-    ghost use Rattle.mars_match.specs.Battles.{IsTwice};
+    ghost use Rattle.mars_match.specs.Code.Lineups.{IsTwice};
 
     ghost Value = { List WarriorValue };
 

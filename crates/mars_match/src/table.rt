@@ -4,13 +4,9 @@ ghost use Rattle.mars_cell.specs.Warriors.{IsName};
 ghost use Rattle.mars_match.specs.Battles.{in_load_order};
 ghost use Rattle.mars_match.specs.Code.Tallies.{no_rounds as spec_no_rounds, added_if, all_added, IsOf};
 
-use crate::fault::MatchFault;
 use crate::fights::is_alive;
 use arrayvec::ArrayString;
-use mars_cell::Warrior;
 use mars_core::Battle;
-use redcode_text::ExprFault;
-use std::alloc::Global;
 use std::marker::Model;
 
 /// How one warrior fared in a match or a league.

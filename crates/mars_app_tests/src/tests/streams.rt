@@ -43,7 +43,7 @@ impl Write for Counted {
 #[test]
 fn a_fault_is_one_line_and_one_write(rt: HostRuntime) -> Result<(), Fail> {
     let alloc = rt.alloc();
-    let words = ["-b", "no\nsuch\x1b[1m file\x7f.red"];
+    let words = ["-b", "no\nsuch\x1b[1m file\x7f\u{80}\u{9f}\u{a0}.red"];
     let mut output = Vec::new(alloc);
     let mut faults = Counted {
         bytes: Vec::new(alloc),
@@ -52,7 +52,7 @@ fn a_fault_is_one_line_and_one_write(rt: HostRuntime) -> Result<(), Fail> {
     let status = run_over(alloc, &words, &mut b"".as_slice(), &mut output, &mut faults)?;
     assert_eq!(rt; status, 1);
     assert_eq!(rt; faults.writes, 1);
-    let line = b"mars: no?such?[1m file?.red: cannot read\n".as_slice();
+    let line = "mars: no?such?[1m file???\u{a0}.red: cannot read\n".as_bytes();
     assert!(rt; faults.bytes.as_slice() == line);
     Ok(())
 }

@@ -1,6 +1,6 @@
 use Rattle.std.proofs.Common.{◌≡◌, ◌-◌, All, length}
 use Rattle.std.specs.Prelude.{IfSome}
-use Rattle.mars_match.specs.Battles.{HasRoom}
+use Rattle.mars_match.specs.Code.Lineups.{HasRoom}
 use Rattle.mars_match.specs.Code.Tallies.{tallied, IsOf}
 use Rattle.mars_match.proofs.matches.play_rounds.Given as goal
 

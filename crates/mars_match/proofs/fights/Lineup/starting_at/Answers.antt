@@ -1,6 +1,7 @@
 use Rattle.std.proofs.Common.{◌≡◌, ◌≤◌, ◌∙◌, take, length, ap, arith}
 use Rattle.std.proofs.lemmas.List.{length-take-le}
-use Rattle.mars_match.specs.Battles.{rotated, IsTwice}
+use Rattle.mars_match.specs.Battles.{rotated}
+use Rattle.mars_match.specs.Code.Lineups.{IsTwice}
 use Rattle.mars_match.proofs.Rotations.{rotated_part}
 use Rattle.mars_match.proofs.fights.Lineup.starting_at.Goals as goal
 
