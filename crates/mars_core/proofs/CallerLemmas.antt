@@ -6,6 +6,7 @@ use Rattle.mars_core.specs.State.{State, moved_clock, live_from, advanced, queue
 use Rattle.mars_core.specs.Turn.{executed, turn_of}
 use Rattle.mars_core.specs.Edit.{left_of, killed, edited}
 use Rattle.mars_core.specs.Leads.{Leads}
+use Rattle.mars_core.specs.Record.{turns_of, applied}
 use Rattle.mars_core.specs.Shape.{SameShape}
 use Rattle.mars_core.specs.declared.record.Atom.{Atom}
 use Rattle.mars_core.specs.declared.battle.edit.Edit.{Edit}
@@ -79,6 +80,11 @@ shape-edited s (edit.SetCell a c) = record { params = refl; warriors = refl }
 shape-edited s (edit.MoveProcess w i a) = record { params = refl; warriors = length-set s.queues w _ }
 shape-edited s (edit.KillProcess w i) = shape-left_of s w (remove (queue_of s.queues w) i)
 shape-edited s (edit.Spawn w a) = record { params = refl; warriors = length-set s.queues w _ }
+
+-- a record adds its turns
+pub turns-applied : (atom : Atom) (s : State) → (applied atom s).turns ≡ s.turns + turns_of atom.work
+unfolding applied
+turns-applied atom s = refl
 
 -- a record leads to a state from only one
 pub one_before : (s t : State) (atom : Atom) (here : State) → Leads s atom here → Leads t atom here → s ≡ t

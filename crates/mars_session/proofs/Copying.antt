@@ -6,8 +6,8 @@ use Rattle.std.proofs.lemmas.List.{get_or-set_same, get_or-set_other, get_or_rea
 use Rattle.mars_core.specs.State.{State}
 use Rattle.mars_core.specs.Shape.{SameShape}
 use Rattle.mars_session.specs.declared.snapshots.Snapshot.{Snapshot}
-use Rattle.mars_session.specs.History.{position_of, following, marked, append, step_forward, forward}
-use Rattle.mars_session.specs.Code.Whole.{place_of, nowhere, snapshot_at, before_of, after_of, whole_history, IsWhole, IsGrown}
+use Rattle.mars_session.specs.History.{position_of, following, marked, append, back, step_forward, forward}
+use Rattle.mars_session.specs.Code.Whole.{place_of, nowhere, snapshot_at, turns_at, before_of, after_of, whole_history, IsWhole, IsGrown}
 
 before_length : (ks : List Snapshot) (n : ℕ) → length (before_of ks n) ≡ n
 before_length ks zero = refl
@@ -22,6 +22,14 @@ whole_position ks at len = before_length ks at
 
 pub whole_following : (ks : List Snapshot) (at len : ℕ) → following (whole_history ks at len) ≡ len - (at + 1)
 whole_following ks at len = after_length ks (at + 1) (len - (at + 1))
+
+-- the place before
+pub whole_back : (ks : List Snapshot) (at len : ℕ) → 0 < at → at < len → whole_history ks (at - 1) len ≡ back (whole_history ks at len)
+whole_back ks zero len l m = absurd (omega arith)
+whole_back ks (suc n) len l m =
+    let e : suc n - 1 ≡ n = omega arith in
+    let more : len - (n + 1) ≡ suc (len - (suc n + 1)) = omega arith in
+    rw (e, more, add-one n) refl
 
 -- copies that agree make the same places
 before_same : (ks js : List Snapshot) (n : ℕ) → ((k : ℕ) → k < n → snapshot_at js k ≡ snapshot_at ks k) → before_of js n ≡ before_of ks n
@@ -115,26 +123,28 @@ shape_set ks n i x u true e l h k =
     rw same (rw (get_or-set_same ks n x nowhere l) h)
 shape_set ks n i x u false e l h k = rw (get_or-set_other ks n i x nowhere (eqb-false i n e)) k
 
--- where the copy after the present one is made again, and the tape ends there, no place before has more turns
-rises_set : (ks : List Snapshot) (at len : ℕ) (x : Snapshot) → IsWhole ks at len → at + 1 < length ks → (snapshot_at ks at).battle.turns ≤ x.battle.turns
-    → (i j : ℕ) → i ≤ j → j < at + 1 + 1 → (snapshot_at (set ks (at + 1) x) i).battle.turns ≤ (snapshot_at (set ks (at + 1) x) j).battle.turns
-rises_set ks at len x w l h i j m n = by_place (nat_eq i (at + 1)) (nat_eq j (at + 1)) refl refl
+-- where the copy after the present one is made again, and the tape ends there, turns still rise by at most one
+rises_set : (ks : List Snapshot) (at len : ℕ) (x : Snapshot) → IsWhole ks at len → at + 1 < length ks → (turns_at ks at ≤ x.battle.turns) × (x.battle.turns ≤ turns_at ks at + 1)
+    → (i : ℕ) → i + 1 < at + 1 + 1 → (turns_at (set ks (at + 1) x) i ≤ turns_at (set ks (at + 1) x) (i + 1)) × (turns_at (set ks (at + 1) x) (i + 1) ≤ turns_at (set ks (at + 1) x) i + 1)
+rises_set ks at len x w l h i m = by_place (nat_eq i at) refl
   where
-    by_place : (a b : Bool) → nat_eq i (at + 1) ≡ a → nat_eq j (at + 1) ≡ b → (snapshot_at (set ks (at + 1) x) i).battle.turns ≤ (snapshot_at (set ks (at + 1) x) j).battle.turns
-    by_place true b e f = let here : i ≡ at + 1 = eqb-true i (at + 1) e in let same : j ≡ i = omega arith in rw same (omega arith)
-    by_place false true e f =
-        let differs : i ≢ at + 1 = eqb-false i (at + 1) e in
-        let last : j ≡ at + 1 = eqb-true j (at + 1) f in
-        let below = w.rises i at (omega arith) w.present in
-        rw (get_or-set_other ks (at + 1) i x nowhere differs, last, get_or-set_same ks (at + 1) x nowhere l) (omega (arith, below, h))
-    by_place false false e f =
-        let differs : i ≢ at + 1 = eqb-false i (at + 1) e in
-        let before : j ≢ at + 1 = eqb-false j (at + 1) f in
-        rw (get_or-set_other ks (at + 1) i x nowhere differs, get_or-set_other ks (at + 1) j x nowhere before) (w.rises i j m (omega (arith, w.present)))
+    by_place : (b : Bool) → nat_eq i at ≡ b → (turns_at (set ks (at + 1) x) i ≤ turns_at (set ks (at + 1) x) (i + 1)) × (turns_at (set ks (at + 1) x) (i + 1) ≤ turns_at (set ks (at + 1) x) i + 1)
+    by_place true e =
+        let last : i ≡ at = eqb-true i at e in
+        let here : turns_at (set ks (at + 1) x) i ≡ turns_at ks at = ap (λ (k : Snapshot). k.battle.turns) (get_or-set_other ks (at + 1) i x nowhere (omega (arith, m))) ∙ ap (turns_at ks) last in
+        let next : turns_at (set ks (at + 1) x) (i + 1) ≡ x.battle.turns =
+        ap (λ j. turns_at (set ks (at + 1) x) (j + 1)) last ∙ ap (λ (k : Snapshot). k.battle.turns) (get_or-set_same ks (at + 1) x nowhere l) in
+        (omega (arith, here, next, h.0), omega (arith, here, next, h.1))
+    by_place false e =
+        let differs : i ≢ at = eqb-false i at e in
+        let here : turns_at (set ks (at + 1) x) i ≡ turns_at ks i = ap (λ (k : Snapshot). k.battle.turns) (get_or-set_other ks (at + 1) i x nowhere (omega (arith, m))) in
+        let next : turns_at (set ks (at + 1) x) (i + 1) ≡ turns_at ks (i + 1) = ap (λ (k : Snapshot). k.battle.turns) (get_or-set_other ks (at + 1) (i + 1) x nowhere (omega (arith, differs, m))) in
+        let one = w.rises i (omega (arith, differs, m, w.present)) in
+        (omega (arith, here, next, one.0), omega (arith, here, next, one.1))
 
--- the tape stands at the copy after the present one, which has the same shape and no fewer turns
+-- the tape stands at the copy after the present one, which has the same shape, and as many turns or one more
 pub whole_more : (ks : List Snapshot) (at len : ℕ) (s : State) → IsWhole ks at len → at + 1 < length ks → SameShape s (snapshot_at ks at).battle
-    → (snapshot_at ks at).battle.turns ≤ s.turns
+    → (turns_at ks at ≤ s.turns) × (s.turns ≤ turns_at ks at + 1)
     → IsWhole (set ks (at + 1) (record { battle = s; mark = false })) (at + 1) (at + 1 + 1)
 whole_more ks at len s w l h more =
     let x : Snapshot = record { battle = s; mark = false } in

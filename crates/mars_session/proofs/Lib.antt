@@ -2,6 +2,7 @@ pub mod Appending
 pub mod Arriving
 pub mod Between
 pub mod Copying
+pub mod Ends
 pub mod Few
 pub mod Forgetting
 pub mod Keeping

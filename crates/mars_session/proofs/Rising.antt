@@ -1,56 +1,64 @@
--- Turns never fall along a tape, so no place before one with fewer than so many turns is the first with as many.
-use Rattle.std.proofs.Common.{◌≡◌, ◌≢◌, ℕ, zero, suc, ◌+◌, ◌<◌, ◌≤◌, inl, inr, Bool, List, [], ◌∷◌, refl, ap, ◌∙◌, arith, ne_eqb}
-use Rattle.std.specs.Prelude.{All}
-use Rattle.std.proofs.lemmas.List.Elements.{All-nil, All-cons, All-head, All-tail}
+-- Turns never fall along a tape, and rise by at most one a place.
+use Rattle.std.proofs.Common.{◌≡◌, ℕ, zero, suc, ◌+◌, ◌-◌, ◌<◌, ◌≤◌, inl, inr, Bool, List, length, refl, ap, sym, subst, ◌∙◌, arith, add-one}
 use Rattle.mars_core.specs.State.{State}
 use Rattle.mars_core.specs.Leads.{Leads}
-use Rattle.mars_core.specs.Record.{reverted}
+use Rattle.mars_core.specs.Record.{applied}
 use Rattle.mars_core.specs.declared.record.Atom.{Atom}
 use Rattle.mars_core.proofs.CallerLemmas.{turns-turn_of, turns-edited}
 use Rattle.mars_session.specs.declared.snapshots.Snapshot.{Snapshot}
-use Rattle.mars_session.specs.History.{Place, History, rewound_from, first_at_turn_from, first_at_turn, goto}
-use Rattle.mars_session.specs.Tapes.{TurnsNeverFell}
-use Rattle.mars_session.specs.Code.Journals.{entry_at, mark_at, journal_before, LeadHere}
-use Rattle.mars_session.specs.Code.Whole.{place_of, snapshot_at, before_of, whole_history, IsWhole}
+use Rattle.mars_session.specs.History.{Place, History, rewound, forward, last_place, first_turns, last_turns}
+use Rattle.mars_session.specs.Tapes.{RisesFrom, TurnsRise}
+use Rattle.mars_session.specs.Code.Journals.{entry_at, journal_after, journal_history, LeadOn, IsJournal}
+use Rattle.mars_session.specs.Code.Whole.{place_of, snapshot_at, turns_at, after_of, whole_history, IsWhole}
+use Rattle.mars_session.proofs.Copying.{whole_forward}
+use Rattle.mars_session.proofs.Stepping.{from_first}
+use Rattle.mars_session.proofs.Walking.{rewound_forward, last_turns_rewound}
 
--- a record leads to as many turns or more
-leads_turns : (s t : State) (a : Atom) → Leads s a t → s.turns ≤ t.turns
-leads_turns s t a (inl h) = let more : t.turns ≡ s.turns + 1 = ap (λ (x : State). x.turns) h.state_is ∙ turns-turn_of s in omega (arith, more)
-leads_turns s t a (inr h) = let same : t.turns ≡ s.turns = ap (λ (x : State). x.turns) h.state_is ∙ turns-edited s h.edit in omega (arith, same)
+-- the turns from a state on
+abbrev Rise : State → List Place → Type 0
+Rise s ps = RisesFrom (λ (t : State). t.turns) s ps
 
--- what is at most m is at most n
-at_most_more : (m n : ℕ) (ps : List Place) → m ≤ n → All (λ (p : Place). p.state.turns ≤ m) ps → All (λ (p : Place). p.state.turns ≤ n) ps
-at_most_more m n [] l a = All-nil (λ (p : Place). p.state.turns ≤ n)
-at_most_more m n (p ∷ ps) l a =
-    All-cons (λ (q : Place). q.state.turns ≤ n) p ps (omega (arith, All-head (λ (q : Place). q.state.turns ≤ m) p ps a))
-    (at_most_more m n ps l (All-tail (λ (q : Place). q.state.turns ≤ m) p ps a))
+-- a record leads to as many turns, or to one more
+pub leads_turns : (s t : State) (a : Atom) → Leads s a t → (s.turns ≤ t.turns) × (t.turns ≤ s.turns + 1)
+leads_turns s t a (inl h) = let more : t.turns ≡ s.turns + 1 = ap (λ (x : State). x.turns) h.state_is ∙ turns-turn_of s in (omega (arith, more), omega (arith, more))
+leads_turns s t a (inr h) = let same : t.turns ≡ s.turns = ap (λ (x : State). x.turns) h.state_is ∙ turns-edited s h.edit in (omega (arith, same), omega (arith, same))
 
--- no place before has more turns, where records lead to the present one
-pub journal_rises : (first : Bool) (es : List (Atom × Bool)) (n : ℕ) (s : State) → LeadHere es n s → All (λ (p : Place). p.state.turns ≤ s.turns) (journal_before first es n s)
-journal_rises first es zero s d = All-nil (λ (p : Place). p.state.turns ≤ s.turns)
-journal_rises first es (suc n) s d =
-    let t : State = reverted (entry_at es n).0 s in
-    let fewer : t.turns ≤ s.turns = leads_turns t s (entry_at es n).0 d.0 in
-    All-cons (λ (p : Place). p.state.turns ≤ s.turns) (record { state = t; mark = mark_at first es n }) (journal_before first es n t) fewer
-    (at_most_more t.turns s.turns (journal_before first es n t) fewer (journal_rises first es n t d.1))
+on_rises : (es : List (Atom × Bool)) (from n : ℕ) (s : State) → LeadOn es from n s → Rise s (journal_after es from n s)
+on_rises es from zero s d = tt
+on_rises es from (suc n) s d =
+    let t : State = applied (entry_at es from).0 s in
+    let one = leads_turns s t (entry_at es from).0 d.0 in (one.0, one.1, on_rises es (from + 1) n t d.1)
 
--- and where they are whole copies
-copies_at_most : (ks : List Snapshot) (n m : ℕ) → ((i : ℕ) → i < n → (snapshot_at ks i).battle.turns ≤ m) → All (λ (p : Place). p.state.turns ≤ m) (before_of ks n)
-copies_at_most ks zero m h = All-nil (λ (p : Place). p.state.turns ≤ m)
-copies_at_most ks (suc n) m h =
-    All-cons (λ (p : Place). p.state.turns ≤ m) (place_of (snapshot_at ks n)) (before_of ks n) (h n (omega arith)) (copies_at_most ks n m (λ i l. h i (omega arith)))
+pub journal_rises : (first : Bool) (es : List (Atom × Bool)) (at : ℕ) (s : State) → IsJournal es at s → TurnsRise (journal_history first es at s)
+journal_rises first es at s d =
+    let all = from_first first es at s d in
+    subst (λ (h : History). Rise h.present.state h.after) (sym all.same) (on_rises es 0 (length es - 0) all.start all.journal.on)
 
-pub whole_rises : (ks : List Snapshot) (at len : ℕ) → IsWhole ks at len → TurnsNeverFell (whole_history ks at len)
-whole_rises ks at len w = copies_at_most ks at (snapshot_at ks at).battle.turns (λ i l. w.rises i at (omega arith) w.present)
+-- whole copies, from the first
+whole_rewound : (ks : List Snapshot) (at len : ℕ) → at < len → rewound (whole_history ks at len) ≡ whole_history ks 0 len
+whole_rewound ks zero len l = refl
+whole_rewound ks (suc n) len l =
+    let on : whole_history ks (suc n) len ≡ forward (whole_history ks n len) = ap (λ k. whole_history ks k len) (sym (add-one n)) ∙ whole_forward ks n len (omega arith) in
+    ap rewound on ∙ rewound_forward (whole_history ks n len) ∙ whole_rewound ks n len (omega arith)
 
--- the first place after t turns is none of those before, each of which has fewer
-none_before_from : (t n : ℕ) (before : List Place) (p : Place) (after : List Place) → n < t → All (λ (q : Place). q.state.turns ≤ n) before
-    → first_at_turn t (rewound_from before p after) ≡ first_at_turn_from t before p after
-none_before_from t n [] p after l a = refl
-none_before_from t n (b ∷ before) p after l a =
-    let here = All-head (λ (q : Place). q.state.turns ≤ n) b before a in
-    let differs : b.state.turns ≢ t = λ e. absurd (omega (arith, here, e)) in
-    none_before_from t n before b (p ∷ after) l (All-tail (λ (q : Place). q.state.turns ≤ n) b before a) ∙ rw (ne_eqb b.state.turns t differs) refl
+copies_rise : (ks : List Snapshot) (at len from n : ℕ) → IsWhole ks at len → from + n < len → Rise (snapshot_at ks from).battle (after_of ks (from + 1) n)
+copies_rise ks at len from zero w l = tt
+copies_rise ks at len from (suc n) w l =
+    let one = w.rises from (omega arith) in (one.0, one.1, copies_rise ks at len (from + 1) n w (omega arith))
 
-pub none_before : (t : ℕ) (h : History) → TurnsNeverFell h → h.present.state.turns < t → goto t h ≡ first_at_turn t h
-none_before t h a l = none_before_from t h.present.state.turns h.before h.present h.after l a
+pub whole_rises : (ks : List Snapshot) (at len : ℕ) → IsWhole ks at len → TurnsRise (whole_history ks at len)
+whole_rises ks at len w =
+    subst (λ (h : History). Rise h.present.state h.after) (sym (whole_rewound ks at len w.present)) (copies_rise ks at len 0 (len - (0 + 1)) w (omega (arith, w.present)))
+
+pub whole_first : (ks : List Snapshot) (at len : ℕ) → at < len → first_turns (whole_history ks at len) ≡ turns_at ks 0
+whole_first ks at len l = ap (λ (h : History). h.present.state.turns) (whole_rewound ks at len l)
+
+last_copy : (ks : List Snapshot) (from n : ℕ) → last_place (place_of (snapshot_at ks from)) (after_of ks (from + 1) n) ≡ place_of (snapshot_at ks (from + n))
+last_copy ks from zero = let same : from + 0 ≡ from = omega arith in rw same refl
+last_copy ks from (suc n) = let same : from + suc n ≡ from + 1 + n = omega arith in rw same (last_copy ks (from + 1) n)
+
+pub whole_last : (ks : List Snapshot) (at len : ℕ) → at < len → last_turns (whole_history ks at len) ≡ turns_at ks (len - 1)
+whole_last ks at len l =
+    let last : 0 + (len - (0 + 1)) ≡ len - 1 = omega arith in
+    sym (last_turns_rewound (whole_history ks at len)) ∙ ap last_turns (whole_rewound ks at len l)
+    ∙ ap (λ (p : Place). p.state.turns) (last_copy ks 0 (len - (0 + 1))) ∙ ap (turns_at ks) last

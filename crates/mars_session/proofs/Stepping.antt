@@ -222,12 +222,12 @@ leads_after es from (suc n) s mark (suc i) l d =
     rw e (leads_after es (from + 1) n (applied (entry_at es from).0 s) (entry_at es from).1 i (omega arith) d.1)
 
 -- the same places, from the first
-record FromFirst (first : Bool) (es : List (Atom × Bool)) (at : ℕ) (s : State) : Type 0 where
-  start : State
-  journal : IsJournal es 0 start
-  same : rewound (journal_history first es at s) ≡ journal_history first es 0 start
+pub record FromFirst (first : Bool) (es : List (Atom × Bool)) (at : ℕ) (s : State) : Type 0 where
+  pub start : State
+  pub journal : IsJournal es 0 start
+  pub same : rewound (journal_history first es at s) ≡ journal_history first es 0 start
 
-from_first : (first : Bool) (es : List (Atom × Bool)) (at : ℕ) (s : State) → IsJournal es at s → FromFirst first es at s
+pub from_first : (first : Bool) (es : List (Atom × Bool)) (at : ℕ) (s : State) → IsJournal es at s → FromFirst first es at s
 from_first first es zero s d = record { start = s; journal = d; same = refl }
 from_first first es (suc n) s d =
     let e : suc n - 1 ≡ n = omega arith in

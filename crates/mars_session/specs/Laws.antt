@@ -12,7 +12,7 @@ use Rattle.mars_session.specs.declared.calls.Refusal.TheVariants.{JournalFull, O
 use Rattle.mars_session.specs.History.{Place, History, beginning, places, position_of, last_of, accepted, undo, redo, goto, first_turns, last_turns}
 use Rattle.mars_session.specs.Memory.{Memory, never}
 use Rattle.mars_session.specs.Commands.{States, step_states, run_states, in_cycle, until_states, edit_states, fill_states}
-use Rattle.mars_session.specs.Tapes.{Steps, IsTape, IsTapeOf}
+use Rattle.mars_session.specs.Tapes.{Steps, IsTape, IsTapeOf, RisesFrom}
 use Rattle.mars_session.specs.Script.{outcome, replies_of, history_after, memory_after, first, rest}
 
 -- a move so many times, where each time it is accepted
@@ -150,11 +150,7 @@ ScriptsForgetTapes = (k : ℕ) (forgotten : Bool) (limit : ℕ) (calls : List Ca
 abbrev pub PlacesAreValid : Type 0
 PlacesAreValid = (h : History) → Steps h → All (λ (p : Place). IsValid p.state) (places h)
 
--- a number never falls from a state along the places, and rises by at most one a place
-abbrev pub RisesFrom : (State → ℕ) → State → List Place → Type 0
-RisesFrom number s [] = Unit {0}
-RisesFrom number s (p ∷ ps) = (number s ≤ number p.state) × (number p.state ≤ number s + 1) × RisesFrom number p.state ps
-
+-- a number never falls along the places, and rises by at most one a place
 abbrev pub RisesAlong : (State → ℕ) → List Place → Type 0
 RisesAlong number [] = Unit {0}
 RisesAlong number (p ∷ ps) = RisesFrom number p.state ps

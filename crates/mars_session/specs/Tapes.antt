@@ -1,5 +1,5 @@
 -- What a tape is seen as, and which histories come about: each place but the first is one turn or edit after the one before it.
-use Rattle.std.specs.Prelude.{All, ◌≡◌, ◌≤◌, ℕ, zero, suc, Bool, true, false, List, [], ◌∷◌, None, ◌⊎◌}
+use Rattle.std.specs.Prelude.{◌≡◌, ◌≤◌, ◌+◌, ℕ, zero, suc, Bool, true, false, List, [], ◌∷◌, None, ◌⊎◌}
 use Rattle.mars_core.specs.State.{State, is_over_of}
 use Rattle.mars_core.specs.Turn.{turn_of}
 use Rattle.mars_core.specs.Edit.{edit_fault, edited}
@@ -51,9 +51,14 @@ pub record IsTapeOf (n : ℕ) (h : History) : Type 0 where
   pub last : (last_place h.present h.after).mark ≡ true
   pub within : last_of h ≤ n
 
--- no place before the present one has more turns
-abbrev pub TurnsNeverFell : History → Type 0
-TurnsNeverFell h = All (λ (p : Place). p.state.turns ≤ h.present.state.turns) h.before
+-- a number never falls from a state along the places, and rises by at most one a place
+abbrev pub RisesFrom : (State → ℕ) → State → List Place → Type 0
+RisesFrom number s [] = Unit {0}
+RisesFrom number s (p ∷ ps) = (number s ≤ number p.state) × (number p.state ≤ number s + 1) × RisesFrom number p.state ps
+
+-- so do the turns from the first place on
+abbrev pub TurnsRise : History → Type 0
+TurnsRise h = RisesFrom (λ (s : State). s.turns) (rewound h).present.state (rewound h).after
 
 -- the record leads from the i-th place, where p is place 0 and the others follow, to the one after it
 abbrev pub LeadsFrom : Place → List Place → ℕ → Atom → Type 0

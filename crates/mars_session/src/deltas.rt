@@ -11,24 +11,26 @@ use std::alloc::{AllocError, Global};
 use std::marker::Model;
 
 /// A tape that keeps the battle of the present place alone, and for each place after the first the record that leads to it,
-/// with its mark. The first place is always marked.
+/// with its mark; and how many turns the first and the last place have. The first place is always marked.
 #[derive(Drop)]
 pub struct DeltaTape {
     battle: Battle,
     entries: Vec<(Atom, bool)>,
     at: usize,
+    first_turns: u32,
+    last_turns: u32,
 }
 
 impl Model for DeltaTape {
     ghost use Rattle.std.specs.Prelude.{◌-◌, true, vec_capacity};
     ghost use Rattle.mars_session.specs.Tapes.{Taped};
-    ghost use Rattle.mars_session.specs.Code.Journals.{IsJournal, journal_history};
+    ghost use Rattle.mars_session.specs.Code.Journals.{IsJournal, HasEnds, journal_history};
 
     ghost Value = { Taped };
 
     ghost view = { λ t. record { history = journal_history true t.entries.items t.at t.battle; room = vec_capacity t.entries - t.at } };
 
-    ghost invariant = { λ t. IsJournal t.entries.items t.at t.battle };
+    ghost invariant = { λ t. IsJournal t.entries.items t.at t.battle × HasEnds (journal_history true t.entries.items t.at t.battle) t.first_turns t.last_turns };
 }
 
 impl DeltaTape {
@@ -37,10 +39,13 @@ impl DeltaTape {
         ensures history { MatchResult result (λ t. t.history ≡ beginning battle) (λ b. b ≡ battle) }
         ensures never { IsOk result }
     {
+        let turns = battle.turns();
         Ok(DeltaTape {
             battle,
             entries: Vec::new(alloc),
             at: 0,
+            first_turns: turns,
+            last_turns: turns,
         })
     }
 
@@ -82,6 +87,14 @@ impl Tape for DeltaTape {
         self.entries.len() as u64 + 1
     }
 
+    fn first_turns(&self) -> u64 {
+        self.first_turns as u64
+    }
+
+    fn last_turns(&self) -> u64 {
+        self.last_turns as u64
+    }
+
     fn is_marked(&self) -> bool {
         if self.at == 0 {
             return true;
@@ -107,6 +120,7 @@ impl Tape for DeltaTape {
 
     fn cut(&mut self) {
         self.entries.truncate(self.at);
+        self.last_turns = self.battle.turns();
     }
 
     fn turn(&mut self) {
@@ -115,6 +129,7 @@ impl Tape for DeltaTape {
         };
         self.entries.push_reserved((atom, false));
         self.at += 1;
+        self.last_turns = self.battle.turns();
     }
 
     fn edit(&mut self, edit: Edit) {
@@ -123,6 +138,7 @@ impl Tape for DeltaTape {
         };
         self.entries.push_reserved((atom, false));
         self.at += 1;
+        self.last_turns = self.battle.turns();
     }
 
     fn back(&mut self) {

@@ -1,5 +1,5 @@
 //! The moves to places that are in the history, over any tape.
-ghost use Rattle.std.specs.Prelude.{◌≡◌, ◌<◌, ◌≤◌, true, false, None, Some, IfSome};
+ghost use Rattle.std.specs.Prelude.{◌≡◌, ◌<◌, ◌≤◌, true, false, Some, IsSome, is_some};
 ghost use Rattle.mars_session.specs.History.{position_of, last_of, rewound, undo, redo, goto, first_at_turn, first_turns as turns_of_first, last_turns};
 ghost use Rattle.mars_session.specs.Script.{moved, no_undo};
 
@@ -29,20 +29,6 @@ fn go_on<T: Tape>(tape: &mut T, position: u64)
 {
     'on: while tape.position() < position {
         tape.forward();
-    }
-}
-
-/// Goes to the place of this number.
-fn go_to<T: Tape>(tape: &mut T, position: u64)
-    requires { position ≤ last_of (T.history tape.old) }
-    ensures places { rewound (T.history tape.new) ≡ rewound (T.history tape.old) }
-    ensures position { position_of (T.history tape.new) ≡ position }
-    ensures memory { T.memory tape.new ≡ T.memory tape.old }
-{
-    if tape.position() > position {
-        go_back(tape, position);
-    } else {
-        go_on(tape, position);
     }
 }
 
@@ -103,63 +89,45 @@ fn may_lie_before<T: Tape>(tape: &T, turns: u64) -> bool
     tape.position() > 0 && turns_now(tape) >= turns
 }
 
-/// Goes back until the first place after so many turns doesn't lie before. It tells the turns of the first place of all where
-/// it came to that.
-fn go_before<T: Tape>(tape: &mut T, turns: u64) -> Option<u64>
+/// Goes back until the first place after so many turns doesn't lie before.
+fn go_before<T: Tape>(tape: &mut T, turns: u64)
     ensures places { rewound (T.history tape.new) ≡ rewound (T.history tape.old) }
     ensures sought { first_at_turn turns (T.history tape.new) ≡ goto turns (T.history tape.old) }
-    ensures first { IfSome result (λ first. first ≡ turns_of_first (T.history tape.old)) }
     ensures memory { T.memory tape.new ≡ T.memory tape.old }
 {
     'back: while may_lie_before(tape, turns) {
         tape.back();
     }
-    if tape.position() > 0 {
-        return None;
-    }
-    Some(turns_now(tape))
 }
 
-/// Goes on to the first place after so many turns, the present one included, or to the last place; it tells whether there is
-/// such a place.
-fn find_on<T: Tape>(tape: &mut T, turns: u64) -> bool
-    ensures places { rewound (T.history tape.new) ≡ rewound (T.history tape.old) }
-    ensures found { result ≡ true → first_at_turn turns (T.history tape.old) ≡ Some (T.history tape.new) }
-    ensures none { result ≡ false → first_at_turn turns (T.history tape.old) ≡ None }
-    ensures last { result ≡ false → (T.history tape.new).present.state.turns ≡ last_turns (T.history tape.old) }
+/// Goes on to the first place after so many turns, the present one included. There must be one.
+fn find_on<T: Tape>(tape: &mut T, turns: u64)
+    requires { IsSome (first_at_turn turns (T.history tape.old)) }
+    ensures found { first_at_turn turns (T.history tape.old) ≡ Some (T.history tape.new) }
     ensures memory { T.memory tape.new ≡ T.memory tape.old }
 {
-    'on: while turns_now(tape) != turns && tape.position() < tape.len() - 1 {
+    'on: while turns_now(tape) != turns {
         tape.forward();
     }
-    turns_now(tape) == turns
 }
 
-/// The turns of the first place. It goes there, unless they are known.
-fn first_turns<T: Tape>(tape: &mut T, known: Option<u64>) -> u64
-    requires { IfSome known (λ first. first ≡ turns_of_first (T.history tape.old)) }
-    ensures value { result ≡ turns_of_first (T.history tape.old) }
-    ensures places { rewound (T.history tape.new) ≡ rewound (T.history tape.old) }
-    ensures memory { T.memory tape.new ≡ T.memory tape.old }
+/// Whether there is a place after so many turns: where they lie between those of both ends, since turns rise by at most one a
+/// place.
+#[tactic(auto, using(crate::proofs::Between::met_past))]
+fn is_met<T: Tape>(tape: &T, turns: u64) -> bool
+    ensures { result ≡ is_some (goto turns (T.history tape.now)) }
 {
-    if let Some(first) = known {
-        return first;
-    }
-    go_back(tape, 0);
-    turns_now(tape)
+    turns <= tape.last_turns() && tape.first_turns() <= turns
 }
 
 /// To the first place after so many turns: back as far as it may lie, and then on.
 pub fn goto<T: Tape>(tape: &mut T, turns: u64) -> Result<Standing, Refusal>
     ensures { moved (T.memory tape.old) (T.history tape.old) (Refusal.NotInHistory (turns_of_first (T.history tape.old)) (last_turns (T.history tape.old))) (goto turns (T.history tape.old)) ≡ record { history = T.history tape.new; memory = T.memory tape.new; reply = result } }
 {
-    let start = tape.position();
-    let known = go_before(tape, turns);
-    if find_on(tape, turns) {
-        return Ok(standing(tape));
+    if !is_met(tape, turns) {
+        return Err(Refusal::NotInHistory(tape.first_turns(), tape.last_turns()));
     }
-    let last = turns_now(tape);
-    let first = first_turns(tape, known);
-    go_to(tape, start);
-    Err(Refusal::NotInHistory(first, last))
+    go_before(tape, turns);
+    find_on(tape, turns);
+    Ok(standing(tape))
 }

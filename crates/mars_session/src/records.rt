@@ -1,11 +1,12 @@
 //! The records between the places of a tape that forgets.
 ghost use Rattle.std.specs.Prelude.{◌≡◌, ◌+◌, ◌-◌, ◌<◌, ◌≤◌, ◌||◌, ◌++◌, [], ◌∷◌, IfOk, length, slice_set, nat_lt, true, false, if◌then◌else◌};
 ghost use Rattle.circular_buffer.specs.Buffer.{buffer, keep_last};
+ghost use Rattle.mars_core.specs.Record.{turns_of as spec_turns_of};
 ghost use Rattle.mars_session.specs.Limits.{longest_history};
 ghost use Rattle.mars_session.specs.Code.Journals.{entry_at, mark_at};
 
 use circular_buffer::HeapCircularBuffer;
-use mars_core::Atom;
+use mars_core::{Atom, turns_of};
 use std::alloc::{AllocError, Global};
 
 /// The records between at most so many places and one more, each with the mark of the place that it leads to. Room for all of
@@ -20,18 +21,24 @@ pub struct Records {
     pub first_mark: bool,
     /// Whether a place was ever forgotten.
     pub forgotten: bool,
+    /// How many turns the first place has.
+    pub first_turns: u32,
+    /// How many turns the last place has.
+    pub last_turns: u32,
 }
 
 impl Records {
-    /// No record, and room for so many, after a first place that is marked.
-    pub fn with_room(alloc: Global, most: usize) -> Result<Records, AllocError>
-        ensures { IfOk result (λ r. r ≡ record { ring = buffer [] most; at = 0; first_mark = true; forgotten = false }) }
+    /// No record, and room for so many, after a first place that is marked and has so many turns.
+    pub fn with_room(alloc: Global, most: usize, turns: u32) -> Result<Records, AllocError>
+        ensures { IfOk result (λ r. r ≡ record { ring = buffer [] most; at = 0; first_mark = true; forgotten = false; first_turns = turns; last_turns = turns }) }
     {
         Ok(Records {
             ring: HeapCircularBuffer::with_capacity(alloc, most)?,
             at: 0,
             first_mark: true,
             forgotten: false,
+            first_turns: turns,
+            last_turns: turns,
         })
     }
 
@@ -54,6 +61,8 @@ impl Records {
         requires { self.old.at ≤ length self.old.ring.items }
         ensures at { self.new.at ≡ self.old.at }
         ensures forgotten { self.new.forgotten ≡ self.old.forgotten }
+        ensures first_turns { self.new.first_turns ≡ self.old.first_turns }
+        ensures last_turns { self.new.last_turns ≡ self.old.last_turns }
         ensures first_mark { self.new.first_mark ≡ (if nat_lt 0 self.old.at then self.old.first_mark else true) }
         ensures ring { self.new.ring ≡ (if nat_lt 0 self.old.at then buffer (slice_set self.old.ring.items (self.old.at - 1) ((entry_at self.old.ring.items (self.old.at - 1)).0, true)) self.old.ring.capacity else self.old.ring) }
     {
@@ -90,23 +99,28 @@ impl Records {
         }
     }
 
-    /// Appends a record to the last place, which leads to the present one from then on. Where there is no room for it, the
-    /// first place is forgotten.
-    pub fn push(&mut self, atom: Atom)
+    /// Appends a record to the last place, which leads to a present one of so many turns from then on. Where there is no room for
+    /// it, the first place is forgotten.
+    pub fn push(&mut self, atom: Atom, turns: u32)
         requires last { self.old.at ≡ length self.old.ring.items }
         requires some { 1 ≤ self.old.ring.capacity }
         requires few { self.old.ring.capacity ≤ longest_history }
         requires within { length self.old.ring.items ≤ self.old.ring.capacity }
+        requires turns { self.old.first_turns + spec_turns_of (entry_at self.old.ring.items 0).0.work ≤ turns }
         ensures ring { self.new.ring ≡ buffer (keep_last self.old.ring.capacity (self.old.ring.items ++ (atom, false) ∷ [])) self.old.ring.capacity }
         ensures at { self.new.at ≡ (if nat_lt self.old.at self.old.ring.capacity then self.old.at + 1 else self.old.at) }
         ensures first_mark { self.new.first_mark ≡ (if nat_lt self.old.at self.old.ring.capacity then self.old.first_mark else (entry_at self.old.ring.items 0).1) }
         ensures forgotten { self.new.forgotten ≡ (self.old.forgotten || nat_lt self.old.ring.capacity (self.old.at + 1)) }
+        ensures first_turns { self.new.first_turns ≡ (if nat_lt self.old.at self.old.ring.capacity then self.old.first_turns else self.old.first_turns + spec_turns_of (entry_at self.old.ring.items 0).0.work) }
+        ensures last_turns { self.new.last_turns ≡ turns }
     {
+        self.last_turns = turns;
         match self.ring.push_back((atom, false)) {
             None => self.at += 1,
             Some(oldest) => {
                 self.first_mark = oldest.1;
                 self.forgotten = true;
+                self.first_turns += turns_of(oldest.0.work);
             }
         }
     }

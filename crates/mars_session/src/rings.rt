@@ -20,13 +20,13 @@ pub struct RingTape {
 
 impl Model for RingTape {
     ghost use Rattle.mars_session.specs.Tapes.{Ringed};
-    ghost use Rattle.mars_session.specs.Code.Journals.{journal_history, IsRing};
+    ghost use Rattle.mars_session.specs.Code.Journals.{journal_history, IsRing, HasEnds};
 
     ghost Value = { Ringed };
 
     ghost view = { λ t. record { history = journal_history t.records.first_mark t.records.ring.items t.records.at t.battle; most = t.records.ring.capacity; forgotten = t.records.forgotten } };
 
-    ghost invariant = { λ t. IsRing t.records.ring.items t.records.ring.capacity t.records.at t.battle };
+    ghost invariant = { λ t. IsRing t.records.ring.items t.records.ring.capacity t.records.at t.battle × HasEnds (journal_history t.records.first_mark t.records.ring.items t.records.at t.battle) t.records.first_turns t.records.last_turns };
 }
 
 impl RingTape {
@@ -37,7 +37,7 @@ impl RingTape {
         requires few { most ≤ longest_history }
         ensures { MatchResult result (λ t. t ≡ record { history = beginning battle; most = most; forgotten = false }) (λ b. b ≡ battle) }
     {
-        match Records::with_room(alloc, most) {
+        match Records::with_room(alloc, most, battle.turns()) {
             Ok(records) => Ok(RingTape { battle, records }),
             Err(_) => Err(battle),
         }
@@ -71,6 +71,14 @@ impl Tape for RingTape {
         self.records.ring.len() as u64 + 1
     }
 
+    fn first_turns(&self) -> u64 {
+        self.records.first_turns as u64
+    }
+
+    fn last_turns(&self) -> u64 {
+        self.records.last_turns as u64
+    }
+
     fn is_marked(&self) -> bool {
         self.records.is_marked()
     }
@@ -89,20 +97,21 @@ impl Tape for RingTape {
 
     fn cut(&mut self) {
         self.records.ring.truncate_back(self.records.at);
+        self.records.last_turns = self.battle.turns();
     }
 
     fn turn(&mut self) {
         let Ok(atom) = self.battle.turn() else {
             unreachable!()
         };
-        self.records.push(atom);
+        self.records.push(atom, self.battle.turns());
     }
 
     fn edit(&mut self, edit: Edit) {
         let Ok(atom) = self.battle.edit(edit) else {
             unreachable!()
         };
-        self.records.push(atom);
+        self.records.push(atom, self.battle.turns());
     }
 
     fn back(&mut self) {

@@ -155,8 +155,8 @@ impl<T: Tape> Session<T> {
         moves::redo(&mut self.tape)
     }
 
-    /// Goes to the first place after so many turns, over no more places than lie on the way and one; or answers `NotInHistory`,
-    /// after a look at both ends.
+    /// Goes to the first place after so many turns, over no more places than lie on the way and one; or answers `NotInHistory`
+    /// with the turns of the first and of the last place, and goes nowhere.
     pub fn goto(&mut self, turns: u64) -> Result<Standing, Refusal>
         ensures { Answers self.old (Call.Goto turns) result self.new }
     {

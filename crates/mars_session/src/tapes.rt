@@ -3,9 +3,9 @@ ghost use Rattle.std.specs.Prelude.{◌≡◌, ℕ, ◌+◌, ◌^◌, ◌≤◌,
 ghost use Rattle.mars_core.specs.State.{is_over_of};
 ghost use Rattle.mars_core.specs.Turn.{turn_of};
 ghost use Rattle.mars_core.specs.Edit.{edit_fault, edited};
-ghost use Rattle.mars_session.specs.History.{History, position_of, last_of, following, marked, cut, append, back, forward};
+ghost use Rattle.mars_session.specs.History.{History, position_of, last_of, following, marked, cut, append, back, forward, first_turns, last_turns};
 ghost use Rattle.mars_session.specs.Memory.{Memory, kept, noted};
-ghost use Rattle.mars_session.specs.Tapes.{TurnsNeverFell};
+ghost use Rattle.mars_session.specs.Tapes.{TurnsRise};
 
 use mars_core::{Battle, Edit};
 use std::alloc::AllocError;
@@ -32,15 +32,24 @@ pub trait Tape {
         ensures { result.now ≡ (history self.now).present.state };
 
     /// The present place's number, counted from 0. The room is never less than the number of places that follow, and no place
-    /// before has more turns.
+    /// has fewer turns than the one before.
     fn position(&self) -> u64
         ensures value { result ≡ position_of (history self.now) }
         ensures covers { following (history self.now) ≤ room self.now }
-        ensures rises { TurnsNeverFell (history self.now) };
+        ensures rises { TurnsRise (history self.now) };
 
     /// How many places there are.
     fn len(&self) -> u64
         ensures { result ≡ last_of (history self.now) + 1 };
+
+    /// How many turns the first place has.
+    fn first_turns(&self) -> u64
+        ensures { result ≡ first_turns (history self.now) };
+
+    /// How many turns the last place has. Each place has as many as the one before, or one more.
+    fn last_turns(&self) -> u64
+        ensures value { result ≡ last_turns (history self.now) }
+        ensures rises { TurnsRise (history self.now) };
 
     /// Whether the present place is marked.
     fn is_marked(&self) -> bool

@@ -159,6 +159,14 @@ impl Tape for WholeTape {
         self.len as u64
     }
 
+    fn first_turns(&self) -> u64 {
+        self.copies[0].battle.turns() as u64
+    }
+
+    fn last_turns(&self) -> u64 {
+        self.copies[self.len - 1].battle.turns() as u64
+    }
+
     fn is_marked(&self) -> bool {
         self.copies[self.at].mark
     }

@@ -19,7 +19,7 @@ impl ProcessQueue {
     }
 
     /// Takes the process at a place out, and gives the address that it stood at. Only where it stands neither at the front nor
-    /// at the end do the others go round.
+    /// at the end do others move.
     pub fn remove(&mut self, place: usize) -> u32
         requires { place < length self.old.addresses }
         ensures address { result ≡ slice_index self.old.addresses place }
@@ -34,21 +34,17 @@ impl ProcessQueue {
         }
     }
 
-    /// Takes the process at a place out, while the others go round once.
+    /// Takes the process at a place out, by the end.
     fn take_between(&mut self, place: usize) -> u32
         requires { place < length self.old.addresses }
         ensures address { result ≡ slice_index self.old.addresses place }
         ensures queue { self.new ≡ record { addresses = remove self.old.addresses place; limit = self.old.limit } }
     {
-        let after = self.len() - 1 - place;
-        self.rotate(place);
-        let address = self.take_front();
-        self.rotate(after);
-        address
+        self.rotate_from(place, 1);
+        self.take_back()
     }
 
-    /// Puts a process in at a place. There must be room. Only where the place is neither the front nor the end do the others go
-    /// round.
+    /// Puts a process in at a place. There must be room. Only where the place is neither the front nor the end do others move.
     pub fn insert(&mut self, place: usize, address: u32)
         requires place { place ≤ length self.old.addresses }
         requires room { length self.old.addresses < self.old.limit }
@@ -63,28 +59,24 @@ impl ProcessQueue {
         }
     }
 
-    /// Puts a process in at a place, while the others go round once. There must be room.
+    /// Puts a process in at a place, by the end. There must be room.
     fn put_between(&mut self, place: usize, address: u32)
         requires place { place ≤ length self.old.addresses }
         requires room { length self.old.addresses < self.old.limit }
         ensures { self.new ≡ record { addresses = insert self.old.addresses place address; limit = self.old.limit } }
     {
         let after = self.len() - place;
-        self.rotate(place);
         self.push(address);
-        self.rotate(after);
+        self.rotate_from(place, after);
     }
 
-    /// The first `count` processes go round to the end, one at a time.
-    fn rotate(&mut self, count: usize)
-        requires count { count ≤ length self.old.addresses }
-        requires room { length self.old.addresses ≤ self.old.limit }
-        ensures { self.new ≡ record { addresses = drop count self.old.addresses ++ take count self.old.addresses; limit = self.old.limit } }
+    /// Of the processes from a place on the first `count` go to the end, in one move within the ring's slice.
+    fn rotate_from(&mut self, place: usize, count: usize)
+        requires { place + count ≤ length self.old.addresses }
+        ensures { self.new ≡ record { addresses = take place self.old.addresses ++ (drop count (drop place self.old.addresses) ++ take count (drop place self.old.addresses)); limit = self.old.limit } }
     {
-        for moved in 0..count {
-            let address = self.take_front();
-            self.push(address);
-        }
+        let addresses = self.ring.make_contiguous();
+        addresses[place..].rotate_left(count);
     }
 
     /// Takes the process at the end.

@@ -1,12 +1,12 @@
 -- A tape of one battle and the records between its places, as a history. The first place's mark stands beside the records.
-use Rattle.std.specs.Prelude.{ℕ, zero, suc, ◌+◌, ◌-◌, ◌≤◌, Bool, false, List, [], ◌∷◌, length, slice_index_or}
+use Rattle.std.specs.Prelude.{◌≡◌, ℕ, zero, suc, ◌+◌, ◌-◌, ◌≤◌, Bool, false, List, [], ◌∷◌, length, slice_index_or}
 use Rattle.mars_core.specs.State.{State}
 use Rattle.mars_core.specs.Leads.{Leads}
 use Rattle.mars_core.specs.Record.{reverted, applied}
 use Rattle.mars_core.specs.declared.record.Atom.{Atom}
 use Rattle.mars_core.specs.declared.record.Work.TheVariants as work
 use Rattle.mars_session.specs.Limits.{longest_history}
-use Rattle.mars_session.specs.History.{Place, History}
+use Rattle.mars_session.specs.History.{Place, History, first_turns, last_turns}
 
 -- what a list of records and marks has past its end
 abbrev pub no_entry : Atom × Bool
@@ -68,6 +68,11 @@ pub record IsJournal (es : List (Atom × Bool)) (at : ℕ) (s : State) : Type 0 
   pub inside : at ≤ length es
   pub here : LeadHere es at s
   pub on : LeadOn es at (length es - at) s
+
+-- the numbers are the turns of the first and of the last place
+pub record HasEnds (h : History) (from to : ℕ) : Type 0 where
+  pub first : from ≡ first_turns h
+  pub last : to ≡ last_turns h
 
 -- so it is where at most a number of records are kept
 pub record IsRing (es : List (Atom × Bool)) (most at : ℕ) (s : State) : Type 0 where

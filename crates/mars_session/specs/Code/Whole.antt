@@ -42,11 +42,15 @@ after_of ks from (suc n) = place_of (snapshot_at ks from) ∷ after_of ks (from 
 abbrev pub whole_history : List Snapshot → ℕ → ℕ → History
 whole_history ks at len = record { before = before_of ks at; present = place_of (snapshot_at ks at); after = after_of ks (at + 1) (len - (at + 1)) }
 
--- the present place is one of the places, whose turns never fall, and each copy can be made over each other
+-- how many turns the copy at an index has
+abbrev pub turns_at : List Snapshot → ℕ → ℕ
+turns_at ks i = (snapshot_at ks i).battle.turns
+
+-- the present place is one of the places, whose turns rise by at most one each, and each copy can be made over each other
 pub record IsWhole (ks : List Snapshot) (at len : ℕ) : Type 0 where
   pub present : at < len
   pub copies : len ≤ length ks
-  pub rises : (i j : ℕ) → i ≤ j → j < len → (snapshot_at ks i).battle.turns ≤ (snapshot_at ks j).battle.turns
+  pub rises : (i : ℕ) → i + 1 < len → (turns_at ks i ≤ turns_at ks (i + 1)) × (turns_at ks (i + 1) ≤ turns_at ks i + 1)
   pub shapes : (i j : ℕ) → i < length ks → j < length ks → SameShape (snapshot_at ks i).battle (snapshot_at ks j).battle
 
 -- further copies of the one at an index were added at the end

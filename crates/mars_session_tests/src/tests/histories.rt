@@ -184,7 +184,7 @@ const WAYS: &[(u64, u64)] = &[
     (0, 0),
     (1, 1),
     (50, 49),
-    (51, 100),
+    (51, 0),
 ];
 
 /// A goto goes over so many places. It is refused past 50 turns.
@@ -195,7 +195,7 @@ fn check_goto<T: Tape>(rt: &impl Abort, session: &mut Session<PoorTape<T>>, turn
     assert_eq!(rt; session.tape().walked(), before.saturating_add(way));
 }
 
-/// How many places a goto goes over: those on the way, and at most one more there and back. A refused one goes to both ends.
+/// How many places a goto goes over: those on the way, and at most one more there and back. A refused one goes nowhere.
 fn check_way<T: Start + Drop>(rt: &impl Abort, alloc: Global) -> Result<(), Fail>
     requires { T.FORGETS ≡ false }
 {

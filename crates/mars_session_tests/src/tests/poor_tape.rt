@@ -86,6 +86,14 @@ impl<T: Tape> Tape for PoorTape<T> {
         self.tape.len()
     }
 
+    fn first_turns(&self) -> u64 {
+        self.tape.first_turns()
+    }
+
+    fn last_turns(&self) -> u64 {
+        self.tape.last_turns()
+    }
+
     fn is_marked(&self) -> bool {
         self.tape.is_marked()
     }

@@ -1,6 +1,6 @@
 use Rattle.std.proofs.Common.{◌<◌, arith}
 use Rattle.std.proofs.lemmas.Bool.{leb-false}
-use Rattle.mars_session.proofs.Rising.{none_before}
+use Rattle.mars_session.proofs.Between.{none_before}
 use Rattle.mars_session.proofs.moves.may_lie_before.Goals as goal
 
 pub returns-then-position-gt0-clause-here : goal.returns-then-position-gt0-clause-here

@@ -19,4 +19,4 @@ returns-clause-covers c =
 pub returns-clause-rises : goal.returns-clause-rises
 returns-clause-rises c =
     let s = c.self.inside in
-    rw (sym (ap (λ (t : Taped). t.history) c.self.view_is)) (journal_rises true s.entries.items s.at s.battle c.self.invariant.here)
+    rw (sym (ap (λ (t : Taped). t.history) c.self.view_is)) (journal_rises true s.entries.items s.at s.battle c.self.invariant.0)

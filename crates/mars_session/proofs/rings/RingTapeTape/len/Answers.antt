@@ -7,4 +7,4 @@ use Rattle.mars_session.proofs.rings.RingTapeTape.len.Goals as goal
 pub returns : goal.returns
 returns c =
     let r = c.self.inside.records in
-    omega (arith, journal_last r.first_mark r.ring.items r.at c.self.inside.battle c.self.invariant.journal.inside, ap (λ (t : Ringed). last_of t.history) c.self.view_is, c.len.ensures.len)
+    omega (arith, journal_last r.first_mark r.ring.items r.at c.self.inside.battle c.self.invariant.0.journal.inside, ap (λ (t : Ringed). last_of t.history) c.self.view_is, c.len.ensures.len)

@@ -13,10 +13,10 @@ returns-clause-value c =
 pub returns-clause-covers : goal.returns-clause-covers
 returns-clause-covers c =
     let r = c.self.inside.records in
-    let i = c.self.invariant in
+    let i = c.self.invariant.0 in
     omega (arith, i.within, i.few, journal_following r.first_mark r.ring.items r.at c.self.inside.battle, ap (λ (t : Ringed). following t.history) c.self.view_is)
 
 pub returns-clause-rises : goal.returns-clause-rises
 returns-clause-rises c =
     let r = c.self.inside.records in
-    rw (sym (ap (λ (t : Ringed). t.history) c.self.view_is)) (journal_rises r.first_mark r.ring.items r.at c.self.inside.battle c.self.invariant.journal.here)
+    rw (sym (ap (λ (t : Ringed). t.history) c.self.view_is)) (journal_rises r.first_mark r.ring.items r.at c.self.inside.battle c.self.invariant.0.journal)

@@ -20,4 +20,4 @@ invariant_of-self c =
     let at = c.self.inside.at in
     let inside : at + 1 < length ks = omega (arith, ap (λ (t : Taped). t.room) c.self.view_is, c.requires.room) in
     rw c.edit_on.ensures (whole_more ks at c.self.inside.len (edited (snapshot_at ks at).battle c.args.edit) c.self.invariant inside (shape-edited (snapshot_at ks at).battle c.args.edit)
-    (omega (arith, turns-edited (snapshot_at ks at).battle c.args.edit)))
+    (omega (arith, turns-edited (snapshot_at ks at).battle c.args.edit), omega (arith, turns-edited (snapshot_at ks at).battle c.args.edit)))
