@@ -1,5 +1,5 @@
 -- Worked examples: parameters and programs that are taken, and why others are refused.
-use Rattle.std.specs.Prelude.{◌≡◌, ℕ, List, [], ◌∷◌, Result, Ok, Err, refl}
+use Rattle.std.specs.Prelude.{◌≡◌, ℕ, List, [], ◌∷◌, Ok, Err, refl}
 use Rattle.mars_cell.specs.declared.instruction.Field.TheVariants.{ANumber, BNumber}
 use Rattle.mars_cell.specs.declared.instruction.Cell.{Cell}
 use Rattle.mars_cell.specs.declared.instruction.Op.TheVariants as op
