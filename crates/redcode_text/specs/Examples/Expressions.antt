@@ -66,8 +66,9 @@ pub values_are_checked :
     × (eval (n 1 ∷ s Or ∷ n 1 ∷ s Slash ∷ n 0 ∷ []) ≡ Err DivideByZero)
     × (eval (n 0 ∷ s And ∷ n 1 ∷ s Slash ∷ n 0 ∷ []) ≡ Err DivideByZero)
     × (eval (s OpenParen ∷ n 1 ∷ []) ≡ Err Syntax)
+    × (eval (s OpenParen ∷ n 1 ∷ s Slash ∷ n 0 ∷ s Plus ∷ n 2 ∷ []) ≡ Err Syntax)
 unfolding value_of tree_within
-values_are_checked = (refl, refl, refl, refl, refl, refl, refl)
+values_are_checked = (refl, refl, refl, refl, refl, refl, refl, refl)
 
 -- the shape comes first, then the values from the left
 pub row_faults :
