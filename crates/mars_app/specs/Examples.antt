@@ -2,3 +2,5 @@
 pub mod CommandLines
 pub mod Requests
 pub mod Replies
+pub mod Transcripts
+pub mod Contests

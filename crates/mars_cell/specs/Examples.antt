@@ -1,3 +1,4 @@
 -- Worked examples. The check computes each of them.
 pub mod Cells
 pub mod LoadFiles
+pub mod Parameters

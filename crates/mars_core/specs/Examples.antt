@@ -1,5 +1,6 @@
 -- Worked examples, as theorems: the check computes what the definitions give. Here are the words that they are told in.
 pub mod Edits
+pub mod Ends
 pub mod Starts
 pub mod Turns
 pub mod ReferenceCode
@@ -14,7 +15,7 @@ use Rattle.mars_cell.specs.declared.instruction.Mode.{Mode}
 use Rattle.mars_cell.specs.declared.instruction.Mode.TheVariants.{Direct}
 use Rattle.mars_cell.specs.Cells.{empty_cell}
 use Rattle.mars_cell.specs.Parameters.{Parameters}
-use Rattle.mars_core.specs.State.{State, is_over_of, ends, advanced}
+use Rattle.mars_core.specs.State.{State, ends, advanced}
 use Rattle.mars_core.specs.Addresses.{address_after, fold, raised, lowered}
 use Rattle.mars_core.specs.Writes.{write_cell, write_field}
 use Rattle.mars_core.specs.Operand.{evaluated, direct_operand, indirect_operand, predecremented, postincremented}

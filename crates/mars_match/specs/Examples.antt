@@ -1,4 +1,5 @@
 -- Worked examples. The check computes each of them.
 pub mod Placements
 pub mod Listings
+pub mod Rounds
 pub mod Contests

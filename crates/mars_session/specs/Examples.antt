@@ -1,5 +1,6 @@
 -- Worked examples, as theorems: the check computes what the definitions give. Here are the words that they are told in.
 pub mod Histories
+pub mod Commands
 pub mod Forgetting
 use Rattle.std.specs.Prelude.{◌≡◌, ℕ, false, List, [], ◌∷◌, Some, Result, Ok}
 use Rattle.mars_cell.specs.declared.instruction.Op.TheVariants.{Mov}

@@ -1,4 +1,5 @@
 -- Worked examples. The check computes each of them.
 pub mod Tokens
 pub mod Expressions
+pub mod Lines
 pub mod Expansion

@@ -1,5 +1,5 @@
 -- Worked examples: what the words of the program ask for.
-use Rattle.std.specs.Prelude.{◌≡◌, ℕ, [], ◌∷◌, List, codes, false, true, refl}
+use Rattle.std.specs.Prelude.{◌≡◌, ℕ, [], ◌∷◌, List, None, Some, codes, false, true, refl}
 use Rattle.clap.proofs.OnLiterals.{clap_on_literals}
 use Rattle.clap.specs.Faults.{fault_of}
 use Rattle.clap.specs.declared.error.kind.ErrorKind.TheVariants as kind
@@ -16,11 +16,19 @@ pub defaults :
     × ((said_by two_files).rounds ≡ 1)
     × ((said_by two_files).core ≡ 8000)
     × ((said_by two_files).cycles ≡ 80000)
+    × ((said_by two_files).processes ≡ 8000)
+    × ((said_by two_files).longest ≡ 100)
+    × ((said_by two_files).distance ≡ 100)
+    × ((said_by two_files).fixed ≡ None)
+    × ((said_by two_files).read_limit ≡ None)
+    × ((said_by two_files).write_limit ≡ None)
+    × ((said_by two_files).seed ≡ 1)
+    × ((said_by two_files).history ≡ 200000)
     × ((said_by two_files).score ≡ codes "(W*W-1)/S")
     × ((said_by two_files).league ≡ false)
     × (are_allowed (said_by two_files) ≡ true)
 unfolding clap_on_literals
-defaults = (refl, refl, refl, refl, refl, refl, refl, refl)
+defaults = (refl, refl, refl, refl, refl, refl, refl, refl, refl, refl, refl, refl, refl, refl, refl, refl)
 
 -- short words may stand together, and a plus before a number
 abbrev debugged : List (List ℕ)
@@ -43,3 +51,50 @@ pub others :
     × (are_allowed (said_by (codes "-e" ∷ codes "--league" ∷ codes "a.red" ∷ codes "b.red" ∷ [])) ≡ false)
 unfolding clap_on_literals
 others = (refl, refl, refl, refl)
+
+-- each letter and each name with its own number
+abbrev numbered : List (List ℕ)
+numbered = codes "-r" ∷ codes "2" ∷ codes "-s" ∷ codes "800" ∷ codes "-c" ∷ codes "4" ∷ codes "-p" ∷ codes "5" ∷ codes "-l" ∷ codes "6" ∷ codes "-d" ∷ codes "7" ∷ codes "-F" ∷ codes "8" ∷ codes "--seed" ∷ codes "9"
+    ∷ codes "--read-limit" ∷ codes "10" ∷ codes "--write-limit" ∷ codes "11" ∷ codes "a.red" ∷ codes "b.red" ∷ []
+
+pub numbers_are_read :
+    ((said_by numbered).rounds ≡ 2)
+    × ((said_by numbered).core ≡ 800)
+    × ((said_by numbered).cycles ≡ 4)
+    × ((said_by numbered).processes ≡ 5)
+    × ((said_by numbered).longest ≡ 6)
+    × ((said_by numbered).distance ≡ 7)
+    × ((said_by numbered).fixed ≡ Some 8)
+    × ((said_by numbered).seed ≡ 9)
+    × ((said_by numbered).read_limit ≡ Some 10)
+    × ((said_by numbered).write_limit ≡ Some 11)
+    × (are_allowed (said_by numbered) ≡ true)
+unfolding clap_on_literals
+numbers_are_read = (refl, refl, refl, refl, refl, refl, refl, refl, refl, refl, refl)
+
+abbrev Allowed : List (List ℕ) → Type 0
+Allowed words = are_allowed (said_by words) ≡ true
+
+abbrev Forbidden : List (List ℕ) → Type 0
+Forbidden words = are_allowed (said_by words) ≡ false
+
+-- one load file of one source, a league of two at least, and neither beside the debugger
+pub contests_are_judged :
+    Allowed (codes "--load" ∷ codes "a.red" ∷ [])
+    × Forbidden (codes "--load" ∷ codes "a.red" ∷ codes "b.red" ∷ [])
+    × Forbidden (codes "-e" ∷ codes "--load" ∷ codes "a.red" ∷ [])
+    × Allowed (codes "--league" ∷ codes "a.red" ∷ codes "b.red" ∷ [])
+    × Forbidden (codes "--league" ∷ codes "a.red" ∷ [])
+unfolding clap_on_literals
+contests_are_judged = (refl, refl, refl, refl, refl)
+
+-- a position is for the second of two warriors, as far as the distance from the first, both ways round the core
+pub positions_are_judged :
+    Allowed (codes "-F" ∷ codes "100" ∷ two_files)
+    × Allowed (codes "-F" ∷ codes "7900" ∷ two_files)
+    × Forbidden (codes "-F" ∷ codes "99" ∷ two_files)
+    × Forbidden (codes "-F" ∷ codes "7901" ∷ two_files)
+    × Forbidden (codes "-F" ∷ codes "4000" ∷ codes "c.red" ∷ two_files)
+    × Forbidden (codes "-F" ∷ codes "4000" ∷ codes "--league" ∷ two_files)
+unfolding clap_on_literals
+positions_are_judged = (refl, refl, refl, refl, refl, refl)

@@ -7,7 +7,7 @@ use Rattle.mars_cell.specs.declared.instruction.Modifier.TheVariants as modifier
 use Rattle.mars_cell.specs.declared.instruction.Mode.TheVariants.{Direct}
 use Rattle.mars_core.specs.State.{State, ends}
 use Rattle.mars_session.specs.declared.calls.Standing.{Standing}
-use Rattle.mars_session.specs.declared.calls.Refusal.TheVariants.{CyclePassed, NothingToUndo, NotInHistory, Over}
+use Rattle.mars_session.specs.declared.calls.Refusal.TheVariants.{Count, Address, FieldOutside, NoSuchWarrior, NoSuchProcess, WarriorDead, QueueFull, Over, CyclePassed, NothingToUndo, NothingToRedo, NotInHistory, JournalFull, OutOfMemory, Forgotten}
 use Rattle.mars_app.specs.Debugger.Replies.{refusal_text, reply_text}
 use Rattle.mars_app.specs.Debugger.Readings.{line_at, list_text, queue_text, show_text, texts, warrior_text}
 
@@ -16,12 +16,23 @@ standing = record { turns = 12; cycle = 5; next = 1; alive = 2; position = 3; la
 
 pub replies_are_written :
     (reply_text (Ok standing) ≡ codes "turn 12 cycle 5 next 1 alive 2 at 3/200000\n")
+    × (reply_text (Err Count) ≡ codes "refused 1 Count\n")
+    × (reply_text (Err Address) ≡ codes "refused 2 Address\n")
+    × (reply_text (Err FieldOutside) ≡ codes "refused 3 FieldOutside\n")
+    × (reply_text (Err NoSuchWarrior) ≡ codes "refused 4 NoSuchWarrior\n")
+    × (reply_text (Err NoSuchProcess) ≡ codes "refused 5 NoSuchProcess\n")
+    × (reply_text (Err WarriorDead) ≡ codes "refused 6 WarriorDead\n")
+    × (reply_text (Err QueueFull) ≡ codes "refused 7 QueueFull\n")
     × (reply_text (Err Over) ≡ codes "refused 8 Over\n")
     × (reply_text (Err (CyclePassed 80000)) ≡ codes "refused 9 CyclePassed 80000\n")
     × (reply_text (Err NothingToUndo) ≡ codes "refused 10 NothingToUndo\n")
+    × (reply_text (Err NothingToRedo) ≡ codes "refused 11 NothingToRedo\n")
     × (reply_text (Err (NotInHistory 0 12)) ≡ codes "refused 12 NotInHistory 0 12\n")
+    × (reply_text (Err (JournalFull 2)) ≡ codes "refused 13 JournalFull 2\n")
+    × (reply_text (Err OutOfMemory) ≡ codes "refused 14 OutOfMemory\n")
+    × (reply_text (Err Forgotten) ≡ codes "refused 15 Forgotten\n")
 unfolding refusal_text digits
-replies_are_written = (refl, refl, refl, refl, refl)
+replies_are_written = (refl, refl, refl, refl, refl, refl, refl, refl, refl, refl, refl, refl, refl, refl, refl, refl)
 
 abbrev cell : ℕ → Cell
 cell b = record { op = op.Jmp; modifier = modifier.B; a_mode = Direct; a = 0; b_mode = Direct; b = b }

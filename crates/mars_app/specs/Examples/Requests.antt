@@ -21,13 +21,15 @@ pub commands_are_known :
     × (line_asks 8 (codes "move 0 1 7") ≡ request.Call (call.MoveProcess 0 1 7))
     × (line_asks 8 (codes "kill 2 0") ≡ request.Call (call.Kill 2 0))
     × (line_asks 8 (codes "spawn 0 9") ≡ request.Call (call.Spawn 0 9))
+    × (line_asks 8 (codes "undo") ≡ request.Call call.Undo)
+    × (line_asks 8 (codes "redo") ≡ request.Call call.Redo)
     × (line_asks 8 (codes "goto 999999999999999999") ≡ request.Call (call.Goto 999999999999999999))
     × (line_asks 8 (codes "list 7 1") ≡ request.List 7 1)
     × (line_asks 8 (codes "queue 0") ≡ request.Queue 0)
     × (line_asks 8 (codes "show") ≡ request.Show)
     × (line_asks 8 (codes "quit ") ≡ request.Quit)
 unfolding request_of asked command_of with_arguments alone one_number two_numbers three_numbers first_word after_word number_in parse_digits
-commands_are_known = (refl, refl, refl, refl, refl, refl, refl, refl, refl, refl, refl)
+commands_are_known = (refl, refl, refl, refl, refl, refl, refl, refl, refl, refl, refl, refl, refl)
 
 -- a cell is as in a load file, and its numbers count modulo the core size
 pub cells_are_read :

@@ -60,6 +60,43 @@ pub cells_are_written :
 unfolding digits
 cells_are_written = (refl, refl, refl, refl, refl)
 
+-- the words of a cell; CMP is SEQ
+pub words_are_read :
+    (op_of (codes "DAT") ≡ Some op.Dat)
+    × (op_of (codes "MOV") ≡ Some op.Mov)
+    × (op_of (codes "ADD") ≡ Some op.Add)
+    × (op_of (codes "SUB") ≡ Some op.Sub)
+    × (op_of (codes "MUL") ≡ Some op.Mul)
+    × (op_of (codes "DIV") ≡ Some op.Div)
+    × (op_of (codes "MOD") ≡ Some op.Mod)
+    × (op_of (codes "JMP") ≡ Some op.Jmp)
+    × (op_of (codes "JMZ") ≡ Some op.Jmz)
+    × (op_of (codes "JMN") ≡ Some op.Jmn)
+    × (op_of (codes "DJN") ≡ Some op.Djn)
+    × (op_of (codes "SEQ") ≡ Some op.Seq)
+    × (op_of (codes "SNE") ≡ Some op.Sne)
+    × (op_of (codes "SLT") ≡ Some op.Slt)
+    × (op_of (codes "SPL") ≡ Some op.Spl)
+    × (op_of (codes "NOP") ≡ Some op.Nop)
+    × (op_of (codes "CMP") ≡ Some op.Seq)
+    × (modifier_of (codes "A") ≡ Some modifier.A)
+    × (modifier_of (codes "B") ≡ Some modifier.B)
+    × (modifier_of (codes "AB") ≡ Some modifier.Ab)
+    × (modifier_of (codes "BA") ≡ Some modifier.Ba)
+    × (modifier_of (codes "F") ≡ Some modifier.F)
+    × (modifier_of (codes "X") ≡ Some modifier.X)
+    × (modifier_of (codes "I") ≡ Some modifier.I)
+    × (mode_of (codes "#") ≡ Some Immediate)
+    × (mode_of (codes "$") ≡ Some Direct)
+    × (mode_of (codes "*") ≡ Some AIndirect)
+    × (mode_of (codes "@") ≡ Some BIndirect)
+    × (mode_of (codes "{") ≡ Some APredecrement)
+    × (mode_of (codes "<") ≡ Some BPredecrement)
+    × (mode_of (codes "}") ≡ Some APostincrement)
+    × (mode_of (codes ">") ≡ Some BPostincrement)
+unfolding op_of modifier_of mode_of
+words_are_read = (refl, refl, refl, refl, refl, refl, refl, refl, refl, refl, refl, refl, refl, refl, refl, refl, refl, refl, refl, refl, refl, refl, refl, refl, refl, refl, refl, refl, refl, refl, refl, refl)
+
 -- the modifiers of the standard's table
 pub default_modifiers :
     (default_modifier op.Dat Direct Direct ≡ modifier.F)
@@ -133,6 +170,7 @@ cells_are_read = (refl, refl, refl, refl, refl, refl, refl, refl, refl, refl)
 -- a number is one part, a word ends before a digit, and nothing may follow
 pub no_cells :
     (read_cell 8 (codes "MOV - 1, 2") ≡ None)
+    × (read_cell 8 (codes "MOV -, 1") ≡ None)
     × (read_cell 8 (codes "MOV0, 1") ≡ None)
     × (read_cell 8 (codes "MOV.I0, 1") ≡ None)
     × (read_cell 8 (codes "MOV.I 0") ≡ None)
@@ -151,4 +189,4 @@ pub no_cells :
     × (read_cell 8 (codes "STP 1, 2") ≡ None)
     × (read_cell 8 (codes "NOP 1234567890123456789, 0") ≡ None)
 unfolding parts joins begins_word cell_of op_at suffix_at modifier_at mode_at number_at operand_at comma_at op_of modifier_of mode_of parse_number parse_digits split_sign nearest default_modifier
-no_cells = (refl, refl, refl, refl, refl, refl, refl, refl, refl, refl, refl, refl, refl, refl, refl, refl, refl, refl)
+no_cells = (refl, refl, refl, refl, refl, refl, refl, refl, refl, refl, refl, refl, refl, refl, refl, refl, refl, refl, refl)

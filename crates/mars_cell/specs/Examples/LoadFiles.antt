@@ -31,10 +31,12 @@ pub files_are_read :
     × (load 8 8 (codes "NOP 0, 0\nNOP 0, 0\nEND 1") ≡ Ok (nameless (nop ∷ nop ∷ []) 1))
     × (load 8 8 (codes "org 0\nNOP 0, 0\nEND 9") ≡ Ok (nameless (nop ∷ []) 0))
     × (load 8 8 (codes "ORG 9\nNOP 0, 0\nORG -0\n") ≡ Ok (nameless (nop ∷ []) 0))
+    × (load 9 8 (codes "MOV.I 0, 7999") ≡ Ok (nameless (cell op.Mov modifier.I Direct 0 Direct 7 ∷ []) 0))
+    × (load 8 2 (codes "NOP 0, 0\nNOP 0, 0") ≡ Ok (nameless (nop ∷ nop ∷ []) 0))
     × (load 8 8 (codes "; a comment\n\n  \nNOP 0, 0 ; another ; one\r\n") ≡ Ok (nameless (nop ∷ []) 0))
     × (load 8 8 (codes ";load it\nNOP 0, 0") ≡ Ok (nameless (nop ∷ []) 0))
 unfolding parts joins begins_word cell_of op_at suffix_at modifier_at mode_at number_at operand_at comma_at op_of modifier_of mode_of parse_number parse_digits split_sign nearest default_modifier load tells_version body statements lines_of statement_of lone_number end_of
-files_are_read = (refl, refl, refl, refl, refl, refl, refl, refl)
+files_are_read = (refl, refl, refl, refl, refl, refl, refl, refl, refl, refl)
 
 -- the first bad line comes before every other fault, also behind the line too many
 pub first_fault :
@@ -97,13 +99,15 @@ pub first_fault_of_a_head :
 unfolding parts joins begins_word cell_of op_at suffix_at modifier_at mode_at number_at operand_at comma_at op_of modifier_of mode_of parse_number parse_digits split_sign nearest default_modifier load tells_version header_of size_of name_of body statements lines_of statement_of lone_number end_of
 first_fault_of_a_head = (refl, refl, refl, refl, refl, refl, refl, refl, refl, refl, refl, refl, refl, refl, refl, refl, refl, refl, refl, refl)
 
--- a name has at most 60 bytes
+-- a name has at most 60 bytes, from the blank to the tilde
 pub long_names :
-    (load 8000 8 (codes ";load 2 8000\n;name " ++ replicate 60 120 ++ codes "\n;author \nMOV 0, 1") ≡ Ok (imp_by (replicate 60 120) [] 1))
+    (load 8000 8 (codes ";load 2 8000\n;name ~\n;author \nMOV 0, 1") ≡ Ok (imp_by (codes "~") [] 1))
+    × (load 8000 8 (codes ";load 2 8000\n;name " ++ 127 ∷ codes "\n;author \nMOV 0, 1") ≡ Err (fault.Syntax 2))
+    × (load 8000 8 (codes ";load 2 8000\n;name " ++ replicate 60 120 ++ codes "\n;author \nMOV 0, 1") ≡ Ok (imp_by (replicate 60 120) [] 1))
     × (load 8000 8 (codes ";load 2 8000\n;name " ++ replicate 61 120 ++ codes "\n;author \nMOV 0, 1") ≡ Err (fault.Syntax 2))
     × (load 8000 8 (codes ";load 2 8000\n;name x\n;author " ++ replicate 61 120 ++ codes "\nMOV 0, 1") ≡ Err (fault.Syntax 3))
 unfolding parts joins begins_word cell_of op_at suffix_at modifier_at mode_at number_at operand_at comma_at op_of modifier_of mode_of parse_number parse_digits split_sign nearest default_modifier load tells_version header_of size_of name_of body statements lines_of statement_of lone_number end_of
-long_names = (refl, refl, refl)
+long_names = (refl, refl, refl, refl, refl)
 
 -- the load file of a warrior that bombs the core
 pub bomber_is_written : load_text 8000 (record {

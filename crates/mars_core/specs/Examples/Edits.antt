@@ -1,5 +1,5 @@
 -- Edits of cells and processes, and their faults.
-use Rattle.std.specs.Prelude.{◌≡◌, ℕ, List, [], ◌∷◌, Some, refl}
+use Rattle.std.specs.Prelude.{◌≡◌, ℕ, List, [], ◌∷◌, None, Some, refl}
 use Rattle.mars_cell.specs.declared.instruction.Cell.{Cell}
 use Rattle.mars_cell.specs.declared.instruction.Op.TheVariants.{Jmp, Nop}
 use Rattle.mars_cell.specs.declared.instruction.Modifier.TheVariants.{B, F}
@@ -8,9 +8,9 @@ use Rattle.mars_cell.specs.Cells.{empty_cell}
 use Rattle.mars_core.specs.State.{State}
 use Rattle.mars_core.specs.Turn.{turn_of}
 use Rattle.mars_core.specs.Edit.{edited, edit_fault}
-use Rattle.mars_core.specs.Examples.{the_machine, cell_of, sizes, of_eight, eight, battle_of, lone, lone_after, IsEdit}
+use Rattle.mars_core.specs.Examples.{the_machine, cell_of, numbers, sizes, of_eight, eight, battle_of, lone, lone_after, IsEdit}
 use Rattle.mars_core.specs.declared.battle.edit.Edit.TheVariants.{SetCell, KillProcess, MoveProcess, Spawn}
-use Rattle.mars_core.specs.declared.battle.edit.EditFault.TheVariants.{QueueFull, WarriorDead, NoSuchProcess}
+use Rattle.mars_core.specs.declared.battle.edit.EditFault.TheVariants.{Address, FieldOutside, NoSuchWarrior, NoSuchProcess, WarriorDead, QueueFull}
 
 -- JMP.B $0, $0
 abbrev waiting : Cell
@@ -24,6 +24,11 @@ pub kill_of_the_next_warrior_moves_on : IsEdit (turn_of three) (KillProcess 1 0)
     (record (battle_of of_eight three.core ((0 ∷ []) ∷ [] ∷ (4 ∷ []) ∷ [])) { next = 2; turns = 1; deaths = record { warrior = 1; turns = 1 } ∷ [] })
 unfolding the_machine
 kill_of_the_next_warrior_moves_on = record { state = refl; back = refl; forth = refl }
+
+pub kill_of_a_later_warrior_leaves_next : IsEdit three (KillProcess 2 0)
+    (record (battle_of of_eight three.core ((0 ∷ []) ∷ (2 ∷ []) ∷ [] ∷ [])) { deaths = record { warrior = 2; turns = 0 } ∷ [] })
+unfolding the_machine
+kill_of_a_later_warrior_leaves_next = record { state = refl; back = refl; forth = refl }
 
 -- two turns, and the kill of the warrior that is next
 abbrev last_killed : State
@@ -76,6 +81,10 @@ pub moved_process_keeps_its_place : IsEdit (queue (0 ∷ 1 ∷ 2 ∷ [])) (MoveP
 unfolding the_machine
 moved_process_keeps_its_place = record { state = refl; back = refl; forth = refl }
 
+pub moved_front_stays_the_front : IsEdit (queue (0 ∷ 1 ∷ 2 ∷ [])) (MoveProcess 0 0 5) (queue (5 ∷ 1 ∷ 2 ∷ []))
+unfolding the_machine
+moved_front_stays_the_front = record { state = refl; back = refl; forth = refl }
+
 pub process_that_waits_goes_to_the_end : turn_of (queue (0 ∷ 1 ∷ 5 ∷ []))
     ≡ lone_after (sizes 8 3 8 8) (eight (waiting ∷ [])) (1 ∷ 5 ∷ 0 ∷ [])
 unfolding the_machine
@@ -85,3 +94,19 @@ pub cell_is_set : IsEdit (queue (0 ∷ [])) (SetCell 1 (cell_of Nop F Direct 7 D
     (lone (sizes 8 3 8 8) (eight (waiting ∷ cell_of Nop F Direct 7 Direct 0 ∷ [])) (0 ∷ []))
 unfolding the_machine
 cell_is_set = record { state = refl; back = refl; forth = refl }
+
+-- the address comes before the cell's numbers, before the warrior, before its process
+pub first_fault_of_an_edit :
+    (edit_fault (queue (0 ∷ [])) (SetCell 8 (numbers 8 8)) ≡ Some Address)
+    × (edit_fault (queue (0 ∷ [])) (SetCell 7 (numbers 8 0)) ≡ Some FieldOutside)
+    × (edit_fault (queue (0 ∷ [])) (SetCell 7 (numbers 0 8)) ≡ Some FieldOutside)
+    × (edit_fault (queue (0 ∷ [])) (SetCell 7 (numbers 7 7)) ≡ None)
+    × (edit_fault (queue (0 ∷ [])) (MoveProcess 1 0 8) ≡ Some Address)
+    × (edit_fault (queue (0 ∷ [])) (MoveProcess 1 0 7) ≡ Some NoSuchWarrior)
+    × (edit_fault (queue (0 ∷ [])) (MoveProcess 0 1 7) ≡ Some NoSuchProcess)
+    × (edit_fault (queue (0 ∷ [])) (KillProcess 1 0) ≡ Some NoSuchWarrior)
+    × (edit_fault (queue (0 ∷ [])) (KillProcess 0 1) ≡ Some NoSuchProcess)
+    × (edit_fault (queue (0 ∷ [])) (Spawn 1 8) ≡ Some Address)
+    × (edit_fault (queue (0 ∷ [])) (Spawn 1 7) ≡ Some NoSuchWarrior)
+unfolding the_machine
+first_fault_of_an_edit = (refl, refl, refl, refl, refl, refl, refl, refl, refl, refl, refl)

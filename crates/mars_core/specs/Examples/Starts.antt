@@ -8,7 +8,7 @@ use Rattle.mars_cell.specs.declared.instruction.Mode.TheVariants.{Direct}
 use Rattle.mars_cell.specs.Cells.{empty_cell}
 use Rattle.mars_cell.specs.Warriors.{WarriorValue}
 use Rattle.mars_core.specs.Start.{start_fault, start_state}
-use Rattle.mars_core.specs.Examples.{the_machine, cell_of, numbers, of_eight, battle_of}
+use Rattle.mars_core.specs.Examples.{the_machine, cell_of, numbers, sizes, of_eight, battle_of}
 use Rattle.mars_core.specs.declared.battle.start.BattleFault.TheVariants.{NoWarrior, TooMany, Overlap, StartOutside, FieldOutside}
 
 -- a warrior of these cells, which starts at one of them
@@ -55,9 +55,20 @@ pub field_outside : start_fault of_eight (warrior (nop 8 ∷ []) 0 ∷ []) (7 �
 unfolding the_machine
 field_outside = refl
 
+-- the B-number, too, and that of a later warrior
+pub each_field_is_judged :
+    (start_fault of_eight (warrior (numbers 0 8 ∷ []) 0 ∷ []) (7 ∷ []) ≡ Some FieldOutside)
+    × (start_fault of_eight (warrior (nop 0 ∷ []) 0 ∷ warrior (nop 0 ∷ nop 8 ∷ []) 0 ∷ []) (0 ∷ 1 ∷ []) ≡ Some FieldOutside)
+unfolding the_machine
+each_field_is_judged = (refl, refl)
+
 pub no_warrior : start_fault of_eight [] [] ≡ Some NoWarrior
 unfolding the_machine
 no_warrior = refl
+
+pub sixteen_warriors_start : start_fault (sizes 16 1 16 16) (replicate 16 (warrior (nop 0 ∷ []) 0)) (0 ∷ 1 ∷ 2 ∷ 3 ∷ 4 ∷ 5 ∷ 6 ∷ 7 ∷ 8 ∷ 9 ∷ 10 ∷ 11 ∷ 12 ∷ 13 ∷ 14 ∷ 15 ∷ []) ≡ None
+unfolding the_machine
+sixteen_warriors_start = refl
 
 pub seventeen_warriors_are_too_many : start_fault of_eight (replicate 17 (warrior (nop 0 ∷ []) 0)) (replicate 17 0) ≡ Some TooMany
 unfolding the_machine

@@ -1,5 +1,5 @@
 -- Worked examples: where warriors are placed, and the seed that is left.
-use Rattle.std.specs.Prelude.{◌≡◌, ℕ, [], ◌∷◌, Some, refl}
+use Rattle.std.specs.Prelude.{◌≡◌, ℕ, [], ◌∷◌, None, Some, refl}
 use Rattle.mars_cell.specs.Parameters.{Parameters}
 use Rattle.mars_match.specs.Placement.{drawn, starts_of, next_seed, place_fault}
 use Rattle.mars_match.specs.declared.placement.PlaceFault.TheVariants.{NoRoom, BadSeed}
@@ -40,11 +40,18 @@ one_place_alone = refl
 pub no_room : place_fault (sizes 199 100) 2 1 ≡ Some NoRoom
 no_room = refl
 
+pub room_comes_before_the_seed : place_fault (sizes 199 100) 2 0 ≡ Some NoRoom
+room_comes_before_the_seed = refl
+
 pub seed_zero : place_fault (sizes 8000 100) 1 0 ≡ Some BadSeed
 seed_zero = refl
 
 pub seed_too_great : place_fault (sizes 8000 100) 1 2147483647 ≡ Some BadSeed
 seed_too_great = refl
+
+-- the least and the greatest seed
+pub seeds_in_range : (place_fault (sizes 8000 100) 1 1 ≡ None) × (place_fault (sizes 8000 100) 1 2147483646 ≡ None)
+seeds_in_range = (refl, refl)
 
 pub starts_of_second_round : starts_of (sizes 8000 100) 2 16807 ≡ 0 ∷ 1139 ∷ []
 unfolding starts_of drawn
@@ -69,6 +76,16 @@ starts_of_four = refl
 pub seed_after_four : next_seed 4 1 ≡ 1144108930
 unfolding next_seed drawn
 seed_after_four = refl
+
+-- the draws modulo 7,701 are 4,215 and 6, and start 2 is exchanged with itself
+pub draws_are_put_in_order : starts_of (sizes 8000 100) 3 3 ≡ 0 ∷ 106 ∷ 4415 ∷ []
+unfolding starts_of drawn
+draws_are_put_in_order = refl
+
+-- in order the starts are 0, 4717, 4945 and 6720: start 3 is exchanged with start 2, and then start 2 with start 1
+pub exchanges_begin_with_the_last : starts_of (sizes 8000 100) 4 4 ≡ 0 ∷ 6720 ∷ 4717 ∷ 4945 ∷ []
+unfolding starts_of drawn
+exchanges_begin_with_the_last = refl
 
 pub start_of_one : starts_of (sizes 400 100) 1 1 ≡ 0 ∷ []
 unfolding starts_of drawn

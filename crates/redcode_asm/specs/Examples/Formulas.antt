@@ -1,5 +1,5 @@
 -- Worked examples: formulas and their values.
-use Rattle.std.specs.Prelude.{◌≡◌, ℕ, List, ℤ, pos, Result, Ok, Err, codes, refl}
+use Rattle.std.specs.Prelude.{◌≡◌, ◌++◌, ℕ, List, ℤ, pos, Result, Ok, Err, codes, replicate, refl}
 use Rattle.redcode_text.specs.declared.fault.ExprFault.{ExprFault}
 use Rattle.redcode_text.specs.declared.fault.ExprFault.TheVariants.{Syntax, Unknown, DivideByZero, Range}
 use Rattle.redcode_text.specs.Expression.{value_of, tree_within}
@@ -32,3 +32,12 @@ pub row_no_formulas :
     × (scored (codes "w") 2 1 ≡ Err Unknown)
 unfolding scanned value_of tree_within
 row_no_formulas = (refl, refl, refl, refl, refl, refl)
+
+-- the names are judged with the text, and a text has at most 256 bytes
+pub texts_are_judged :
+    (formula_of (codes "w") ≡ Err Unknown)
+    × (formula_of (codes "S+s") ≡ Err Unknown)
+    × (scored (replicate 255 32 ++ codes "7") 2 1 ≡ Ok (pos 7))
+    × (scored (replicate 256 32 ++ codes "7") 2 1 ≡ Err Syntax)
+unfolding scanned value_of tree_within
+texts_are_judged = (refl, refl, refl, refl)

@@ -45,12 +45,30 @@ pub row_defaults :
 unfolding assembly expansion value_of tree_within digits default_modifier op_of modifier_of
 row_defaults = (refl, refl, refl)
 
+-- each mode by its byte, and NOP's one operand
+pub modes_are_read :
+    (assembled (codes "MOV #1, $2" ∷ codes "MOV *1, @2" ∷ codes "MOV {1, <2" ∷ codes "MOV }1, >2" ∷ []) ≡ Ok (0, codes "MOV.AB #1, $2" ∷ codes "MOV.I *1, @2" ∷ codes "MOV.I {1, <2" ∷ codes "MOV.I }1, >2" ∷ []))
+    × (assembled (codes "NOP 5" ∷ []) ≡ Ok (0, codes "NOP.F $5, $0" ∷ []))
+unfolding assembly expansion value_of tree_within digits default_modifier op_of modifier_of
+modes_are_read = (refl, refl)
+
+-- parameters that all differ
+abbrev others : Parameters
+others = record { core_size = 80; processes = 7; cycles = 11; read_limit = 80; write_limit = 80; max_length = 3; distance = 5 }
+
+-- the predefined names
+pub names_are_predefined : listed 80 (assembly others 2 9 (text (codes "DAT CORESIZE-1, MAXPROCESSES" ∷ codes "DAT MAXCYCLES, MAXLENGTH" ∷ codes "DAT MINDISTANCE, ROUNDS*10+WARRIORS" ∷ [])))
+    ≡ Ok (0, codes "DAT.F $-1, $7" ∷ codes "DAT.F $11, $3" ∷ codes "DAT.F $5, $29" ∷ [])
+unfolding assembly expansion value_of tree_within digits default_modifier op_of modifier_of
+names_are_predefined = refl
+
 -- operations and operands that aren't there
 pub row_operations :
     (assembled (codes "JMP" ∷ []) ≡ fault 1 Operand)
     × (assembled (codes "STP 1, 2" ∷ []) ≡ fault 1 Operation)
     × (assembled (codes "MOV.Q 1, 2" ∷ []) ≡ fault 1 Operation)
     × (assembled (codes "MOV. , 1" ∷ []) ≡ fault 1 Operation)
+    × (assembled (codes "x EQU x" ∷ codes "MOV.Q x" ∷ []) ≡ fault 2 Operation)
     × (assembled (codes "i FOR 1" ∷ codes "MOV.i 1, 2" ∷ codes "ROF" ∷ []) ≡ fault 2 Operation)
     × (assembled (codes "5 NOP" ∷ []) ≡ fault 1 Operation)
     × (assembled (codes "x EQU 5" ∷ codes "a b EQU 1" ∷ []) ≡ fault 2 Operation)
@@ -61,7 +79,7 @@ pub row_operations :
     × (assembled (codes "NOP (1, 2)" ∷ []) ≡ fault 1 (Expression Syntax))
     × (assembled (codes "NOP x, 1/0" ∷ []) ≡ fault 1 (Expression Unknown))
 unfolding assembly expansion value_of tree_within digits default_modifier op_of modifier_of
-row_operations = (refl, refl, refl, refl, refl, refl, refl, refl, refl, refl, refl, refl, refl)
+row_operations = (refl, refl, refl, refl, refl, refl, refl, refl, refl, refl, refl, refl, refl, refl)
 
 -- labels count from their instruction, EQU names may stand before their definition
 pub row_names :
@@ -103,6 +121,13 @@ pub row_order :
     × (assembled ([] ∷ []) ≡ fault 0 Empty)
 unfolding assembly expansion value_of tree_within digits default_modifier op_of modifier_of
 row_order = (refl, refl, refl, refl, refl, refl, refl, refl)
+
+-- an assert holds where it isn't 0, by EQU names that may stand behind it; each has to
+pub asserts_are_judged :
+    (assembled (codes ";assert 2" ∷ codes ";assert -1" ∷ codes ";assert x" ∷ codes "NOP" ∷ codes "x EQU 1" ∷ []) ≡ Ok (0, codes "NOP.F $0, $0" ∷ []))
+    × (assembled (codes ";assert 1" ∷ codes ";assert x-1" ∷ codes "NOP" ∷ codes "x EQU 1" ∷ []) ≡ fault 2 AssertFailed)
+unfolding assembly expansion value_of tree_within digits default_modifier op_of modifier_of
+asserts_are_judged = (refl, refl)
 
 -- in a core of one cell every number is 0
 pub row_small_core :

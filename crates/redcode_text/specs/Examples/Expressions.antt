@@ -4,7 +4,7 @@ use Rattle.redcode_text.specs.declared.token.TokenKind.{TokenKind}
 use Rattle.redcode_text.specs.declared.token.TokenKind.TheVariants.{Number, Name}
 use Rattle.redcode_text.specs.declared.token.TokenKind.TheVariants as token
 use Rattle.redcode_text.specs.declared.token.Sign.{Sign}
-use Rattle.redcode_text.specs.declared.token.Sign.TheVariants.{Equal, Or, And, Plus, Minus, Star, Slash, Percent, Bang, Less, OpenParen, CloseParen, Comma}
+use Rattle.redcode_text.specs.declared.token.Sign.TheVariants.{Equal, NotEqual, LessEqual, GreaterEqual, Or, And, Plus, Minus, Star, Slash, Percent, Bang, Less, Greater, OpenParen, CloseParen, Comma}
 use Rattle.redcode_text.specs.declared.fault.ExprFault.{ExprFault}
 use Rattle.redcode_text.specs.declared.fault.ExprFault.TheVariants.{Syntax, Unknown, DivideByZero, Range, Depth}
 use Rattle.redcode_text.specs.Expression.{value_of, tree_within}
@@ -40,6 +40,36 @@ pub row_values :
 unfolding value_of tree_within
 row_values = (refl, refl, refl, refl, refl, refl, refl, refl)
 
+-- each level against its neighbour, and each operator of the comparisons both ways
+pub levels_and_comparisons :
+    (eval (n 7 ∷ s Plus ∷ n 3 ∷ s Percent ∷ n 2 ∷ []) ≡ Ok (pos 8))
+    × (eval (n 1 ∷ s Equal ∷ n 2 ∷ s Less ∷ n 1 ∷ []) ≡ Ok (pos 1))
+    × (eval (n 2 ∷ s LessEqual ∷ n 2 ∷ []) ≡ Ok (pos 1))
+    × (eval (n 3 ∷ s LessEqual ∷ n 2 ∷ []) ≡ Ok (pos 0))
+    × (eval (n 2 ∷ s GreaterEqual ∷ n 2 ∷ []) ≡ Ok (pos 1))
+    × (eval (n 2 ∷ s GreaterEqual ∷ n 3 ∷ []) ≡ Ok (pos 0))
+    × (eval (n 3 ∷ s Greater ∷ n 2 ∷ []) ≡ Ok (pos 1))
+    × (eval (n 2 ∷ s Greater ∷ n 2 ∷ []) ≡ Ok (pos 0))
+    × (eval (n 2 ∷ s Less ∷ n 2 ∷ []) ≡ Ok (pos 0))
+    × (eval (n 1 ∷ s NotEqual ∷ n 2 ∷ []) ≡ Ok (pos 1))
+    × (eval (n 1 ∷ s NotEqual ∷ n 1 ∷ []) ≡ Ok (pos 0))
+    × (eval (s Minus ∷ n 1 ∷ s And ∷ n 1 ∷ []) ≡ Ok (pos 1))
+unfolding value_of tree_within
+levels_and_comparisons = (refl, refl, refl, refl, refl, refl, refl, refl, refl, refl, refl, refl)
+
+-- the least and the greatest value; both sides are evaluated
+pub values_are_checked :
+    (eval (s Minus ∷ n 9223372036854775807 ∷ s Minus ∷ n 1 ∷ []) ≡ Ok (negsuc 9223372036854775807))
+    × (eval (s Minus ∷ n 9223372036854775807 ∷ s Minus ∷ n 2 ∷ []) ≡ Err Range)
+    × (eval (n 9223372036854775806 ∷ s Plus ∷ n 1 ∷ []) ≡ Ok (pos 9223372036854775807))
+    × (eval (n 1 ∷ s Percent ∷ n 0 ∷ []) ≡ Err DivideByZero)
+    × (eval (n 1 ∷ s Or ∷ n 1 ∷ s Slash ∷ n 0 ∷ []) ≡ Err DivideByZero)
+    × (eval (n 0 ∷ s And ∷ n 1 ∷ s Slash ∷ n 0 ∷ []) ≡ Err DivideByZero)
+    × (eval (s OpenParen ∷ n 1 ∷ []) ≡ Err Syntax)
+    × (eval (s OpenParen ∷ n 1 ∷ s Slash ∷ n 0 ∷ s Plus ∷ n 2 ∷ []) ≡ Err Syntax)
+unfolding value_of tree_within
+values_are_checked = (refl, refl, refl, refl, refl, refl, refl, refl)
+
 -- the shape comes first, then the values from the left
 pub row_faults :
     (eval (n 9223372036854775807 ∷ s Plus ∷ n 1 ∷ []) ≡ Err Range)
@@ -58,5 +88,6 @@ pub row_limits :
     × (eval (times 65 (s OpenParen) ++ n 1 ∷ times 65 (s CloseParen)) ≡ Err Depth)
     × (eval (times 64 (s Minus) ++ n 1 ∷ []) ≡ Ok (pos 1))
     × (eval (times 65 (s Minus) ++ n 1 ∷ []) ≡ Err Depth)
+    × (eval (times 64 (s Minus) ++ s OpenParen ∷ times 64 (s Minus) ++ n 1 ∷ s CloseParen ∷ []) ≡ Ok (pos 1))
 unfolding value_of tree_within
-row_limits = (refl, refl, refl, refl)
+row_limits = (refl, refl, refl, refl, refl)

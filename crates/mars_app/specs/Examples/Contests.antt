@@ -1,0 +1,64 @@
+-- Worked examples: the listing of the warriors, what the options leave open, and the status of faults.
+use Rattle.std.specs.Prelude.{◌≡◌, ℕ, List, [], ◌∷◌, ◌++◌, None, true, false, codes, refl}
+use Rattle.std.specs.Fmt.{digits}
+use Rattle.mars_cell.specs.declared.instruction.Op.TheVariants.{Mov}
+use Rattle.mars_cell.specs.declared.instruction.Modifier.TheVariants.{I}
+use Rattle.mars_cell.specs.declared.instruction.Mode.TheVariants.{Direct}
+use Rattle.mars_cell.specs.Parameters.{Parameters}
+use Rattle.mars_cell.specs.Warriors.{WarriorValue}
+use Rattle.redcode_text.specs.Tokens.{Scanned}
+use Rattle.mars_match.specs.Leagues.{league_of}
+use Rattle.mars_match.specs.Rounds.{table_of}
+use Rattle.mars_cell.specs.declared.parameters.ParamFault.TheVariants.{CoreSize}
+use Rattle.mars_core.specs.declared.battle.start.BattleFault.TheVariants.{Overlap}
+use Rattle.mars_match.specs.declared.placement.PlaceFault.TheVariants.{BadSeed}
+use Rattle.redcode_text.specs.declared.fault.ExprFault.TheVariants.{Syntax, Range}
+use Rattle.redcode_asm.specs.declared.fault.FormulaFault.TheVariants.{Expression}
+use Rattle.mars_app.specs.declared.options.Options.{Options}
+use Rattle.mars_app.specs.declared.fault.RunFault.TheVariants as fault
+use Rattle.mars_app.specs.Contests.{contest, contest_size, listing, listing_head}
+use Rattle.mars_app.specs.Options.{parameters_of}
+use Rattle.mars_app.specs.Status.{status_of}
+
+abbrev imp : WarriorValue
+imp = record {
+  name = codes "Imp";
+  author = codes "Dewdney";
+  cells = record { op = Mov; modifier = I; a_mode = Direct; a = 0; b_mode = Direct; b = 1 } ∷ [];
+  start = 0;
+}
+
+-- each warrior with its load file and an empty line
+pub warriors_are_listed : listing 8000 false (imp ∷ imp ∷ []) ≡
+    codes "warrior 0: Imp by Dewdney, 1 instructions\n;load 2 8000\n;name Imp\n;author Dewdney\nORG 0\nMOV.I $0, $1\n\n"
+    ++ codes "warrior 1: Imp by Dewdney, 1 instructions\n;load 2 8000\n;name Imp\n;author Dewdney\nORG 0\nMOV.I $0, $1\n\n"
+unfolding listing_head digits
+warriors_are_listed = refl
+
+pub brief_contests_list_nothing : listing 8000 true (imp ∷ imp ∷ []) ≡ []
+brief_contests_list_nothing = refl
+
+-- a limit that isn't named is the size of the core
+pub limits_are_the_core : (o : Options) → let p = parameters_of (record o { core = 8; longest = 3; read_limit = None; write_limit = None }) in (p.read_limit ≡ 8) × (p.write_limit ≡ 8) × (p.max_length ≡ 3)
+limits_are_the_core o = (refl, refl, refl)
+
+-- a league is fought where one is asked for, between two at a time; else a match
+pub a_league_or_a_match : (o : Options) (p : Parameters) (f : Scanned) (warriors : List WarriorValue) →
+    let league = record o { league = true } in
+    let match = record o { league = false } in
+    (contest league p f warriors ≡ league_of p warriors f o.fixed o.rounds o.seed)
+    × (contest_size league ≡ 2)
+    × (contest match p f warriors ≡ table_of p warriors f o.fixed o.rounds o.seed)
+a_league_or_a_match o p f warriors = (refl, refl, refl)
+
+-- 2 where the words say what can't be, else 1
+pub statuses : (status_of fault.Words ≡ 2)
+    × (status_of (fault.Parameters CoreSize) ≡ 2)
+    × (status_of (fault.Formula (Expression Syntax)) ≡ 2)
+    × (status_of (fault.Placement BadSeed) ≡ 1)
+    × (status_of (fault.Battle Overlap) ≡ 1)
+    × (status_of (fault.Score Range) ≡ 1)
+    × (status_of fault.OutOfMemory ≡ 1)
+    × (status_of fault.Output ≡ 1)
+    × (status_of fault.Commands ≡ 1)
+statuses = (refl, refl, refl, refl, refl, refl, refl, refl, refl)

@@ -1,0 +1,81 @@
+-- Worked examples: parameters and programs that are taken, and why others are refused.
+use Rattle.std.specs.Prelude.{◌≡◌, ℕ, List, [], ◌∷◌, Ok, Err, refl}
+use Rattle.mars_cell.specs.declared.instruction.Field.TheVariants.{ANumber, BNumber}
+use Rattle.mars_cell.specs.declared.instruction.Cell.{Cell}
+use Rattle.mars_cell.specs.declared.instruction.Op.TheVariants as op
+use Rattle.mars_cell.specs.declared.instruction.Modifier.TheVariants as modifier
+use Rattle.mars_cell.specs.declared.instruction.Mode.TheVariants.{Direct}
+use Rattle.mars_cell.specs.declared.parameters.ParamFault.{ParamFault}
+use Rattle.mars_cell.specs.declared.parameters.ParamFault.TheVariants.{CoreSize, Processes, Cycles, Limit, Length, Distance}
+use Rattle.mars_cell.specs.declared.warriors.WarriorFault.TheVariants as warrior
+use Rattle.mars_cell.specs.Cells.{empty_cell, field_of, with_field}
+use Rattle.mars_cell.specs.Parameters.{Parameters}
+use Rattle.mars_cell.specs.ParameterFaults.{checked_parameters}
+use Rattle.mars_cell.specs.Warriors.{WarriorValue}
+use Rattle.mars_cell.specs.WarriorFaults.{checked_warrior}
+use Rattle.mars_cell.specs.Examples.Cells.{cell, nop}
+
+-- core size, processes, cycles, read limit, write limit, longest warrior, least distance
+abbrev of_sizes : ℕ → ℕ → ℕ → ℕ → ℕ → ℕ → ℕ → Parameters
+of_sizes m p c r w l d = record { core_size = m; processes = p; cycles = c; read_limit = r; write_limit = w; max_length = l; distance = d }
+
+abbrev Taken : Parameters → Type 0
+Taken p = checked_parameters p ≡ Ok p
+
+abbrev Refused : Parameters → ParamFault → Type 0
+Refused p fault = checked_parameters p ≡ Err fault
+
+-- the least and the greatest value of each
+pub parameters_are_taken :
+    Taken (of_sizes 1 1 1 1 1 1 1)
+    × Taken (of_sizes 1048576 65536 10000000 1048576 1048576 1048576 1048576)
+    × Taken (of_sizes 8000 8000 80000 8000 4000 100 100)
+    × Taken (of_sizes 8000 8000 80000 1 8000 100 101)
+parameters_are_taken = (refl, refl, refl, refl)
+
+-- one below the least value, and one above the greatest
+pub parameters_are_refused :
+    Refused (of_sizes 0 1 1 1 1 1 1) CoreSize
+    × Refused (of_sizes 1048577 1 1 1 1 1 1) CoreSize
+    × Refused (of_sizes 8 0 1 1 1 1 1) Processes
+    × Refused (of_sizes 8 65537 1 1 1 1 1) Processes
+    × Refused (of_sizes 8 1 0 1 1 1 1) Cycles
+    × Refused (of_sizes 8 1 10000001 1 1 1 1) Cycles
+    × Refused (of_sizes 8 1 1 0 8 1 1) Limit
+    × Refused (of_sizes 8 1 1 9 8 1 1) Limit
+    × Refused (of_sizes 8 1 1 8 0 1 1) Limit
+    × Refused (of_sizes 8 1 1 8 9 1 1) Limit
+    × Refused (of_sizes 8 1 1 8 8 0 1) Length
+    × Refused (of_sizes 8 1 1 8 8 9 9) Length
+    × Refused (of_sizes 8 1 1 8 8 3 2) Distance
+    × Refused (of_sizes 8 1 1 8 8 3 9) Distance
+parameters_are_refused = (refl, refl, refl, refl, refl, refl, refl, refl, refl, refl, refl, refl, refl, refl)
+
+-- of several the first one is told
+pub first_fault_of_parameters :
+    Refused (of_sizes 0 0 0 0 0 0 0) CoreSize
+    × Refused (of_sizes 8 0 0 0 0 0 0) Processes
+    × Refused (of_sizes 8 1 0 0 0 0 0) Cycles
+    × Refused (of_sizes 8 1 1 0 0 0 9) Limit
+    × Refused (of_sizes 8 1 1 8 8 0 9) Length
+first_fault_of_parameters = (refl, refl, refl, refl, refl)
+
+abbrev program : List Cell → ℕ → WarriorValue
+program cells start = record { name = []; author = []; cells = cells; start = start }
+
+-- a warrior has a cell, and starts at one of its cells
+pub programs_are_judged :
+    (checked_warrior (program (nop ∷ nop ∷ []) 1) ≡ Ok (program (nop ∷ nop ∷ []) 1))
+    × (checked_warrior (program (nop ∷ nop ∷ []) 2) ≡ Err warrior.BadOrigin)
+    × (checked_warrior (program [] 0) ≡ Err warrior.Empty)
+    × (checked_warrior (program [] 1) ≡ Err warrior.Empty)
+programs_are_judged = (refl, refl, refl, refl)
+
+-- a cell of a core in which nothing was laid, and what its two fields are
+pub cell_of_an_empty_core :
+    (empty_cell ≡ cell op.Dat modifier.F Direct 0 Direct 0)
+    × (with_field ANumber 3 empty_cell ≡ cell op.Dat modifier.F Direct 3 Direct 0)
+    × (with_field BNumber 3 empty_cell ≡ cell op.Dat modifier.F Direct 0 Direct 3)
+    × (field_of ANumber (cell op.Dat modifier.F Direct 1 Direct 2) ≡ 1)
+    × (field_of BNumber (cell op.Dat modifier.F Direct 1 Direct 2) ≡ 2)
+cell_of_an_empty_core = (refl, refl, refl, refl, refl)
