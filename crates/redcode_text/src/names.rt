@@ -13,36 +13,11 @@ pub mod values;
 
 use crate::characters::{are_digits, begins_name, is_word};
 use crate::names::texts::Texts;
+use crate::seed::Seed;
+use crate::token::Token;
 use indexmap::IndexSet;
 use std::alloc::{AllocError, Global};
-use std::hash::{BuildHasher, DefaultHasher, Hasher};
 use std::marker::Model;
-
-/// A hash that begins with the text itself, so that whoever writes the names of a text can't choose them to collide: each
-/// change of a name changes the hashes of all. The same text is read in the same way each time.
-#[derive(Clone, Copy)]
-pub struct Seed {
-    begun: DefaultHasher,
-}
-
-impl Seed {
-    /// The seed of a text.
-    pub fn new(text: &[u8]) -> Self {
-        let mut begun = DefaultHasher::new();
-        begun.write(text);
-        Seed { begun }
-    }
-}
-
-impl BuildHasher for Seed {
-    type Hasher = DefaultHasher;
-
-    ghost build_hasher = { λ s. s.begun };
-
-    fn build_hasher(&self) -> DefaultHasher {
-        self.begun
-    }
-}
 
 /// So many bytes are long: where a name has as many, it is kept in two parts, and a text of them is guessed by its place.
 const LONG: usize = 256;
@@ -125,6 +100,7 @@ fn index_among(
 pub struct NameTable {
     texts: Texts,
     names: IndexSet<Parts, Seed>,
+    seed: Seed,
     ghost made: { AllParts texts names.keys },
 }
 
@@ -138,15 +114,20 @@ impl Model for NameTable {
 }
 
 impl NameTable {
-    /// No name, before a text is read.
-    pub(crate) fn new(alloc: Global, text: &[u8]) -> Self
+    /// No name, before a text of this seed is read.
+    pub(crate) fn new(alloc: Global, seed: Seed) -> Self
         ensures { result ≡ [] }
     {
-        let seed = Seed::new(text);
         NameTable {
             texts: Texts::new(alloc, seed),
             names: IndexSet::with_hasher(alloc, seed),
+            seed,
         }
+    }
+
+    /// A number for tokens of the text, by which those of the same kinds are found again.
+    pub fn key_of(&self, tokens: &[Token]) -> u64 {
+        self.seed.key_of(tokens)
     }
 
     /// The index of a name that stands at a place of the text; it is added where it is new.

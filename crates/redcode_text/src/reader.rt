@@ -23,6 +23,7 @@ use crate::names::equates::Equates;
 use crate::names::predefined::PredefinedNames;
 use crate::names::set::NameSet;
 use crate::program::{Assert, Line};
+use crate::seed::Seed;
 use crate::source::row::Row;
 use crate::token::{Sign, Token, TokenKind};
 use std::alloc::{AllocError, Global};
@@ -90,12 +91,13 @@ impl Reading {
         ensures loops { IfOk result (λ reading. reading.loops ≡ []) }
         ensures going { IfOk result (λ reading. reading.ended ≡ false) }
     {
+        let seed = Seed::new(source);
         let name = String::from_str(alloc, "Unknown")?;
         let author = String::from_str(alloc, "Anonymous")?;
         Ok(Reading {
             loops: OpenLoops::new(alloc),
-            names: NameTable::new(alloc, source),
-            equates: Equates::new(alloc),
+            names: NameTable::new(alloc, seed),
+            equates: Equates::new(alloc, seed),
             equate_grows: false,
             lines: Vec::new(alloc),
             labels: NameSet::new(alloc),
