@@ -11,7 +11,7 @@
 //!   reader/line        a row that is neither FOR nor ROF; EQU: a name for its tokens
 //!     reader/comment     `;name`, `;author`, `;assert`
 //!     lexer              bytes -> tokens, with joins and counters
-//!     reader/ordinary    labels, operation, rest; where the operation is an EQU name, its lines in its place
+//!     reader/ordinary    labels, operation, rest; where the operation is an EQU name, its lines (reader/used_lines) in its place
 //! reader             all that has been read so far, within `limits`; what a name is
 //! expansion          what is kept of it: a `program`
 //! names/equates      later, for each operand: EQU names -> their tokens; values that are kept (names/values)

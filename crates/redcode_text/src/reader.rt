@@ -12,6 +12,7 @@ mod comment;
 mod line;
 mod ordinary;
 pub mod repeat;
+mod used_lines;
 
 use crate::characters::is_word;
 use crate::fault::TextProblem;
@@ -114,6 +115,7 @@ impl Reading {
     /// One more line is read.
     pub fn count_line(&mut self) -> Result<(), TextProblem>
         ensures value { Gives (λ _. reading_of self.new) result (line_read (reading_of self.old)) }
+        ensures equates { self.new.equates ≡ self.old.equates }
         ensures room { OnOk result (vec_len self.new.lines < self.new.lines_read) }
     {
         if self.lines_read >= MAX_LINES {
@@ -126,6 +128,7 @@ impl Reading {
     /// These tokens of a line that comes from EQU are read.
     pub fn count_tokens(&mut self, tokens: &[Token]) -> Result<(), TextProblem>
         ensures value { Gives (λ _. reading_of self.new) result (tokens_counted tokens.now (reading_of self.old)) }
+        ensures equates { self.new.equates ≡ self.old.equates }
         ensures lines { vec_len self.new.lines ≡ vec_len self.old.lines }
         ensures lines_read { self.new.lines_read ≡ self.old.lines_read }
     {
