@@ -10,7 +10,7 @@ ghost use Rattle.redcode_asm.specs.Code.Problems.{Gives};
 use crate::fault::{AsmFault, AsmProblem};
 use crate::sources::{AssertNames, Source};
 use indexmap::IndexMap;
-use redcode_text::{Assert, ExprFault, Token, are_alike, eval, key_of};
+use redcode_text::{Assert, ExprFault, Token, are_alike, eval};
 use std::alloc::{AllocError, Global};
 
 /// Asserts that hold wherever they stand.
@@ -32,25 +32,22 @@ impl<'a> HeldAsserts<'a> {
         }
     }
 
-    /// One assert more.
-    pub fn add(&mut self, assert: &'a Assert) -> Result<(), AllocError>
+    /// One assert more, whose expression has this key.
+    pub fn add(&mut self, key: u64, assert: &'a Assert) -> Result<(), AllocError>
         ensures ok { OnOk result (self.new.asserts.items ≡ self.old.asserts.items ++ assert.entry ∷ []) }
         ensures err { OnErr result (self.new.asserts.items ≡ self.old.asserts.items) }
     {
         self.asserts.reserve(1)?;
-        let Ok(_) = self
-            .places
-            .insert(key_of(&assert.tokens), self.asserts.len())
-        else {
+        let Ok(_) = self.places.insert(key, self.asserts.len()) else {
             return Err(AllocError);
         };
         self.asserts.push_reserved(assert);
         Ok(())
     }
 
-    /// Which of the asserts this one may be.
-    fn guess(&self, assert: &Assert) -> Option<usize> {
-        let place = self.places.get(&key_of(&assert.tokens))?;
+    /// Which of the asserts one may be whose expression has this key.
+    fn guess(&self, key: u64) -> Option<usize> {
+        let place = self.places.get(&key)?;
         Some(*place)
     }
 }
@@ -61,7 +58,8 @@ impl<'a> Source<'a> {
         requires { AreHeld (predefined_of self.now.predefined.now) self.now.program.now held.now.asserts.items }
         ensures { result ≡ true → IsHeld (predefined_of self.now.predefined.now) self.now.program.now assert.now.tokens.items }
     {
-        let Some(place) = held.guess(assert) else {
+        let key = self.program.names().key_of(&assert.tokens);
+        let Some(place) = held.guess(key) else {
             return false;
         };
         if place >= held.asserts.len() {
@@ -132,7 +130,8 @@ impl<'a> Source<'a> {
             return Ok(());
         }
         if self.check_assert(alloc, assert)? {
-            let Ok(()) = held.add(assert) else {
+            let key = self.program.names().key_of(&assert.tokens);
+            let Ok(()) = held.add(key, assert) else {
                 return Err(AsmProblem::OutOfMemory);
             };
         }

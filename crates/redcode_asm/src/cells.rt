@@ -16,7 +16,7 @@ use crate::places::Place;
 use crate::sources::Source;
 use indexmap::IndexMap;
 use mars_cell::{Cell, Modifier, Op};
-use redcode_text::{Line, Token, are_alike, is_instruction, key_of};
+use redcode_text::{Line, NameTable, Token, are_alike, is_instruction};
 use std::alloc::{AllocError, Global};
 
 /// An instruction, and its cell.
@@ -35,10 +35,11 @@ pub struct FixedCells<'a> {
 }
 
 /// A number for an instruction, by which those of the same operation and tokens are found again.
-fn key_of_line(line: &Line) -> u64 {
+fn key_of_line(names: &NameTable, line: &Line) -> u64 {
+    let key = names.key_of(&line.rest);
     match line.operation {
-        Some(name) => key_of(&line.rest).wrapping_add(name as u64),
-        None => key_of(&line.rest),
+        Some(name) => key.wrapping_add(name as u64),
+        None => key,
     }
 }
 
@@ -53,13 +54,13 @@ impl<'a> FixedCells<'a> {
         }
     }
 
-    /// One instruction more.
-    pub fn add(&mut self, line: &'a Line, cell: Cell) -> Result<(), AllocError>
+    /// One instruction more, of this key.
+    pub fn add(&mut self, key: u64, line: &'a Line, cell: Cell) -> Result<(), AllocError>
         ensures ok { OnOk result (self.new.cells.items ≡ self.old.cells.items ++ record { line = line.entry; cell = cell } ∷ []) }
         ensures err { OnErr result (self.new.cells.items ≡ self.old.cells.items) }
     {
         self.cells.reserve(1)?;
-        let Ok(_) = self.places.insert(key_of_line(line), self.cells.len()) else {
+        let Ok(_) = self.places.insert(key, self.cells.len()) else {
             return Err(AllocError);
         };
         self.cells.push_reserved(FixedCell { line, cell });
@@ -67,11 +68,11 @@ impl<'a> FixedCells<'a> {
     }
 
     /// Which of the instructions this one may be.
-    fn guess(&self, line: &Line) -> Option<usize> {
+    fn guess(&self, names: &NameTable, line: &Line) -> Option<usize> {
         if self.cells.is_empty() {
             return None;
         }
-        let place = self.places.get(&key_of_line(line))?;
+        let place = self.places.get(&key_of_line(names, line))?;
         Some(*place)
     }
 }
@@ -82,7 +83,7 @@ impl<'a> Source<'a> {
         requires { AreFixed (predefined_of self.now.predefined.now) core_size self.now.program.now known.now.cells.items }
         ensures { IfSome result (IsFixed (predefined_of self.now.predefined.now) core_size self.now.program.now line.now.operation line.now.rest.items) }
     {
-        let place = known.guess(line)?;
+        let place = known.guess(self.program.names(), line)?;
         if place >= known.cells.len() {
             return None;
         }
@@ -94,9 +95,6 @@ impl<'a> Source<'a> {
     }
 }
 
-/// How many tokens of operands are many.
-const MANY: usize = 32;
-
 impl<'a> Source<'a> {
     /// Whether a line is an instruction.
     fn is_instruction(&self, line: &Line) -> bool
@@ -105,29 +103,29 @@ impl<'a> Source<'a> {
         is_instruction(self.program.names(), line.operation, &line.rest)
     }
 
-    /// The cell of an opcode and its operands, behind so many instructions, and whether it is the same behind any others: that is
-    /// found out only where there are many tokens.
+    /// The cell of an opcode and its operands at a place, and whether it is the same at any other: that is found out only where
+    /// EQU names were written, which may stand for many tokens, or have been replaced often to stand for none.
     fn cell_with(
         &self,
         core_size: u32,
-        index: u32,
+        place: Place<'_>,
         op: Op,
         modifier: Option<Modifier>,
         operands: &[Token],
     ) -> Result<(Cell, bool), AsmProblem>
         requires { 0 < core_size }
-        ensures value { let defined = cell_from core_size (name_value (predefined_of self.now.predefined.now) self.now.program.now index index) op modifier operands.now in
+        ensures value { let defined = cell_from core_size (name_value (predefined_of self.now.predefined.now) self.now.program.now place.entry.index place.entry.index) op modifier operands.now in
             MatchResult result (λ made. defined ≡ Ok made.0) (λ problem. defined ≡ Err problem) }
         ensures fixed { IfOk result (λ made. made.1 ≡ true → cell_from core_size (fixed_value (predefined_of self.now.predefined.now) self.now.program.now) op modifier operands.now ≡ Ok made.0) }
         ensures fits { IfOk result (λ made. FitsCore core_size made.0) }
     {
-        if operands.len() >= MANY {
+        if self.program.has_equate(&place.line.rest) {
             let fixed_names = self.fixed_names();
             if let Ok(cell) = make_cell(op, modifier, operands, &fixed_names, core_size) {
                 return Ok((cell, true));
             }
         }
-        let line_names = self.instruction_names(index);
+        let line_names = self.instruction_names(place.index);
         match make_cell(op, modifier, operands, &line_names, core_size) {
             Ok(cell) => Ok((cell, false)),
             Err(problem) => Err(problem),
@@ -150,7 +148,7 @@ impl<'a> Source<'a> {
         let op = read_opcode(names, place.line.operation)?;
         let (modifier, rest) = take_modifier(names, &place.line.rest)?;
         let operands = self.replace(alloc, rest)?;
-        match self.cell_with(core_size, place.index, op, modifier, &operands) {
+        match self.cell_with(core_size, place, op, modifier, &operands) {
             Ok(made) => Ok(made),
             Err(problem) => Err(problem),
         }
@@ -175,7 +173,8 @@ impl<'a> Source<'a> {
         }
         let (cell, is_fixed) = self.cell_of(alloc, core_size, place)?;
         if is_fixed {
-            let Ok(()) = known.add(place.line, cell) else {
+            let key = key_of_line(self.program.names(), place.line);
+            let Ok(()) = known.add(key, place.line, cell) else {
                 return Err(AsmProblem::OutOfMemory);
             };
         }

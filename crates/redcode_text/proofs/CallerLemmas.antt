@@ -6,11 +6,10 @@ use Rattle.redcode_text.specs.declared.token.TokenKind.{TokenKind}
 use Rattle.redcode_text.specs.declared.token.TokenKind.TheVariants.{Number, Name}
 use Rattle.redcode_text.specs.declared.token.TokenKind.TheVariants as token
 use Rattle.redcode_text.specs.declared.fault.ExprFault.{ExprFault}
-use Rattle.redcode_text.specs.declared.fault.TextFault.{TextFault}
 use Rattle.redcode_text.specs.declared.fault.TextProblem.{TextProblem}
 use Rattle.redcode_text.specs.declared.fault.TextProblem.TheVariants.{TooLong}
 use Rattle.redcode_text.specs.declared.token.Token.{Token}
-use Rattle.redcode_text.specs.Equates.{Equate, Replaced, Replacing, depth_limit, each_replaced, each_replaced_at_line, kept, limit, one_line, one_more, replaced_name, replaced_token, replacing, substitution, token_lines}
+use Rattle.redcode_text.specs.Equates.{Equate, Replaced, Replacing, depth_limit, each_replaced, kept, limit, one_line, one_more, replaced_name, replaced_token, replacing, substitution, token_lines}
 use Rattle.redcode_text.specs.Tokens.{◌>>>◌, at_line, without_line}
 use Rattle.redcode_text.specs.Tokens as tokens
 use Rattle.redcode_text.specs.Expression.{◌>>=◌, kinds, known, shape, start, value_of}

@@ -9,7 +9,7 @@ use Rattle.std.proofs.lemmas.List.Sums.{AllPass-from_list_all, prefix_len-le-len
 use Rattle.std.proofs.lemmas.Option.{get_or_from_slice_get, slice_get-map, slice_get_within}
 use Rattle.std.proofs.lemmas.Slice.Eq.{bytes_eq-Decides}
 use Rattle.std.specs.Char.{is_ascii_digit, to_ascii_lowercase}
-use Rattle.std.specs.List.{list_all, list_any, position_or_len, slice_get, suffix_len}
+use Rattle.std.specs.List.{AllByRecursion, IsDistinct, list_all, list_any, position_or_len, slice_get, suffix_len}
 use Rattle.std.specs.Str.{bytes_eq, str_eq_ignore_ascii_case, str_to_ascii_lowercase}
 use Rattle.redcode_text.specs.Code.Parts.{AllParts, AreParts, HasParts, IsFrontOf, IsThere, front_len, name_of, parts_of}
 use Rattle.redcode_text.specs.Lines.{name_at}
@@ -194,6 +194,20 @@ module _ (texts : List (List ℕ)) (p : ℕ × ℕ) (are : AreParts texts p) whe
       go : (b : Bool) → AllParts texts (cond b names (names ++ p ∷ []))
       go true = all
       go false = All-push (AreParts texts) names p all are
+
+apart-names : (texts : List (List ℕ)) (p : ℕ × ℕ) → AreParts texts p → (names : List (ℕ × ℕ)) → AllParts texts names → AllByRecursion (λ q. same_pair p q ≡ false) names
+    → AllByRecursion (λ q. bytes_eq (name_of texts p) (name_of texts q) ≡ false) names
+apart-names texts p are [] all apart = tt
+apart-names texts p are (q ∷ names) all apart =
+    (sym (same texts p q are (all 0 q (omega arith))) ∙ apart.0, apart-names texts p are names (behind texts p are q names all) apart.1)
+
+-- no name stands twice, where no parts do
+pub distinct-names : (texts : List (List ℕ)) (names : List (ℕ × ℕ)) → AllParts texts names → IsDistinct same_pair names → IsDistinct (λ p q. bytes_eq (name_of texts p) (name_of texts q)) names
+unfolding IsDistinct
+distinct-names texts [] all apart = tt
+distinct-names texts (p ∷ names) all apart =
+    let are = all 0 p (omega arith) in let rest = behind texts p are p names all in
+    (apart-names texts p are names rest apart.0, distinct-names texts names rest apart.1)
 
 -- ---- the name of an index
 

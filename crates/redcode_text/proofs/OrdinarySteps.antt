@@ -1,16 +1,11 @@
 -- An ordinary line by its parts.
-use Rattle.std.proofs.Common.{◌≡◌, ℕ, zero, suc, ◌-◌, List, Option, None, Some, Result, Ok, refl, ap, sym, ◌∙◌, arith}
+use Rattle.std.proofs.Common.{◌≡◌, ℕ, zero, suc, ◌-◌, List, Option, None, Some, Result, Ok, refl, ap, ◌∙◌, arith}
 use Rattle.redcode_text.specs.declared.fault.TextProblem.{TextProblem}
 use Rattle.redcode_text.specs.declared.token.Token.{Token}
 use Rattle.redcode_text.specs.Lines.{Parts, Predefined, Reading, Step, before_first, behind_last, each_line, line_added, on_line, operation_lines, ordinary_line, parts_of, parts_read}
 use Rattle.redcode_text.specs.Code.Problems.{Fails}
 use Rattle.redcode_text.specs.Tokens.{◌>>=◌}
-use Rattle.redcode_text.specs.Code.Used.{used}
 use Rattle.redcode_text.proofs.Failing.{fails-bind}
-use Rattle.redcode_text.proofs.UsedSteps.{used-is}
-
-abbrev ok : List (List Token) → Result (List (List Token)) TextProblem
-ok l = Ok l
 
 module _ (ps : Predefined) (number : ℕ) (ts : List Token) (st : Reading) where
   abbrev then_read : Option (List Token → Step) → Parts → Result Reading TextProblem
@@ -32,10 +27,3 @@ module _ (ps : Predefined) (number : ℕ) (ts : List Token) (st : Reading) where
       ap (λ r. r >>= then_read (Some (ordinary_line ps number depth))) h
       ∙ ap (λ o. parts_read (Some (ordinary_line ps number depth)) number p o st) some
       ∙ ap (λ d. each_line (ordinary_line ps number d) (behind_last (before_first p.label_tokens lines) p.rest) st) e
-
--- the lines that take the place of an EQU name, as they were made
-pub made-is : (before : List Token) (lines : List (List Token)) (behind looked : List Token) (made read : List (List Token)) → behind ≡ looked → ok (used before lines looked) ≡ ok made → made ≡ read
-    → behind_last (before_first before lines) behind ≡ read
-made-is before lines behind looked made read b m r =
-    let is : used before lines looked ≡ made = cc in
-    sym (used-is before lines behind) ∙ ap (used before lines) b ∙ is ∙ r

@@ -1,11 +1,13 @@
--- The lines that take the place of an EQU name, one further, and that they are the defined ones.
-use Rattle.std.proofs.Common.{◌≡◌, ℕ, suc, ◌+◌, ◌<◌, List, [], ◌∷◌, ◌++◌, length, drop, get_or, map, Ok, Result, refl, ap, sym, ◌∙◌, arith}
+-- The lines that take the place of an EQU name, one at a time, and that they are the defined ones.
+use Rattle.std.proofs.Common.{◌≡◌, ℕ, zero, suc, ◌+◌, ◌-◌, ◌<◌, ◌≤◌, List, [], ◌∷◌, ◌++◌, length, drop, get_or, map, Bool, true, false, Option, Some, None, Ok, Result, refl, ap, sym, subst, ◌∙◌, arith}
 use Rattle.std.proofs.Math.Seq.{drop-cons}
 use Rattle.redcode_text.specs.declared.fault.TextProblem.{TextProblem}
 use Rattle.redcode_text.specs.declared.token.Token.{Token}
-use Rattle.redcode_text.specs.Lines.{before_first, behind_last}
-use Rattle.redcode_text.specs.Code.Used.{used}
-use Rattle.redcode_text.proofs.SourceLines.{map-snoc}
+use Rattle.redcode_text.specs.Lines.{Reading, Step, before_first, behind_last, each_line, unless_ended}
+use Rattle.redcode_text.specs.Code.Problems.{Fails}
+use Rattle.redcode_text.specs.Code.Used.{before_line, lines_under, read_one, used}
+use Rattle.redcode_text.specs.Tokens.{◌>>=◌}
+use Rattle.redcode_text.proofs.Failing.{fails-bind}
 
 behind-used : (l : List Token) (ls : List (List Token)) (behind : List Token) → used [] (l ∷ ls) behind ≡ behind_last (l ∷ ls) behind
 behind-used l [] behind = refl
@@ -16,28 +18,82 @@ used-is before [] behind = refl
 used-is before (l ∷ []) behind = refl
 used-is before (l ∷ m ∷ ls) behind = ap (λ r. (before ++ l) ∷ r) (behind-used m ls behind)
 
-abbrev pub ok : List Token → Result (List Token) TextProblem
-ok l = Ok l
+-- there is one line at least
+pub used-length : (before : List Token) (lines : List (List Token)) (behind : List Token) → length (used before lines behind) ≡ length lines - 1 + 1
+used-length before [] behind = refl
+used-length before (l ∷ []) behind = refl
+used-length before (l ∷ m ∷ ls) behind = omega (arith, used-length [] (m ∷ ls) behind)
+
+nothing-before : (at : ℕ) → before_line [] at ≡ []
+nothing-before zero = refl
+nothing-before (suc at) = refl
 
 module _ {T : Type 0} (f : T → List Token) where
-  used-step : (before : List Token) (ls : List T) (at : ℕ) (d : T) (behind : List Token) → at + 1 < length ls
-      → used before (map f (drop at ls)) behind ≡ (before ++ f (get_or ls at d)) ∷ used [] (map f (drop (at + 1) ls)) behind
-  used-step before ls at d behind h =
-      let s = drop-cons ls (suc at) d (omega arith) in
-      let n : suc at ≡ at + 1 = omega arith in
-      ap (λ l. used before (map f l) behind) (drop-cons ls at d (omega arith))
-      ∙ ap (λ l. used before (f (get_or ls at d) ∷ map f l) behind) s
-      ∙ ap (λ l. (before ++ f (get_or ls at d)) ∷ used [] (map f l) behind) (sym s)
-      ∙ ap (λ m. (before ++ f (get_or ls at d)) ∷ used [] (map f (drop m ls)) behind) n
+  -- a line before the last
+  pub used-before-last : (before : List Token) (lines : List T) (behind : List Token) (at : ℕ) (d : List Token) (x : T) → at + 1 < length lines → x ≡ get_or lines at x
+      → before_line before at ++ f x ≡ get_or (used before (map f lines) behind) at d
+  used-before-last before [] behind at d x h is = absurd (omega (arith, h))
+  used-before-last before (l ∷ []) behind at d x h is = absurd (omega (arith, h))
+  used-before-last before (l ∷ m ∷ ls) behind zero d x h is = ap (λ y. before ++ f y) is
+  used-before-last before (l ∷ m ∷ ls) behind (suc at) d x h is =
+      ap (λ b. b ++ f x) (sym (nothing-before at)) ∙ used-before-last [] (m ∷ ls) behind at d x (omega (arith, h)) is
 
-  -- one line more is made
-  pub used-more : (before : List Token) (ls : List T) (at : ℕ) (x line : T) (behind : List Token) (made new : List T) (whole : List (List Token)) → at + 1 < length ls → x ≡ get_or ls at x
-      → ok (before ++ f x) ≡ ok (f line) → new ≡ made ++ line ∷ [] → map f made ++ used before (map f (drop at ls)) behind ≡ whole
-      → map f new ++ used [] (map f (drop (at + 1) ls)) behind ≡ whole
-  used-more before ls at x line behind made new whole h is line_is pushed same =
-      let text : before ++ f x ≡ f line = cc in
-      ap (λ l. map f l ++ used [] (map f (drop (at + 1) ls)) behind) pushed
-      ∙ map-snoc f made line (used [] (map f (drop (at + 1) ls)) behind)
-      ∙ ap (λ l. map f made ++ l ∷ used [] (map f (drop (at + 1) ls)) behind) (sym text ∙ ap (λ y. before ++ f y) is)
-      ∙ ap (λ l. map f made ++ l) (sym (used-step before ls at x behind h))
-      ∙ same
+  -- the last line
+  pub used-last : (before : List Token) (lines : List T) (behind : List Token) (at : ℕ) (d : List Token) → at ≡ length lines - 1
+      → get_or (used (before_line before at) (map f (drop at lines)) behind) 0 d ≡ get_or (used before (map f lines) behind) at d
+  used-last before [] behind zero d h = refl
+  used-last before [] behind (suc at) d h = absurd (omega (arith, h))
+  used-last before (l ∷ []) behind zero d h = refl
+  used-last before (l ∷ []) behind (suc at) d h = absurd (omega (arith, h))
+  used-last before (l ∷ m ∷ ls) behind zero d h = absurd (omega (arith, h))
+  used-last before (l ∷ m ∷ ls) behind (suc at) d h =
+      ap (λ b. get_or (used b (map f (drop at (m ∷ ls))) behind) 0 d) (sym (nothing-before at)) ∙ used-last [] (m ∷ ls) behind at d (omega (arith, h))
+
+-- the lines of an operation lie in the EQU names
+pub under-same : (operation : Option ℕ) (st other : Reading) → st.equates ≡ other.equates → lines_under st operation ≡ lines_under other operation
+under-same None st other same = refl
+under-same (Some n) st other same = rw same refl
+
+abbrev ok : List Token → Result (List Token) TextProblem
+ok l = Ok l
+
+-- the line that was made at a place is the one that is there, where the EQU names are the same as at first
+pub line-at : (operation : Option ℕ) (st first : Reading) (before behind : List Token) (at : ℕ) (lines : List (List Token)) (line read : List Token) → st.equates ≡ first.equates → lines ≡ lines_under st operation
+    → ok (get_or (used before lines behind) at []) ≡ ok line → read ≡ line → get_or (used before (lines_under first operation) behind) at [] ≡ read
+line-at operation st first before behind at lines line read same is made e =
+    let found : get_or (used before lines behind) at [] ≡ line = cc in
+    ap (λ ls. get_or (used before ls behind) at []) (sym (is ∙ under-same operation st first same)) ∙ found ∙ sym e
+
+module _ (ordinary : List Token → Step) (ls : List (List Token)) (at : ℕ) (line : List Token) (st : Reading) (whole : Result Reading TextProblem) where
+  next : at < length ls → get_or ls at [] ≡ line → each_line ordinary (drop at ls) st ≡ whole → (read_one ordinary line st >>= λ a. unless_ended a (each_line ordinary (drop (at + 1) ls))) ≡ whole
+  next h found is =
+      let n : suc at ≡ at + 1 = omega arith in
+      (λ i. read_one ordinary (sym found i) st >>= λ a. unless_ended a (each_line ordinary (drop (sym n i) ls)))
+      ∙ ap (λ l. each_line ordinary l st) (sym (drop-cons ls at [] h))
+      ∙ is
+
+  -- a line that fails
+  pub line-fails : (e : TextProblem) → at < length ls → get_or ls at [] ≡ line → each_line ordinary (drop at ls) st ≡ whole → Fails e (read_one ordinary line st) → Fails e whole
+  line-fails e h found is fails =
+      subst (Fails e) (next h found is) (fails-bind e (read_one ordinary line st) (λ a. unless_ended a (each_line ordinary (drop (at + 1) ls))) fails)
+
+  -- a line that was read, with those behind it
+  pub line-done : (a : Reading) → at < length ls → get_or ls at [] ≡ line → each_line ordinary (drop at ls) st ≡ whole → read_one ordinary line st ≡ Ok a → a.ended ≡ false → each_line ordinary (drop (at + 1) ls) a ≡ whole
+  line-done a h found is done goes =
+      ap (λ (b : Bool). elim b as (λ _. Result Reading TextProblem) [ true ↦ Ok a | false ↦ each_line ordinary (drop (at + 1) ls) a ]) (sym goes)
+      ∙ ap (λ r. r >>= λ a. unless_ended a (each_line ordinary (drop (at + 1) ls))) (sym done)
+      ∙ next h found is
+
+  -- END
+  pub line-ends : (a : Reading) → at < length ls → get_or ls at [] ≡ line → each_line ordinary (drop at ls) st ≡ whole → read_one ordinary line st ≡ Ok a → a.ended ≡ true → whole ≡ Ok a
+  line-ends a h found is done ends =
+      sym (next h found is)
+      ∙ ap (λ r. r >>= λ a. unless_ended a (each_line ordinary (drop (at + 1) ls))) done
+      ∙ ap (λ (b : Bool). elim b as (λ _. Result Reading TextProblem) [ true ↦ Ok a | false ↦ each_line ordinary (drop (at + 1) ls) a ]) ends
+
+-- behind the last line
+pub lines-done : (ordinary : List Token → Step) (ls : List (List Token)) (at : ℕ) (st : Reading) (whole : Result Reading TextProblem) → length ls ≤ at → each_line ordinary (drop at ls) st ≡ whole → whole ≡ Ok st
+lines-done ordinary [] zero st whole h is = sym is
+lines-done ordinary [] (suc at) st whole h is = sym is
+lines-done ordinary (l ∷ ls) zero st whole h is = absurd (omega (arith, h))
+lines-done ordinary (l ∷ ls) (suc at) st whole h is = lines-done ordinary ls at st whole (omega (arith, h)) is

@@ -16,6 +16,7 @@ use crate::fault::{TextFault, TextProblem};
 use crate::lexer::open_loops::OpenLoops;
 use crate::lexer::words::{KnownStart, Spelled, Word, read_word};
 use crate::names::NameTable;
+use crate::seed::Seed;
 use crate::source::runs::{LongRun, RunKind};
 use crate::token::{Token, TokenKind, one_byte_sign, two_byte_sign};
 use std::alloc::Global;
@@ -277,7 +278,7 @@ pub fn scan(alloc: Global, text: &[u8]) -> Result<LineTokens, TextFault>
     ensures { Answers (λ s. scan_of s.tokens s.names) result (scanned text.now) }
 {
     let mut tokens = Vec::new(alloc);
-    let mut names = NameTable::new(alloc, text);
+    let mut names = NameTable::new(alloc, Seed::new(text));
     let line = Text {
         number: 1,
         at: 0,

@@ -11,7 +11,7 @@
 //!   reader/line        a row that is neither FOR nor ROF; EQU: a name for its tokens
 //!     reader/comment     `;name`, `;author`, `;assert`
 //!     lexer              bytes -> tokens, with joins and counters
-//!     reader/ordinary    labels, operation, rest; where the operation is an EQU name, its lines in its place
+//!     reader/ordinary    labels, operation, rest; where the operation is an EQU name, its lines (reader/used_lines) in its place
 //! reader             all that has been read so far, within `limits`; what a name is
 //! expansion          what is kept of it: a `program`
 //! names/equates      later, for each operand: EQU names -> their tokens; values that are kept (names/values)
@@ -36,7 +36,7 @@
 //!   `specs/Equates` defines it.
 //! - `PredefinedNames` has the values of the predefined names, `PredefinedNames::value_at` one of them, `NameTable` the names of a text.
 //! - `is_instruction` tells which lines are instructions, and `is_spelled` whether an operation is a word.
-//! - `are_alike` tells whether tokens are of the same kinds, and `key_of` gives a number by which such are found again.
+//! - `are_alike` tells whether tokens are of the same kinds, and `NameTable::key_of` gives a number by which such are found again.
 //! - `scan` gives the tokens and the names of a text of one line, or its first fault, exactly as `specs/Tokens` defines
 //!   them.
 //! - `check_shape` tells whether tokens have the shape of an expression, and `eval` gives the value of an expression
@@ -55,6 +55,7 @@ mod limits;
 mod names;
 mod program;
 mod reader;
+mod seed;
 mod source;
 mod token;
 
@@ -66,4 +67,4 @@ pub use lexer::{LineTokens, scan};
 pub use names::NameTable;
 pub use names::predefined::PredefinedNames;
 pub use program::{Assert, Line, Program, is_instruction, is_spelled};
-pub use token::{Sign, Token, TokenKind, are_alike, key_of};
+pub use token::{Sign, Token, TokenKind, are_alike};

@@ -1,6 +1,6 @@
 //! The names of a text.
-ghost use Rattle.std.specs.Prelude.{◌≡◌, ◌≤◌, ◌<◌, ◌++◌, length, map, string_bytes, true, [], IfOk, OnOk, IsAscii};
-ghost use Rattle.std.specs.Str.{str_eq_ignore_ascii_case};
+ghost use Rattle.std.specs.Prelude.{◌≡◌, ◌≤◌, ◌<◌, ◌++◌, length, map, string_bytes, true, [], IfOk, IfSome, OnOk, IsAscii};
+ghost use Rattle.std.specs.Str.{bytes_eq, str_eq_ignore_ascii_case};
 ghost use Rattle.redcode_text.specs.Code.Parts.{AllParts, AreParts, HasParts, IsFrontOf, front_len, name_of, parts_of};
 ghost use Rattle.redcode_text.specs.Lines.{name_at, word_at};
 ghost use Rattle.redcode_text.specs.Tokens.{begins_name, name_index, with_name};
@@ -11,38 +11,13 @@ pub mod set;
 mod texts;
 pub mod values;
 
-use crate::characters::{are_digits, begins_name, is_word};
+use crate::characters::{are_digits, begins_name, is_made_of, is_word};
 use crate::names::texts::Texts;
-use indexmap::IndexSet;
+use crate::seed::Seed;
+use crate::token::Token;
+use indexmap::{IndexMap, IndexSet};
 use std::alloc::{AllocError, Global};
-use std::hash::{BuildHasher, DefaultHasher, Hasher};
 use std::marker::Model;
-
-/// A hash that begins with the text itself, so that whoever writes the names of a text can't choose them to collide: each
-/// change of a name changes the hashes of all. The same text is read in the same way each time.
-#[derive(Clone, Copy)]
-pub struct Seed {
-    begun: DefaultHasher,
-}
-
-impl Seed {
-    /// The seed of a text.
-    pub fn new(text: &[u8]) -> Self {
-        let mut begun = DefaultHasher::new();
-        begun.write(text);
-        Seed { begun }
-    }
-}
-
-impl BuildHasher for Seed {
-    type Hasher = DefaultHasher;
-
-    ghost build_hasher = { λ s. s.begun };
-
-    fn build_hasher(&self) -> DefaultHasher {
-        self.begun
-    }
-}
 
 /// So many bytes are long: where a name has as many, it is kept in two parts, and a text of them is guessed by its place.
 const LONG: usize = 256;
@@ -125,6 +100,9 @@ fn index_among(
 pub struct NameTable {
     texts: Texts,
     names: IndexSet<Parts, Seed>,
+    /// The indices of the long names, by the places in the text where they stand: guesses, which are tested.
+    guesses: IndexMap<usize, usize>,
+    seed: Seed,
     ghost made: { AllParts texts names.keys },
 }
 
@@ -138,18 +116,25 @@ impl Model for NameTable {
 }
 
 impl NameTable {
-    /// No name, before a text is read.
-    pub(crate) fn new(alloc: Global, text: &[u8]) -> Self
+    /// No name, before a text of this seed is read.
+    pub(crate) fn new(alloc: Global, seed: Seed) -> Self
         ensures { result ≡ [] }
     {
-        let seed = Seed::new(text);
         NameTable {
             texts: Texts::new(alloc, seed),
             names: IndexSet::with_hasher(alloc, seed),
+            guesses: IndexMap::new(alloc),
+            seed,
         }
     }
 
-    /// The index of a name that stands at a place of the text; it is added where it is new.
+    /// A number for tokens of the text, by which those of the same kinds are found again.
+    pub fn key_of(&self, tokens: &[Token]) -> u64 {
+        self.seed.key_of(tokens)
+    }
+
+    /// The index of a name that stands at a place of the text; it is added where it is new. A long one is compared with the
+    /// name that was found at its place before, so that its bytes are gone over once in each round of its loop, and not parted.
     pub(crate) fn index_at(
         &mut self,
         alloc: Global,
@@ -160,8 +145,16 @@ impl NameTable {
         ensures index { IfOk result (λ n. n ≡ name_index self.old name.now) }
         ensures names { OnOk result (self.new ≡ with_name self.old name.now) }
     {
+        if name.len() < LONG {
+            return self.index_of_parts(alloc, name, &[], place);
+        }
+        if let Some(index) = self.guess(name, place) {
+            return Ok(index);
+        }
         let (front, digits) = name.split_at(front_len(name));
-        self.index_of_parts(alloc, front, digits, place)
+        let index = self.index_of_parts(alloc, front, digits, place)?;
+        self.guesses.insert(place, index)?;
+        Ok(index)
     }
 
     /// The index of a name in its two parts that stands at a place of the text; it is added where it is new.
@@ -198,6 +191,26 @@ impl NameTable {
             Some(parts) => (self.texts.text_of(parts.0), self.texts.text_of(parts.1)),
             None => ("", ""),
         }
+    }
+
+    /// Whether a name, by its index, has these bytes.
+    fn is_name(&self, index: usize, name: &[u8]) -> bool
+        ensures { result ≡ bytes_eq name.now (name_at self.now index) }
+    {
+        let (front, digits) = self.parts(index);
+        is_made_of(name, front.as_bytes(), digits.as_bytes())
+    }
+
+    /// The index of a name, if it is the name that was found at a place of the text before.
+    fn guess(&self, name: &[u8], place: usize) -> Option<usize>
+        ensures index { IfSome result (λ n. n ≡ name_index self.now name.now) }
+        ensures there { IfSome result (λ _. with_name self.now name.now ≡ self.now) }
+    {
+        let index = *self.guesses.get(&place)?;
+        if index >= self.names.len() || !self.is_name(index, name) {
+            return None;
+        }
+        Some(index)
     }
 
     /// The bytes of a name of fewer than 256 bytes, by its index; none of a longer one, which is none of the words that

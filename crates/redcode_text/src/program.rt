@@ -75,7 +75,7 @@ impl Model for Program {
 
 impl Program {
     ghost use Rattle.std.specs.Prelude.{◌≡◌, ◌≤◌, IfOk, length, map, option_map, vec_len};
-    ghost use Rattle.redcode_text.specs.Equates.{equate_lines, limit, substitution};
+    ghost use Rattle.redcode_text.specs.Equates.{equate_lines, has_equate, limit, substitution};
     ghost use Rattle.redcode_text.specs.Views.{assert_of, line_of};
     ghost use Rattle.redcode_text.specs.Outcomes.{Answers};
     ghost use Rattle.redcode_text.specs.Programs.{IsPrinted};
@@ -124,6 +124,13 @@ impl Program {
         ensures { option_map (λ lines. map (λ line. line.items) lines.now) result ≡ equate_lines self.now.equates name }
     {
         self.equates.lines_of(name)
+    }
+
+    /// Whether an EQU name is among tokens.
+    pub fn has_equate(&self, tokens: &[Token]) -> bool
+        ensures { result ≡ has_equate self.now.equates tokens.now }
+    {
+        self.equates.has_name(tokens)
     }
 
     /// Tokens with each EQU name replaced by its line, and the names in it in turn.

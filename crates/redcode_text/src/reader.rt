@@ -12,6 +12,7 @@ mod comment;
 mod line;
 mod ordinary;
 pub mod repeat;
+mod used_lines;
 
 use crate::characters::is_word;
 use crate::fault::TextProblem;
@@ -23,6 +24,7 @@ use crate::names::equates::Equates;
 use crate::names::predefined::PredefinedNames;
 use crate::names::set::NameSet;
 use crate::program::{Assert, Line};
+use crate::seed::Seed;
 use crate::source::row::Row;
 use crate::token::{Sign, Token, TokenKind};
 use std::alloc::{AllocError, Global};
@@ -90,12 +92,13 @@ impl Reading {
         ensures loops { IfOk result (λ reading. reading.loops ≡ []) }
         ensures going { IfOk result (λ reading. reading.ended ≡ false) }
     {
+        let seed = Seed::new(source);
         let name = String::from_str(alloc, "Unknown")?;
         let author = String::from_str(alloc, "Anonymous")?;
         Ok(Reading {
             loops: OpenLoops::new(alloc),
-            names: NameTable::new(alloc, source),
-            equates: Equates::new(alloc),
+            names: NameTable::new(alloc, seed),
+            equates: Equates::new(alloc, seed),
             equate_grows: false,
             lines: Vec::new(alloc),
             labels: NameSet::new(alloc),
@@ -112,6 +115,7 @@ impl Reading {
     /// One more line is read.
     pub fn count_line(&mut self) -> Result<(), TextProblem>
         ensures value { Gives (λ _. reading_of self.new) result (line_read (reading_of self.old)) }
+        ensures equates { self.new.equates ≡ self.old.equates }
         ensures room { OnOk result (vec_len self.new.lines < self.new.lines_read) }
     {
         if self.lines_read >= MAX_LINES {
@@ -124,6 +128,7 @@ impl Reading {
     /// These tokens of a line that comes from EQU are read.
     pub fn count_tokens(&mut self, tokens: &[Token]) -> Result<(), TextProblem>
         ensures value { Gives (λ _. reading_of self.new) result (tokens_counted tokens.now (reading_of self.old)) }
+        ensures equates { self.new.equates ≡ self.old.equates }
         ensures lines { vec_len self.new.lines ≡ vec_len self.old.lines }
         ensures lines_read { self.new.lines_read ≡ self.old.lines_read }
     {

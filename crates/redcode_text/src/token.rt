@@ -3,8 +3,6 @@ ghost use Rattle.std.specs.Prelude.{◌≡◌, true, [], ◌∷◌};
 ghost use Rattle.redcode_text.specs.Expression.{kinds};
 ghost use Rattle.redcode_text.specs.Tokens.{look_up, one_byte_signs, two_byte_signs};
 
-use std::hash::{DefaultHasher, Hasher};
-
 /// A sign of one or two bytes.
 #[derive(Clone, Copy, Debug, PartialEq, Eq)]
 pub enum Sign {
@@ -105,19 +103,6 @@ pub fn are_alike(tokens: &[Token], others: &[Token]) -> bool
         }
     }
     true
-}
-
-/// A number for tokens, by which those of the same kinds are found again.
-pub fn key_of(tokens: &[Token]) -> u64 {
-    let mut hasher = DefaultHasher::new();
-    for token in tokens {
-        match token.kind {
-            TokenKind::Number(value) => hasher.write_i64(value),
-            TokenKind::Name(name) => hasher.write_usize(name),
-            TokenKind::Sign(sign) => hasher.write_u8(sign as u8),
-        }
-    }
-    hasher.finish()
 }
 
 /// The sign that two bytes spell.

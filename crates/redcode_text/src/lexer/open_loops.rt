@@ -1,9 +1,9 @@
 //! The loops that are open where a line is read.
 ghost use Rattle.std.specs.Prelude.{◌≡◌, [], ◌∷◌, ◌++◌, drop, length, option_map, reverse, string_bytes, OnOk, OnErr};
-ghost use Rattle.std.specs.Str.{bytes_eq};
 ghost use Rattle.redcode_text.specs.Code.Heads.{innermost_counter};
 ghost use Rattle.redcode_text.specs.Tokens.{is_counter, round_of};
 
+use crate::characters::is_made_of;
 use std::alloc::{AllocError, Global};
 use std::marker::Model;
 
@@ -22,16 +22,6 @@ impl Model for OpenLoop {
     ghost Value = { OpenLoop };
 
     ghost view = { λ l. record { counter = option_map (λ s. string_bytes s) l.counter; round = l.round } };
-}
-
-/// Whether a text is two parts, one behind the other.
-fn is_made_of(text: &[u8], first: &[u8], end: &[u8]) -> bool
-    ensures { result ≡ bytes_eq text.now (first.now ++ end.now) }
-{
-    match text.split_at_checked(first.len()) {
-        Some((front, rest)) => front == first && rest == end,
-        None => false,
-    }
 }
 
 impl OpenLoop {

@@ -1,5 +1,5 @@
 //! Words: numbers, names and counters, with their joins.
-ghost use Rattle.std.specs.Prelude.{◌≡◌, ◌++◌, ◌≤◌, ◌^◌, length, not, ◌==◌, true, IfOk, OnOk, IsAscii, MatchOption};
+ghost use Rattle.std.specs.Prelude.{◌≡◌, ◌++◌, ◌≤◌, ◌^◌, Some, length, not, ◌==◌, true, IfOk, IfSome, OnOk, IsAscii, MatchOption};
 ghost use Rattle.std.specs.Char.{is_ascii_digit};
 ghost use Rattle.std.specs.List.{list_all, prefix_len};
 ghost use Rattle.std.specs.Str.Parse.{digits_value};
@@ -170,6 +170,24 @@ fn first_part_len(word: Word<'_>) -> usize
     word.known.plain + part_len(&word.bytes[word.known.plain..])
 }
 
+/// A counter that a join names, and its round.
+#[derive(Clone, Copy)]
+struct Counter<'a> {
+    name: &'a [u8],
+    round: u32,
+}
+
+/// The round of the loop whose counter has this name: that of the last join, where it has the same.
+fn round_after(loops: &OpenLoops, last: Option<Counter<'_>>, name: &[u8]) -> Option<u32>
+    requires { IfSome last (λ c. round_of loops.now c.name.now ≡ Some c.round) }
+    ensures { result ≡ round_of loops.now name.now }
+{
+    match last {
+        Some(counter) if counter.name == name => Some(counter.round),
+        _ => loops.round_of(name),
+    }
+}
+
 /// A word with the digits of counters in place of its joins.
 fn join_word(alloc: Global, loops: &OpenLoops, word: &[u8]) -> Result<Vec<u8>, TextProblem>
     requires { IsAscii word.now }
@@ -180,12 +198,15 @@ fn join_word(alloc: Global, loops: &OpenLoops, word: &[u8]) -> Result<Vec<u8>, T
     let Ok(mut joined) = Vec::from_slice(alloc, &word[..at]) else {
         return Err(TextProblem::OutOfMemory);
     };
+    let mut last = None;
     while at < word.len() {
         let from = at + 1;
         let to = from + part_len(&word[from..]);
-        let Some(round) = loops.round_of(&word[from..to]) else {
+        let name = &word[from..to];
+        let Some(round) = round_after(loops, last, name) else {
             return Err(TextProblem::BadToken);
         };
+        last = Some(Counter { name, round });
         let Ok(()) = push_round(&mut joined, round) else {
             return Err(TextProblem::OutOfMemory);
         };

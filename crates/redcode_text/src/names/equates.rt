@@ -1,7 +1,7 @@
 //! EQU names, and tokens with EQU names replaced.
 ghost use Rattle.std.specs.Prelude.{◌≡◌, [], ◌∷◌, ◌++◌, map, Some, None, Ok, Err, MatchResult, option_map, ◌≤◌, vec_len, IfOk, IfSome, OnOk, slice_get};
 ghost use Rattle.redcode_text.specs.declared.limits.TheConstants.{MAX_REPLACED};
-ghost use Rattle.redcode_text.specs.Equates.{Replaced, equate_lines, token_lines, one_line, one_more, kept, replaced_name, replaced_token, each_replaced, replacing, depth_limit, each_replaced_at_line, substitution};
+ghost use Rattle.redcode_text.specs.Equates.{Replaced, equate_lines, has_equate, token_lines, one_line, one_more, kept, replaced_name, replaced_token, each_replaced, replacing, depth_limit, each_replaced_at_line, substitution};
 ghost use Rattle.redcode_text.specs.Lines.{with_line};
 ghost use Rattle.redcode_text.specs.Outcomes.{Answers};
 ghost use Rattle.redcode_text.specs.Code.Problems.{Gives};
@@ -12,6 +12,7 @@ use crate::expression::{Env, eval};
 use crate::fault::{TextFault, TextProblem};
 use crate::limits::{MAX_NESTING, MAX_REPLACED, MAX_REPLACEMENTS};
 use crate::names::values::{KnownValue, KnownValues, NameValues, stand_for, values_of};
+use crate::seed::Seed;
 use crate::token::{Token, TokenKind, are_alike};
 use indexmap::IndexMap;
 use std::alloc::{AllocError, Global};
@@ -56,13 +57,13 @@ impl Model for Equates {
 
 impl Equates {
     /// No EQU name.
-    pub fn new(alloc: Global) -> Self
+    pub fn new(alloc: Global, seed: Seed) -> Self
         ensures { result ≡ [] }
     {
         Equates {
             lines: IndexMap::new(alloc),
             places: Vec::new(alloc),
-            known: KnownValues::new(alloc),
+            known: KnownValues::new(alloc, seed),
         }
     }
 
@@ -75,6 +76,16 @@ impl Equates {
         }
         let lines = self.lines.get(&name)?;
         Some(lines)
+    }
+
+    /// Whether an EQU name is among tokens.
+    pub fn has_name(&self, tokens: &[Token]) -> bool
+        ensures { result ≡ has_equate self.now tokens.now }
+    {
+        tokens.iter().any(|token| match token.kind {
+            TokenKind::Name(name) => self.lines_of(name).is_some(),
+            _ => false,
+        })
     }
 
     /// The lines of an EQU name, found without hashing it where it stands at the place that was noted.

@@ -4,7 +4,8 @@ ghost use Rattle.redcode_text.specs.Code.Parts.{IsFrontOf};
 ghost use Rattle.redcode_text.specs.Lines.{name_at};
 ghost use Rattle.redcode_text.specs.Tokens.{name_index, with_name};
 
-use crate::names::{LONG, Seed};
+use crate::names::LONG;
+use crate::seed::Seed;
 use indexmap::{IndexMap, IndexSet};
 use std::alloc::{AllocError, Global};
 use std::marker::Model;

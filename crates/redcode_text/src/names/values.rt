@@ -3,7 +3,8 @@ ghost use Rattle.std.specs.Prelude.{◌≡◌, ◌∷◌, ◌++◌, [], ℕ, ℤ
 ghost use Rattle.redcode_text.specs.Code.Values.{value_among};
 
 use crate::expression::Env;
-use crate::token::{Token, TokenKind, key_of};
+use crate::seed::Seed;
+use crate::token::{Token, TokenKind};
 use indexmap::IndexMap;
 use std::alloc::{AllocError, Global};
 
@@ -89,16 +90,18 @@ pub struct KnownValues {
     pub values: Vec<KnownValue>,
     /// Which of them has tokens of this key: a guess, which is tested.
     places: IndexMap<u64, usize>,
+    seed: Seed,
 }
 
 impl KnownValues {
     /// No value.
-    pub fn new(alloc: Global) -> Self
+    pub fn new(alloc: Global, seed: Seed) -> Self
         ensures { result.values.items ≡ [] }
     {
         KnownValues {
             values: Vec::new(alloc),
             places: IndexMap::new(alloc),
+            seed,
         }
     }
 
@@ -116,7 +119,10 @@ impl KnownValues {
         ensures err { OnErr result (self.new.values.items ≡ self.old.values.items) }
     {
         self.values.reserve(1)?;
-        let Ok(_) = self.places.insert(key_of(&known.tokens), self.values.len()) else {
+        let Ok(_) = self
+            .places
+            .insert(self.seed.key_of(&known.tokens), self.values.len())
+        else {
             return Err(AllocError);
         };
         self.values.push_reserved(known);
@@ -128,7 +134,7 @@ impl KnownValues {
         if self.values.is_empty() {
             return None;
         }
-        let place = self.places.get(&key_of(tokens))?;
+        let place = self.places.get(&self.seed.key_of(tokens))?;
         Some(*place)
     }
 }

@@ -5,13 +5,14 @@ ghost use Rattle.redcode_text.specs.Code.Readings.{parts_at, reading_of};
 ghost use Rattle.redcode_text.specs.Code.Labels.{AreLabels};
 ghost use Rattle.redcode_text.specs.Lines.{may_label, parts_of, split_colon, each_line, line_added, on_line, operation_lines, ordinary_line};
 ghost use Rattle.redcode_text.specs.Code.Problems.{Gives};
-ghost use Rattle.redcode_text.specs.Code.Used.{used};
+ghost use Rattle.redcode_text.specs.Code.Used.{lines_under, read_one, used};
 
 use crate::fault::TextProblem;
 use crate::names::predefined::PredefinedNames;
 use crate::names::set::NameSet;
 use crate::program::{Line, is_end, is_instruction};
 use crate::reader::Reading;
+use crate::reader::used_lines::used_line;
 use crate::token::{Sign, Token, TokenKind};
 use std::alloc::{AllocError, Global};
 
@@ -130,7 +131,8 @@ impl Reading {
     /// A line whose operation is no EQU name.
     fn add_line(&mut self, line: Line) -> Result<(), TextProblem>
         requires { vec_len self.old.lines < self.old.lines_read }
-        ensures { Gives (λ _. reading_of self.new) result (Ok (line_added line.number (record { labels = line.labels.items; label_tokens = []; operation = line.operation; rest = line.rest.items }) (reading_of self.old))) }
+        ensures equates { self.new.equates ≡ self.old.equates }
+        ensures value { Gives (λ _. reading_of self.new) result (Ok (line_added line.number (record { labels = line.labels.items; label_tokens = []; operation = line.operation; rest = line.rest.items }) (reading_of self.old))) }
     {
         let counts = is_instruction(&self.names, line.operation, &line.rest);
         let ends = is_end(&self.names, line.operation);
@@ -146,65 +148,12 @@ impl Reading {
     }
 }
 
-/// Tokens, and others behind them.
-fn joined(alloc: Global, front: &[Token], back: &[Token]) -> Result<Vec<Token>, TextProblem>
-    ensures { Gives (λ made. made.items) result (Ok (front.now ++ back.now)) }
-{
-    let Ok(mut made) = Vec::from_slice(alloc, front) else {
-        return Err(TextProblem::OutOfMemory);
-    };
-    match made.extend_from_slice(back) {
-        Ok(()) => Ok(made),
-        Err(_) => Err(TextProblem::OutOfMemory),
-    }
-}
-
-/// The last of the lines that take the place of an EQU name.
-fn last_line(
-    alloc: Global,
-    before: &[Token],
-    lines: &[Vec<Token>],
-    behind: &[Token],
-) -> Result<Vec<Token>, TextProblem>
-    requires { length lines.now ≤ 1 }
-    ensures { Gives (λ made. made.items ∷ []) result (Ok (used before.now (map (λ line. line.items) lines.now) behind.now)) }
-{
-    match lines {
-        [line, ..] => {
-            let front = joined(alloc, before, line)?;
-            joined(alloc, &front, behind)
-        }
-        [] => joined(alloc, before, behind),
-    }
-}
-
-/// The lines that take the place of an EQU name: labels go before the first, and the tokens behind the name after the
-/// last.
-fn used_lines(
-    alloc: Global,
-    before: &[Token],
-    lines: &[Vec<Token>],
-    behind: &[Token],
-) -> Result<Vec<Vec<Token>>, TextProblem>
-    ensures { Gives (λ made. map (λ line. line.items) made.items) result
-        (Ok (used before.now (map (λ line. line.items) lines.now) behind.now)) }
-{
-    let mut made = Vec::new(alloc);
-    let mut before = before;
-    let mut at = 0;
-    while at + 1 < lines.len() {
-        let line = joined(alloc, before, &lines[at])?;
-        let Ok(()) = made.push(line) else {
-            return Err(TextProblem::OutOfMemory);
-        };
-        before = &[];
-        at += 1;
-    }
-    let last = last_line(alloc, before, &lines[at..], behind)?;
-    match made.push(last) {
-        Ok(()) => Ok(made),
-        Err(_) => Err(TextProblem::OutOfMemory),
-    }
+/// An operation that is an EQU name, with the tokens on both sides of it.
+#[derive(Clone, Copy)]
+struct Operation<'a> {
+    name: Option<usize>,
+    before: &'a [Token],
+    behind: &'a [Token],
 }
 
 /// A copy of tokens as those of a line of this number, so that a fault of one that comes from EQU has the line of its use.
@@ -234,6 +183,16 @@ impl Reading {
         }
     }
 
+    /// The lines of an operation that is an EQU name; none where it isn't.
+    fn lines_under(&self, operation: Option<usize>) -> &[Vec<Token>]
+        ensures { map (λ line. line.items) result.now ≡ lines_under (reading_of self.now) operation }
+    {
+        match self.operation_lines(operation) {
+            Some(lines) => lines,
+            None => &[],
+        }
+    }
+
     /// A line in its parts, whose operation is no EQU name.
     fn add_ordinary(
         &mut self,
@@ -243,7 +202,8 @@ impl Reading {
         rest: &[Token],
     ) -> Result<(), TextProblem>
         requires { vec_len self.old.lines < self.old.lines_read }
-        ensures { Gives (λ _. reading_of self.new) result
+        ensures equates { self.new.equates ≡ self.old.equates }
+        ensures value { Gives (λ _. reading_of self.new) result
             (Ok (line_added number (record { labels = parts.labels.items; label_tokens = []; operation = parts.operation; rest = on_line number rest.now }) (reading_of self.old))) }
     {
         let rest = on_line(alloc, number, rest)?;
@@ -272,7 +232,8 @@ impl Reading {
         tokens: &[Token],
     ) -> Result<(), TextProblem>
         requires { vec_len self.old.lines < self.old.lines_read }
-        ensures { Gives (λ _. reading_of self.new) result (ordinary_line (predefined_of names.now) number depth tokens.now (reading_of self.old)) }
+        ensures value { Gives (λ _. reading_of self.new) result (ordinary_line (predefined_of names.now) number depth tokens.now (reading_of self.old)) }
+        ensures equates { self.new.equates ≡ self.old.equates }
     {
         let parts = match self.parts_of(alloc, names, tokens) {
             Ok(parts) => parts,
@@ -285,27 +246,56 @@ impl Reading {
         if depth == 0 {
             return Err(TextProblem::EquDepth);
         }
-        let lines = used_lines(alloc, &tokens[..parts.labels_end], lines, rest)?;
-        self.read_each(alloc, names, number, depth - 1, &lines)
+        let operation = Operation {
+            name: parts.operation,
+            before: &tokens[..parts.labels_end],
+            behind: rest,
+        };
+        self.read_used(alloc, names, number, depth - 1, operation)
     }
 
-    /// Reads lines that come from EQU, each as an ordinary line, up to END.
+    /// Reads a line that comes from EQU as an ordinary line.
     #[cycle(ordinary)]
-    fn read_each(
+    fn read_line(
         &mut self,
         alloc: Global,
         names: &PredefinedNames,
         number: usize,
         depth: usize,
-        lines: &[Vec<Token>],
+        line: &[Token],
     ) -> Result<(), TextProblem>
-        ensures { Gives (λ _. reading_of self.new) result
-            (each_line (ordinary_line (predefined_of names.now) number depth) (map (λ line. line.items) lines.now) (reading_of self.old)) }
+        ensures value { Gives (λ _. reading_of self.new) result
+            (read_one (ordinary_line (predefined_of names.now) number depth) line.now (reading_of self.old)) }
+        ensures equates { self.new.equates ≡ self.old.equates }
     {
-        for line in lines {
-            self.count_line()?;
-            self.count_tokens(line)?;
-            self.read_ordinary(alloc, names, number, depth, line)?;
+        self.count_line()?;
+        self.count_tokens(line)?;
+        self.read_ordinary(alloc, names, number, depth, line)
+    }
+
+    /// Reads the lines that take the place of an EQU name, each as an ordinary line, up to END. Each is made when it is read.
+    #[cycle(ordinary)]
+    fn read_used(
+        &mut self,
+        alloc: Global,
+        names: &PredefinedNames,
+        number: usize,
+        depth: usize,
+        operation: Operation<'_>,
+    ) -> Result<(), TextProblem>
+        ensures value { Gives (λ _. reading_of self.new) result
+            (each_line (ordinary_line (predefined_of names.now) number depth) (used operation.entry.before.now (lines_under (reading_of self.old) operation.entry.name) operation.entry.behind.now) (reading_of self.old)) }
+        ensures equates { self.new.equates ≡ self.old.equates }
+    {
+        let Operation {
+            name,
+            before,
+            behind,
+        } = operation;
+        let count = self.lines_under(name).len().max(1);
+        for at in 0..count {
+            let line = used_line(alloc, before, self.lines_under(name), behind, at)?;
+            self.read_line(alloc, names, number, depth, &line)?;
             if self.ended {
                 return Ok(());
             }

@@ -21,9 +21,6 @@ use crate::source::row::Row;
 use crate::token::{Token, TokenKind};
 use std::alloc::Global;
 
-/// How many tokens of a count are many.
-const MANY: usize = 32;
-
 /// The head of a loop: its counter, if it has one, and how often its body is read.
 #[derive(Drop)]
 pub struct Head {
@@ -118,7 +115,8 @@ impl Reading {
         as_count(eval(replaced, &self.count_names(names)))
     }
 
-    /// Keeps the value of a count of which these are the tokens with their EQU names replaced, where they are many.
+    /// Keeps the value of a count of which these are the tokens with their EQU names replaced, where it has any: they may stand
+    /// for many tokens, or have been replaced often to stand for none.
     fn keep_count(
         &mut self,
         alloc: Global,
@@ -130,7 +128,7 @@ impl Reading {
         ensures value { Gives (λ _. reading_of self.new) result (Ok (reading_of self.old)) }
         ensures same { reading_of self.new ≡ reading_of self.old }
     {
-        if replaced.len() < MANY {
+        if !self.equates.has_name(tokens) {
             return Ok(());
         }
         let env = CountNames {

@@ -15,7 +15,7 @@ returns-in-Ok-clause-fixed c =
 
 pub returns-in-Ok-clause-value : goal.returns-in-Ok-clause-value
 returns-in-Ok-clause-value c =
-    let ps = predefined_of c.args.self.now.predefined.now in let source = c.args.self.now.program.now in let index = c.args.index in
+    let ps = predefined_of c.args.self.now.predefined.now in let source = c.args.self.now.program.now in let index = c.args.place.index in
     let fixed : cell_from c.args.core_size (fixed_value ps source) c.args.op c.args.modifier c.args.operands.now ≡ Ok c.in-Ok.cell
     = sym (c.in-Ok.ensures.value
     ∙ ap (λ (e : FixedNames). cell_from c.args.core_size (fixed_value (predefined_of e.source.predefined.now) e.source.program.now) c.args.op c.args.modifier c.args.operands.now) c.fixed_names-fixed_names.ensures) in

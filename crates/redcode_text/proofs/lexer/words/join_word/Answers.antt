@@ -15,13 +15,14 @@ loop-at-init c =
           ∙ ap (λ n. join_counters loops (take n word) (names_of (drop n word))) c.part_len-at.ensures.value
           ∙ sym (joined-first loops word);
       ascii = rw c.in-Ok.ensures.items (IsAscii-take word first c.requires);
+      last = tt;
     }
 
-pub returns-in_default-round_of-clause-value : goal.returns-in_default-round_of-clause-value
-returns-in_default-round_of-clause-value c =
+pub returns-in_default-round_after-clause-value : goal.returns-in_default-round_after-clause-value
+returns-in_default-round_after-clause-value c =
     let word = c.args.word.now in let at = c.loop-at.at in
     sym c.loop-at.invariant.same
-    ∙ join-bad c.args.loops.now c.loop-at.joined.items word at c.part_len.result c.loop-at-test.true (c.part_len.ensures.value ∙ ap part_len (take_rest word (at + 1))) c.in_default-round_of.ensures
+    ∙ join-bad c.args.loops.now c.loop-at.joined.items word at c.part_len.result c.loop-at-test.true (c.part_len.ensures.value ∙ ap part_len (take_rest word (at + 1))) c.in_default-round_after.ensures
 
 pub loop-at-preserved : goal.loop-at-preserved
 loop-at-preserved c =
@@ -33,4 +34,5 @@ loop-at-preserved c =
           ∙ sym (join-ok c.args.loops.now c.loop-at.joined.items word at c.part_len.result c.in-Some.round c.loop-at-test.true (c.part_len.ensures.value ∙ ap part_len (take_rest word (at + 1))) c.in-Some.ensures)
           ∙ c.loop-at.invariant.same;
       ascii = c.in-Ok-push_round.ensures.ascii c.loop-at.invariant.ascii;
+      last = sym c.in-Some.ensures;
     }

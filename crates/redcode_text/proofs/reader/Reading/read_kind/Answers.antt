@@ -11,4 +11,4 @@ returns-in_default c =
     let ps = predefined_of c.args.names.now in let st = reading_of c.args.self.now in
     let some : 0 < length c.args.tokens.items = some-there c.args.tokens.items c.args.tokens.len c.if-is_empty.ensures c.args.tokens.ok.0 in
     rw (plain-ordinary ps c.args.kind (row_of c.args.row) c.args.tokens.items st c.in_default.not-Equ some ∙ ap (λ l. ordinary_line ps c.args.row.number 32 l st) (sym c.deref.ensures.value))
-    c.read_ordinary.ensures
+    c.read_ordinary.ensures.value

@@ -2,7 +2,7 @@ use Rattle.std.proofs.Common.{◌∙◌, ◌++◌, ◌&&◌, length, ap, sym}
 use Rattle.std.proofs.lemmas.List.{take-append-drop}
 use Rattle.std.specs.Str.{bytes_eq}
 use Rattle.redcode_text.proofs.NameParts.{equal-parts}
-use Rattle.redcode_text.proofs.lexer.open_loops.is_made_of.Goals as goal
+use Rattle.redcode_text.proofs.characters.is_made_of.Goals as goal
 
 pub returns-then-eq : goal.returns-then-eq
 returns-then-eq c =

@@ -1,0 +1,66 @@
+//! The lines that take the place of an EQU name, each made when it is read.
+ghost use Rattle.std.specs.Prelude.{◌≡◌, ◌≤◌, ◌-◌, ◌++◌, [], get_or, length, map, Ok};
+ghost use Rattle.redcode_text.specs.Code.Problems.{Gives};
+ghost use Rattle.redcode_text.specs.Code.Used.{before_line, used};
+
+use crate::fault::TextProblem;
+use crate::token::Token;
+use std::alloc::Global;
+
+/// Tokens, and others behind them.
+fn joined(alloc: Global, front: &[Token], back: &[Token]) -> Result<Vec<Token>, TextProblem>
+    ensures { Gives (λ made. made.items) result (Ok (front.now ++ back.now)) }
+{
+    let Ok(mut made) = Vec::from_slice(alloc, front) else {
+        return Err(TextProblem::OutOfMemory);
+    };
+    match made.extend_from_slice(back) {
+        Ok(()) => Ok(made),
+        Err(_) => Err(TextProblem::OutOfMemory),
+    }
+}
+
+/// What goes before the line at a place among those of an EQU name: these tokens before the first, nothing before the others.
+fn before_line(before: &[Token], at: usize) -> &[Token]
+    ensures { result.now ≡ before_line before.now at }
+{
+    if at == 0 { before } else { &[] }
+}
+
+/// The last of the lines that take the place of an EQU name.
+fn last_line(
+    alloc: Global,
+    before: &[Token],
+    lines: &[Vec<Token>],
+    behind: &[Token],
+) -> Result<Vec<Token>, TextProblem>
+    requires { length lines.now ≤ 1 }
+    ensures { Gives (λ made. made.items) result (Ok (get_or (used before.now (map (λ line. line.items) lines.now) behind.now) 0 [])) }
+{
+    match lines {
+        [line, ..] => {
+            let front = joined(alloc, before, line)?;
+            joined(alloc, &front, behind)
+        }
+        [] => joined(alloc, before, behind),
+    }
+}
+
+/// One of the lines that take the place of an EQU name: labels go before the first, and the tokens behind the name after the
+/// last.
+pub fn used_line(
+    alloc: Global,
+    before: &[Token],
+    lines: &[Vec<Token>],
+    behind: &[Token],
+    at: usize,
+) -> Result<Vec<Token>, TextProblem>
+    requires { at ≤ length lines.now - 1 }
+    ensures { Gives (λ made. made.items) result (Ok (get_or (used before.now (map (λ line. line.items) lines.now) behind.now) at [])) }
+{
+    let before = before_line(before, at);
+    if at + 1 < lines.len() {
+        return joined(alloc, before, &lines[at]);
+    }
+    last_line(alloc, before, &lines[at..], behind)
+}
