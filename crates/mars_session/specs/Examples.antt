@@ -12,7 +12,7 @@ use Rattle.mars_session.specs.declared.calls.Call.{Call}
 use Rattle.mars_session.specs.declared.calls.Standing.{Standing}
 use Rattle.mars_session.specs.declared.calls.Refusal.{Refusal}
 use Rattle.mars_session.specs.History.{beginning}
-use Rattle.mars_session.specs.Memory.{Memory, never}
+use Rattle.mars_session.specs.Memory.{never}
 use Rattle.mars_session.specs.Script.{replies_of}
 
 -- a lone warrior that copies its cell to the next one, over and over
