@@ -223,29 +223,47 @@ const TURNS: &[Turn] = &[
 
 /// A tape at the battle of the warrior alone, before its turn.
 fn tape_before<T: Start>(alloc: Global, turn: &Turn) -> Result<T, Fail> {
-    let params = params_of(turn.core_size, turn.processes, turn.before.len() as u32)?;
+    let longest = u32::try_from(turn.before.len()).ok().ok_or("length")?;
+    let params = params_of(turn.core_size, turn.processes, longest)?;
     let warriors = vec![in alloc; warrior_of(alloc, turn.before)?]?;
     T::start(alloc, battle_in(alloc, &params, &warriors, &[0])?)
 }
 
 /// The cells from address 0 on are these, and the warrior's processes stand there.
-fn check_state<T: Tape>(rt: &impl Abort, session: &Session<T>, cells: &[Cell], queue: &[u32]) {
-    for (address, cell) in cells.iter().enumerate() {
-        check_cell(rt, session, address as u32, *cell);
+fn check_state<T: Tape>(
+    rt: &impl Abort,
+    session: &Session<T>,
+    cells: &[Cell],
+    queue: &[u32],
+) -> Result<(), Fail> {
+    for (place, cell) in cells.iter().enumerate() {
+        let address = u32::try_from(place).ok().ok_or("address")?;
+        check_cell(rt, session, address, *cell);
     }
     check_queue(rt, session, queue);
+    Ok(())
 }
 
 /// The turn leads from one state to the other; undo and redo lead back and on.
+fn check_steps<T: Tape>(
+    rt: &impl Abort,
+    session: &mut Session<T>,
+    turn: &Turn,
+) -> Result<(), Fail> {
+    check_call(rt, session, Call::Step, turn.reply);
+    check_state(rt, session, turn.after, turn.queue)?;
+    check_call(rt, session, Call::Undo, imp_at!(0, 0, 1));
+    check_state(rt, session, turn.before, &[0])?;
+    check_call(rt, session, Call::Redo, turn.reply);
+    check_state(rt, session, turn.after, turn.queue)
+}
+
+/// So it is over a tape of this kind.
 fn check_turn<T: Start + Drop>(rt: &impl Abort, alloc: Global, turn: &Turn) -> Result<(), Fail> {
     let mut session = Session::new(tape_before::<T>(alloc, turn)?, 100);
-    check_call(rt, &mut session, Call::Step, turn.reply);
-    check_state(rt, &session, turn.after, turn.queue);
-    check_call(rt, &mut session, Call::Undo, imp_at!(0, 0, 1));
-    check_state(rt, &session, turn.before, &[0]);
-    check_call(rt, &mut session, Call::Redo, turn.reply);
-    check_state(rt, &session, turn.after, turn.queue);
-    Ok(())
+    let checked = check_steps(rt, &mut session, turn);
+    drop(session);
+    checked
 }
 
 /// A tape of records after one turn.
