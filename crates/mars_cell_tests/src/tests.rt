@@ -450,7 +450,7 @@ const BAD_HEADS: [(&[u8], LoadFault); 24] = [
         LoadFault::Syntax(2),
     ),
     (
-        b";load 2 8\n;name This name is one byte longer than the longest one, by one only.\n;author\nx",
+        b";load 2 8\n;name This name is longer than the longest one there is, by a byte.\n;author\nx",
         LoadFault::Syntax(2),
     ),
     (b";load 2 8\n;Name Imp\n;author x\nx", LoadFault::Syntax(2)),

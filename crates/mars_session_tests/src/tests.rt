@@ -95,22 +95,36 @@ impl Start for RingTape {
     }
 }
 
+/// A core of so many cells, for warriors of so many.
+fn params_of(core_size: u32, processes: u32, longest: u32) -> Result<Params, Fail> {
+    let params = Params::new(
+        core_size, processes, 80000, core_size, core_size, longest, longest,
+    );
+    Ok(params.ok().ok_or("parameters")?)
+}
+
+fn battle_in(
+    alloc: Global,
+    params: &Params,
+    warriors: &[Warrior],
+    starts: &[u32],
+) -> Result<Battle, Fail> {
+    if starts.len() != warriors.len() {
+        return Err("starts".into());
+    }
+    let battle = Battle::new(alloc, params, warriors, starts)
+        .ok()
+        .ok_or("battle")?;
+    Ok(battle)
+}
+
 fn battle_of(
     alloc: Global,
     processes: u32,
     warriors: &[Warrior],
     starts: &[u32],
 ) -> Result<Battle, Fail> {
-    let params = Params::new(8, processes, 80000, 8, 8, 2, 2)
-        .ok()
-        .ok_or("parameters")?;
-    if starts.len() != warriors.len() {
-        return Err("starts".into());
-    }
-    let battle = Battle::new(alloc, &params, warriors, starts)
-        .ok()
-        .ok_or("battle")?;
-    Ok(battle)
+    battle_in(alloc, &params_of(8, processes, 2)?, warriors, starts)
 }
 
 fn one_cell(alloc: Global, cell: Cell) -> Result<Warrior, Fail> {

@@ -401,18 +401,68 @@ fn bytes_outside_ascii(rt: HostRuntime) -> Result<(), Fail> {
     Ok(())
 }
 
+macro_rules! fault {
+    ($line:expr, $problem:expr) => {
+        Some(AsmFault {
+            line: $line,
+            problem: $problem,
+        })
+    };
+}
+
+/// The beginnings of a source: from each of these lengths on, up to the next one, they have this fault, or none.
+type Beginnings = &'static [(usize, Option<AsmFault>)];
+
+const BEGINNINGS_OF_LOOPS: Beginnings = &[
+    (0, fault!(0, AsmProblem::Empty)),
+    // `FOR`
+    (3, fault!(1, AsmProblem::Text(TextProblem::UnclosedFor))),
+    // `ROF`, and then `i FOR`
+    (23, fault!(0, AsmProblem::Empty)),
+    (29, fault!(4, AsmProblem::Text(TextProblem::UnclosedFor))),
+    (48, None),
+    // `DAT x`, and then `DAT x02`
+    (54, fault!(7, AsmProblem::Expression(ExprFault::Unknown))),
+    (56, None),
+    // `DAT x02,`, and then `DAT x02, x`
+    (57, fault!(7, AsmProblem::Operand)),
+    (59, fault!(7, AsmProblem::Expression(ExprFault::Unknown))),
+    (61, None),
+];
+
+const BEGINNINGS_OF_COPIES: Beginnings = &[
+    (0, fault!(0, AsmProblem::Empty)),
+    // `target DAT`, and then `target DAT 0,`
+    (79, None),
+    (82, fault!(4, AsmProblem::Operand)),
+    (84, None),
+    // `END t`
+    (95, fault!(6, AsmProblem::Expression(ExprFault::Unknown))),
+    (100, None),
+];
+
+/// Each beginning of the source has its fault.
+fn check_beginnings(
+    rt: &impl Abort,
+    alloc: Global,
+    params: &Params,
+    source: &[u8],
+    beginnings: Beginnings,
+) {
+    let mut expected = None;
+    for end in 0..=source.len() {
+        if let Some((_, fault)) = beginnings.iter().find(|(from, _)| *from == end) {
+            expected = *fault;
+        }
+        assert_eq!(rt; fault_of(alloc, params, &source[..end]), expected, "{end}");
+    }
+}
+
 #[test]
 fn beginnings(rt: HostRuntime) -> Result<(), Fail> {
     let params = core_of(8000)?;
-    let mut any = false;
-    for source in [LOOPS, COPIES] {
-        for end in 0..=source.len() {
-            if fault_of(rt.alloc(), &params, &source[..end]).is_none() {
-                any = true;
-            }
-        }
-    }
-    assert!(rt; any);
+    check_beginnings(&rt, rt.alloc(), &params, LOOPS, BEGINNINGS_OF_LOOPS);
+    check_beginnings(&rt, rt.alloc(), &params, COPIES, BEGINNINGS_OF_COPIES);
     Ok(())
 }
 

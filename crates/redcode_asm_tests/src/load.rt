@@ -19,10 +19,10 @@ fn is_file_of(
     alloc: Global,
     source: &[u8],
     params: &Params,
-    (warriors, rounds): (u32, u32),
+    (rounds, warriors): (u32, u32),
     text: &[u8],
 ) -> Result<bool, Fail> {
-    let file = assemble_load(alloc, source, params, warriors, rounds)?;
+    let file = assemble_load(alloc, source, params, rounds, warriors)?;
     let is_it = file.as_slice() == text;
     drop(file);
     Ok(is_it)

@@ -708,13 +708,6 @@ fn each_beginning_of_a_source_is_answered(rt: HostRuntime) {
     }
 }
 
-/// With a refused allocation, the answer is want of memory at line 0 and nothing else.
-#[test]
-fn want_of_memory_is_no_fault_of_a_line(rt: HostRuntime) {
-    let fault = fault_of(rt.alloc(), COPIES);
-    assert!(rt; fault == None || fault == at(0, TextProblem::OutOfMemory));
-}
-
 /// No name stands for anything.
 struct NoNames;
 
