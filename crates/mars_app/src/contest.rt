@@ -2,6 +2,7 @@
 ghost use Rattle.std.specs.Prelude.{◌≡◌, ◌≤◌, ◌++◌, All, IfErr, List, Ok, OnOk, length};
 ghost use Rattle.std.specs.Io.KnownBytes.{Appends};
 ghost use Rattle.mars_cell.specs.Cells.{FitsCore};
+ghost use Rattle.mars_cell.specs.Limits.{largest_core};
 ghost use Rattle.mars_cell.specs.Written.{load_text};
 ghost use Rattle.mars_match.specs.Answers.{IsAnswer};
 ghost use Rattle.mars_match.specs.Results.{results_text};
@@ -97,7 +98,7 @@ fn write_listing<W: Write>(
     core_size: u32,
     output: &mut W,
 ) -> Result<(), RunFault>
-    requires size { core_size ≤ 1048576 }
+    requires size { core_size ≤ largest_core }
     requires fit { AllFit core_size warriors.now }
     ensures ok { OnOk result (Appends (W.contents output.old) (W.contents output.new) (listing core_size brief warriors.now)) }
     ensures err { IfErr result (λ fault. BreaksOff fault (W.contents output.old) (W.contents output.new) (listing core_size brief warriors.now)) }
@@ -119,7 +120,7 @@ fn write_warrior<W: Write>(
     core_size: u32,
     output: &mut W,
 ) -> Result<(), RunFault>
-    requires size { core_size ≤ 1048576 }
+    requires size { core_size ≤ largest_core }
     requires fit { All (FitsCore core_size) warrior.now.cells }
     ensures ok { OnOk result (Appends (W.contents output.old) (W.contents output.new) (listed core_size number warrior.now)) }
     ensures err { IfErr result (λ fault. BreaksOff fault (W.contents output.old) (W.contents output.new) (listed core_size number warrior.now)) }
@@ -152,7 +153,7 @@ fn write_load_file<W: Write>(
     core_size: u32,
     output: &mut W,
 ) -> Result<(), RunFault>
-    requires size { core_size ≤ 1048576 }
+    requires size { core_size ≤ largest_core }
     requires fit { All (FitsCore core_size) warrior.now.cells }
     ensures ok { OnOk result (Appends (W.contents output.old) (W.contents output.new) (load_text core_size warrior.now)) }
     ensures err { IfErr result (λ fault. BreaksOff fault (W.contents output.old) (W.contents output.new) (load_text core_size warrior.now)) }

@@ -48,11 +48,11 @@ fn execute<W: Write, T: Tape>(
     session: &mut Session<T>,
 ) -> Result<(), WriteFault>
     ensures ok { OnOk result ((poor : Bool)
-        × (session.new ≡ (answer poor session.old request).0)
-        × Appends (W.contents writer.old) (W.contents writer.new) (answer poor session.old request).1) }
+        × (session.new.state ≡ (answer poor session.old.state request).0)
+        × Appends (W.contents writer.old) (W.contents writer.new) (answer poor session.old.state request).1) }
     ensures err { OnErr result ((poor : Bool)
-        × (session.new ≡ (answer poor session.old request).0)
-        × CutShort (W.contents writer.old) (W.contents writer.new) (answer poor session.old request).1) }
+        × (session.new.state ≡ (answer poor session.old.state request).0)
+        × CutShort (W.contents writer.old) (W.contents writer.new) (answer poor session.old.state request).1) }
 {
     match request {
         Request::Nothing | Request::Quit => Ok(()),
@@ -76,12 +76,12 @@ fn take_byte<W: Write, T: Tape>(
     session: &mut Session<T>,
 ) -> Result<Flow, WriteFault>
     requires { 0 < core_size }
-    ensures more { result ≡ Ok Flow.More → GoesThrough core_size (byte ∷ []) line.old session.old (W.contents writer.old)
-        line.new session.new (W.contents writer.new) }
-    ensures quit { result ≡ Ok Flow.Quit → Quits core_size (byte ∷ []) line.old session.old (W.contents writer.old)
-        session.new (W.contents writer.new) }
-    ensures err { OnErr result (Breaks core_size (byte ∷ []) line.old session.old (W.contents writer.old)
-        session.new (W.contents writer.new)) }
+    ensures more { result ≡ Ok Flow.More → GoesThrough core_size (byte ∷ []) line.old session.old.state (W.contents writer.old)
+        line.new session.new.state (W.contents writer.new) }
+    ensures quit { result ≡ Ok Flow.Quit → Quits core_size (byte ∷ []) line.old session.old.state (W.contents writer.old)
+        session.new.state (W.contents writer.new) }
+    ensures err { OnErr result (Breaks core_size (byte ∷ []) line.old session.old.state (W.contents writer.old)
+        session.new.state (W.contents writer.new)) }
 {
     if byte != b'\n' {
         line.push(byte);
@@ -107,12 +107,12 @@ fn take_bytes<W: Write, T: Tape>(
     session: &mut Session<T>,
 ) -> Result<Flow, WriteFault>
     requires { 0 < core_size }
-    ensures more { result ≡ Ok Flow.More → GoesThrough core_size chunk.now line.old session.old (W.contents writer.old)
-        line.new session.new (W.contents writer.new) }
-    ensures quit { result ≡ Ok Flow.Quit → Quits core_size chunk.now line.old session.old (W.contents writer.old)
-        session.new (W.contents writer.new) }
-    ensures err { OnErr result (Breaks core_size chunk.now line.old session.old (W.contents writer.old)
-        session.new (W.contents writer.new)) }
+    ensures more { result ≡ Ok Flow.More → GoesThrough core_size chunk.now line.old session.old.state (W.contents writer.old)
+        line.new session.new.state (W.contents writer.new) }
+    ensures quit { result ≡ Ok Flow.Quit → Quits core_size chunk.now line.old session.old.state (W.contents writer.old)
+        session.new.state (W.contents writer.new) }
+    ensures err { OnErr result (Breaks core_size chunk.now line.old session.old.state (W.contents writer.old)
+        session.new.state (W.contents writer.new)) }
 {
     for byte in chunk {
         match take_byte(*byte, line, core_size, writer, session) {
@@ -132,10 +132,10 @@ fn take_last_line<W: Write, T: Tape>(
     session: &mut Session<T>,
 ) -> Result<(), WriteFault>
     requires { 0 < core_size }
-    ensures ok { OnOk result (Finishes core_size line.old session.old (W.contents writer.old)
-        session.new (W.contents writer.new)) }
-    ensures err { OnErr result (BreaksAtEnd core_size line.old session.old (W.contents writer.old)
-        session.new (W.contents writer.new)) }
+    ensures ok { OnOk result (Finishes core_size line.old session.old.state (W.contents writer.old)
+        session.new.state (W.contents writer.new)) }
+    ensures err { OnErr result (BreaksAtEnd core_size line.old session.old.state (W.contents writer.old)
+        session.new.state (W.contents writer.new)) }
 {
     if line.is_empty() {
         return Ok(());
@@ -161,23 +161,23 @@ pub fn debug_within<R: Read, W: Write, T: Tape>(
     reads: u64,
 ) -> Result<(), DebugFault>
     // All lines up to a quit, or to the end, are answered.
-    ensures ok { OnOk result (Completes (core_size_of session.old) (R.remaining reader.old) (R.remaining reader.new)
-        session.old (W.contents writer.old) session.new (W.contents writer.new)) }
+    ensures ok { OnOk result (Completes (core_size_of session.old.state) (R.remaining reader.old) (R.remaining reader.new)
+        session.old.state (W.contents writer.old) session.new.state (W.contents writer.new)) }
 
     // The whole lines that were read are answered, and an unfinished one is not.
-    ensures read { result ≡ Err DebugFault.Read → ReadFails (core_size_of session.old) (R.remaining reader.old) (R.remaining reader.new)
-        session.old (W.contents writer.old) session.new (W.contents writer.new) }
+    ensures read { result ≡ Err DebugFault.Read → ReadFails (core_size_of session.old.state) (R.remaining reader.old) (R.remaining reader.new)
+        session.old.state (W.contents writer.old) session.new.state (W.contents writer.new) }
 
     // The lines up to one are answered, and of that one's text not all is written.
-    ensures write { result ≡ Err DebugFault.Write → WriteFails (core_size_of session.old) (R.remaining reader.old) (R.remaining reader.new)
-        session.old (W.contents writer.old) session.new (W.contents writer.new) }
+    ensures write { result ≡ Err DebugFault.Write → WriteFails (core_size_of session.old.state) (R.remaining reader.old) (R.remaining reader.new)
+        session.old.state (W.contents writer.old) session.new.state (W.contents writer.new) }
 
     // Each read has at most so many bytes.
     ensures few { TakesAtMost (4096 * reads) (R.remaining reader.old) (R.remaining reader.new) }
 
     // With no read nothing is done.
     ensures no_reads { reads ≡ 0 → (result ≡ Err DebugFault.Read) × NothingDone (R.remaining reader.old) (R.remaining reader.new)
-        session.old (W.contents writer.old) session.new (W.contents writer.new) }
+        session.old.state (W.contents writer.old) session.new.state (W.contents writer.new) }
 {
     let core_size = session.battle().params().core_size();
     let mut line = LineBuffer::new();
@@ -208,12 +208,12 @@ pub fn debug<R: Read, W: Write, T: Tape>(
     writer: &mut W,
     session: &mut Session<T>,
 ) -> Result<(), DebugFault>
-    ensures ok { OnOk result (Completes (core_size_of session.old) (R.remaining reader.old) (R.remaining reader.new)
-        session.old (W.contents writer.old) session.new (W.contents writer.new)) }
-    ensures read { result ≡ Err DebugFault.Read → ReadFails (core_size_of session.old) (R.remaining reader.old) (R.remaining reader.new)
-        session.old (W.contents writer.old) session.new (W.contents writer.new) }
-    ensures write { result ≡ Err DebugFault.Write → WriteFails (core_size_of session.old) (R.remaining reader.old) (R.remaining reader.new)
-        session.old (W.contents writer.old) session.new (W.contents writer.new) }
+    ensures ok { OnOk result (Completes (core_size_of session.old.state) (R.remaining reader.old) (R.remaining reader.new)
+        session.old.state (W.contents writer.old) session.new.state (W.contents writer.new)) }
+    ensures read { result ≡ Err DebugFault.Read → ReadFails (core_size_of session.old.state) (R.remaining reader.old) (R.remaining reader.new)
+        session.old.state (W.contents writer.old) session.new.state (W.contents writer.new) }
+    ensures write { result ≡ Err DebugFault.Write → WriteFails (core_size_of session.old.state) (R.remaining reader.old) (R.remaining reader.new)
+        session.old.state (W.contents writer.old) session.new.state (W.contents writer.new) }
     ensures few { TakesAtMost (4096 * 4294967296) (R.remaining reader.old) (R.remaining reader.new) }
 {
     debug_within(reader, writer, session, MOST_READS)

@@ -1,6 +1,6 @@
 -- What calls make of a history, and the replies to them.
-use Rattle.std.specs.Prelude.{◌≡◌, ℕ, Bool, true, false, ◌+◌, ◌-◌, ◌&&◌, nat_lt, List, [], ◌∷◌, map, Option, Some, None, is_some, Result, Ok, Err, if◌then◌else◌}
-use Rattle.mars_core.specs.State.{survivors_of}
+use Rattle.std.specs.Prelude.{◌≡◌, ◌<◌, ℕ, Bool, true, false, ◌+◌, ◌-◌, ◌&&◌, nat_lt, List, [], ◌∷◌, map, Option, Some, None, is_some, Result, Ok, Err, if◌then◌else◌}
+use Rattle.mars_core.specs.State.{State, survivors_of}
 use Rattle.mars_core.specs.declared.battle.edit.Edit.TheVariants as edits
 use Rattle.mars_session.specs.declared.calls.Call.{Call}
 use Rattle.mars_session.specs.declared.calls.Call.TheVariants.{Step, Run, Until, SetCell, Fill, MoveProcess, Kill, Spawn, Undo, Redo, Goto}
@@ -16,6 +16,11 @@ pub record SessionState : Type 0 where
   pub history : History
   pub limit : ℕ
   pub memory : Memory
+
+-- a session over a tape: its state, and for how many places the tape has room once what follows is dropped
+pub record SessionValue : Type 0 where
+  pub state : SessionState
+  pub room : ℕ
 
 -- the history after a call, what is kept of it, and the reply
 pub record Outcome : Type 0 where
@@ -88,6 +93,20 @@ outcome m limit Undo poor h = moved m h (no_undo m) (undo h)
 outcome m limit Redo poor h = moved m h NothingToRedo (redo h)
 outcome m limit (Goto t) poor h = moved m h (NotInHistory (first_turns h) (last_turns h)) (goto t h)
 
+-- how many places a call may append in a battle: a move appends none
+abbrev pub bound_of : Call → State → ℕ
+bound_of Step s = 1
+bound_of (Run n) s = n
+bound_of (Until c) s = until_bound c s
+bound_of (SetCell address cell) s = 1
+bound_of (Fill from to cell) s = cells_between from to
+bound_of (MoveProcess w i address) s = 1
+bound_of (Kill w i) s = 1
+bound_of (Spawn w address) s = 1
+bound_of Undo s = 0
+bound_of Redo s = 0
+bound_of (Goto t) s = 0
+
 -- want of memory
 abbrev pub is_memory : Refusal → Bool
 is_memory Count = false
@@ -148,9 +167,12 @@ pub record IsScript (m : Memory) (limit : ℕ) (calls : List Call) (old : Histor
   pub history_is : history_after m limit calls (map is_poor replies) old ≡ new
   pub memory_is : memory_after m limit calls (map is_poor replies) old ≡ after
 
--- a call of a session
-abbrev pub Answers : SessionState → Call → Result Standing Refusal → SessionState → Type 0
-Answers old call reply new = IsAnswer old.memory old.limit call old.history reply new.history new.memory × (new.limit ≡ old.limit)
+-- a call of a session; memory is wanting only where the tape has less room than the call may need
+abbrev pub Answers : SessionValue → Call → Result Standing Refusal → SessionValue → Type 0
+Answers old call reply new =
+    IsAnswer old.state.memory old.state.limit call old.state.history reply new.state.history new.state.memory
+    × (new.state.limit ≡ old.state.limit)
+    × (reply ≡ Err OutOfMemory → old.room < bound_of call old.state.history.present.state)
 
 -- calls of a session, one after another
 abbrev pub ScriptAnswers : SessionState → List Call → List (Result Standing Refusal) → SessionState → Type 0

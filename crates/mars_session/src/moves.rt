@@ -1,5 +1,5 @@
 //! The moves to places that are in the history, over any tape.
-ghost use Rattle.std.specs.Prelude.{◌≡◌, ◌<◌, ◌≤◌, true, false, Some, IsSome, is_some};
+ghost use Rattle.std.specs.Prelude.{◌≡◌, ◌≢◌, Err, ◌<◌, ◌≤◌, true, false, Some, IsSome, is_some};
 ghost use Rattle.mars_session.specs.History.{position_of, last_of, rewound, undo, redo, goto, first_at_turn, first_turns as turns_of_first, last_turns};
 ghost use Rattle.mars_session.specs.Script.{moved, no_undo};
 
@@ -34,7 +34,8 @@ fn go_on<T: Tape>(tape: &mut T, position: u64)
 
 /// Why there is no marked place before.
 fn no_marked_place<T: Tape>(tape: &T) -> Refusal
-    ensures { result ≡ no_undo (T.memory tape.now) }
+    ensures why { result ≡ no_undo (T.memory tape.now) }
+    ensures never { result ≢ Refusal.OutOfMemory }
 {
     if tape.forgotten() {
         Refusal::Forgotten
@@ -45,7 +46,8 @@ fn no_marked_place<T: Tape>(tape: &T) -> Refusal
 
 /// To the nearest marked place before.
 pub fn undo<T: Tape>(tape: &mut T) -> Result<Standing, Refusal>
-    ensures { moved (T.memory tape.old) (T.history tape.old) (no_undo (T.memory tape.old)) (undo (T.history tape.old)) ≡ record { history = T.history tape.new; memory = T.memory tape.new; reply = result } }
+    ensures answer { moved (T.memory tape.old) (T.history tape.old) (no_undo (T.memory tape.old)) (undo (T.history tape.old)) ≡ record { history = T.history tape.new; memory = T.memory tape.new; reply = result } }
+    ensures never { result ≢ Err Refusal.OutOfMemory }
 {
     let start = tape.position();
     'back: while tape.position() > 0 {
@@ -60,7 +62,8 @@ pub fn undo<T: Tape>(tape: &mut T) -> Result<Standing, Refusal>
 
 /// To the nearest marked place after.
 pub fn redo<T: Tape>(tape: &mut T) -> Result<Standing, Refusal>
-    ensures { moved (T.memory tape.old) (T.history tape.old) Refusal.NothingToRedo (redo (T.history tape.old)) ≡ record { history = T.history tape.new; memory = T.memory tape.new; reply = result } }
+    ensures answer { moved (T.memory tape.old) (T.history tape.old) Refusal.NothingToRedo (redo (T.history tape.old)) ≡ record { history = T.history tape.new; memory = T.memory tape.new; reply = result } }
+    ensures never { result ≢ Err Refusal.OutOfMemory }
 {
     let start = tape.position();
     'on: while tape.position() < tape.len() - 1 {
@@ -122,7 +125,8 @@ fn is_met<T: Tape>(tape: &T, turns: u64) -> bool
 
 /// To the first place after so many turns: back as far as it may lie, and then on.
 pub fn goto<T: Tape>(tape: &mut T, turns: u64) -> Result<Standing, Refusal>
-    ensures { moved (T.memory tape.old) (T.history tape.old) (Refusal.NotInHistory (turns_of_first (T.history tape.old)) (last_turns (T.history tape.old))) (goto turns (T.history tape.old)) ≡ record { history = T.history tape.new; memory = T.memory tape.new; reply = result } }
+    ensures answer { moved (T.memory tape.old) (T.history tape.old) (Refusal.NotInHistory (turns_of_first (T.history tape.old)) (last_turns (T.history tape.old))) (goto turns (T.history tape.old)) ≡ record { history = T.history tape.new; memory = T.memory tape.new; reply = result } }
+    ensures never { result ≢ Err Refusal.OutOfMemory }
 {
     if !is_met(tape, turns) {
         return Err(Refusal::NotInHistory(tape.first_turns(), tape.last_turns()));

@@ -2,7 +2,7 @@
 ghost use Rattle.std.specs.Prelude.{◌≡◌, ◌++◌, ◌+◌, ◌≤◌, List, OnOk, OnErr, IsOk, Result, length, vec_len, vec_capacity};
 ghost use Rattle.mars_session.specs.declared.calls.Standing.{Standing};
 ghost use Rattle.mars_session.specs.declared.calls.Refusal.{Refusal};
-ghost use Rattle.mars_session.specs.Script.{SessionState, standing_of, ScriptAnswers, Answers};
+ghost use Rattle.mars_session.specs.Script.{SessionValue, standing_of, ScriptAnswers, Answers};
 
 use crate::calls::{Call, Refusal, Reply, Standing};
 use crate::tapes::Tape;
@@ -23,47 +23,53 @@ pub struct Session<T: Tape> {
 }
 
 impl<T: Tape> Model for Session<T> {
-    ghost use Rattle.mars_session.specs.Script.{SessionState};
+    ghost use Rattle.mars_session.specs.Script.{SessionValue};
 
-    ghost Value = { SessionState };
+    ghost Value = { SessionValue };
 
-    ghost view = { λ s. record { history = T.history s.tape; limit = s.limit; memory = T.memory s.tape } };
+    ghost view = { λ s. record {
+        state = record { history = T.history s.tape; limit = s.limit; memory = T.memory s.tape };
+        room = T.room s.tape;
+    } };
 }
 
 impl<T: Tape> Session<T> {
     /// A session over a tape, with the most places that may stand after the first one, where the tape keeps all of them.
     pub fn new(tape: T, limit: u64) -> Self
-        ensures { result ≡ record { history = T.history tape; limit = limit; memory = T.memory tape } }
+        ensures state { result.state ≡ record { history = T.history tape; limit = limit; memory = T.memory tape } }
+        ensures room { result.room ≡ T.room tape }
     {
         Session { tape, limit }
     }
 
     /// The tape of all places.
     pub fn tape(&self) -> &T
-        ensures history { T.history result.now ≡ self.now.history }
-        ensures memory { T.memory result.now ≡ self.now.memory }
+        ensures history { T.history result.now ≡ self.now.state.history }
+        ensures memory { T.memory result.now ≡ self.now.state.memory }
+        ensures room { T.room result.now ≡ self.now.room }
     {
         &self.tape
     }
 
     /// Gives the tape back, at the place where the session stands.
     pub fn into_tape(self) -> T
-        ensures history { T.history result ≡ self.history }
-        ensures memory { T.memory result ≡ self.memory }
+        ensures history { T.history result ≡ self.state.history }
+        ensures memory { T.memory result ≡ self.state.memory }
+        ensures room { T.room result ≡ self.room }
     {
         self.tape
     }
 
     /// The battle of the present place.
     pub fn battle(&self) -> &Battle
-        ensures { result.now ≡ self.now.history.present.state }
+        ensures { result.now ≡ self.now.state.history.present.state }
     {
         self.tape.now()
     }
 
     /// Where the session stands.
     pub fn standing(&self) -> Standing
-        ensures { result ≡ standing_of self.now.history }
+        ensures { result ≡ standing_of self.now.state.history }
     {
         commands::standing(&self.tape)
     }
@@ -187,7 +193,7 @@ impl<T: Tape> Session<T> {
     /// Makes each call in order and appends its reply. Room for all replies is made first, and it fails only where that is
     /// wanting and refused; nothing is done then.
     pub fn apply_all(&mut self, calls: &[Call], out: &mut Vec<Reply>) -> Result<(), AllocError>
-        ensures ok { OnOk result ((replies : List (Result Standing Refusal)) × (out.new.items ≡ out.old.items ++ replies) × ScriptAnswers self.old calls.now replies self.new) }
+        ensures ok { OnOk result ((replies : List (Result Standing Refusal)) × (out.new.items ≡ out.old.items ++ replies) × ScriptAnswers self.old.state calls.now replies self.new.state) }
         ensures enough { vec_len out.old + length calls.now ≤ vec_capacity out.old → IsOk result }
         ensures err { OnErr result ((self.new ≡ self.old) × (out.new.items ≡ out.old.items)) }
     {

@@ -3,7 +3,8 @@ use Rattle.std.proofs.Common.{◌≡◌, ◌≢◌, refl, ℕ, false, List, [], 
 use Rattle.std.specs.List.{flat_map, AllByRecursion}
 use Rattle.mars_app.specs.declared.debugger.request.Request.{Request}
 use Rattle.mars_app.specs.declared.debugger.request.Request.TheVariants as request
-use Rattle.mars_app.specs.Debugger.Lines.{IsLine, Splits, ended, line_asks, lines_of}
+use Rattle.mars_cell.specs.Load.{lines_of}
+use Rattle.mars_app.specs.Debugger.Lines.{IsLine, Splits, ended, line_asks}
 use Rattle.mars_app.specs.Debugger.Transcript.{GoesOn, is_quit, until_quit}
 
 not_newline : (b : ℕ) → b ≢ 10 → nat_eq b 10 ≡ false

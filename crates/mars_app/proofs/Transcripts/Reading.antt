@@ -11,7 +11,8 @@ use Rattle.mars_app.specs.declared.debugger.line_buffer.LineBuffer.{LineBuffer}
 use Rattle.mars_app.specs.declared.debugger.request.Request.{Request}
 use Rattle.mars_app.specs.declared.debugger.request.Request.TheVariants.{Quit}
 use Rattle.mars_app.specs.Code.LineBuffer.{Holds}
-use Rattle.mars_app.specs.Debugger.Lines.{IsLine, ended, line_asks, lines_of}
+use Rattle.mars_cell.specs.Load.{lines_of}
+use Rattle.mars_app.specs.Debugger.Lines.{IsLine, ended, line_asks}
 use Rattle.mars_cell.specs.Output.{CutShort}
 use Rattle.mars_app.specs.Debugger.Transcript.{Transcript, GoesOn, Completes, WriteFails, answer, until_quit}
 use Rattle.mars_app.specs.Debugger.Transcript.EndsIn.{at_newline, at_end}

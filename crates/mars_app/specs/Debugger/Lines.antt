@@ -1,5 +1,5 @@
 -- Lines of bytes, and what each asks for.
-use Rattle.std.specs.Prelude.{◌≡◌, ◌≢◌, ℕ, List, [], ◌∷◌, ◌++◌, ◌==◌, nat_lt, length, if◌then◌else◌}
+use Rattle.std.specs.Prelude.{◌≡◌, ◌≢◌, ℕ, List, [], ◌∷◌, ◌++◌, nat_lt, length, if◌then◌else◌}
 use Rattle.std.specs.List.{flat_map, AllByRecursion}
 use Rattle.mars_app.specs.Debugger.Requests.{request_of}
 use Rattle.mars_app.specs.declared.debugger.request.Request.{Request}
@@ -20,16 +20,6 @@ IsLine l = AllByRecursion (λ b. b ≢ 10) l
 -- a line with its LF
 abbrev pub ended : List ℕ → List ℕ
 ended l = l ++ 10 ∷ []
-
--- b goes onto the first of the lines
-abbrev pub onto_first : ℕ → List (List ℕ) → List (List ℕ)
-onto_first b [] = (b ∷ []) ∷ []
-onto_first b (l ∷ ls) = (b ∷ l) ∷ ls
-
--- the lines of some bytes; the last may have no LF
-unfoldable pub lines_of : List ℕ → List (List ℕ)
-lines_of [] = []
-lines_of (b ∷ bs) = if b == 10 then [] ∷ lines_of bs else onto_first b (lines_of bs)
 
 -- the bytes are these whole lines, and then a beginning of one
 pub record Splits (bytes : List ℕ) (lines : List (List ℕ)) (rest : List ℕ) : Type 0 where

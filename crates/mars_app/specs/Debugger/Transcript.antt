@@ -5,7 +5,8 @@ use Rattle.std.specs.Io.KnownBytes.{Appends, Consumes, IsAtEnd, Keeps}
 use Rattle.mars_session.specs.Script.{SessionState, standing_of, outcome}
 use Rattle.mars_app.specs.declared.debugger.request.Request.{Request}
 use Rattle.mars_app.specs.declared.debugger.request.Request.TheVariants as request
-use Rattle.mars_app.specs.Debugger.Lines.{line_asks, lines_of, Splits, IsLine, ended}
+use Rattle.mars_cell.specs.Load.{lines_of}
+use Rattle.mars_app.specs.Debugger.Lines.{line_asks, Splits, IsLine, ended}
 use Rattle.mars_app.specs.Debugger.Readings.{list_text, queue_text, show_text}
 use Rattle.mars_app.specs.Debugger.Replies.{reply_text}
 

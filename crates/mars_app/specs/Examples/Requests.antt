@@ -10,7 +10,7 @@ use Rattle.mars_cell.specs.Words.{mode_of, modifier_of, op_of}
 use Rattle.mars_session.specs.declared.calls.Call.TheVariants as call
 use Rattle.mars_app.specs.Debugger.Words.{first_word, after_word, number_at as number_in}
 use Rattle.mars_app.specs.Debugger.Requests.{alone, asked, command_of, one_number, request_of, three_numbers, two_numbers, with_arguments}
-use Rattle.mars_app.specs.Debugger.Lines.{line_asks, lines_of}
+use Rattle.mars_app.specs.Debugger.Lines.{line_asks}
 use Rattle.mars_app.specs.declared.debugger.request.Request.TheVariants as request
 
 -- commands with their numbers; blanks may stand anywhere between the words
@@ -54,11 +54,3 @@ pub lines_that_are_no_commands :
     × (line_asks 8 (codes "edit 7 NOP.F $0,") ≡ request.Unknown)
 unfolding request_of asked with_arguments alone one_number first_word after_word number_in parse_digits parts joins begins_word cell_of op_at suffix_at modifier_at mode_at number_at operand_at comma_at op_of modifier_of mode_of parse_number split_sign nearest default_modifier
 lines_that_are_no_commands = (refl, refl, refl, refl, refl, refl, refl, refl, refl, refl, refl)
-
--- the last line may have no LF; an LF at the end begins no other line
-pub lines_are_parted :
-    (lines_of (codes "step\n\nundo") ≡ codes "step" ∷ [] ∷ codes "undo" ∷ [])
-    × (lines_of (codes "step\n") ≡ codes "step" ∷ [])
-    × (lines_of [] ≡ [])
-unfolding lines_of
-lines_are_parted = (refl, refl, refl)

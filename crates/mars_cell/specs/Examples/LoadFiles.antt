@@ -109,6 +109,14 @@ pub long_names :
 unfolding parts joins begins_word cell_of op_at suffix_at modifier_at mode_at number_at operand_at comma_at op_of modifier_of mode_of parse_number parse_digits split_sign nearest default_modifier load tells_version header_of size_of name_of body statements lines_of statement_of lone_number end_of
 long_names = (refl, refl, refl, refl, refl)
 
+-- the last line may have no LF; an LF at the end begins no other line
+pub lines_are_parted :
+    (lines_of (codes "step\n\nundo") ≡ codes "step" ∷ [] ∷ codes "undo" ∷ [])
+    × (lines_of (codes "step\n") ≡ codes "step" ∷ [])
+    × (lines_of [] ≡ [])
+unfolding lines_of
+lines_are_parted = (refl, refl, refl)
+
 -- the load file of a warrior that bombs the core
 pub bomber_is_written : load_text 8000 (record {
   name = codes "Bomber ;";

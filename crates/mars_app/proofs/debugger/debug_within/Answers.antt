@@ -15,23 +15,23 @@ reads-init g c = record {
 pub returns-in-Ok-take_last_line-clause-ok : goal.returns-in-Ok-take_last_line-clause-ok
 returns-in-Ok-take_last_line-clause-ok g c =
     let read = rw c.if-count-eq0.true at c.in-Ok.ensures.bytes in
-    let e : c.core_size-core_size.result ≡ core_size_of c.args.session.now = cc in
+    let e : c.core_size-core_size.result ≡ core_size_of c.args.session.now.state = cc in
     Completes-along e (reads_end _ _ _ _ _ _ _ _ c.reads.invariant.so_far _ read.0 (read.1 refl (search rules)) _ _ c.in-Ok-take_last_line.ensures.ok)
 
 pub returns-in-Err-take_last_line-clause-write : goal.returns-in-Err-take_last_line-clause-write
 returns-in-Err-take_last_line-clause-write g c =
     let read = rw c.if-count-eq0.true at c.in-Ok.ensures.bytes in
-    let e : c.core_size-core_size.result ≡ core_size_of c.args.session.now = cc in
+    let e : c.core_size-core_size.result ≡ core_size_of c.args.session.now.state = cc in
     λ _. WriteFails-along e (reads_break_at_end _ _ _ _ _ _ _ _ c.reads.invariant.so_far _ read.0 (read.1 refl (search rules)) _ _ c.in-Err-take_last_line.ensures.err)
 
 pub returns-in-Ok-Quit-clause-ok : goal.returns-in-Ok-Quit-clause-ok
 returns-in-Ok-Quit-clause-ok g c =
-    let e : c.core_size-core_size.result ≡ core_size_of c.args.session.now = cc in
+    let e : c.core_size-core_size.result ≡ core_size_of c.args.session.now.state = cc in
     Completes-along e (reads_quit _ _ _ _ _ _ _ _ c.reads.invariant.so_far _ _ c.in-Ok.ensures.bytes.0 _ _ ((rw c.in-Ok-Quit.field-0-is at c.in-Ok-Quit.ensures.quit) refl))
 
 pub returns-in-Err-take_bytes-clause-write : goal.returns-in-Err-take_bytes-clause-write
 returns-in-Err-take_bytes-clause-write g c =
-    let e : c.core_size-core_size.result ≡ core_size_of c.args.session.now = cc in
+    let e : c.core_size-core_size.result ≡ core_size_of c.args.session.now.state = cc in
     λ _. WriteFails-along e (reads_break _ _ _ _ _ _ _ _ c.reads.invariant.so_far _ _ c.in-Ok.ensures.bytes.0 _ _ c.in-Err-take_bytes.ensures.err)
 
 pub reads-preserved : goal.reads-preserved

@@ -15,8 +15,8 @@ loop-call-preserved g c =
       items = rw (c.push.ensures.items, c.unwrap.ensures, before.items, append_assoc) (refl {A = List (Result Standing Refusal)});
       script =
           rw (take_more c.args.calls.now c.loop-call.call-index Step c.loop-call-test.true)
-          (script_more c.args.self.now.memory c.loop-call.self.memory c.call-reply.new.self.memory c.args.self.now.limit (take c.loop-call.call-index c.args.calls.now) (get_or c.args.calls.now c.loop-call.call-index Step)
-          c.args.self.now.history c.loop-call.self.history c.call-reply.new.self.history before.replies c.call-reply.result
+          (script_more c.args.self.now.state.memory c.loop-call.self.state.memory c.call-reply.new.self.state.memory c.args.self.now.state.limit (take c.loop-call.call-index c.args.calls.now) (get_or c.args.calls.now c.loop-call.call-index Step)
+          c.args.self.now.state.history c.loop-call.self.state.history c.call-reply.new.self.state.history before.replies c.call-reply.result
           before.script (rw before.limit at c.call-reply.ensures.0));
       limit = c.call-reply.ensures.1 ∙ before.limit;
       room =

@@ -10,7 +10,7 @@ abbrev pub invariant-loop-call : goal.invariant-loop-call
 invariant-loop-call g l = record {
   replies : List (Result Standing Refusal);
   items : l.out.items ≡ l.fn.out.items ++ replies;
-  script : IsScript l.fn.self.memory l.fn.self.limit (take l.call-index l.calls) l.fn.self.history replies l.self.history l.self.memory;
-  limit : l.self.limit ≡ l.fn.self.limit;
+  script : IsScript l.fn.self.state.memory l.fn.self.state.limit (take l.call-index l.calls) l.fn.self.state.history replies l.self.state.history l.self.state.memory;
+  limit : l.self.state.limit ≡ l.fn.self.state.limit;
   room : vec_len l.out + (length l.calls - l.call-index) ≤ vec_capacity l.out;
 }
