@@ -7,7 +7,7 @@ use Rattle.redcode_text.proofs.CallerLemmas.{word-same}
 use Rattle.redcode_asm.specs.Assembly.{label_among, placed}
 use Rattle.redcode_asm.proofs.Tables.{lookup-table}
 use Rattle.redcode_asm.proofs.Everywhere.{fixed-label, fixed-known}
-use Rattle.redcode_asm.proofs.sources.FixedNamesEnv.value.Goals as goal
+use Rattle.redcode_asm.proofs.shortcuts.fixed_names.FixedNamesEnv.value.Goals as goal
 
 pub returns-in-Some : goal.returns-in-Some
 returns-in-Some c =
