@@ -14,7 +14,7 @@ use Rattle.redcode_text.proofs.CallerLemmas.{Extends, Follows, follows-itself, v
 use Rattle.redcode_asm.specs.Assembly.{◌>>=◌, Placed, assert_holds, holds, at_line, placed_from, cells_of, cell_from, cell_of, expressed, given_operands, known_value, label_among, name_value, opcode_of, operand_value, placed, replaced, split_mode, split_modifier, value_in, value_or}
 use Rattle.redcode_asm.specs.Code.Fixed.{AreFixed, AreHeld, IsFixed, IsHeld, fixed_value, unless_label}
 use Rattle.redcode_asm.specs.Code.Problems.{Gives}
-use Rattle.redcode_asm.specs.declared.cells.FixedCell.{FixedCell}
+use Rattle.redcode_asm.specs.declared.shortcuts.fixed_cells.FixedCell.{FixedCell}
 use Rattle.redcode_asm.proofs.Failing.{fails-same}
 use Rattle.std.specs.Result.{MatchResult}
 use Rattle.std.proofs.lemmas.Bool.{cases_lt}

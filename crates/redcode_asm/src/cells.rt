@@ -1,5 +1,5 @@
-//! The cells of a source. Instructions whose cell is the same wherever they stand are evaluated once.
-ghost use Rattle.std.specs.Prelude.{◌≡◌, true, Ok, Err, MatchResult, ◌<◌, ◌≤◌, All, IfOk, length, map, vec_len, [], ◌∷◌, ◌++◌, IfSome, OnOk, OnErr};
+//! The cells of a source.
+ghost use Rattle.std.specs.Prelude.{◌≡◌, true, Ok, Err, MatchResult, ◌<◌, ◌≤◌, All, IfOk, length, map, vec_len};
 ghost use Rattle.mars_cell.specs.Cells.{FitsCore};
 ghost use Rattle.redcode_text.specs.Equates.{limit};
 ghost use Rattle.redcode_text.specs.Views.{line_of, predefined_of};
@@ -13,87 +13,11 @@ ghost use Rattle.redcode_asm.specs.Code.Sources.{cells_among, placed_of};
 use crate::fault::{AsmFault, AsmProblem};
 use crate::instruction::{make_cell, read_opcode, take_modifier};
 use crate::places::Place;
+use crate::shortcuts::FixedCells;
 use crate::sources::Source;
-use indexmap::IndexMap;
 use mars_cell::{Cell, Modifier, Op};
-use redcode_text::{Line, NameTable, Token, are_alike, is_instruction};
-use std::alloc::{AllocError, Global};
-
-/// An instruction, and its cell.
-#[derive(Clone, Copy)]
-pub struct FixedCell<'a> {
-    pub line: &'a Line,
-    pub cell: Cell,
-}
-
-/// Instructions with their cells, which are theirs wherever they stand.
-#[derive(Drop)]
-pub struct FixedCells<'a> {
-    pub cells: Vec<FixedCell<'a>>,
-    /// Which of them has this key: a guess, which is tested.
-    places: IndexMap<u64, usize>,
-}
-
-/// A number for an instruction, by which those of the same operation and tokens are found again.
-fn key_of_line(names: &NameTable, line: &Line) -> u64 {
-    let key = names.key_of(&line.rest);
-    match line.operation {
-        Some(name) => key.wrapping_add(name as u64),
-        None => key,
-    }
-}
-
-impl<'a> FixedCells<'a> {
-    /// No instruction.
-    pub fn new(alloc: Global) -> Self
-        ensures { result.cells.items ≡ [] }
-    {
-        FixedCells {
-            cells: Vec::new(alloc),
-            places: IndexMap::new(alloc),
-        }
-    }
-
-    /// One instruction more, of this key.
-    pub fn add(&mut self, key: u64, line: &'a Line, cell: Cell) -> Result<(), AllocError>
-        ensures ok { OnOk result (self.new.cells.items ≡ self.old.cells.items ++ record { line = line.entry; cell = cell } ∷ []) }
-        ensures err { OnErr result (self.new.cells.items ≡ self.old.cells.items) }
-    {
-        self.cells.reserve(1)?;
-        let Ok(_) = self.places.insert(key, self.cells.len()) else {
-            return Err(AllocError);
-        };
-        self.cells.push_reserved(FixedCell { line, cell });
-        Ok(())
-    }
-
-    /// Which of the instructions this one may be.
-    fn guess(&self, names: &NameTable, line: &Line) -> Option<usize> {
-        if self.cells.is_empty() {
-            return None;
-        }
-        let place = self.places.get(&key_of_line(names, line))?;
-        Some(*place)
-    }
-}
-
-impl<'a> Source<'a> {
-    /// The cell of an instruction that was met before.
-    pub fn known_cell(&self, core_size: u32, known: &FixedCells<'_>, line: &Line) -> Option<Cell>
-        requires { AreFixed (predefined_of self.now.predefined.now) core_size self.now.program.now known.now.cells.items }
-        ensures { IfSome result (IsFixed (predefined_of self.now.predefined.now) core_size self.now.program.now line.now.operation line.now.rest.items) }
-    {
-        let place = known.guess(self.program.names(), line)?;
-        if place >= known.cells.len() {
-            return None;
-        }
-        let fixed = &known.cells[place];
-        if fixed.line.operation != line.operation || !are_alike(&fixed.line.rest, &line.rest) {
-            return None;
-        }
-        Some(fixed.cell)
-    }
-}
+use redcode_text::{Line, Token, is_instruction};
+use std::alloc::Global;
 
 impl<'a> Source<'a> {
     /// Whether a line is an instruction.
@@ -103,8 +27,7 @@ impl<'a> Source<'a> {
         is_instruction(self.program.names(), line.operation, &line.rest)
     }
 
-    /// The cell of an opcode and its operands at a place, and whether it is the same at any other: that is found out only where
-    /// EQU names were written, which may stand for many tokens, or have been replaced often to stand for none.
+    /// The cell of an opcode and its operands at a place, and whether it is known to be the same at any other.
     fn cell_with(
         &self,
         core_size: u32,
@@ -119,11 +42,8 @@ impl<'a> Source<'a> {
         ensures fixed { IfOk result (λ made. made.1 ≡ true → cell_from core_size (fixed_value (predefined_of self.now.predefined.now) self.now.program.now) op modifier operands.now ≡ Ok made.0) }
         ensures fits { IfOk result (λ made. FitsCore core_size made.0) }
     {
-        if self.program.has_equate(&place.line.rest) {
-            let fixed_names = self.fixed_names();
-            if let Ok(cell) = make_cell(op, modifier, operands, &fixed_names, core_size) {
-                return Ok((cell, true));
-            }
+        if let Some(cell) = self.fixed_cell(core_size, place.line, op, modifier, operands) {
+            return Ok((cell, true));
         }
         let line_names = self.instruction_names(place.index);
         match make_cell(op, modifier, operands, &line_names, core_size) {
@@ -132,8 +52,8 @@ impl<'a> Source<'a> {
         }
     }
 
-    /// The cell of an instruction, and whether it is the same wherever the instruction stands.
-    fn cell_of(
+    /// The cell of an instruction, and whether it is known to be the same wherever the instruction stands.
+    pub fn cell_of(
         &self,
         alloc: Global,
         core_size: u32,
@@ -152,33 +72,6 @@ impl<'a> Source<'a> {
             Ok(made) => Ok(made),
             Err(problem) => Err(problem),
         }
-    }
-
-    /// The cell of an instruction, which is looked for among those that are known first.
-    fn cell_among<'l>(
-        &self,
-        alloc: Global,
-        core_size: u32,
-        place: Place<'l>,
-        known: &mut FixedCells<'l>,
-    ) -> Result<Cell, AsmProblem>
-        requires core { 0 < core_size }
-        requires known { AreFixed (predefined_of self.now.predefined.now) core_size self.now.program.now known.old.cells.items }
-        ensures value { Gives (λ cell. cell) result (cell_of (predefined_of self.now.predefined.now) core_size self.now.program.now (placed_of place.entry)) }
-        ensures known { AreFixed (predefined_of self.now.predefined.now) core_size self.now.program.now known.new.cells.items }
-        ensures fits { IfOk result (FitsCore core_size) }
-    {
-        if let Some(cell) = self.known_cell(core_size, known, place.line) {
-            return Ok(cell);
-        }
-        let (cell, is_fixed) = self.cell_of(alloc, core_size, place)?;
-        if is_fixed {
-            let key = key_of_line(self.program.names(), place.line);
-            let Ok(()) = known.add(key, place.line, cell) else {
-                return Err(AsmProblem::OutOfMemory);
-            };
-        }
-        Ok(cell)
     }
 
     /// The cell of an instruction, looked for among those that are known first; a fault has its line.

@@ -5,6 +5,8 @@
 //! `assemble_load` gives the load file of that warrior, or the same fault. `Formula::new`
 //! gives the formula of a text, or its first fault, and `Formula::score` its value for so many warriors and survivors,
 //! exactly as `specs/Formula` defines them; a score takes no memory, and is refused for its values alone (`laws`).
+//!
+//! What is there for hostile sources alone stands apart, in `shortcuts`.
 #![tactic(auto)]
 
 mod assembler;
@@ -17,6 +19,7 @@ pub mod laws;
 mod load;
 mod operands;
 mod places;
+mod shortcuts;
 mod sources;
 mod starts;
 mod warriors;

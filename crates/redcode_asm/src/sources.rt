@@ -1,6 +1,5 @@
 //! A source, and what its names stand for.
-ghost use Rattle.std.specs.Prelude.{◌≡◌, [], pos, ◌-ℤ◌, codes, option_map};
-ghost use Rattle.std.specs.Str.{bytes_eq};
+ghost use Rattle.std.specs.Prelude.{◌≡◌, [], pos, ◌-ℤ◌, option_map};
 ghost use Rattle.redcode_text.specs.Views.{predefined_of};
 ghost use Rattle.redcode_text.specs.Lines.{is_spelled, name_at, predefined_value, with_current_line};
 ghost use Rattle.redcode_asm.specs.Assembly.{last_where, placed, replaced};
@@ -23,7 +22,7 @@ pub struct Source<'a> {
 }
 
 /// What the name of an index stands for behind so many instructions, where it is no label.
-fn known_value(
+pub fn known_value(
     predefined: &PredefinedNames,
     names: &NameTable,
     current_line: u32,
@@ -91,45 +90,7 @@ impl<'a> Env for AssertNames<'a> {
     }
 }
 
-/// What names stand for wherever they stand: labels and CURLINE stand for nothing.
-#[derive(Clone, Copy)]
-pub struct FixedNames<'a> {
-    pub source: Source<'a>,
-}
-
-/// Whether a name is CURLINE.
-fn is_current_line(name: &[u8]) -> bool
-    ensures { result ≡ bytes_eq (codes "CURLINE") name.now }
-{
-    b"CURLINE".as_slice() == name
-}
-
-impl<'a> Env for FixedNames<'a> {
-    ghost use Rattle.redcode_text.specs.Views.{predefined_of};
-    ghost use Rattle.redcode_asm.specs.Code.Fixed.{fixed_value};
-
-    ghost value_of = { λ e n. fixed_value (predefined_of e.source.predefined.now) e.source.program.now n };
-
-    fn value(&self, name: usize) -> Option<i64> {
-        let names = self.source.program.names();
-        if is_current_line(names.word(name)) {
-            return None;
-        }
-        match self.source.labels.index_of(name) {
-            Some(_) => None,
-            None => known_value(self.source.predefined, names, 0, name),
-        }
-    }
-}
-
 impl<'a> Source<'a> {
-    /// What names stand for wherever they stand.
-    pub fn fixed_names(&self) -> FixedNames<'a>
-        ensures { result ≡ record { source = self.now } }
-    {
-        FixedNames { source: *self }
-    }
-
     /// Tokens with the EQU names replaced.
     pub fn replace(&self, alloc: Global, tokens: &[Token]) -> Result<Vec<Token>, AsmProblem>
         ensures { Gives (λ made. made.items) result (replaced self.now.program.now tokens.now) }

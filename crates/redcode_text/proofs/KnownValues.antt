@@ -9,8 +9,8 @@ use Rattle.redcode_text.specs.declared.fault.ExprFault.{ExprFault}
 use Rattle.redcode_text.specs.declared.fault.TextProblem.{TextProblem}
 use Rattle.redcode_text.specs.declared.fault.TextProblem.TheVariants.{LabelInCount}
 use Rattle.std.proofs.lemmas.Bool.{eqb-true}
-use Rattle.redcode_text.specs.declared.names.values.KnownValue.{KnownValue}
-use Rattle.redcode_text.specs.declared.names.values.NameValue.{NameValue}
+use Rattle.redcode_text.specs.declared.shortcuts.values.KnownValue.{KnownValue}
+use Rattle.redcode_text.specs.declared.shortcuts.values.NameValue.{NameValue}
 use Rattle.redcode_text.specs.declared.token.Token.{Token}
 use Rattle.redcode_text.specs.declared.token.TokenKind.{TokenKind}
 use Rattle.redcode_text.specs.declared.token.TokenKind.TheVariants.{Number, Name}

@@ -9,9 +9,9 @@ use Rattle.std.proofs.Math.Seq.{get_or-append_seam}
 use Rattle.std.specs.Char.{digit_value, is_ascii_digit}
 use Rattle.std.specs.List.{list_all, list_any, prefix_len}
 use Rattle.std.specs.Str.Parse.{digits_value, digits_value_after}
-use Rattle.redcode_text.specs.declared.source.runs.LongRun.{LongRun}
-use Rattle.redcode_text.specs.declared.source.runs.RunKind.TheVariants.{Word}
-use Rattle.redcode_text.specs.declared.lexer.words.KnownStart.{KnownStart}
+use Rattle.redcode_text.specs.declared.shortcuts.runs.LongRun.{LongRun}
+use Rattle.redcode_text.specs.declared.shortcuts.runs.RunKind.TheVariants.{Word}
+use Rattle.redcode_text.specs.declared.shortcuts.words.KnownStart.{KnownStart}
 use Rattle.redcode_text.specs.Code.Runs.{AreRuns, ArePlain, AreZeros, IsKnownStart, stands}
 use Rattle.redcode_text.specs.Tokens.{OpenLoop, Scanned, begins_name, begins_word, is_blank, is_word_byte, scan_from, word_len}
 use Rattle.redcode_text.proofs.Scans.{scan-blank}

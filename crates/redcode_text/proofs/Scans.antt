@@ -7,7 +7,7 @@ use Rattle.std.specs.Char.{is_ascii}
 use Rattle.redcode_text.specs.declared.fault.TextProblem.{TextProblem}
 use Rattle.redcode_text.specs.declared.fault.TextProblem.TheVariants.{NotAscii, TooLong}
 use Rattle.redcode_text.specs.declared.token.Sign.{Sign}
-use Rattle.redcode_text.specs.declared.lexer.words.Spelled.{Spelled}
+use Rattle.redcode_text.specs.declared.token.Spelled.{Spelled}
 use Rattle.redcode_text.proofs.Failing.{bind-ok, fails-bind, fails-itself}
 use Rattle.redcode_text.specs.Code.Problems.{Gives, Fails}
 use Rattle.redcode_text.specs.Code.Scanning.{with_names, found_alone}

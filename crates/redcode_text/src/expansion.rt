@@ -13,8 +13,8 @@ use crate::names::predefined::PredefinedNames;
 use crate::program::Program;
 use crate::reader::Reading;
 use crate::reader::repeat::read_all;
+use crate::shortcuts::long_runs;
 use crate::source::row::Row;
-use crate::source::runs::long_runs;
 use crate::source::{read_rows, rows_of};
 use std::alloc::Global;
 

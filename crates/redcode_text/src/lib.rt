@@ -5,8 +5,7 @@
 //! operation or an operand means is not asked here. The way of a source, with the file of each step:
 //!
 //! ```text
-//! source             bytes -> rows from the first `;redcode` on, each with its kind, its comment and its long runs (runs);
-//!                    the ROF of each FOR
+//! source             bytes -> rows from the first `;redcode` on, each with its kind and its comment; the ROF of each FOR
 //! reader/repeat      rows one after another, those of a loop once for each round; its head (repeat/head)
 //!   reader/line        a row that is neither FOR nor ROF; EQU: a name for its tokens
 //!     reader/comment     `;name`, `;author`, `;assert`
@@ -14,9 +13,11 @@
 //!     reader/ordinary    labels, operation, rest; where the operation is an EQU name, its lines (reader/used_lines) in its place
 //! reader             all that has been read so far, within `limits`; what a name is
 //! expansion          what is kept of it: a `program`
-//! names/equates      later, for each operand: EQU names -> their tokens; values that are kept (names/values)
+//! names/equates      later, for each operand: EQU names -> their tokens
 //! expression         tokens -> a value
 //! ```
+//!
+//! What is there for hostile sources alone stands apart, in `shortcuts`.
 //!
 //! A caller reads a source, then the lines, then the operands:
 //!
@@ -55,7 +56,7 @@ mod limits;
 mod names;
 mod program;
 mod reader;
-mod seed;
+mod shortcuts;
 mod source;
 mod token;
 

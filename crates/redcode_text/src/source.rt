@@ -8,11 +8,10 @@ ghost use Rattle.redcode_text.specs.Code.Pairs.{AreEnds, EndsAt};
 
 pub mod directives;
 pub mod row;
-pub mod runs;
 
+use crate::shortcuts::{LongRun, runs_before};
 use crate::source::directives::has_directive;
 use crate::source::row::{LineKind, Row};
-use crate::source::runs::{LongRun, runs_before};
 use std::alloc::{AllocError, Global};
 
 /// How many bytes the first line has.

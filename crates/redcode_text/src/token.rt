@@ -79,6 +79,13 @@ pub struct Token {
     pub to: usize,
 }
 
+/// What stands at the front of a text, and how many bytes spell it.
+#[derive(Clone, Copy)]
+pub struct Spelled {
+    pub kind: TokenKind,
+    pub len: usize,
+}
+
 fn is_same_kind(kind: TokenKind, other: TokenKind) -> bool
     ensures { result ≡ true → kind ≡ other }
 {

@@ -10,7 +10,7 @@ use Rattle.redcode_text.specs.Expansion.{ProgramValue}
 use Rattle.redcode_text.specs.Expression.{kinds}
 use Rattle.redcode_text.specs.Lines.{Assert, Predefined, name_at, predefined_value}
 use Rattle.redcode_asm.specs.Assembly.{Placed, assert_holds, cell_of, label_among, placed}
-use Rattle.redcode_asm.specs.declared.cells.FixedCell.{FixedCell}
+use Rattle.redcode_asm.specs.declared.shortcuts.fixed_cells.FixedCell.{FixedCell}
 
 abbrev pub unless_label : Option ℕ → Option ℤ → Option ℤ
 unless_label (Some index) value = None

@@ -1,9 +1,9 @@
 -- Long runs of blanks, and long words, by their places in a source.
 use Rattle.std.specs.Prelude.{◌≡◌, ℕ, ◌+◌, ◌<◌, ◌≤◌, ◌&&◌, ◌||◌, ◌==◌, nat_le, Bool, List, length, get_or, slice_index, true}
-use Rattle.redcode_text.specs.declared.lexer.words.KnownStart.{KnownStart}
-use Rattle.redcode_text.specs.declared.source.runs.LongRun.{LongRun}
-use Rattle.redcode_text.specs.declared.source.runs.RunKind.{RunKind}
-use Rattle.redcode_text.specs.declared.source.runs.RunKind.TheVariants.{Blanks, Word}
+use Rattle.redcode_text.specs.declared.shortcuts.words.KnownStart.{KnownStart}
+use Rattle.redcode_text.specs.declared.shortcuts.runs.LongRun.{LongRun}
+use Rattle.redcode_text.specs.declared.shortcuts.runs.RunKind.{RunKind}
+use Rattle.redcode_text.specs.declared.shortcuts.runs.RunKind.TheVariants.{Blanks, Word}
 use Rattle.redcode_text.specs.Tokens.{is_blank, is_word_byte}
 
 -- whether a byte may stand at a place of such a run: 48 is `0`

@@ -1,7 +1,7 @@
 -- Values of expressions that are kept.
 use Rattle.std.specs.Prelude.{◌≡◌, ℕ, ℤ, List, [], ◌∷◌, Option, Some, None, Ok, true, false, ◌==◌}
-use Rattle.redcode_text.specs.declared.names.values.KnownValue.{KnownValue}
-use Rattle.redcode_text.specs.declared.names.values.NameValue.{NameValue}
+use Rattle.redcode_text.specs.declared.shortcuts.values.KnownValue.{KnownValue}
+use Rattle.redcode_text.specs.declared.shortcuts.values.NameValue.{NameValue}
 use Rattle.redcode_text.specs.declared.token.Token.{Token}
 use Rattle.redcode_text.specs.Equates.{Equate, substitution}
 use Rattle.redcode_text.specs.Expression.{kinds, value_of}

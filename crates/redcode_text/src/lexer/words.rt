@@ -1,61 +1,24 @@
 //! Words: numbers, names and counters, with their joins.
-ghost use Rattle.std.specs.Prelude.{◌≡◌, ◌++◌, ◌≤◌, ◌^◌, Some, length, not, ◌==◌, true, IfOk, IfSome, OnOk, IsAscii, MatchOption};
+ghost use Rattle.std.specs.Prelude.{◌≡◌, ◌++◌, ◌≤◌, ◌^◌, Some, length, true, IfOk, OnOk, IsAscii, MatchOption};
 ghost use Rattle.std.specs.Char.{is_ascii_digit};
-ghost use Rattle.std.specs.List.{list_all, prefix_len};
+ghost use Rattle.std.specs.List.{list_all};
 ghost use Rattle.std.specs.Str.Parse.{digits_value};
-ghost use Rattle.redcode_text.specs.Code.Parts.{front_len};
 ghost use Rattle.redcode_text.specs.Code.Problems.{Gives};
 ghost use Rattle.redcode_text.specs.Code.Runs.{IsKnownStart};
 ghost use Rattle.redcode_text.specs.Code.Scanning.{with_names};
 ghost use Rattle.redcode_text.specs.Tokens.{begins_name, joined, number_kind, plain_word_found, round_digits, round_of, word_found, word_token};
 
-use crate::characters::{are_digits, begins_name};
+use crate::characters::{are_digits, begins_name, part_len};
 use crate::fault::TextProblem;
 use crate::lexer::open_loops::OpenLoops;
-use crate::names::{NameTable, front_len, is_long_name};
-use crate::token::TokenKind;
+use crate::names::NameTable;
+use crate::shortcuts::{
+    Counter, Word, has_joins, is_long_name, kept_len, long_name, past_zeros, round_after,
+    unknown_word,
+};
+use crate::token::{Spelled, TokenKind};
 use itoa::Buffer;
 use std::alloc::{AllocError, Global};
-
-/// Where a word begins in the source, and what is known of its front without going over it.
-#[derive(Clone, Copy)]
-pub struct KnownStart {
-    pub place: usize,
-    /// So many bytes are letters, digits and `_`.
-    pub plain: usize,
-    /// So many bytes are zeros.
-    pub zeros: usize,
-}
-
-impl KnownStart {
-    /// Nothing is known but the place.
-    pub fn unknown(place: usize) -> Self
-        ensures plain { result.plain ≡ 0 }
-        ensures zeros { result.zeros ≡ 0 }
-    {
-        KnownStart {
-            place,
-            plain: 0,
-            zeros: 0,
-        }
-    }
-}
-
-/// A word, and what is known of its front.
-#[derive(Clone, Copy)]
-pub struct Word<'a> {
-    pub bytes: &'a [u8],
-    pub known: KnownStart,
-}
-
-/// A word without the zeros that are known to stand in front of it.
-fn past_zeros<'a>(word: Word<'a>) -> &'a [u8]
-    requires { IsKnownStart word.known word.bytes.now }
-    ensures digits { list_all is_ascii_digit word.entry.bytes.now ≡ list_all is_ascii_digit result.now }
-    ensures value { digits_value 10 word.entry.bytes.now ≡ digits_value 10 result.now }
-{
-    &word.bytes[word.known.zeros..]
-}
 
 /// The number that decimal digits spell, where it is below 2^64.
 fn number_of(digits: &[u8]) -> Option<u64>
@@ -80,13 +43,6 @@ fn number_kind(digits: &[u8]) -> Result<TokenKind, TextProblem>
         Some(number) if number <= i64::MAX as u64 => Ok(TokenKind::Number(number as i64)),
         _ => Err(TextProblem::BadToken),
     }
-}
-
-/// What stands at the front of a text, and how many bytes spell it.
-#[derive(Clone, Copy)]
-pub struct Spelled {
-    pub kind: TokenKind,
-    pub len: usize,
 }
 
 /// A word that is no counter.
@@ -153,41 +109,6 @@ fn push_round(word: &mut Vec<u8>, round: u32) -> Result<(), AllocError>
     Ok(())
 }
 
-/// How many bytes stand before the next join.
-fn part_len(bytes: &[u8]) -> usize
-    ensures value { result ≡ prefix_len (λ b. not (b == 38)) bytes.now }
-    ensures within { result ≤ length bytes.now }
-{
-    bytes.iter().take_while(|byte| **byte != b'&').count()
-}
-
-/// How many bytes of a word stand before its first join.
-fn first_part_len(word: Word<'_>) -> usize
-    requires { IsKnownStart word.known word.bytes.now }
-    ensures value { result ≡ prefix_len (λ b. not (b == 38)) word.entry.bytes.now }
-    ensures within { result ≤ length word.entry.bytes.now }
-{
-    word.known.plain + part_len(&word.bytes[word.known.plain..])
-}
-
-/// A counter that a join names, and its round.
-#[derive(Clone, Copy)]
-struct Counter<'a> {
-    name: &'a [u8],
-    round: u32,
-}
-
-/// The round of the loop whose counter has this name: that of the last join, where it has the same.
-fn round_after(loops: &OpenLoops, last: Option<Counter<'_>>, name: &[u8]) -> Option<u32>
-    requires { IfSome last (λ c. round_of loops.now c.name.now ≡ Some c.round) }
-    ensures { result ≡ round_of loops.now name.now }
-{
-    match last {
-        Some(counter) if counter.name == name => Some(counter.round),
-        _ => loops.round_of(name),
-    }
-}
-
 /// A word with the digits of counters in place of its joins.
 fn join_word(alloc: Global, loops: &OpenLoops, word: &[u8]) -> Result<Vec<u8>, TextProblem>
     requires { IsAscii word.now }
@@ -213,37 +134,6 @@ fn join_word(alloc: Global, loops: &OpenLoops, word: &[u8]) -> Result<Vec<u8>, T
         at = to;
     }
     Ok(joined)
-}
-
-/// A long name that ends with digits of joins, of which `len` bytes are written.
-fn long_name(
-    alloc: Global,
-    loops: &OpenLoops,
-    names: &mut NameTable,
-    front: Word<'_>,
-    digits: &[u8],
-    len: usize,
-) -> Result<Spelled, TextProblem>
-    requires front { IsAscii front.bytes.now }
-    requires digits { IsAscii digits.now }
-    requires name { begins_name front.bytes.now ≡ true }
-    requires parted { front_len (front.bytes.now ++ digits.now) ≡ length front.bytes.now }
-    ensures value { let bytes = front.entry.bytes.now ++ digits.now in Gives (with_names names.new) result (word_found names.old len bytes (round_of loops.now bytes)) }
-    ensures len { IfOk result (λ s. s.len ≡ len) }
-{
-    if let Some(round) = loops.round_of_parts(front.bytes, digits) {
-        return Ok(Spelled {
-            kind: TokenKind::Number(i64::from(round)),
-            len,
-        });
-    }
-    match names.index_of_parts(alloc, front.bytes, digits, front.known.place) {
-        Ok(index) => Ok(Spelled {
-            kind: TokenKind::Name(index),
-            len,
-        }),
-        Err(_) => Err(TextProblem::OutOfMemory),
-    }
 }
 
 /// A word in one piece, whose end isn't written as it is.
@@ -276,10 +166,7 @@ fn parted_word(
     let Ok(bytes) = whole_word(alloc, front.bytes, end) else {
         return Err(TextProblem::OutOfMemory);
     };
-    let word = Word {
-        bytes: &bytes,
-        known: KnownStart::unknown(front.known.place),
-    };
+    let word = unknown_word(&bytes, front.known.place);
     joined_word(alloc, loops, names, word, len)
 }
 
@@ -296,10 +183,10 @@ pub fn read_word(
     ensures len { IfOk result (λ s. s.len ≡ length word.entry.bytes.now) }
 {
     let len = word.bytes.len();
-    if !word.bytes[word.known.plain..].contains(&b'&') {
+    if !has_joins(word) {
         return joined_word(alloc, loops, names, word, len);
     }
-    let at = front_len(&word.bytes[..first_part_len(word)]);
+    let at = kept_len(word);
     let end = join_word(alloc, loops, &word.bytes[at..])?;
     let front = Word {
         bytes: &word.bytes[..at],

@@ -5,15 +5,12 @@ ghost use Rattle.redcode_text.specs.Equates.{Replaced, equate_lines, has_equate,
 ghost use Rattle.redcode_text.specs.Lines.{with_line};
 ghost use Rattle.redcode_text.specs.Outcomes.{Answers};
 ghost use Rattle.redcode_text.specs.Code.Problems.{Gives};
-ghost use Rattle.redcode_text.specs.Code.Values.{IsValued};
-ghost use Rattle.redcode_text.specs.Tokens.{at_line, without_line};
+ghost use Rattle.redcode_text.specs.Tokens.{at_line};
 
-use crate::expression::{Env, eval};
 use crate::fault::{TextFault, TextProblem};
 use crate::limits::{MAX_NESTING, MAX_REPLACED, MAX_REPLACEMENTS};
-use crate::names::values::{KnownValue, KnownValues, NameValues, stand_for, values_of};
-use crate::seed::Seed;
-use crate::token::{Token, TokenKind, are_alike};
+use crate::shortcuts::{KnownValues, Seed};
+use crate::token::{Token, TokenKind};
 use indexmap::IndexMap;
 use std::alloc::{AllocError, Global};
 use std::marker::Model;
@@ -39,7 +36,7 @@ pub struct Equates {
     /// Where each EQU name stands among them: guesses, which are tested.
     places: Vec<usize>,
     /// Values that were worked out since the last change of the lines.
-    known: KnownValues,
+    pub known: KnownValues,
 }
 
 impl Model for Equates {
@@ -280,45 +277,5 @@ impl Equates {
             Ok(_) => Ok(()),
             Err(_) => Err(TextProblem::OutOfMemory),
         }
-    }
-}
-
-impl Equates {
-    /// The value of an expression that was kept, where its names stand for what they stood for.
-    pub fn known_value<E: Env>(&self, tokens: &[Token], env: &E) -> Option<i64>
-        ensures { IfSome result (λ value. IsValued self.now (E.value_of env.now) tokens.now value) }
-    {
-        let place = self.known.guess(tokens)?;
-        if place >= self.known.values.len() {
-            return None;
-        }
-        let known = &self.known.values[place];
-        if !are_alike(tokens, &known.tokens) || !stand_for(env, &known.names) {
-            return None;
-        }
-        Some(known.value)
-    }
-
-    /// Keeps the value of an expression, which is this one once its EQU names are replaced, if it has one.
-    pub fn keep_value<E: Env>(
-        &mut self,
-        alloc: Global,
-        tokens: &[Token],
-        replaced: &[Token],
-        env: &E,
-    ) -> Result<(), AllocError>
-        requires { without_line (substitution self.old tokens.now) ≡ Ok replaced.now }
-        ensures { self.new ≡ self.old }
-    {
-        let names = values_of(alloc, replaced, env)?;
-        let Ok(value) = eval(replaced, &NameValues { values: &names }) else {
-            return Ok(());
-        };
-        let tokens = Vec::from_slice(alloc, tokens)?;
-        self.known.add(KnownValue {
-            tokens,
-            names,
-            value,
-        })
     }
 }

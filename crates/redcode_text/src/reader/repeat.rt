@@ -13,7 +13,7 @@ ghost use Rattle.redcode_text.specs.Code.Pairs.{AreEnds, here_from};
 ghost use Rattle.redcode_text.specs.Source.{ForLine, line_kind, tree_of_rows};
 ghost use Rattle.redcode_text.specs.Tokens.{at_line};
 
-mod head;
+pub mod head;
 
 use crate::fault::{TextFault, TextProblem};
 use crate::lexer::open_loops::OpenLoop;

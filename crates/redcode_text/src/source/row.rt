@@ -7,8 +7,8 @@ ghost use Rattle.redcode_text.specs.Code.Kinds.{IsKind, kind_of, word_place};
 ghost use Rattle.redcode_text.specs.Source.{blank_len, is_comment, first_word_at, has_word, leading_word_at, line_kind, past_blanks, past_colon, past_word, second_word_at};
 
 use crate::characters::{blank_len, is_word, word_len};
+use crate::shortcuts::LongRun;
 use crate::source::directives::{Comment, comment_of};
-use crate::source::runs::LongRun;
 
 /// What a line is, with the place of its word FOR or EQU.
 #[derive(Clone, Copy, PartialEq, Eq)]

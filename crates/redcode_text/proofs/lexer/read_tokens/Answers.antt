@@ -11,7 +11,6 @@ loop-at-preserved c =
     let text = c.args.text in let at = c.loop-at.at in
     record {
       within = c.in-Ok.ensures.len.1;
-      passed = c.loop-at.invariant.passed;
       same =
           sym (scan-token c.args.loops.now text.number c.args.room text.at at text.bytes.now (scan_of c.loop-at.tokens c.loop-at.names) (scan_of c.add_token.new.tokens c.add_token.new.names) c.in-Ok.len c.loop-at-test.true (sym c.is_blank.ensures ∙ c.if-is_blank.false) c.in-Ok.ensures.len.0 c.in-Ok.ensures.value)
           ∙ c.loop-at.invariant.same;
@@ -29,7 +28,6 @@ loop-at-preserved-then-is_blank c =
     let there : at + (end - at) ≡ end = omega (arith, c.past_blank-at.ensures.on) in
     record {
       within = c.past_blank-at.ensures.within;
-      passed = c.loop-at.invariant.passed;
       same =
           (λ i. scan_from c.args.loops.now text.number c.args.room (text.at + sym there i) 0 (drop (sym there i) text.bytes.now) read)
           ∙ sym (scan-blanks c.args.loops.now text.number c.args.room text.at at (end - at) text.bytes.now read (omega (arith, there, c.past_blank-at.ensures.within)) (λ k low high. c.past_blank-at.ensures.blank k low (omega (arith, there, high))))

@@ -1,5 +1,5 @@
 //! The head of a loop: its counter and its count.
-ghost use Rattle.std.specs.Prelude.{◌≡◌, ◌<◌, ◌+◌, ◌^◌, length, ◌≤◌, option_map, string_bytes, Ok, IfSome};
+ghost use Rattle.std.specs.Prelude.{◌≡◌, ◌<◌, ◌+◌, ◌^◌, length, ◌≤◌, option_map, string_bytes, Ok};
 ghost use Rattle.redcode_text.specs.Equates.{substitution};
 ghost use Rattle.redcode_text.specs.Tokens.{without_line};
 ghost use Rattle.redcode_text.specs.Expansion.{as_count, count_of, has_label, counter_name, head_line};
@@ -30,10 +30,10 @@ pub struct Head {
 
 /// What names stand for in a count.
 #[derive(Clone, Copy)]
-struct CountNames<'a> {
-    predefined: &'a PredefinedNames,
-    names: &'a NameTable,
-    current_line: u32,
+pub struct CountNames<'a> {
+    pub predefined: &'a PredefinedNames,
+    pub names: &'a NameTable,
+    pub current_line: u32,
 }
 
 impl<'a> Env for CountNames<'a> {
@@ -49,7 +49,7 @@ impl<'a> Env for CountNames<'a> {
 }
 
 /// A count is a value from 0 to 10,000.
-fn as_count(value: Result<i64, ExprFault>) -> Result<u32, TextProblem>
+pub fn as_count(value: Result<i64, ExprFault>) -> Result<u32, TextProblem>
     ensures { result ≡ as_count value }
 {
     match value {
@@ -75,7 +75,7 @@ impl Reading {
     }
 
     /// What names stand for in a count here.
-    fn count_names<'a>(&'a self, predefined: &'a PredefinedNames) -> CountNames<'a>
+    pub fn count_names<'a>(&'a self, predefined: &'a PredefinedNames) -> CountNames<'a>
         ensures predefined { result.predefined.now ≡ predefined.now }
         ensures names { result.names.now ≡ self.now.names }
         ensures line { result.current_line ≡ self.now.instructions }
@@ -85,18 +85,6 @@ impl Reading {
             names: &self.names,
             current_line: self.instructions as u32,
         }
-    }
-
-    /// How often the body of a loop is read, where the value of its count is known.
-    fn known_count(
-        &self,
-        names: &PredefinedNames,
-        tokens: &[Token],
-    ) -> Option<Result<u32, TextProblem>>
-        ensures { IfSome result (λ count. count ≡ count_of (predefined_of names.now) (reading_of self.now) tokens.now) }
-    {
-        let value = self.equates.known_value(tokens, &self.count_names(names))?;
-        Some(as_count(Ok(value)))
     }
 
     /// How often the body of a loop is read, by the tokens of its count with their EQU names replaced.
@@ -113,33 +101,6 @@ impl Reading {
             return Err(TextProblem::LabelInCount);
         }
         as_count(eval(replaced, &self.count_names(names)))
-    }
-
-    /// Keeps the value of a count of which these are the tokens with their EQU names replaced, where it has any: they may stand
-    /// for many tokens, or have been replaced often to stand for none.
-    fn keep_count(
-        &mut self,
-        alloc: Global,
-        names: &PredefinedNames,
-        tokens: &[Token],
-        replaced: &[Token],
-    ) -> Result<(), TextProblem>
-        requires { without_line (substitution self.old.equates tokens.now) ≡ Ok replaced.now }
-        ensures value { Gives (λ _. reading_of self.new) result (Ok (reading_of self.old)) }
-        ensures same { reading_of self.new ≡ reading_of self.old }
-    {
-        if !self.equates.has_name(tokens) {
-            return Ok(());
-        }
-        let env = CountNames {
-            predefined: names,
-            names: &self.names,
-            current_line: self.instructions as u32,
-        };
-        match self.equates.keep_value(alloc, tokens, replaced, &env) {
-            Ok(()) => Ok(()),
-            Err(_) => Err(TextProblem::OutOfMemory),
-        }
     }
 
     /// How often the body of a loop is read.

@@ -1,32 +1,22 @@
-use Rattle.std.proofs.Common.{◌∙◌, ◌++◌, ◌≤◌, ◌==◌, List, ℕ, length, drop, take, ap, arith, subst, sym}
+use Rattle.std.proofs.Common.{◌∙◌, ◌++◌, ◌≤◌, List, ℕ, length, drop, take, ap, subst, sym}
 use Rattle.std.proofs.lemmas.Result.{err_from_is_err_and}
-use Rattle.std.proofs.lemmas.List.{length-take-le, take_rest}
-use Rattle.std.specs.List.{list_any}
+use Rattle.std.proofs.lemmas.List.{take_rest}
 use Rattle.redcode_text.specs.Code.Problems.{Fails, Gives}
 use Rattle.redcode_text.specs.Code.Scanning.{with_names}
 use Rattle.redcode_text.specs.Tokens.{◌>>=◌, joined, round_of, word_found}
 use Rattle.redcode_text.proofs.Failing.{fails-bind}
 use Rattle.redcode_text.proofs.Joins.{behind, joined-behind, joined-none, part_len}
-use Rattle.redcode_text.proofs.LongRuns.{joins-behind}
 use Rattle.redcode_text.proofs.lexer.words.read_word.Goals as goal
 
-pub returns-then-not-contains-clause-value : goal.returns-then-not-contains-clause-value
-returns-then-not-contains-clause-value c =
-    let word = c.args.word in let front = c.requires.front in
-    rw
-    (joined-none c.args.loops.now word.bytes.now (
-    joins-behind word.known.plain word.bytes.now front.within front.plain
-    ∙ ap (list_any (λ b. b == 38)) (sym (take_rest word.bytes.now word.known.plain))
-    ∙ sym c.contains.ensures.value
-    ∙ c.if-not-contains.true
-    ))
-    c.joined_word.ensures.value
+pub returns-then-not-has_joins-clause-value : goal.returns-then-not-has_joins-clause-value
+returns-then-not-has_joins-clause-value c =
+    rw (joined-none c.args.loops.now c.args.word.bytes.now (sym c.has_joins.ensures ∙ c.if-not-has_joins.true)) c.joined_word.ensures.value
 
 pub returns-in_err-end-clause-value : goal.returns-in_err-end-clause-value
 returns-in_err-end-clause-value c =
-    let word = c.args.word.bytes.now in let loops = c.args.loops.now in let names = c.args.names.now in let at = c.front_len-at.result in let problem = c.in_err-end.field-0.0 in
+    let word = c.args.word.bytes.now in let loops = c.args.loops.now in let names = c.args.names.now in let at = c.kept_len-at.result in let problem = c.in_err-end.field-0.0 in
     let found = λ (w : List ℕ). word_found names (length word) w (round_of loops w) in
-    let inside : at ≤ part_len word = omega (arith, c.front_len-at.ensures.within, c.first_part_len.ensures.value, length-take-le c.first_part_len.result word c.first_part_len.ensures.within) in
+    let inside : at ≤ part_len word = c.kept_len-at.ensures.first in
     let rest = subst (λ r. Fails problem (joined loops r)) (take_rest word at) c.in_err-end.ensures.value in
     let p = err_from_is_err_and c.from_residual.result c.from_residual.ensures.1 in
     rw (p.1, p.2) (
@@ -36,9 +26,9 @@ returns-in_err-end-clause-value c =
 
 pub returns-clause-value : goal.returns-clause-value
 returns-clause-value c =
-    let word = c.args.word.bytes.now in let loops = c.args.loops.now in let names = c.args.names.now in let at = c.front_len-at.result in
+    let word = c.args.word.bytes.now in let loops = c.args.loops.now in let names = c.args.names.now in let at = c.kept_len-at.result in
     let found = λ (w : List ℕ). word_found names (length word) w (round_of loops w) in
-    let inside : at ≤ part_len word = omega (arith, c.front_len-at.ensures.within, c.first_part_len.ensures.value, length-take-le c.first_part_len.result word c.first_part_len.ensures.within) in
+    let inside : at ≤ part_len word = c.kept_len-at.ensures.first in
     let rest = ap (joined loops) (sym (take_rest word at)) ∙ c.in_ok-end.ensures.value in
     let whole =
     ap (λ r. r >>= found) (joined-behind loops at word inside)

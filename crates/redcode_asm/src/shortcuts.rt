@@ -1,0 +1,20 @@
+//! Shortcuts for hostile sources: delete all of this, and every answer is the same.
+//!
+//! A program has up to 65,536 lines, and the operands of each may stand for as many tokens once their EQU names are replaced. So
+//! what has the same value wherever it stands is evaluated once, and each line of the same tokens takes its value. None of it
+//! says what a source means: no definition speaks of it, and what is guessed is tested before it is used.
+//!
+//! - `fixed_cells`: instructions with EQU names, and their cells.
+//! - `held_asserts`: asserts that hold.
+//! - `fixed_names`: what names stand for wherever they stand. Neither a label nor CURLINE is among them, and under these both
+//!   are evaluated first.
+//!
+//! Without them `cell_with` and `assert_value` evaluate under the names of their place alone, and `cell_at` and
+//! `check_assert_at` ask `cell_of` and `check_assert`.
+
+mod fixed_cells;
+mod fixed_names;
+mod held_asserts;
+
+pub use fixed_cells::FixedCells;
+pub use held_asserts::HeldAsserts;

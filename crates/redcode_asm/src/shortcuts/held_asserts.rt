@@ -1,0 +1,102 @@
+//! Asserts that hold wherever they stand, which are evaluated once.
+ghost use Rattle.std.specs.Prelude.{◌≡◌, true, Ok, [], ◌∷◌, ◌++◌, IfSome, OnOk, OnErr};
+ghost use Rattle.redcode_text.specs.Expression.{kinds, value_of};
+ghost use Rattle.redcode_text.specs.Views.{assert_of, predefined_of};
+ghost use Rattle.redcode_asm.specs.Assembly.{assert_holds};
+ghost use Rattle.redcode_asm.specs.Code.Fixed.{AreHeld, IsHeld, fixed_value};
+ghost use Rattle.redcode_asm.specs.Code.Problems.{Gives};
+
+use crate::fault::AsmProblem;
+use crate::sources::Source;
+use indexmap::IndexMap;
+use redcode_text::{Assert, Token, are_alike, eval};
+use std::alloc::{AllocError, Global};
+
+/// Asserts that hold wherever they stand.
+#[derive(Drop)]
+pub struct HeldAsserts<'a> {
+    pub asserts: Vec<&'a Assert>,
+    /// Which of them has an expression of this key: a guess, which is tested.
+    places: IndexMap<u64, usize>,
+}
+
+impl<'a> HeldAsserts<'a> {
+    /// No assert.
+    pub fn new(alloc: Global) -> Self
+        ensures { result.asserts.items ≡ [] }
+    {
+        HeldAsserts {
+            asserts: Vec::new(alloc),
+            places: IndexMap::new(alloc),
+        }
+    }
+
+    /// One assert more, whose expression has this key.
+    pub fn add(&mut self, key: u64, assert: &'a Assert) -> Result<(), AllocError>
+        ensures ok { OnOk result (self.new.asserts.items ≡ self.old.asserts.items ++ assert.entry ∷ []) }
+        ensures err { OnErr result (self.new.asserts.items ≡ self.old.asserts.items) }
+    {
+        self.asserts.reserve(1)?;
+        let Ok(_) = self.places.insert(key, self.asserts.len()) else {
+            return Err(AllocError);
+        };
+        self.asserts.push_reserved(assert);
+        Ok(())
+    }
+
+    /// Which of the asserts one may be whose expression has this key.
+    fn guess(&self, key: u64) -> Option<usize> {
+        let place = self.places.get(&key)?;
+        Some(*place)
+    }
+}
+
+impl<'a> Source<'a> {
+    /// Whether an assert was met before.
+    fn is_held(&self, held: &HeldAsserts<'_>, assert: &Assert) -> bool
+        requires { AreHeld (predefined_of self.now.predefined.now) self.now.program.now held.now.asserts.items }
+        ensures { result ≡ true → IsHeld (predefined_of self.now.predefined.now) self.now.program.now assert.now.tokens.items }
+    {
+        let key = self.program.names().key_of(&assert.tokens);
+        let Some(place) = held.guess(key) else {
+            return false;
+        };
+        if place >= held.asserts.len() {
+            return false;
+        }
+        are_alike(&held.asserts[place].tokens, &assert.tokens)
+    }
+
+    /// The value of the expression of an assert, where it is the same wherever the assert stands.
+    pub fn fixed_assert(&self, tokens: &[Token]) -> Option<i64>
+        ensures { IfSome result (λ value. value_of (fixed_value (predefined_of self.now.predefined.now) self.now.program.now) (kinds tokens.now) ≡ Ok value) }
+    {
+        match eval(tokens, &self.fixed_names()) {
+            Ok(value) => Some(value),
+            Err(_) => None,
+        }
+    }
+
+    /// Whether an assert holds, which is looked for among those that are known to hold first.
+    pub fn check_among<'l>(
+        &self,
+        alloc: Global,
+        assert: &'l Assert,
+        held: &mut HeldAsserts<'l>,
+    ) -> Result<(), AsmProblem>
+        requires { AreHeld (predefined_of self.now.predefined.now) self.now.program.now held.old.asserts.items }
+        ensures value { Gives (λ done. done) result (assert_holds (predefined_of self.now.predefined.now) self.now.program.now (assert_of assert.entry.now)) }
+        ensures held { AreHeld (predefined_of self.now.predefined.now) self.now.program.now held.new.asserts.items }
+    {
+        if self.is_held(held, assert) {
+            return Ok(());
+        }
+        if self.check_assert(alloc, assert)? {
+            let key = self.program.names().key_of(&assert.tokens);
+            let Ok(()) = held.add(key, assert) else {
+                return Err(AsmProblem::OutOfMemory);
+            };
+        }
+        Ok(())
+    }
+}

@@ -1,0 +1,43 @@
+//! Shortcuts for hostile sources: delete all of this, and every answer is the same.
+//!
+//! A line in a loop is read once for each round, so a short source can have the same bytes read millions of times. What stands
+//! here lets bytes that were read before cost a few steps. None of it says what a source means: no definition speaks of it, and
+//! what is guessed is tested before it is used. Each of them is for a kind of source:
+//!
+//! - `runs`, `reaches`: a line of thousands of blanks in a loop. Long runs of blanks, and of letters, digits and `_`, are found
+//!   once, and then passed over in one step.
+//! - `words`: a number or a name of thousands of bytes in a loop, with hundreds of joins. Its front isn't gone over again, a long
+//!   name isn't put together with what its joins stand for, and a join of the same counter as the last one isn't looked up.
+//! - `long_names`: long names that a loop makes by joins. A name of 256 bytes and more is two texts, the digits at its end
+//!   apart, and is compared with the name that stood at its place before in place of being hashed.
+//! - `values`, `counts`: a loop in a loop, with EQU names in its count that stand for 65,536 tokens. The value of a count is kept
+//!   until the next EQU line.
+//! - `seed`: names that all have the same hash. Hashes begin with the text itself.
+//!
+//! Without them `Text` has no runs, a `Word` is its bytes, `NameTable` is a set of texts, and a count is worked out each time.
+//!
+//! What serves speed alone, too, but has no form apart from what it is used in, stands there:
+//!
+//! - `source/row`: what is found out by going over the bytes of a row, as its kind, is kept in it.
+//! - `names/equates`: where an EQU name stands is noted (`guess`), so that it isn't hashed at each use.
+//! - `reader/repeat`: a loop with nothing in it makes no rounds (`read_rounds`).
+//! - `token`, `names`, `program`: `are_alike`, `key_of` and `has_equate` tell the shortcuts here, and those of the assembler,
+//!   which tokens were met before, and which stand for more than is written.
+
+mod counts;
+mod long_names;
+mod reaches;
+mod runs;
+mod seed;
+mod values;
+mod words;
+
+pub use long_names::{PartedNames, is_long_name};
+pub use reaches::{Cursor, known_start, past_blank, run_at};
+pub use runs::{LongRun, long_runs, runs_before};
+pub use seed::Seed;
+pub use values::KnownValues;
+pub use words::{
+    Counter, KnownStart, Word, has_joins, kept_len, long_name, past_zeros, round_after,
+    unknown_word, word_of,
+};

@@ -1,0 +1,161 @@
+//! Long words, which are not gone over byte by byte: what is known of their fronts, and long names that joins make.
+ghost use Rattle.std.specs.Prelude.{◌≡◌, ◌++◌, ◌≤◌, Some, length, not, take, ◌==◌, true, IfOk, IfSome, IsAscii};
+ghost use Rattle.std.specs.Char.{is_ascii_digit};
+ghost use Rattle.std.specs.List.{list_all, list_any, prefix_len};
+ghost use Rattle.std.specs.Str.Parse.{digits_value};
+ghost use Rattle.redcode_text.specs.Code.Parts.{front_len};
+ghost use Rattle.redcode_text.specs.Code.Problems.{Gives};
+ghost use Rattle.redcode_text.specs.Code.Runs.{IsKnownStart};
+ghost use Rattle.redcode_text.specs.Code.Scanning.{with_names};
+ghost use Rattle.redcode_text.specs.Tokens.{begins_name, begins_word, round_of, word_found, word_len};
+
+use crate::characters::{part_len, word_len};
+use crate::fault::TextProblem;
+use crate::lexer::open_loops::OpenLoops;
+use crate::names::NameTable;
+use crate::shortcuts::long_names::front_len;
+use crate::token::{Spelled, TokenKind};
+use std::alloc::Global;
+
+/// Where a word begins in the source, and what is known of its front without going over it.
+#[derive(Clone, Copy)]
+pub struct KnownStart {
+    pub place: usize,
+    /// So many bytes are letters, digits and `_`.
+    pub plain: usize,
+    /// So many bytes are zeros.
+    pub zeros: usize,
+}
+
+impl KnownStart {
+    /// Nothing is known but the place.
+    pub fn unknown(place: usize) -> Self
+        ensures plain { result.plain ≡ 0 }
+        ensures zeros { result.zeros ≡ 0 }
+    {
+        KnownStart {
+            place,
+            plain: 0,
+            zeros: 0,
+        }
+    }
+}
+
+/// A word, and what is known of its front.
+#[derive(Clone, Copy)]
+pub struct Word<'a> {
+    pub bytes: &'a [u8],
+    pub known: KnownStart,
+}
+
+/// A word that begins at a place of the source, of whose front no more is known.
+pub fn unknown_word<'a>(bytes: &'a [u8], place: usize) -> Word<'a>
+    ensures bytes { result.bytes.now ≡ bytes.now }
+    ensures known { IsKnownStart result.known bytes.now }
+{
+    Word {
+        bytes,
+        known: KnownStart::unknown(place),
+    }
+}
+
+/// The word that some bytes begin with, of whose front this is known.
+pub fn word_of<'a>(bytes: &'a [u8], known: KnownStart) -> Word<'a>
+    requires { IsKnownStart known bytes.now }
+    ensures bytes { result.bytes.now ≡ take (word_len bytes.now) bytes.now }
+    ensures ascii { IsAscii result.bytes.now }
+    ensures front { IsKnownStart result.known result.bytes.now }
+    ensures within { length result.bytes.now ≤ length bytes.now }
+    ensures some { begins_word bytes.now ≡ true → 1 ≤ length result.bytes.now }
+{
+    let len = known.plain + word_len(&bytes[known.plain..]);
+    Word {
+        bytes: &bytes[..len],
+        known,
+    }
+}
+
+/// A word without the zeros that are known to stand in front of it.
+pub fn past_zeros<'a>(word: Word<'a>) -> &'a [u8]
+    requires { IsKnownStart word.known word.bytes.now }
+    ensures digits { list_all is_ascii_digit word.entry.bytes.now ≡ list_all is_ascii_digit result.now }
+    ensures value { digits_value 10 word.entry.bytes.now ≡ digits_value 10 result.now }
+{
+    &word.bytes[word.known.zeros..]
+}
+
+/// Whether a word has joins.
+pub fn has_joins(word: Word<'_>) -> bool
+    requires { IsKnownStart word.known word.bytes.now }
+    ensures { result ≡ list_any (λ b. b == 38) word.entry.bytes.now }
+{
+    word.bytes[word.known.plain..].contains(&b'&')
+}
+
+/// How many bytes of a word stand before its first join.
+fn first_part_len(word: Word<'_>) -> usize
+    requires { IsKnownStart word.known word.bytes.now }
+    ensures value { result ≡ prefix_len (λ b. not (b == 38)) word.entry.bytes.now }
+    ensures within { result ≤ length word.entry.bytes.now }
+{
+    word.known.plain + part_len(&word.bytes[word.known.plain..])
+}
+
+/// How many bytes of a word stay as they are whatever its joins stand for: those before the first join, but for the digits at
+/// their end where they are many.
+pub fn kept_len(word: Word<'_>) -> usize
+    requires { IsKnownStart word.known word.bytes.now }
+    ensures within { result ≤ length word.entry.bytes.now }
+    ensures first { result ≤ prefix_len (λ b. not (b == 38)) word.entry.bytes.now }
+{
+    front_len(&word.bytes[..first_part_len(word)])
+}
+
+/// A long name that ends with digits of joins, of which `len` bytes are written.
+pub fn long_name(
+    alloc: Global,
+    loops: &OpenLoops,
+    names: &mut NameTable,
+    front: Word<'_>,
+    digits: &[u8],
+    len: usize,
+) -> Result<Spelled, TextProblem>
+    requires front { IsAscii front.bytes.now }
+    requires digits { IsAscii digits.now }
+    requires name { begins_name front.bytes.now ≡ true }
+    requires parted { front_len (front.bytes.now ++ digits.now) ≡ length front.bytes.now }
+    ensures value { let bytes = front.entry.bytes.now ++ digits.now in Gives (with_names names.new) result (word_found names.old len bytes (round_of loops.now bytes)) }
+    ensures len { IfOk result (λ s. s.len ≡ len) }
+{
+    if let Some(round) = loops.round_of_parts(front.bytes, digits) {
+        return Ok(Spelled {
+            kind: TokenKind::Number(i64::from(round)),
+            len,
+        });
+    }
+    match names.index_of_parts(alloc, front.bytes, digits, front.known.place) {
+        Ok(index) => Ok(Spelled {
+            kind: TokenKind::Name(index),
+            len,
+        }),
+        Err(_) => Err(TextProblem::OutOfMemory),
+    }
+}
+
+/// A counter that a join names, and its round.
+#[derive(Clone, Copy)]
+pub struct Counter<'a> {
+    pub name: &'a [u8],
+    pub round: u32,
+}
+
+/// The round of the loop whose counter has this name: that of the last join, where it has the same.
+pub fn round_after(loops: &OpenLoops, last: Option<Counter<'_>>, name: &[u8]) -> Option<u32>
+    requires { IfSome last (λ c. round_of loops.now c.name.now ≡ Some c.round) }
+    ensures { result ≡ round_of loops.now name.now }
+{
+    match last {
+        Some(counter) if counter.name == name => Some(counter.round),
+        _ => loops.round_of(name),
+    }
+}
