@@ -22,7 +22,7 @@ use Rattle.mars_core.proofs.Ends.{battle_ends}
 use Rattle.mars_core.proofs.Live.{live_from_here, live_from_end}
 use Rattle.mars_core.proofs.Turns.{running, turn_valid, filled_length}
 
-valid_after : (n : ℕ) (s : State) → IsValid s → IsValid (after_turns n s)
+pub valid_after : (n : ℕ) (s : State) → IsValid s → IsValid (after_turns n s)
 valid_after zero s v = v
 valid_after (suc n) s v =
     elim (is_over_of s) as (λ b. is_over_of s ≡ b → IsValid (if b then s else after_turns n (turn_of s))) [
@@ -30,7 +30,7 @@ valid_after (suc n) s v =
       | false ↦ λ e. valid_after n (turn_of s) (turn_valid s v e)
     ] refl
 
-shape_after : (n : ℕ) (s : State) → SameShape (after_turns n s) s
+pub shape_after : (n : ℕ) (s : State) → SameShape (after_turns n s) s
 shape_after zero s = record { params = refl; warriors = refl }
 shape_after (suc n) s =
     elim (is_over_of s) as (λ b. SameShape (if b then s else after_turns n (turn_of s)) s) [
