@@ -2,7 +2,6 @@
 use Rattle.std.proofs.Common.{◌≡◌, ◌≢◌, ℕ, zero, suc, ◌+◌, ◌<◌, Bool, true, false, cond, List, [], ◌∷◌, length, All, refl, ap, sym, ◌∙◌, subst, arith, inl, inr}
 use Rattle.std.specs.Prelude.{◌==◌, if◌then◌else◌}
 use Rattle.std.proofs.lemmas.Bool.{cases_eq, cases_lt}
-use Rattle.std.proofs.lemmas.Bool.Decides.{nat_tests}
 use Rattle.std.proofs.lemmas.List.{get_or-set_same, get_or-set_other, get_or_past, map-id}
 use Rattle.std.proofs.lemmas.List.Elements.{All-get_or, All-head, All-tail, All-weaker}
 use Rattle.mars_cell.specs.declared.instruction.Cell.{Cell}
@@ -13,14 +12,14 @@ use Rattle.mars_core.specs.Turn.{front_of, front_execution, accepted, queue_afte
 use Rattle.mars_core.specs.Reach.{Reaches}
 use Rattle.mars_core.specs.Apart.{Touches, BeforeEach, KeepsTo, IsLeftTo, own_turns, AgreesOn}
 use Rattle.mars_core.specs.Record.{rewritten}
-use Rattle.mars_core.specs.Validity.{IsCore, IsQueue, IsValid}
+use Rattle.mars_core.specs.Validity.{IsCore, IsValid}
 use Rattle.mars_core.specs.declared.machine.writes.CellChange.{CellChange}
 use Rattle.mars_core.proofs.Alike.{Corresponds, AlikeExecution, execution_alike}
 use Rattle.mars_core.proofs.CallerLemmas.{shape-turn_of}
 use Rattle.mars_core.proofs.Fights.{valid_after, others_stay, next_lives}
 use Rattle.mars_core.proofs.Near.{IsReached, corresponds, reached_within, writes_near}
 use Rattle.mars_core.proofs.Rewritten.{execution_replays}
-use Rattle.mars_core.proofs.Turns.{turn_valid, filled_length, same_eq, other_eq}
+use Rattle.mars_core.proofs.Turns.{turn_valid, filled_length, queue_fits, same_eq, eq_same, other_eq}
 
 -- a cell that none of the changes is at stays
 rewritten_beside : (changes : List CellChange) (core : List Cell) (a : ℕ) → All (λ (c : CellChange). a ≢ c.address) changes → cell_at (rewritten changes core) a ≡ cell_at core a
@@ -81,7 +80,7 @@ front_inside : (s : State) → IsValid s → is_over_of s ≡ false → front_of
 front_inside s v over =
     let m = s.params.core_size in
     let q = queue_of s.queues s.next in
-    let stands = All-get_or (IsQueue m s.params.processes) s.queues s.next [] v.clock.next v.queues in
+    let stands = queue_fits s v s.next v.clock.next in
     All-get_or (λ a. a < m) q 0 0 (filled_length q (next_lives s v over)) stands.addresses
 
 agrees_back : (part : ℕ → Bool) (w v : ℕ) (s t : State) → AgreesOn part w s v t → AgreesOn part v t w s
@@ -208,12 +207,9 @@ module _ (part : ℕ → Bool) (w v : ℕ) where
         ]
       ] refl turns
 
-is_same : (a b : ℕ) → (a == b) ≡ true → a ≡ b
-is_same a b h = grind (arith, nat_tests)
-
 -- where each warrior keeps to its own cells, nobody else changes one of them
 pub own_cells_left : (owner : ℕ → ℕ) (n : ℕ) (s : State) → IsValid s → ((w : ℕ) → KeepsTo (λ a. owner a == w) w n s) → (w : ℕ) → IsLeftTo (λ a. owner a == w) w n s
 own_cells_left owner n s valid keeps w k h over other a mine =
     let t = after_turns k s in
     far_cell_stays t a (valid_after k s valid)
-    (λ reached. other (sym (is_same (owner a) t.next (keeps t.next k h over refl a (inr reached))) ∙ is_same (owner a) w mine))
+    (λ reached. other (sym (eq_same (owner a) t.next (keeps t.next k h over refl a (inr reached))) ∙ eq_same (owner a) w mine))
