@@ -1,12 +1,12 @@
 -- What a record that leads from a state tells the code that applies it.
 use Rattle.std.proofs.Common.{◌≡◌, ℕ, ◌+◌, ◌-◌, ◌<◌, List, [], length, drop, inl, inr, sym, subst, arith, true, false, None}
 use Rattle.std.proofs.lemmas.List.{length-take, length-drop}
-use Rattle.std.proofs.lemmas.List.Elements.{All-get_or, All-cons}
+use Rattle.std.proofs.lemmas.List.Elements.{All-cons}
 use Rattle.mars_cell.specs.declared.instruction.Cell.{Cell}
 use Rattle.mars_cell.specs.Parameters.{Parameters}
 use Rattle.mars_core.specs.Limits.{most_warriors}
 use Rattle.mars_core.specs.State.{State, state_of, queue_of, is_over_of}
-use Rattle.mars_core.specs.Validity.{IsValid, IsQueue}
+use Rattle.mars_core.specs.Validity.{IsValid}
 use Rattle.mars_core.specs.Queue.{Queue, addresses_of}
 use Rattle.mars_core.specs.Turn.{front_of, front_execution, accepted, turn_record}
 use Rattle.mars_core.specs.Edit.{edit_fault, edit_record, IsProcess, CanSpawn}
@@ -24,7 +24,7 @@ use Rattle.mars_core.proofs.EditClocks.{live_survives}
 use Rattle.mars_core.proofs.Edits.{place_filled, edit_valid}
 use Rattle.mars_core.proofs.Inside.{AreInside, execution_inside}
 use Rattle.mars_core.proofs.Reverts.{no_cells}
-use Rattle.mars_core.proofs.Turns.{running, filled_length, turn_valid}
+use Rattle.mars_core.proofs.Turns.{running, filled_length, queue_fits, turn_valid}
 
 -- what the code that applies a record has to know
 pub record CanApply (atom : Atom) (s : State) : Type 0 where
@@ -40,16 +40,13 @@ module _ (s : State) (v : IsValid s) where
       let few = v.few in
       omega (arith, alive, few, valid_counted s v)
 
-  queue_fits : (w : ℕ) → w < length s.queues → IsQueue s.params.core_size s.params.processes (queue_of s.queues w)
-  queue_fits w h = All-get_or (IsQueue s.params.core_size s.params.processes) s.queues w [] h v.queues
-
   turn_can : is_over_of s ≡ false → CanApply (turn_record s) s
   unfolding turn_record accepted
   turn_can over =
       let run = running s.params.cycles s.cycle s.queues v.some over in
       let p = s.params in
       let q = queue_of s.queues s.next in
-      let fits = queue_fits s.next v.clock.next in
+      let fits = queue_fits s v s.next v.clock.next in
       let lives = v.clock.next_lives run.alive in
       let kept = length-take (p.processes - length (drop 1 q)) (front_execution p s.core q).queued in
       let fewer = length-drop 1 q in

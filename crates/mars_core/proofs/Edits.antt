@@ -1,8 +1,9 @@
 -- An edit of a valid state is valid.
-use Rattle.std.proofs.Common.{◌≡◌, ◌≢◌, ℕ, suc, ◌<◌, ◌≤◌, List, [], ◌∷◌, ◌++◌, length, set, take, drop, refl, ap, sym, ◌∙◌, arith, false, None}
+use Rattle.std.proofs.Common.{◌≡◌, ◌≢◌, ℕ, suc, ◌<◌, List, [], ◌∷◌, ◌++◌, length, set, take, drop, refl, ap, sym, ◌∙◌, arith, false, None}
 use Rattle.std.specs.Prelude.{remove}
-use Rattle.std.proofs.lemmas.List.{length-set, length-append, length-take, length-drop}
-use Rattle.std.proofs.lemmas.List.Elements.{All-get_or, All-set, All-append, All-take, All-drop, All-push}
+use Rattle.std.proofs.lemmas.List.{length-set, length-append}
+use Rattle.std.proofs.lemmas.List.Edits.{length-remove}
+use Rattle.std.proofs.lemmas.List.Elements.{All-set, All-append, All-take, All-drop, All-push}
 use Rattle.mars_cell.specs.declared.instruction.Cell.{Cell}
 use Rattle.mars_cell.specs.Cells.{FitsCore}
 use Rattle.mars_core.specs.State.{State, is_empty, queue_of, clock_of}
@@ -13,7 +14,7 @@ use Rattle.mars_core.specs.declared.battle.edit.Edit.TheVariants as edit
 use Rattle.mars_core.proofs.Accepted.{accepted_set_cell, accepted_move, accepted_kill, accepted_spawn}
 use Rattle.mars_core.proofs.EditClocks.{clock_after_death, clock_kept}
 use Rattle.mars_core.proofs.Live.{is_filled}
-use Rattle.mars_core.proofs.Turns.{deaths_after}
+use Rattle.mars_core.proofs.Turns.{deaths_after, queue_fits}
 
 -- a queue with a process at a place isn't empty
 pub place_filled : (q : List ℕ) (i : ℕ) → i < length q → q ≢ []
@@ -35,9 +36,6 @@ not_empty : (q : List ℕ) → q ≢ [] → is_empty q ≡ false
 not_empty [] h = absurd (h refl)
 not_empty (x ∷ q) h = refl
 
-length-remove : (q : List ℕ) (i : ℕ) → i < length q → length (remove q i) ≤ length q
-length-remove q i h = simp (length-append, length-take, length-drop) (omega arith)
-
 module _ (s : State) (v : IsValid s) where
   valid_set_cell : (a : ℕ) (c : Cell) → FitsCore s.params.core_size c → IsValid (record s { core = set s.core a c })
   valid_set_cell a c f = record {
@@ -49,9 +47,6 @@ module _ (s : State) (v : IsValid s) where
     deaths = v.deaths;
     clock = v.clock;
   }
-
-  queue_fits : (w : ℕ) → w < length s.queues → IsQueue s.params.core_size s.params.processes (queue_of s.queues w)
-  queue_fits w h = All-get_or (IsQueue s.params.core_size s.params.processes) s.queues w [] h v.queues
 
   -- a queue that stays filled takes the place of a live one's
   valid_requeued : (w : ℕ) (q : List ℕ) → w < length s.queues → queue_of s.queues w ≢ [] → q ≢ [] → IsQueue s.params.core_size s.params.processes q
@@ -72,21 +67,21 @@ module _ (s : State) (v : IsValid s) where
   valid_moved w i a p h =
       let q = queue_of s.queues w in
       let filled = place_filled q i p.place in
-      let fits = queue_fits w p.warrior in
+      let fits = queue_fits s v w p.warrior in
       valid_requeued w (set q i a) p.warrior filled (set_filled q i a filled)
       (record { addresses = All-set (λ n. n < s.params.core_size) q i a h fits.addresses; room = rw length-set fits.room })
 
   valid_spawned : (w a : ℕ) → CanSpawn s w a → IsValid (record s { queues = set s.queues w (queue_of s.queues w ++ a ∷ []) })
   valid_spawned w a k =
       let q = queue_of s.queues w in
-      let fits = queue_fits w k.warrior in
+      let fits = queue_fits s v w k.warrior in
       valid_requeued w (q ++ a ∷ []) k.warrior (is_filled q k.alive) (pushed_filled q a)
       (record { addresses = All-push (λ n. n < s.params.core_size) q a fits.addresses k.address_in; room = simp length-append (omega (arith, k.room)) })
 
   removed_fits : (w i : ℕ) → IsProcess s w i → IsQueue s.params.core_size s.params.processes (remove (queue_of s.queues w) i)
   removed_fits w i p =
       let q = queue_of s.queues w in
-      let fits = queue_fits w p.warrior in
+      let fits = queue_fits s v w p.warrior in
       record {
         addresses =
             All-append (λ n. n < s.params.core_size) (take i q) (drop (suc i) q)

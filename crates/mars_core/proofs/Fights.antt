@@ -69,7 +69,7 @@ pub others_stay : (s : State) (w : ℕ) → w ≢ s.next → queue_of (turn_of s
 unfolding turn_of executed
 others_stay s w other = get_or-set_other s.queues s.next w _ [] other
 
-next_lives : (s : State) → IsValid s → is_over_of s ≡ false → queue_of s.queues s.next ≢ []
+pub next_lives : (s : State) → IsValid s → is_over_of s ≡ false → queue_of s.queues s.next ≢ []
 next_lives s v over = v.clock.next_lives (running s.params.cycles s.cycle s.queues v.some over).alive
 
 pub dead_stay : (n : ℕ) (s : State) (w : ℕ) → IsValid s → queue_of s.queues w ≡ [] → queue_of (after_turns n s).queues w ≡ []
@@ -129,7 +129,7 @@ abbrev pub HasAllTurns : State → Type 0
 HasAllTurns s = s.turns ≡ s.cycle * length s.queues + s.next
 
 -- where nobody died, all live
-all_live : (s : State) → IsValid s → s.deaths ≡ [] → (w : ℕ) → w < length s.queues → queue_of s.queues w ≢ []
+pub all_live : (s : State) → IsValid s → s.deaths ≡ [] → (w : ℕ) → w < length s.queues → queue_of s.queues w ≢ []
 all_live s v none w h e =
     let once = rw (none, e) at (v.deaths.once w h) in absurd (omega (arith, once))
 

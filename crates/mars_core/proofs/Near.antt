@@ -52,30 +52,32 @@ writes_near s v =
 
 module _ (p : Parameters) (r : AreInRange p) (pc : ℕ) where
   -- reached for reading or for writing
-  abbrev IsReached : ℕ → Type 0
+  abbrev pub IsReached : ℕ → Type 0
   IsReached a = Reaches p.core_size p.read_limit pc a ⊎ Reaches p.core_size p.write_limit pc a
 
-  inside : (a : ℕ) → IsReached a → a < p.core_size
-  inside a (inl read) = reached_inside p.core_size p.read_limit pc r.read_least r.read_most a read
-  inside a (inr write) = reached_inside p.core_size p.write_limit pc r.write_least r.write_most a write
+  pub reached_within : (a : ℕ) → IsReached a → a < p.core_size
+  reached_within a (inl read) = reached_inside p.core_size p.read_limit pc r.read_least r.read_most a read
+  reached_within a (inr write) = reached_inside p.core_size p.write_limit pc r.write_least r.write_most a write
 
-  corresponds : pc < p.core_size → Corresponds p (λ a. a) IsReached pc pc
-  corresponds start = record {
+  -- an instruction and itself, over any part of the core that has all that is reached
+  pub corresponds : (Near : ℕ → Type 0) → ((a : ℕ) → IsReached a → Near a) → ((a : ℕ) → Near a → a < p.core_size) → pc < p.core_size → Corresponds p (λ a. a) Near pc pc
+  corresponds Near reached within start = record {
     one = λ a b near near_b same. same;
-    inside = inside;
-    inside_there = inside;
+    inside = within;
+    inside_there = within;
     step = λ d. refl;
     start = start;
     start_there = start;
-    here = inl (here_reached p.core_size p.read_limit pc r.read_least r.read_most);
-    read = λ n. inl (pointed_reached p.core_size p.read_limit pc r.read_least r.read_most n);
-    write = λ n. inr (pointed_reached p.core_size p.write_limit pc r.write_least r.write_most n);
+    here = reached _ (inl (here_reached p.core_size p.read_limit pc r.read_least r.read_most));
+    read = λ n. reached _ (inl (pointed_reached p.core_size p.read_limit pc r.read_least r.read_most n));
+    write = λ n. reached _ (inr (pointed_reached p.core_size p.write_limit pc r.write_least r.write_most n));
   }
 
 pub far_cells : (p : Parameters) (core other : List Cell) (pc : ℕ) → AreInRange p → IsCore p.core_size core → IsCore p.core_size other → pc < p.core_size → ((a : ℕ) → Reaches p.core_size p.read_limit pc a ⊎ Reaches p.core_size p.write_limit pc a → cell_at core a ≡ cell_at other a) → ((execution_of p core pc).queued ≡ (execution_of p other pc).queued) × ((execution_of p core pc).written.changes ≡ (execution_of p other pc).written.changes)
 far_cells p core other pc r fits fits_other start same =
     let alike : Alike p.core_size (λ a. a) (IsReached p r pc) core other = record { size = fits.size; size_there = fits_other.size; cells = λ a near. sym (same a near) } in
-    let e = execution_alike p (λ a. a) (IsReached p r pc) pc pc (corresponds p r pc start) core other alike in
+    let itself = corresponds p r pc (IsReached p r pc) (λ a reached. reached) (reached_within p r pc) start in
+    let e = execution_alike p (λ a. a) (IsReached p r pc) pc pc itself core other alike in
     (sym (e.queued ∙ map-id (execution_of p core pc).queued), sym (e.written.changes ∙ map-id (execution_of p core pc).written.changes))
 
 -- a pointer below the limit is folded as it is

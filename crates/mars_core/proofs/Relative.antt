@@ -17,7 +17,7 @@ use Rattle.mars_core.specs.declared.machine.clock.Clock.{Clock}
 use Rattle.mars_core.proofs.Alike.{Corresponds, Alike, AlikeExecution, execution_alike}
 use Rattle.mars_core.proofs.CallerLemmas.{shape-turn_of}
 use Rattle.mars_core.proofs.Fits.{address_inside}
-use Rattle.mars_core.proofs.Turns.{running, turn_valid, filled_length}
+use Rattle.mars_core.proofs.Turns.{running, turn_valid, filled_length, queue_fits}
 use Rattle.std.proofs.lemmas.List.Elements.{All-get_or}
 
 -- a sum of two addresses is brought back at most once
@@ -179,7 +179,7 @@ module _ (s : State) (k : ℕ) (v : IsValid s) (h : k < s.params.core_size) wher
         let f : ℕ → ℕ = λ a. address_after m a k in
         let q = queue_of s.queues s.next in
         let lives = v.clock.next_lives (running s.params.cycles s.cycle s.queues v.some over).alive in
-        let stands = All-get_or (IsQueue m s.params.processes) s.queues s.next [] v.clock.next v.queues in
+        let stands = queue_fits s v s.next v.clock.next in
         let at : queue_of (map (map f) s.queues) s.next ≡ map f q = get_or-map (map f) s.queues s.next [] [] v.clock.next in
         rw (
           at,

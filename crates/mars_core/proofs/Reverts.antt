@@ -3,12 +3,12 @@ use Rattle.std.proofs.Common.{◌≡◌, ℕ, ◌+◌, ◌-◌, ◌<◌, ◌≤�
 use Rattle.std.specs.Prelude.{◌==◌, not, remove}
 use Rattle.std.proofs.lemmas.List.{length-set, length-append, length-drop}
 use Rattle.std.proofs.lemmas.List.Edits.{length-remove}
-use Rattle.std.proofs.lemmas.List.Elements.{All-get_or, All-cons, All-nil}
+use Rattle.std.proofs.lemmas.List.Elements.{All-cons, All-nil}
 use Rattle.std.proofs.lemmas.Bool.Decides.{nat_tests}
 use Rattle.mars_cell.specs.declared.instruction.Cell.{Cell}
 use Rattle.mars_cell.specs.Parameters.{Parameters}
 use Rattle.mars_core.specs.State.{State, state_of, queue_of, advanced, moved_clock, live_from, clock_of, is_over_of}
-use Rattle.mars_core.specs.Validity.{IsValid, IsQueue}
+use Rattle.mars_core.specs.Validity.{IsValid}
 use Rattle.mars_core.specs.Queue.{Queue, addresses_of}
 use Rattle.mars_core.specs.Turn.{front_of, front_execution, accepted, queue_after, executed, turn_of, turn_record}
 use Rattle.mars_core.specs.Edit.{left_of, killed, edit_fault, edited, edit_record, IsProcess, CanSpawn}
@@ -25,7 +25,7 @@ use Rattle.mars_core.proofs.Accepted.{accepted_set_cell, accepted_move, accepted
 use Rattle.mars_core.proofs.Fits.{execution_keeps}
 use Rattle.mars_core.proofs.Inside.{AreInside, execution_inside}
 use Rattle.mars_core.proofs.Restored.{killing, queue_set}
-use Rattle.mars_core.proofs.Turns.{running, filled_length}
+use Rattle.mars_core.proofs.Turns.{running, filled_length, queue_fits}
 
 -- what the code that reverts a record has to know
 pub record CanRevert (atom : Atom) (t : State) : Type 0 where
@@ -50,9 +50,6 @@ pub no_cells : (m : ℕ) → AreInside m []
 no_cells m = All-nil (λ (c : CellChange). c.address < m)
 
 module _ (s : State) (v : IsValid s) where
-  queue_fits : (w : ℕ) → w < length s.queues → IsQueue s.params.core_size s.params.processes (queue_of s.queues w)
-  queue_fits w h = All-get_or (IsQueue s.params.core_size s.params.processes) s.queues w [] h v.queues
-
   turn_can : is_over_of s ≡ false → CanRevert (turn_record s) (turn_of s)
   unfolding turn_record turn_of executed
   turn_can over =
@@ -61,7 +58,7 @@ module _ (s : State) (v : IsValid s) where
       let q = queue_of s.queues s.next in
       let after = queue_after p s.core q in
       let at = queue_set s.queues s.next after v.clock.next in
-      let fits = queue_fits s.next v.clock.next in
+      let fits = queue_fits s v s.next v.clock.next in
       let filled = filled_length q (v.clock.next_lives run.alive) in
       let many = length-append (drop 1 q) (accepted p s.core q) in
       let fewer = length-drop 1 q in
@@ -125,7 +122,7 @@ module _ (s : State) (v : IsValid s) where
   kill_can w i p =
       let q = queue_of s.queues w in
       let fewer = length-remove q i p.place in
-      let fits = queue_fits w p.warrior in
+      let fits = queue_fits s v w p.warrior in
       let place = p.place in
       left_can w i (remove q i) p.warrior (omega (arith, fewer, place)) (omega (arith, fewer, fits.room))
 

@@ -30,7 +30,7 @@ rewritten-append (x ∷ xs) ys core = rewritten-append xs ys (set core x.address
 
 module _ (core : List Cell) where
   -- the changes of a logged core lead from the core to it
-  abbrev Replays : WrittenCore → Type 0
+  abbrev pub Replays : WrittenCore → Type 0
   Replays written = rewritten written.changes core ≡ written.core
 
   written_replays : (written : WrittenCore) (a : ℕ) (cell : Cell) → Replays written → Replays (write_cell written a cell)
@@ -64,7 +64,7 @@ module _ (core : List Cell) where
   effect_replays written a None r = r
   effect_replays written a (Some cell) r = written_replays written a cell r
 
-execution_replays : (p : Parameters) (core : List Cell) (pc : ℕ) → Replays core (execution_of p core pc).written
+pub execution_replays : (p : Parameters) (core : List Cell) (pc : ℕ) → Replays core (execution_of p core pc).written
 unfolding execution_of
 execution_replays p core pc =
     let instruction = cell_at core pc in

@@ -1,6 +1,5 @@
 -- The state at the start is valid.
 use Rattle.std.proofs.Common.{◌≡◌, ◌≢◌, ℕ, zero, suc, ◌+◌, ◌<◌, ◌≤◌, List, [], ◌∷◌, length, get_or, map, All, refl, ap, sym, ◌∙◌, subst, arith, Bool, true, false, cond, None}
-use Rattle.std.specs.Prelude.{◌&&◌}
 use Rattle.std.specs.List.{list_all}
 use Rattle.std.proofs.lemmas.List.{length-map}
 use Rattle.std.proofs.lemmas.List.Sums.{sum_by-cons}
@@ -16,34 +15,26 @@ use Rattle.mars_core.specs.State.{is_empty, survivors_of, queue_of, state_of}
 use Rattle.mars_core.specs.Validity.{IsCore, IsQueue, IsValid}
 use Rattle.mars_core.specs.Start.{is_inside, fields_inside, first_processes, start_fault}
 use Rattle.std.proofs.Math.Nat.{mod-lt}
-use Rattle.std.proofs.lemmas.Bool.{true≢false}
+use Rattle.std.proofs.lemmas.Bool.{true≢false, and_parts}
 use Rattle.mars_core.specs.declared.deaths.Death.{Death}
 use Rattle.mars_core.specs.Queue.{Queue, addresses_of}
 
 both_inside : (m : ℕ) (cell : Cell) → is_inside m cell ≡ true → FitsCore m cell
 both_inside m cell h = record { a = grind (arith, nat_tests); b = grind (arith, nat_tests) }
 
-and_left : (a b : Bool) → (a && b) ≡ true → a ≡ true
-and_left true b h = refl
-and_left false b h = h
-
-and_right : (a b : Bool) → (a && b) ≡ true → b ≡ true
-and_right true b h = h
-and_right false b h = absurd (cc)
-
 each_inside : (m : ℕ) (cells : List Cell) → list_all (is_inside m) cells ≡ true → All (FitsCore m) cells
 each_inside m cells h =
     All-from_get_or (FitsCore m) cells empty_cell (λ i k. both_inside m (get_or cells i empty_cell) (at cells i k h)) where
       at : (cells : List Cell) (i : ℕ) → i < length cells → list_all (is_inside m) cells ≡ true → is_inside m (get_or cells i empty_cell) ≡ true
       at [] i k h = absurd (omega arith)
-      at (cell ∷ cells) zero k h = and_left _ _ h
-      at (cell ∷ cells) (suc i) k h = at cells i (omega arith) (and_right _ _ h)
+      at (cell ∷ cells) zero k h = (and_parts _ _ h).0
+      at (cell ∷ cells) (suc i) k h = at cells i (omega arith) (and_parts _ _ h).1
 
 -- the cells of the warrior at a place are in the core
 pub inside_at : (m : ℕ) (ws : List WarriorValue) (i : ℕ) (w : WarriorValue) → i < length ws → w ≡ get_or ws i w → fields_inside m ws ≡ true → All (FitsCore m) w.cells
 inside_at m [] i w k is h = absurd (omega arith)
-inside_at m (v ∷ ws) zero w k is h = subst (λ (x : WarriorValue). All (FitsCore m) x.cells) (sym is) (each_inside m v.cells (and_left _ _ h))
-inside_at m (v ∷ ws) (suc i) w k is h = inside_at m ws i w (omega arith) is (and_right (list_all (is_inside m) v.cells) _ h)
+inside_at m (v ∷ ws) zero w k is h = subst (λ (x : WarriorValue). All (FitsCore m) x.cells) (sym is) (each_inside m v.cells (and_parts _ _ h).0)
+inside_at m (v ∷ ws) (suc i) w k is h = inside_at m ws i w (omega arith) is (and_parts (list_all (is_inside m) v.cells) _ h).1
 
 -- one process
 abbrev pub one : ℕ → List ℕ

@@ -15,6 +15,7 @@ pub mod Leads
 pub mod Record
 pub mod Moved
 pub mod Reach
+pub mod Apart
 pub mod ReferenceCode
 pub mod Laws
 pub mod Examples

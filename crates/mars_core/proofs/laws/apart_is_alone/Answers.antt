@@ -1,0 +1,5 @@
+use Rattle.mars_core.proofs.ApartAlone.{fights_alone}
+use Rattle.mars_core.proofs.laws.apart_is_alone.Goals as goal
+
+pub returns : goal.returns
+returns c = fights_alone

@@ -1,0 +1,39 @@
+-- A warrior apart from the others: it reaches only into its own part of the core, where nobody else changes a cell. Laws say that its fight is its own.
+use Rattle.std.specs.Prelude.{◌≡◌, ◌≢◌, ◌⊎◌, ℕ, zero, suc, ◌+◌, ◌<◌, ◌==◌, Bool, true, false, if◌then◌else◌}
+use Rattle.mars_core.specs.State.{State, cell_at, queue_of, is_over_of}
+use Rattle.mars_core.specs.Turn.{front_of, turn_of, after_turns}
+use Rattle.mars_core.specs.Reach.{Reaches}
+
+-- the process whose turn it is reaches the address, to read or to write
+abbrev pub Touches : State → ℕ → Type 0
+Touches s address =
+    let pc = front_of (queue_of s.queues s.next) in
+    Reaches s.params.core_size s.params.read_limit pc address ⊎ Reaches s.params.core_size s.params.write_limit pc address
+
+-- n turns are made
+abbrev pub GoesOn : ℕ → State → Type 0
+GoesOn n s = (k : ℕ) → k < n → is_over_of (after_turns k s) ≡ false
+
+-- the state before each of the first n turns is one of these
+abbrev pub BeforeEach : ℕ → (State → Type 0) → State → Type 0
+BeforeEach n Is s = (k : ℕ) → k < n → is_over_of (after_turns k s) ≡ false → Is (after_turns k s)
+
+-- in n turns, the warrior's processes reach only into this part of the core
+abbrev pub KeepsTo : (ℕ → Bool) → ℕ → ℕ → State → Type 0
+KeepsTo part warrior n s = BeforeEach n (λ t. t.next ≡ warrior → (address : ℕ) → Touches t address → part address ≡ true) s
+
+-- in n turns, the others change no cell of this part
+abbrev pub IsLeftTo : (ℕ → Bool) → ℕ → ℕ → State → Type 0
+IsLeftTo part warrior n s =
+    BeforeEach n (λ t. t.next ≢ warrior → (address : ℕ) → part address ≡ true → cell_at (turn_of t).core address ≡ cell_at t.core address) s
+
+-- how many of n turns are the warrior's
+abbrev pub own_turns : ℕ → ℕ → State → ℕ
+own_turns warrior zero s = 0
+own_turns warrior (suc n) s = if is_over_of s then 0 else (if s.next == warrior then 1 else 0) + own_turns warrior n (turn_of s)
+
+-- a warrior of one battle and one of another have the same processes, and the same cells in this part of the core
+pub record AgreesOn (part : ℕ → Bool) (warrior : ℕ) (s : State) (other : ℕ) (t : State) : Type 0 where
+  pub params : s.params ≡ t.params
+  pub processes : queue_of s.queues warrior ≡ queue_of t.queues other
+  pub cells : (address : ℕ) → part address ≡ true → cell_at s.core address ≡ cell_at t.core address
