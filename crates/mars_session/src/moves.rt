@@ -45,7 +45,8 @@ fn no_marked_place<T: Tape>(tape: &T) -> Refusal
 
 /// To the nearest marked place before.
 pub fn undo<T: Tape>(tape: &mut T) -> Result<Standing, Refusal>
-    ensures { moved (T.memory tape.old) (T.history tape.old) (no_undo (T.memory tape.old)) (undo (T.history tape.old)) ≡ record { history = T.history tape.new; memory = T.memory tape.new; reply = result } }
+    ensures { moved (T.memory tape.old) (T.history tape.old) (no_undo (T.memory tape.old)) (undo (T.history tape.old))
+        ≡ record { history = T.history tape.new; memory = T.memory tape.new; reply = result } }
 {
     let start = tape.position();
     'back: while tape.position() > 0 {
@@ -60,7 +61,8 @@ pub fn undo<T: Tape>(tape: &mut T) -> Result<Standing, Refusal>
 
 /// To the nearest marked place after.
 pub fn redo<T: Tape>(tape: &mut T) -> Result<Standing, Refusal>
-    ensures { moved (T.memory tape.old) (T.history tape.old) Refusal.NothingToRedo (redo (T.history tape.old)) ≡ record { history = T.history tape.new; memory = T.memory tape.new; reply = result } }
+    ensures { moved (T.memory tape.old) (T.history tape.old) Refusal.NothingToRedo (redo (T.history tape.old))
+        ≡ record { history = T.history tape.new; memory = T.memory tape.new; reply = result } }
 {
     let start = tape.position();
     'on: while tape.position() < tape.len() - 1 {
@@ -122,7 +124,9 @@ fn is_met<T: Tape>(tape: &T, turns: u64) -> bool
 
 /// To the first place after so many turns: back as far as it may lie, and then on.
 pub fn goto<T: Tape>(tape: &mut T, turns: u64) -> Result<Standing, Refusal>
-    ensures { moved (T.memory tape.old) (T.history tape.old) (Refusal.NotInHistory (turns_of_first (T.history tape.old)) (last_turns (T.history tape.old))) (goto turns (T.history tape.old)) ≡ record { history = T.history tape.new; memory = T.memory tape.new; reply = result } }
+    ensures { moved (T.memory tape.old) (T.history tape.old)
+        (Refusal.NotInHistory (turns_of_first (T.history tape.old)) (last_turns (T.history tape.old)))
+        (goto turns (T.history tape.old)) ≡ record { history = T.history tape.new; memory = T.memory tape.new; reply = result } }
 {
     if !is_met(tape, turns) {
         return Err(Refusal::NotInHistory(tape.first_turns(), tape.last_turns()));

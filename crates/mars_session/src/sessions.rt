@@ -187,7 +187,8 @@ impl<T: Tape> Session<T> {
     /// Makes each call in order and appends its reply. Room for all replies is made first, and it fails only where that is
     /// wanting and refused; nothing is done then.
     pub fn apply_all(&mut self, calls: &[Call], out: &mut Vec<Reply>) -> Result<(), AllocError>
-        ensures ok { OnOk result ((replies : List (Result Standing Refusal)) × (out.new.items ≡ out.old.items ++ replies) × ScriptAnswers self.old calls.now replies self.new) }
+        ensures ok { OnOk result ((replies : List (Result Standing Refusal)) × (out.new.items ≡ out.old.items ++ replies)
+            × ScriptAnswers self.old calls.now replies self.new) }
         ensures enough { vec_len out.old + length calls.now ≤ vec_capacity out.old → IsOk result }
         ensures err { OnErr result ((self.new ≡ self.old) × (out.new.items ≡ out.old.items)) }
     {
