@@ -37,7 +37,9 @@ pub fn run_contest<W: Write>(
     ensures ok { OnOk result ((rows : List RowValue)
         × (planned options.now.league plan.now params.now warriors.now ≡ Ok rows)
         × Appends (W.contents output.old) (W.contents output.new) (listing params.now.core_size options.now.brief warriors.now ++ results_text rows options.now.sorted)) }
-    ensures err { IfErr result (λ fault. ContestFails fault (planned options.now.league plan.now params.now warriors.now) options.now.sorted (W.contents output.old) (W.contents output.new) (listing params.now.core_size options.now.brief warriors.now)) }
+    ensures err { IfErr result (λ fault. ContestFails fault
+        (planned options.now.league plan.now params.now warriors.now) options.now.sorted (W.contents output.old)
+        (W.contents output.new) (listing params.now.core_size options.now.brief warriors.now)) }
 {
     write_listing(alloc, options.brief, warriors, params.core_size(), output)?;
     match hold_contest(alloc, options.league, plan, params, warriors) {
@@ -68,7 +70,8 @@ fn hold_contest(
 /// Writes the results.
 fn write_table<W: Write>(table: &Table, sorted: bool, output: &mut W) -> Result<(), RunFault>
     ensures ok { OnOk result (Appends (W.contents output.old) (W.contents output.new) (results_text table.now.rows.items sorted)) }
-    ensures err { IfErr result (λ fault. (fault ≡ RunFault.Output) × CutShort (W.contents output.old) (W.contents output.new) (results_text table.now.rows.items sorted)) }
+    ensures err { IfErr result (λ fault. (fault ≡ RunFault.Output)
+        × CutShort (W.contents output.old) (W.contents output.new) (results_text table.now.rows.items sorted)) }
 {
     match write_results(table, sorted, output) {
         Ok(()) => Ok(()),
@@ -101,7 +104,8 @@ fn write_listing<W: Write>(
     requires size { core_size ≤ largest_core }
     requires fit { AllFit core_size warriors.now }
     ensures ok { OnOk result (Appends (W.contents output.old) (W.contents output.new) (listing core_size brief warriors.now)) }
-    ensures err { IfErr result (λ fault. BreaksOff fault (W.contents output.old) (W.contents output.new) (listing core_size brief warriors.now)) }
+    ensures err { IfErr result (λ fault. BreaksOff fault (W.contents output.old) (W.contents output.new)
+        (listing core_size brief warriors.now)) }
 {
     if brief {
         return Ok(());
@@ -123,7 +127,8 @@ fn write_warrior<W: Write>(
     requires size { core_size ≤ largest_core }
     requires fit { All (FitsCore core_size) warrior.now.cells }
     ensures ok { OnOk result (Appends (W.contents output.old) (W.contents output.new) (listed core_size number warrior.now)) }
-    ensures err { IfErr result (λ fault. BreaksOff fault (W.contents output.old) (W.contents output.new) (listed core_size number warrior.now)) }
+    ensures err { IfErr result (λ fault. BreaksOff fault (W.contents output.old) (W.contents output.new)
+        (listed core_size number warrior.now)) }
 {
     let head = listing_head(number, warrior);
     write_part(output, head.as_str().as_bytes())?;
@@ -156,7 +161,8 @@ fn write_load_file<W: Write>(
     requires size { core_size ≤ largest_core }
     requires fit { All (FitsCore core_size) warrior.now.cells }
     ensures ok { OnOk result (Appends (W.contents output.old) (W.contents output.new) (load_text core_size warrior.now)) }
-    ensures err { IfErr result (λ fault. BreaksOff fault (W.contents output.old) (W.contents output.new) (load_text core_size warrior.now)) }
+    ensures err { IfErr result (λ fault. BreaksOff fault (W.contents output.old) (W.contents output.new)
+        (load_text core_size warrior.now)) }
 {
     let Ok(text) = write_load(alloc, warrior, core_size) else {
         return Err(RunFault::OutOfMemory);

@@ -32,8 +32,11 @@ pub fn load_warriors<F: WarriorFiles>(
 ) -> Result<Vec<Warrior>, RunFault>
     ensures fit { IfOk result (λ warriors. AllFit contest.entry.params.now.core_size warriors.items) }
     ensures many { IfOk result (λ warriors. vec_len warriors ≡ length names.now) }
-    ensures loaded { let c = contest.entry in IfOk result (λ warriors. AreLoaded (F.known files.now) c.params.now c.rounds c.warriors (map (λ name. string_bytes name) names.now) warriors.items) }
-    ensures err { let c = contest.entry in IfErr result (FirstFails (F.known files.now) c.params.now c.rounds c.warriors (map (λ name. string_bytes name) names.now)) }
+    ensures loaded { let c = contest.entry in IfOk result
+        (λ warriors. AreLoaded (F.known files.now) c.params.now c.rounds c.warriors
+        (map (λ name. string_bytes name) names.now) warriors.items) }
+    ensures err { let c = contest.entry in IfErr result
+        (FirstFails (F.known files.now) c.params.now c.rounds c.warriors (map (λ name. string_bytes name) names.now)) }
 {
     let mut warriors = Vec::new(alloc);
     for name in names {
@@ -53,7 +56,8 @@ pub fn load_file_of<F: WarriorFiles>(
     name: &str,
     contest: Contest<'_>,
 ) -> Result<Vec<u8>, RunFault>
-    ensures ok { let c = contest.entry in IfOk result (λ text. IsLoadFileOf (F.known files.now) c.params.now c.rounds c.warriors name.now text.items) }
+    ensures ok { let c = contest.entry in IfOk result
+        (λ text. IsLoadFileOf (F.known files.now) c.params.now c.rounds c.warriors name.now text.items) }
     ensures err { let c = contest.entry in IfErr result (FailsToLoad (F.known files.now) c.params.now c.rounds c.warriors name.now) }
 {
     let bytes = read_file(alloc, files, name)?;
@@ -129,7 +133,8 @@ fn read_warrior(
     bytes: &[u8],
     contest: Contest<'_>,
 ) -> Result<Warrior, RunFault>
-    ensures value { let c = contest.entry in IfOk result (λ warrior. warrior_of_file c.params.now c.rounds c.warriors name.now bytes.now ≡ Some warrior) }
+    ensures value { let c = contest.entry in IfOk result
+        (λ warrior. warrior_of_file c.params.now c.rounds c.warriors name.now bytes.now ≡ Some warrior) }
     ensures fits { IfOk result (λ warrior. All (FitsCore contest.entry.params.now.core_size) warrior.cells) }
     ensures err { let c = contest.entry in IfErr result (IsFaultOfFile c.params.now c.rounds c.warriors name.now bytes.now) }
 {
@@ -147,7 +152,8 @@ fn read_load_file(
     contest: Contest<'_>,
 ) -> Result<Warrior, RunFault>
     requires { is_load_file name.now ≡ true }
-    ensures value { let c = contest.entry in IfOk result (λ warrior. warrior_of_file c.params.now c.rounds c.warriors name.now bytes.now ≡ Some warrior) }
+    ensures value { let c = contest.entry in IfOk result
+        (λ warrior. warrior_of_file c.params.now c.rounds c.warriors name.now bytes.now ≡ Some warrior) }
     ensures fits { IfOk result (λ warrior. All (FitsCore contest.entry.params.now.core_size) warrior.cells) }
     ensures err { let c = contest.entry in IfErr result (IsFaultOfFile c.params.now c.rounds c.warriors name.now bytes.now) }
 {
@@ -165,7 +171,8 @@ fn assemble_file(
     contest: Contest<'_>,
 ) -> Result<Warrior, RunFault>
     requires { is_load_file name.now ≡ false }
-    ensures value { let c = contest.entry in IfOk result (λ warrior. warrior_of_file c.params.now c.rounds c.warriors name.now bytes.now ≡ Some warrior) }
+    ensures value { let c = contest.entry in IfOk result
+        (λ warrior. warrior_of_file c.params.now c.rounds c.warriors name.now bytes.now ≡ Some warrior) }
     ensures fits { IfOk result (λ warrior. All (FitsCore contest.entry.params.now.core_size) warrior.cells) }
     ensures err { let c = contest.entry in IfErr result (IsFaultOfFile c.params.now c.rounds c.warriors name.now bytes.now) }
 {

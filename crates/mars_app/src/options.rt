@@ -243,7 +243,8 @@ fn score(alloc: Global, matches: &ArgMatches<'_>) -> Result<String, AllocError>
 
 /// The names of the warriors' files.
 fn files(alloc: Global, matches: &ArgMatches<'_>) -> Result<Vec<String>, AllocError>
-    ensures { IfOk result (λ files. map (λ name. string_bytes name) files.items ≡ unwrap_or (all_of (codes "FILE") (rows_of (found_of matches.now))) []) }
+    ensures { IfOk result (λ files. map (λ name. string_bytes name) files.items
+        ≡ unwrap_or (all_of (codes "FILE") (rows_of (found_of matches.now))) []) }
 {
     let mut files = Vec::new(alloc);
     let Some(names) = matches.get_strs("FILE") else {

@@ -48,8 +48,11 @@ pub fn run<F: WarriorFiles, R: Read, W: Write, E: Write>(
     faults: &mut E,
 ) -> u8
     ensures status { result ≤ 2 }
-    ensures done { result ≡ 0 → RunsWell (map (λ word. string_bytes word) words.now) (F.known files.now) (R.remaining input.old) (R.remaining input.new) (W.contents output.old) (W.contents output.new) }
-    ensures failed { result ≢ 0 → (fault : RunFault) × (result ≡ status_of fault) × RunFails (map (λ word. string_bytes word) words.now) (F.known files.now) (R.remaining input.old) (R.remaining input.new) (W.contents output.old) (W.contents output.new) fault }
+    ensures done { result ≡ 0 → RunsWell (map (λ word. string_bytes word) words.now) (F.known files.now) (R.remaining input.old)
+        (R.remaining input.new) (W.contents output.old) (W.contents output.new) }
+    ensures failed { result ≢ 0 → (fault : RunFault) × (result ≡ status_of fault)
+        × RunFails (map (λ word. string_bytes word) words.now) (F.known files.now) (R.remaining input.old) (R.remaining input.new)
+        (W.contents output.old) (W.contents output.new) fault }
 {
     match run_words(alloc, words, files, input, output) {
         Ok(()) => 0,
@@ -76,8 +79,10 @@ fn run_words<F: WarriorFiles, R: Read, W: Write>(
     input: &mut R,
     output: &mut W,
 ) -> Result<(), RunFault>
-    ensures ok { OnOk result (RunsWell (map (λ word. string_bytes word) words.now) (F.known files.now) (R.remaining input.old) (R.remaining input.new) (W.contents output.old) (W.contents output.new)) }
-    ensures err { IfErr result (RunFails (map (λ word. string_bytes word) words.now) (F.known files.now) (R.remaining input.old) (R.remaining input.new) (W.contents output.old) (W.contents output.new)) }
+    ensures ok { OnOk result (RunsWell (map (λ word. string_bytes word) words.now) (F.known files.now) (R.remaining input.old)
+        (R.remaining input.new) (W.contents output.old) (W.contents output.new)) }
+    ensures err { IfErr result (RunFails (map (λ word. string_bytes word) words.now) (F.known files.now) (R.remaining input.old)
+        (R.remaining input.new) (W.contents output.old) (W.contents output.new)) }
 {
     match read_options(alloc, words) {
         Ok(options) => run_options(alloc, &options, files, input, output),
@@ -190,8 +195,10 @@ impl Settings {
         requires few { length warriors.now ≤ most_warriors }
         requires position { FitsTwo self.now.params (length warriors.now) options.now.fixed }
         requires history { IsBetween 1 longest_history options.now.history }
-        ensures ok { OnOk result (PlaysWell options.now self.now.params self.now.plan.formula warriors.now (R.remaining input.old) (R.remaining input.new) (W.contents output.old) (W.contents output.new)) }
-        ensures err { IfErr result (PlaysInPart options.now self.now.params self.now.plan.formula warriors.now (R.remaining input.old) (R.remaining input.new) (W.contents output.old) (W.contents output.new)) }
+        ensures ok { OnOk result (PlaysWell options.now self.now.params self.now.plan.formula warriors.now (R.remaining input.old)
+            (R.remaining input.new) (W.contents output.old) (W.contents output.new)) }
+        ensures err { IfErr result (PlaysInPart options.now self.now.params self.now.plan.formula warriors.now
+            (R.remaining input.old) (R.remaining input.new) (W.contents output.old) (W.contents output.new)) }
     {
         if options.debugger {
             return debug_round(alloc, options, &self.params, warriors, input, output);
@@ -286,7 +293,8 @@ fn place_first(
     requires some { 1 ≤ warriors }
     requires few { warriors ≤ most_warriors }
     requires position { FitsTwo params.now warriors options.now.fixed }
-    ensures value { IsAnswer (λ (placed : Vec ℕ Global × ℕ). (placed.0.items, placed.1)) (placed_for params.now warriors options.now.fixed options.now.seed) result }
+    ensures value { IsAnswer (λ (placed : Vec ℕ Global × ℕ). (placed.0.items, placed.1))
+        (placed_for params.now warriors options.now.fixed options.now.seed) result }
     ensures many { IfOk result (λ placed. vec_len placed.0 ≡ warriors) }
 {
     let Some(position) = options.fixed else {
@@ -311,7 +319,8 @@ fn debug_battle<R: Read, W: Write>(
     output: &mut W,
 ) -> Result<(), RunFault>
     requires { IsBetween 1 longest_history history }
-    ensures ok { OnOk result (DebugsWell (session_at history battle) battle.params.core_size (R.remaining input.old) (R.remaining input.new) (W.contents output.old) (W.contents output.new)) }
+    ensures ok { OnOk result (DebugsWell (session_at history battle) battle.params.core_size (R.remaining input.old)
+        (R.remaining input.new) (W.contents output.old) (W.contents output.new)) }
     ensures err { IfErr result (λ fault. ((fault ≡ RunFault.OutOfMemory) × Untouched (R.remaining input.old) (R.remaining input.new) (W.contents output.old) (W.contents output.new))
         ⊎ DebugsInPart fault (session_at history battle) battle.params.core_size (R.remaining input.old) (R.remaining input.new) (W.contents output.old) (W.contents output.new)) }
 {

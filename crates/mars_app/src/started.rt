@@ -24,7 +24,9 @@ pub fn start<V: Env, F: WarriorFiles, R: Read, W: Write, E: Write>(
     output: &mut W,
     faults: &mut E,
 ) -> u8
-    ensures done { result ≡ 0 → (words : List (List ℕ)) × RunsWell words (F.known files.now) (R.remaining input.old) (R.remaining input.new) (W.contents output.old) (W.contents output.new) }
+    ensures done { result ≡ 0 → (words : List (List ℕ))
+        × RunsWell words (F.known files.now) (R.remaining input.old) (R.remaining input.new) (W.contents output.old)
+        (W.contents output.new) }
     ensures failed { result ≢ 0 → (fault : RunFault) × (result ≡ status_of fault)
         × (((fault ≡ RunFault.Words) × Untouched (R.remaining input.old) (R.remaining input.new) (W.contents output.old) (W.contents output.new))
         ⊎ ((words : List (List ℕ)) × RunFails words (F.known files.now) (R.remaining input.old) (R.remaining input.new) (W.contents output.old) (W.contents output.new) fault)) }

@@ -25,7 +25,8 @@ struct Reading {
 /// Reads the lines up to END.
 #[tactic(auto, unfolding(crate::specs::Code::Listing::load_from))]
 fn read_listing(alloc: Global, lines: Lines<'_>, sizes: Sizes) -> Result<Reading, LoadFault>
-    ensures value { ReadsListing result (load_from sizes.written sizes.core_size lines.entry.number nothing_read (lines_of lines.entry.rest.now)) }
+    ensures value { ReadsListing result (load_from sizes.written sizes.core_size lines.entry.number nothing_read
+        (lines_of lines.entry.rest.now)) }
     ensures fits { IfOk result (λ reading. All (FitsCore sizes.core_size) reading.cells.items) }
 {
     let mut reading = Reading {
@@ -71,7 +72,8 @@ fn named_warrior(
     start: u32,
 ) -> Result<Warrior, LoadFault>
     requires { start < length cells.items }
-    ensures { Loads result (Ok (record { name = header.entry.name.now; author = header.entry.author.now; cells = cells.items; start = start })) }
+    ensures { Loads result (Ok (record
+        { name = header.entry.name.now; author = header.entry.author.now; cells = cells.items; start = start })) }
 {
     let Ok(name) = String::from_str(alloc, header.name) else {
         return Err(LoadFault::OutOfMemory);
@@ -94,7 +96,8 @@ fn read_body(
     lines: Lines<'_>,
     params: &Params,
 ) -> Result<Warrior, LoadFault>
-    ensures value { Loads result (body (header_value header.entry) params.now.core_size params.now.max_length lines.entry.number (lines_of lines.entry.rest.now)) }
+    ensures value { Loads result (body (header_value header.entry) params.now.core_size params.now.max_length lines.entry.number
+        (lines_of lines.entry.rest.now)) }
     ensures fits { IfOk result (λ warrior. All (FitsCore params.now.core_size) warrior.cells) }
 {
     let sizes = Sizes {

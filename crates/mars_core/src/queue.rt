@@ -138,7 +138,8 @@ impl ProcessQueue {
     #[inline(always)]
     pub fn try_push(&mut self, address: u32) -> bool
         ensures answer { result ≡ nat_lt (length self.old.addresses) self.old.limit }
-        ensures queue { self.new ≡ (if result then record { addresses = self.old.addresses ++ address ∷ []; limit = self.old.limit } else self.old) }
+        ensures queue { self.new ≡ (if result
+            then record { addresses = self.old.addresses ++ address ∷ []; limit = self.old.limit } else self.old) }
     {
         self.ring.try_push_back(address).is_ok()
     }
@@ -148,7 +149,11 @@ impl ProcessQueue {
     #[tactic(auto, using(crate::proofs::Live::filled_by_one, crate::proofs::Live::filled_by_two))]
     pub fn requeue(&mut self, continuation: Continuation) -> bool
         requires { length self.old.addresses < self.old.limit }
-        ensures queue { self.new ≡ record { addresses = self.old.addresses ++ take (self.old.limit - length self.old.addresses) (addresses_to continuation); limit = self.old.limit } }
+        ensures queue { self.new ≡ record {
+          addresses = self.old.addresses
+              ++ take (self.old.limit - length self.old.addresses) (addresses_to continuation);
+          limit = self.old.limit;
+        } }
         ensures empty { result ≡ spec_is_empty self.new.addresses }
     {
         match continuation {

@@ -127,7 +127,8 @@ fn new_battle(
     starts: &[u32],
 ) -> Result<Battle, MatchFault>
     requires { length starts.now ≡ length warriors.now }
-    ensures { IsAnswer (λ (battle : State). battle) (unless (start_fault params.now warriors.now starts.now) (start_state params.now warriors.now starts.now)) result }
+    ensures { IsAnswer (λ (battle : State). battle)
+        (unless (start_fault params.now warriors.now starts.now) (start_state params.now warriors.now starts.now)) result }
 {
     match Battle::new(alloc, params, warriors, starts) {
         Ok(battle) => Ok(battle),
@@ -188,7 +189,8 @@ pub fn fight_round(
     requires some { 1 ≤ length lineup.now }
     requires few { length lineup.now ≤ most_warriors }
     requires last { IfSome last (λ battle. HasRoom params.now (length lineup.now) battle) }
-    ensures survivors { IsAnswer (λ (battle : State). in_load_order (round % length lineup.now) battle) (fought params.now lineup.now starts.now round) result }
+    ensures survivors { IsAnswer (λ (battle : State). in_load_order (round % length lineup.now) battle)
+        (fought params.now lineup.now starts.now round) result }
     ensures room { IfOk result (λ battle. HasRoom params.now (length lineup.now) battle) }
     ensures no_memory { IfSome last (λ _. IfErr result (λ fault. fault ≢ MatchFault.OutOfMemory)) }
 {

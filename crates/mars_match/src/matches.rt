@@ -48,7 +48,8 @@ fn place_round(
     requires some { 1 ≤ length starts.old }
     requires few { length starts.old ≤ most_warriors }
     requires fixed { IfSome fixed (λ position. length starts.old ≡ 2) }
-    ensures { MatchResult result (λ left. placed_for params.now (length starts.old) fixed seed ≡ Ok (starts.new, left)) (λ fault. placed_for params.now (length starts.old) fixed seed ≡ Err fault) }
+    ensures { MatchResult result (λ left. placed_for params.now (length starts.old) fixed seed ≡ Ok (starts.new, left))
+        (λ fault. placed_for params.now (length starts.old) fixed seed ≡ Err fault) }
 {
     if let Some(position) = fixed {
         starts[0] = 0;
@@ -101,7 +102,8 @@ fn fitting(points: i128) -> Option<i64>
 
 /// The row of a warrior with its tally, where its points fit 64 bits.
 fn row_of(warrior: &Warrior, tally: Tally) -> Result<Row, MatchFault>
-    ensures { MatchResult result (λ row. (fits_in_64 tally.points ≡ true) × (row ≡ row_with warrior.now tally)) (λ fault. (fault ≡ MatchFault.Score ExprFault.Range) × (fits_in_64 tally.points ≡ false)) }
+    ensures { MatchResult result (λ row. (fits_in_64 tally.points ≡ true) × (row ≡ row_with warrior.now tally))
+        (λ fault. (fault ≡ MatchFault.Score ExprFault.Range) × (fits_in_64 tally.points ≡ false)) }
 {
     let Some(points) = fitting(tally.points) else {
         return Err(MatchFault::Score(ExprFault::Range));
@@ -145,7 +147,8 @@ fn play_round(
     requires some { 1 ≤ length lineup.now }
     requires few { length lineup.now ≤ most_warriors }
     requires last { IfSome last (λ battle. HasRoom params.now (length lineup.now) battle) }
-    ensures outcome { IsAnswer (λ (played : State × ℤ). outcome_by (round % length lineup.now) played.0 played.1) (ended params.now lineup.now formula.now starts.now round) result }
+    ensures outcome { IsAnswer (λ (played : State × ℤ). outcome_by (round % length lineup.now) played.0 played.1)
+        (ended params.now lineup.now formula.now starts.now round) result }
     ensures room { IfOk result (λ played. HasRoom params.now (length lineup.now) played.0) }
     ensures no_memory { IfSome last (λ _. IfErr result (λ fault. fault ≢ MatchFault.OutOfMemory)) }
 {
@@ -168,7 +171,8 @@ pub fn play_rounds(
     requires fixed { IfSome plan.now.fixed (λ position. length lineup.now ≡ 2) }
     requires many { length tallies.old ≡ length lineup.now }
     requires fresh { All (IsOf 0) tallies.old }
-    ensures sums { IsAnswer (λ _. tallies.new) (tallied params.now lineup.now plan.now.formula plan.now.fixed plan.now.rounds 0 first_seed tallies.old) result }
+    ensures sums { IsAnswer (λ _. tallies.new)
+        (tallied params.now lineup.now plan.now.formula plan.now.fixed plan.now.rounds 0 first_seed tallies.old) result }
     ensures bounds { IfOk result (λ _. All (IsOf 4294967295) tallies.new) }
 {
     let Ok(mut starts) = vec![in alloc; 0u32; lineup.len()] else {
@@ -202,9 +206,12 @@ pub fn rounds(
     warriors: &[Warrior],
     plan: &Plan,
 ) -> Result<Table, MatchFault>
-    requires fixed { IfSome plan.now.fixed (λ position. (length warriors.now ≡ 2) × (params.now.distance ≤ position) × (position ≤ params.now.core_size - params.now.distance)) }
+    requires fixed { IfSome plan.now.fixed
+        (λ position. (length warriors.now ≡ 2) × (params.now.distance ≤ position)
+        × (position ≤ params.now.core_size - params.now.distance)) }
     ensures count { IfSome (count_fault (length warriors.now)) (λ fault. result ≡ Err (MatchFault.Battle fault)) }
-    ensures table { IsAnswer (λ (table : Table). table.rows.items) (table_of params.now warriors.now plan.now.formula plan.now.fixed plan.now.rounds plan.now.seed) result }
+    ensures table { IsAnswer (λ (table : Table). table.rows.items)
+        (table_of params.now warriors.now plan.now.formula plan.now.fixed plan.now.rounds plan.now.seed) result }
 {
     check_count(warriors.len())?;
     let Ok(lineup) = Lineup::new(alloc, warriors) else {
@@ -239,7 +246,8 @@ fn joined(tally: Tally, more: Tally) -> Tally
 
 /// Whether a tally's points fit 64 bits.
 fn check_points(tally: Tally) -> Result<(), MatchFault>
-    ensures { MatchResult result (λ _. fits_in_64 tally.points ≡ true) (λ fault. (fault ≡ MatchFault.Score ExprFault.Range) × (fits_in_64 tally.points ≡ false)) }
+    ensures { MatchResult result (λ _. fits_in_64 tally.points ≡ true)
+        (λ fault. (fault ≡ MatchFault.Score ExprFault.Range) × (fits_in_64 tally.points ≡ false)) }
 {
     if i64::try_from(tally.points).is_err() {
         return Err(MatchFault::Score(ExprFault::Range));
@@ -255,7 +263,8 @@ fn play_pair(
     second: &Warrior,
     plan: &Plan,
 ) -> Result<(Tally, Tally), MatchFault>
-    ensures table { IsAnswer (λ (both : Tally × Tally). row_with first.now both.0 ∷ row_with second.now both.1 ∷ []) (table_of params.now (first.now ∷ second.now ∷ []) plan.now.formula plan.now.fixed plan.now.rounds plan.now.seed) result }
+    ensures table { IsAnswer (λ (both : Tally × Tally). row_with first.now both.0 ∷ row_with second.now both.1 ∷ [])
+        (table_of params.now (first.now ∷ second.now ∷ []) plan.now.formula plan.now.fixed plan.now.rounds plan.now.seed) result }
     ensures bounds { IfOk result (λ both. IsOf 4294967295 both.0 × IsOf 4294967295 both.1) }
 {
     let Ok(lineup) = Lineup::pair(alloc, first, second) else {
@@ -281,7 +290,9 @@ fn play_others(
     requires inside { i < length warriors.now }
     requires many { length tallies.old ≡ length warriors.now }
     requires bounds { All (IsOf (i * 281474976645120)) tallies.old }
-    ensures sums { IsAnswer (λ _. tallies.new) (after_matches params.now plan.now.formula plan.now.fixed plan.now.rounds plan.now.seed (pairs_of_first i (drop i warriors.now)) tallies.old) result }
+    ensures sums { IsAnswer (λ _. tallies.new)
+        (after_matches params.now plan.now.formula plan.now.fixed plan.now.rounds plan.now.seed
+        (pairs_of_first i (drop i warriors.now)) tallies.old) result }
     ensures bounds { IfOk result (λ _. All (IsOf ((i + 1) * 281474976645120)) tallies.new) }
 {
     for j in i + 1..warriors.len() {
@@ -303,7 +314,9 @@ fn play_all(
     requires few { length warriors.now ≤ 65536 }
     requires many { length tallies.old ≡ length warriors.now }
     requires bounds { All (IsOf 0) tallies.old }
-    ensures { IsAnswer (λ _. tallies.new) (after_matches params.now plan.now.formula plan.now.fixed plan.now.rounds plan.now.seed (all_pairs 0 warriors.now) tallies.old) result }
+    ensures { IsAnswer (λ _. tallies.new)
+        (after_matches params.now plan.now.formula plan.now.fixed plan.now.rounds plan.now.seed
+        (all_pairs 0 warriors.now) tallies.old) result }
 {
     for i in 0..warriors.len() {
         play_others(alloc, params, warriors, i, plan, tallies)?;
@@ -323,8 +336,11 @@ pub fn league(
     plan: &Plan,
 ) -> Result<Table, MatchFault>
     requires few { length warriors.now ≤ 65536 }
-    requires fixed { IfSome plan.now.fixed (λ position. (length warriors.now ≡ 2) × (params.now.distance ≤ position) × (position ≤ params.now.core_size - params.now.distance)) }
-    ensures table { IsAnswer (λ (table : Table). table.rows.items) (league_of params.now warriors.now plan.now.formula plan.now.fixed plan.now.rounds plan.now.seed) result }
+    requires fixed { IfSome plan.now.fixed
+        (λ position. (length warriors.now ≡ 2) × (params.now.distance ≤ position)
+        × (position ≤ params.now.core_size - params.now.distance)) }
+    ensures table { IsAnswer (λ (table : Table). table.rows.items)
+        (league_of params.now warriors.now plan.now.formula plan.now.fixed plan.now.rounds plan.now.seed) result }
 {
     let mut tallies = first_tallies(alloc, warriors.len())?;
     play_all(alloc, params, warriors, plan, tallies.as_mut_slice())?;

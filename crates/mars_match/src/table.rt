@@ -178,7 +178,8 @@ pub fn add_round(tallies: &mut [Tally], battle: &Battle, round: u32, score: i64)
     requires many { length tallies.old ≡ length battle.now.queues }
     requires some { 1 ≤ length tallies.old }
     requires bounds { All (IsOf round) tallies.old }
-    ensures sums { tallies.new ≡ all_added (record { lived = in_load_order (round % length tallies.old) battle.now; score = score }) 0 tallies.old }
+    ensures sums { tallies.new ≡ all_added
+        (record { lived = in_load_order (round % length tallies.old) battle.now; score = score }) 0 tallies.old }
     ensures bounds { All (IsOf (round + 1)) tallies.new }
 {
     let first = round as usize % tallies.len();

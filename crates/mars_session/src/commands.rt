@@ -73,7 +73,9 @@ fn stops(battle: &Battle, cycle: Option<u64>) -> bool
 fn turn_until<T: Tape>(tape: &mut T, n: u64, cycle: Option<u64>)
     requires last { (T.history tape.old).after ≡ [] }
     requires room { n ≤ T.room tape.old }
-    ensures { record { history = T.history tape.new; memory = T.memory tape.new } ≡ go_on_all (record { history = T.history tape.old; memory = T.memory tape.old }) (turns_until (stops_at cycle) n (T.history tape.old).present.state) }
+    ensures { record { history = T.history tape.new; memory = T.memory tape.new }
+        ≡ go_on_all (record { history = T.history tape.old; memory = T.memory tape.old })
+        (turns_until (stops_at cycle) n (T.history tape.old).present.state) }
 {
     let mut left = n;
     while left > 0 && !stops(tape.now(), cycle) {
@@ -91,7 +93,9 @@ fn make_turns<T: Tape>(
 ) -> Result<Standing, Refusal>
     requires some { 1 ≤ count }
     requires runs { is_over_of (T.history tape.old).present.state ≡ false }
-    ensures answer { let next = turn_of (T.history tape.old).present.state in commanded (T.memory tape.old) limit count (is_poor result) (T.history tape.old) (Ok (next, turns_until (stops_at cycle) (count - 1) next)) ≡ record { history = T.history tape.new; memory = T.memory tape.new; reply = result } }
+    ensures answer { let next = turn_of (T.history tape.old).present.state in commanded (T.memory tape.old) limit count
+        (is_poor result) (T.history tape.old) (Ok (next, turns_until (stops_at cycle) (count - 1) next))
+        ≡ record { history = T.history tape.new; memory = T.memory tape.new; reply = result } }
     ensures memory { result ≡ Err Refusal.OutOfMemory → T.room tape.old < count }
 {
     prepare(tape, limit, count)?;
@@ -135,7 +139,8 @@ fn few_turns(cycles: u64, warriors: u64) -> Option<u64>
 
 /// Turns up to a cycle, or as many as there are.
 pub fn until<T: Tape>(tape: &mut T, limit: u64, cycle: u64) -> Result<Standing, Refusal>
-    ensures answer { IsAnswer (T.memory tape.old) limit (Call.Until cycle) (T.history tape.old) result (T.history tape.new) (T.memory tape.new) }
+    ensures answer { IsAnswer (T.memory tape.old) limit (Call.Until cycle) (T.history tape.old) result (T.history tape.new)
+        (T.memory tape.new) }
     ensures memory { result ≡ Err Refusal.OutOfMemory → T.room tape.old < until_bound cycle (T.history tape.old).present.state }
 {
     let now = tape.now();
@@ -168,7 +173,9 @@ fn refusal(fault: EditFault) -> Refusal
 
 /// One edit.
 pub fn edit<T: Tape>(tape: &mut T, limit: u64, edit: Edit) -> Result<Standing, Refusal>
-    ensures answer { commanded (T.memory tape.old) limit 1 (is_poor result) (T.history tape.old) (edit_states edit (T.history tape.old).present.state) ≡ record { history = T.history tape.new; memory = T.memory tape.new; reply = result } }
+    ensures answer { commanded (T.memory tape.old) limit 1 (is_poor result) (T.history tape.old)
+        (edit_states edit (T.history tape.old).present.state)
+        ≡ record { history = T.history tape.new; memory = T.memory tape.new; reply = result } }
     ensures memory { result ≡ Err Refusal.OutOfMemory → T.room tape.old < 1 }
 {
     if let Some(fault) = tape.now().edit_fault(edit) {
@@ -186,7 +193,9 @@ fn fill_cells<T: Tape>(tape: &mut T, first: u64, last: u64, cell: Cell)
     requires last { (T.history tape.old).after ≡ [] }
     requires room { last - first ≤ T.room tape.old }
     requires accepted { edit_fault (T.history tape.old).present.state (Edit.SetCell last cell) ≡ None }
-    ensures { record { history = T.history tape.new; memory = T.memory tape.new } ≡ go_on_all (record { history = T.history tape.old; memory = T.memory tape.old }) (fills (last - first) (first + 1) cell (T.history tape.old).present.state) }
+    ensures { record { history = T.history tape.new; memory = T.memory tape.new }
+        ≡ go_on_all (record { history = T.history tape.old; memory = T.memory tape.old })
+        (fills (last - first) (first + 1) cell (T.history tape.old).present.state) }
 {
     let mut address = first;
     while address < last {
@@ -204,7 +213,8 @@ pub fn fill<T: Tape>(
     to: u64,
     cell: Cell,
 ) -> Result<Standing, Refusal>
-    ensures answer { IsAnswer (T.memory tape.old) limit (Call.Fill from to cell) (T.history tape.old) result (T.history tape.new) (T.memory tape.new) }
+    ensures answer { IsAnswer (T.memory tape.old) limit (Call.Fill from to cell) (T.history tape.old) result (T.history tape.new)
+        (T.memory tape.new) }
     ensures memory { result ≡ Err Refusal.OutOfMemory → T.room tape.old < cells_between from to }
 {
     if from <= to && to - from >= COMMAND_LIMIT {

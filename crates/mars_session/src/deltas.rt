@@ -51,7 +51,8 @@ impl DeltaTape {
 
     /// The record that leads from place i to place i + 1, where there is such a place.
     pub fn atom(&self, i: u64) -> Option<&Atom>
-        ensures { MatchOption result (last_of self.now.history ≤ i) (λ atom. (i < last_of self.now.history) × LeadsAt (places self.now.history) i atom.now) }
+        ensures { MatchOption result (last_of self.now.history ≤ i)
+            (λ atom. (i < last_of self.now.history) × LeadsAt (places self.now.history) i atom.now) }
     {
         match self.entries.get(i as usize) {
             Some(entry) => Some(&entry.0),

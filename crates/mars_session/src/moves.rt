@@ -46,7 +46,8 @@ fn no_marked_place<T: Tape>(tape: &T) -> Refusal
 
 /// To the nearest marked place before.
 pub fn undo<T: Tape>(tape: &mut T) -> Result<Standing, Refusal>
-    ensures answer { moved (T.memory tape.old) (T.history tape.old) (no_undo (T.memory tape.old)) (undo (T.history tape.old)) ≡ record { history = T.history tape.new; memory = T.memory tape.new; reply = result } }
+    ensures answer { moved (T.memory tape.old) (T.history tape.old) (no_undo (T.memory tape.old)) (undo (T.history tape.old))
+        ≡ record { history = T.history tape.new; memory = T.memory tape.new; reply = result } }
     ensures never { result ≢ Err Refusal.OutOfMemory }
 {
     let start = tape.position();
@@ -62,7 +63,8 @@ pub fn undo<T: Tape>(tape: &mut T) -> Result<Standing, Refusal>
 
 /// To the nearest marked place after.
 pub fn redo<T: Tape>(tape: &mut T) -> Result<Standing, Refusal>
-    ensures answer { moved (T.memory tape.old) (T.history tape.old) Refusal.NothingToRedo (redo (T.history tape.old)) ≡ record { history = T.history tape.new; memory = T.memory tape.new; reply = result } }
+    ensures answer { moved (T.memory tape.old) (T.history tape.old) Refusal.NothingToRedo (redo (T.history tape.old))
+        ≡ record { history = T.history tape.new; memory = T.memory tape.new; reply = result } }
     ensures never { result ≢ Err Refusal.OutOfMemory }
 {
     let start = tape.position();
@@ -125,7 +127,9 @@ fn is_met<T: Tape>(tape: &T, turns: u64) -> bool
 
 /// To the first place after so many turns: back as far as it may lie, and then on.
 pub fn goto<T: Tape>(tape: &mut T, turns: u64) -> Result<Standing, Refusal>
-    ensures answer { moved (T.memory tape.old) (T.history tape.old) (Refusal.NotInHistory (turns_of_first (T.history tape.old)) (last_turns (T.history tape.old))) (goto turns (T.history tape.old)) ≡ record { history = T.history tape.new; memory = T.memory tape.new; reply = result } }
+    ensures answer { moved (T.memory tape.old) (T.history tape.old)
+        (Refusal.NotInHistory (turns_of_first (T.history tape.old)) (last_turns (T.history tape.old)))
+        (goto turns (T.history tape.old)) ≡ record { history = T.history tape.new; memory = T.memory tape.new; reply = result } }
     ensures never { result ≢ Err Refusal.OutOfMemory }
 {
     if !is_met(tape, turns) {

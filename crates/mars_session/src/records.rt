@@ -30,7 +30,8 @@ pub struct Records {
 impl Records {
     /// No record, and room for so many, after a first place that is marked and has so many turns.
     pub fn with_room(alloc: Global, most: usize, turns: u32) -> Result<Records, AllocError>
-        ensures { IfOk result (λ r. r ≡ record { ring = buffer [] most; at = 0; first_mark = true; forgotten = false; first_turns = turns; last_turns = turns }) }
+        ensures { IfOk result (λ r. r ≡ record
+            { ring = buffer [] most; at = 0; first_mark = true; forgotten = false; first_turns = turns; last_turns = turns }) }
     {
         Ok(Records {
             ring: HeapCircularBuffer::with_capacity(alloc, most)?,
@@ -64,7 +65,9 @@ impl Records {
         ensures first_turns { self.new.first_turns ≡ self.old.first_turns }
         ensures last_turns { self.new.last_turns ≡ self.old.last_turns }
         ensures first_mark { self.new.first_mark ≡ (if nat_lt 0 self.old.at then self.old.first_mark else true) }
-        ensures ring { self.new.ring ≡ (if nat_lt 0 self.old.at then buffer (slice_set self.old.ring.items (self.old.at - 1) ((entry_at self.old.ring.items (self.old.at - 1)).0, true)) self.old.ring.capacity else self.old.ring) }
+        ensures ring { self.new.ring ≡ (if nat_lt 0 self.old.at
+            then buffer (slice_set self.old.ring.items (self.old.at - 1)
+            ((entry_at self.old.ring.items (self.old.at - 1)).0, true)) self.old.ring.capacity else self.old.ring) }
     {
         if self.at == 0 {
             self.first_mark = true;
@@ -107,11 +110,14 @@ impl Records {
         requires few { self.old.ring.capacity ≤ longest_history }
         requires within { length self.old.ring.items ≤ self.old.ring.capacity }
         requires turns { self.old.first_turns + spec_turns_of (entry_at self.old.ring.items 0).0.work ≤ turns }
-        ensures ring { self.new.ring ≡ buffer (keep_last self.old.ring.capacity (self.old.ring.items ++ (atom, false) ∷ [])) self.old.ring.capacity }
+        ensures ring { self.new.ring ≡ buffer
+            (keep_last self.old.ring.capacity (self.old.ring.items ++ (atom, false) ∷ [])) self.old.ring.capacity }
         ensures at { self.new.at ≡ (if nat_lt self.old.at self.old.ring.capacity then self.old.at + 1 else self.old.at) }
-        ensures first_mark { self.new.first_mark ≡ (if nat_lt self.old.at self.old.ring.capacity then self.old.first_mark else (entry_at self.old.ring.items 0).1) }
+        ensures first_mark { self.new.first_mark ≡ (if nat_lt self.old.at self.old.ring.capacity
+            then self.old.first_mark else (entry_at self.old.ring.items 0).1) }
         ensures forgotten { self.new.forgotten ≡ (self.old.forgotten || nat_lt self.old.ring.capacity (self.old.at + 1)) }
-        ensures first_turns { self.new.first_turns ≡ (if nat_lt self.old.at self.old.ring.capacity then self.old.first_turns else self.old.first_turns + spec_turns_of (entry_at self.old.ring.items 0).0.work) }
+        ensures first_turns { self.new.first_turns ≡ (if nat_lt self.old.at self.old.ring.capacity
+            then self.old.first_turns else self.old.first_turns + spec_turns_of (entry_at self.old.ring.items 0).0.work) }
         ensures last_turns { self.new.last_turns ≡ turns }
     {
         self.last_turns = turns;

@@ -28,8 +28,8 @@ impl<T: Tape> Model for Session<T> {
     ghost Value = { SessionValue };
 
     ghost view = { λ s. record {
-        state = record { history = T.history s.tape; limit = s.limit; memory = T.memory s.tape };
-        room = T.room s.tape;
+      state = record { history = T.history s.tape; limit = s.limit; memory = T.memory s.tape };
+      room = T.room s.tape;
     } };
 }
 
@@ -193,7 +193,8 @@ impl<T: Tape> Session<T> {
     /// Makes each call in order and appends its reply. Room for all replies is made first, and it fails only where that is
     /// wanting and refused; nothing is done then.
     pub fn apply_all(&mut self, calls: &[Call], out: &mut Vec<Reply>) -> Result<(), AllocError>
-        ensures ok { OnOk result ((replies : List (Result Standing Refusal)) × (out.new.items ≡ out.old.items ++ replies) × ScriptAnswers self.old.state calls.now replies self.new.state) }
+        ensures ok { OnOk result ((replies : List (Result Standing Refusal)) × (out.new.items ≡ out.old.items ++ replies)
+            × ScriptAnswers self.old.state calls.now replies self.new.state) }
         ensures enough { vec_len out.old + length calls.now ≤ vec_capacity out.old → IsOk result }
         ensures err { OnErr result ((self.new ≡ self.old) × (out.new.items ≡ out.old.items)) }
     {

@@ -85,7 +85,8 @@ pub trait Tape {
         requires last { (history self.old).after ≡ [] }
         requires room { 1 ≤ room self.old }
         requires runs { is_over_of (history self.old).present.state ≡ false }
-        ensures places { history self.new ≡ kept (memory self.old).most (append (history self.old) (turn_of (history self.old).present.state)) }
+        ensures places { history self.new ≡ kept (memory self.old).most
+            (append (history self.old) (turn_of (history self.old).present.state)) }
         ensures memory { memory self.new ≡ noted (memory self.old) (append (history self.old) (turn_of (history self.old).present.state)) }
         ensures room { room self.old ≤ room self.new + 1 };
 
@@ -94,8 +95,10 @@ pub trait Tape {
         requires last { (history self.old).after ≡ [] }
         requires room { 1 ≤ room self.old }
         requires accepted { edit_fault (history self.old).present.state edit ≡ None }
-        ensures places { history self.new ≡ kept (memory self.old).most (append (history self.old) (edited (history self.old).present.state edit)) }
-        ensures memory { memory self.new ≡ noted (memory self.old) (append (history self.old) (edited (history self.old).present.state edit)) }
+        ensures places { history self.new ≡ kept (memory self.old).most
+            (append (history self.old) (edited (history self.old).present.state edit)) }
+        ensures memory { memory self.new ≡ noted (memory self.old)
+            (append (history self.old) (edited (history self.old).present.state edit)) }
         ensures room { room self.old ≤ room self.new + 1 };
 
     /// Goes one place back, where there is one.

@@ -54,7 +54,8 @@ fn turn_on(copies: &mut Vec<Snapshot>, at: usize)
     requires next { at + 1 < vec_len copies.old }
     requires shapes { SameShape (snapshot_at copies.old.items at).battle (snapshot_at copies.old.items (at + 1)).battle }
     requires runs { is_over_of (snapshot_at copies.old.items at).battle ≡ false }
-    ensures { copies.new.items ≡ slice_set copies.old.items (at + 1) (record { battle = turn_of (snapshot_at copies.old.items at).battle; mark = false }) }
+    ensures { copies.new.items ≡ slice_set copies.old.items (at + 1)
+        (record { battle = turn_of (snapshot_at copies.old.items at).battle; mark = false }) }
 {
     copy_on(copies, at);
     let snapshot = &mut copies[at + 1];
@@ -66,7 +67,8 @@ fn edit_on(copies: &mut Vec<Snapshot>, at: usize, edit: Edit)
     requires next { at + 1 < vec_len copies.old }
     requires shapes { SameShape (snapshot_at copies.old.items at).battle (snapshot_at copies.old.items (at + 1)).battle }
     requires accepted { edit_fault (snapshot_at copies.old.items at).battle edit ≡ None }
-    ensures { copies.new.items ≡ slice_set copies.old.items (at + 1) (record { battle = edited (snapshot_at copies.old.items at).battle edit; mark = false }) }
+    ensures { copies.new.items ≡ slice_set copies.old.items (at + 1)
+        (record { battle = edited (snapshot_at copies.old.items at).battle edit; mark = false }) }
 {
     copy_on(copies, at);
     let snapshot = &mut copies[at + 1];

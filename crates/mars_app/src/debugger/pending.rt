@@ -38,8 +38,10 @@ impl Pending {
 
     /// Writes all that waits.
     pub fn write<W: Write>(&mut self, writer: &mut W) -> Result<(), WriteFault>
-        ensures ok { OnOk result ((old : Option (List ℕ)) (text : List ℕ) → Waits old (W.contents writer.old) self.old text → Appends old (W.contents writer.new) text) }
-        ensures err { OnErr result ((old : Option (List ℕ)) (text : List ℕ) → Waits old (W.contents writer.old) self.old text → CutShort old (W.contents writer.new) text) }
+        ensures ok { OnOk result ((old : Option (List ℕ)) (text : List ℕ) → Waits old (W.contents writer.old) self.old text
+            → Appends old (W.contents writer.new) text) }
+        ensures err { OnErr result ((old : Option (List ℕ)) (text : List ℕ) → Waits old (W.contents writer.old) self.old text
+            → CutShort old (W.contents writer.new) text) }
         ensures empty { OnOk result (self.new ≡ []) }
     {
         match write_text(writer, self.text.as_str().as_bytes()) {
@@ -53,8 +55,10 @@ impl Pending {
 
     /// Puts a line behind what waits, after that was written where there is no room for both.
     pub fn push<W: Write>(&mut self, writer: &mut W, line: &Line) -> Result<(), WriteFault>
-        ensures ok { OnOk result ((old : Option (List ℕ)) (text : List ℕ) → Waits old (W.contents writer.old) self.old text → Waits old (W.contents writer.new) self.new (text ++ line.now.bytes)) }
-        ensures err { OnErr result ((old : Option (List ℕ)) (text : List ℕ) → Waits old (W.contents writer.old) self.old text → CutShort old (W.contents writer.new) text) }
+        ensures ok { OnOk result ((old : Option (List ℕ)) (text : List ℕ) → Waits old (W.contents writer.old) self.old text
+            → Waits old (W.contents writer.new) self.new (text ++ line.now.bytes)) }
+        ensures err { OnErr result ((old : Option (List ℕ)) (text : List ℕ) → Waits old (W.contents writer.old) self.old text
+            → CutShort old (W.contents writer.new) text) }
     {
         if self.text.remaining_capacity() < line.len() {
             match self.write(writer) {

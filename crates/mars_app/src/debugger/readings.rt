@@ -87,8 +87,10 @@ fn write_processes<W: Write>(
     battle: &Battle,
     warrior: usize,
 ) -> Result<(), WriteFault>
-    ensures ok { OnOk result (Appends (W.contents writer.old) (W.contents writer.new) (flat_map process_text (queue_of battle.now.queues warrior))) }
-    ensures err { OnErr result (CutShort (W.contents writer.old) (W.contents writer.new) (flat_map process_text (queue_of battle.now.queues warrior))) }
+    ensures ok { OnOk result (Appends (W.contents writer.old) (W.contents writer.new)
+        (flat_map process_text (queue_of battle.now.queues warrior))) }
+    ensures err { OnErr result (CutShort (W.contents writer.old) (W.contents writer.new)
+        (flat_map process_text (queue_of battle.now.queues warrior))) }
 {
     let mut pending = Pending::new();
     for place in 0..battle.queue_len(warrior) {
@@ -164,8 +166,10 @@ fn warrior_line(battle: &Battle, warrior: usize) -> Line
 
 /// Writes the line of each warrior.
 fn write_warriors<W: Write>(writer: &mut W, battle: &Battle) -> Result<(), WriteFault>
-    ensures ok { OnOk result (Appends (W.contents writer.old) (W.contents writer.new) (texts (warrior_text battle.now) (length battle.now.queues))) }
-    ensures err { OnErr result (CutShort (W.contents writer.old) (W.contents writer.new) (texts (warrior_text battle.now) (length battle.now.queues))) }
+    ensures ok { OnOk result (Appends (W.contents writer.old) (W.contents writer.new)
+        (texts (warrior_text battle.now) (length battle.now.queues))) }
+    ensures err { OnErr result (CutShort (W.contents writer.old) (W.contents writer.new)
+        (texts (warrior_text battle.now) (length battle.now.queues))) }
 {
     for warrior in 0..battle.warriors() {
         let line = warrior_line(battle, warrior);

@@ -123,7 +123,8 @@ impl Battle {
     /// Changes the battle by hand, and gives the record of that. It fails with the first fault, as `edit_fault` tells it, and
     /// then changes nothing. A battle that is over may be edited, too; a dead warrior isn't revived. It takes no memory.
     pub fn edit(&mut self, edit: Edit) -> Result<Atom, EditFault>
-        ensures answer { MatchOption (spec_edit_fault self.old edit) (result ≡ Ok (edit_record self.old edit)) (λ fault. result ≡ Err fault) }
+        ensures answer { MatchOption (spec_edit_fault self.old edit) (result ≡ Ok (edit_record self.old edit))
+            (λ fault. result ≡ Err fault) }
         ensures state { MatchOption (spec_edit_fault self.old edit) (self.new ≡ edited self.old edit) (λ _. self.new ≡ self.old) }
         ensures leads { IfOk result (λ atom. Leads self.old atom self.new) }
     {

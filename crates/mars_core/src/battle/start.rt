@@ -54,7 +54,8 @@ impl Battle {
     ) -> Result<Battle, BattleFault>
         requires { length starts.now ≡ length warriors.now }
         ensures fault { IfSome (start_fault params.now warriors.now starts.now) (λ fault. result ≡ Err fault) }
-        ensures only_memory { start_fault params.now warriors.now starts.now ≡ None → IfErr result (λ fault. fault ≡ BattleFault.OutOfMemory) }
+        ensures only_memory { start_fault params.now warriors.now starts.now ≡ None
+            → IfErr result (λ fault. fault ≡ BattleFault.OutOfMemory) }
         ensures ok { IfOk result (λ battle. battle ≡ start_state params.now warriors.now starts.now) }
     {
         if let Some(fault) = find_fault(params, warriors, starts) {
@@ -84,7 +85,8 @@ impl Battle {
         requires starts { length starts.now ≡ length warriors.now }
         requires warriors { length warriors.now ≡ length self.old.queues }
         ensures answer { MatchOption (start_fault self.old.params warriors.now starts.now) (IsOk result) (λ fault. result ≡ Err fault) }
-        ensures state { MatchOption (start_fault self.old.params warriors.now starts.now) (self.new ≡ start_state self.old.params warriors.now starts.now) (λ _. self.new ≡ self.old) }
+        ensures state { MatchOption (start_fault self.old.params warriors.now starts.now)
+            (self.new ≡ start_state self.old.params warriors.now starts.now) (λ _. self.new ≡ self.old) }
     {
         if let Some(fault) = find_fault(&self.params, warriors, starts) {
             return Err(fault);
@@ -161,7 +163,8 @@ pub fn lay_all(
 ) -> Result<Vec<Cell>, AllocError>
     requires starts { length starts.now ≡ length warriors.now }
     requires inside { spec_fields_inside params.now.core_size warriors.now ≡ true }
-    ensures laid { IfOk result (λ core. core.items ≡ all_laid params.now.core_size warriors.now starts.now (replicate params.now.core_size empty_cell)) }
+    ensures laid { IfOk result (λ core. core.items
+        ≡ all_laid params.now.core_size warriors.now starts.now (replicate params.now.core_size empty_cell)) }
     ensures core { IfOk result (λ core. IsCore params.now.core_size core.items) }
 {
     let core_size = params.core_size();
@@ -219,7 +222,8 @@ pub fn first_queues(
     starts: &[u32],
 ) -> Result<Vec<ProcessQueue>, AllocError>
     requires starts { length starts.now ≡ length warriors.now }
-    ensures addresses { IfOk result (λ queues. addresses_of queues.items ≡ map (λ address. address ∷ []) (first_processes params.now.core_size warriors.now starts.now)) }
+    ensures addresses { IfOk result (λ queues. addresses_of queues.items
+        ≡ map (λ address. address ∷ []) (first_processes params.now.core_size warriors.now starts.now)) }
     ensures limits { IfOk result (λ queues. All (λ (q : Queue). q.limit ≡ params.now.processes) queues.items) }
 {
     let mut queues = Vec::with_capacity(alloc, warriors.len())?;
@@ -255,7 +259,8 @@ pub fn refill_queues(
     requires queues { length queues.old ≡ length warriors.now }
     requires limits { All (λ (q : Queue). q.limit ≡ params.now.processes) queues.old }
     requires some { 1 ≤ params.now.processes }
-    ensures addresses { addresses_of queues.new ≡ map (λ address. address ∷ []) (first_processes params.now.core_size warriors.now starts.now) }
+    ensures addresses { addresses_of queues.new
+        ≡ map (λ address. address ∷ []) (first_processes params.now.core_size warriors.now starts.now) }
     ensures limits { All (λ (q : Queue). q.limit ≡ params.now.processes) queues.new }
 {
     for i in 0..warriors.len() {

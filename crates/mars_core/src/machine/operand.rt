@@ -43,7 +43,8 @@ pub fn evaluate<const LIMITED: bool>(
     requires pc { pc < params.now.core_size }
     requires number { number < params.now.core_size }
     ensures written { noted core.new result.change ≡ (evaluated params.now (unwritten core.old) pc mode number).written }
-    ensures operand { result.operand ≡ addressed params.now.core_size pc (evaluated params.now (unwritten core.old) pc mode number).operand }
+    ensures operand { result.operand ≡ addressed params.now.core_size pc
+        (evaluated params.now (unwritten core.old) pc mode number).operand }
     ensures core { IsCore params.now.core_size core.new }
     ensures fits { IsAddressed params.now.core_size result.operand }
 {
@@ -138,7 +139,8 @@ fn predecrement<const LIMITED: bool>(
     requires pc { pc < params.now.core_size }
     requires number { number < params.now.core_size }
     ensures written { noted core.new result.change ≡ (predecremented params.now field (unwritten core.old) pc number).written }
-    ensures operand { result.operand ≡ addressed params.now.core_size pc (predecremented params.now field (unwritten core.old) pc number).operand }
+    ensures operand { result.operand ≡ addressed params.now.core_size pc
+        (predecremented params.now field (unwritten core.old) pc number).operand }
     ensures core { IsCore params.now.core_size core.new }
     ensures fits { IsAddressed params.now.core_size result.operand }
 {
@@ -165,7 +167,8 @@ fn postincrement<const LIMITED: bool>(
     requires pc { pc < params.now.core_size }
     requires number { number < params.now.core_size }
     ensures written { noted core.new result.change ≡ (postincremented params.now field (unwritten core.old) pc number).written }
-    ensures operand { result.operand ≡ addressed params.now.core_size pc (postincremented params.now field (unwritten core.old) pc number).operand }
+    ensures operand { result.operand ≡ addressed params.now.core_size pc
+        (postincremented params.now field (unwritten core.old) pc number).operand }
     ensures core { IsCore params.now.core_size core.new }
     ensures fits { IsAddressed params.now.core_size result.operand }
 {
@@ -223,7 +226,8 @@ fn address_through<const LIMITED: bool>(
 fn here(core_size: u32, core: &[Cell], pc: u32) -> AddressedOperand
     requires core { IsCore core_size core.now }
     requires pc { pc < core_size }
-    ensures value { result ≡ addressed core_size pc (record { read = 0; write = 0; copy = spec_cell_at core.now (spec_address_after core_size pc 0) }) }
+    ensures value { result ≡ addressed core_size pc
+        (record { read = 0; write = 0; copy = spec_cell_at core.now (spec_address_after core_size pc 0) }) }
     ensures fits { IsAddressed core_size result }
 {
     operand_at(core_size, core, 0, pc, pc)

@@ -73,7 +73,12 @@ impl ProcessQueue {
     /// Of the processes from a place on the first `count` go to the end, in one move within the ring's slice.
     fn rotate_from(&mut self, place: usize, count: usize)
         requires { place + count ≤ length self.old.addresses }
-        ensures { self.new ≡ record { addresses = take place self.old.addresses ++ (drop count (drop place self.old.addresses) ++ take count (drop place self.old.addresses)); limit = self.old.limit } }
+        ensures { self.new ≡ record {
+          addresses = take place self.old.addresses
+              ++ (drop count (drop place self.old.addresses)
+              ++ take count (drop place self.old.addresses));
+          limit = self.old.limit;
+        } }
     {
         let addresses = self.ring.make_contiguous();
         addresses[place..].rotate_left(count);

@@ -26,8 +26,10 @@ pub fn rewrite_cells(core: &mut [Cell], changes: &[CellChange])
 
 /// Makes the queue that the work changes what it is after it, where the work queues these addresses.
 pub fn renew_queue(queues: &mut [ProcessQueue], work: Work, queued: &[u32])
-    requires { (limit : ℕ) × All (λ (q : Contents). q.limit ≡ limit) queues.old × HasQueue (spec_warrior_of work) (CanRequeue limit work (length queued.now)) (addresses_of queues.old) }
-    ensures addresses { addresses_of queues.new ≡ with_queue (spec_warrior_of work) (queue_after_work work queued.now) (addresses_of queues.old) }
+    requires { (limit : ℕ) × All (λ (q : Contents). q.limit ≡ limit) queues.old
+        × HasQueue (spec_warrior_of work) (CanRequeue limit work (length queued.now)) (addresses_of queues.old) }
+    ensures addresses { addresses_of queues.new
+        ≡ with_queue (spec_warrior_of work) (queue_after_work work queued.now) (addresses_of queues.old) }
     ensures limits { (limit : ℕ) → All (λ (q : Contents). q.limit ≡ limit) queues.old → All (λ (q : Contents). q.limit ≡ limit) queues.new }
 {
     if let Some(warrior) = warrior_of(work) {

@@ -26,7 +26,8 @@ pub fn restore_cells(core: &mut [Cell], changes: &[CellChange])
 
 /// Makes the queue that the work changed what it was before, where the work queued `queued` addresses.
 pub fn restore_queue(queues: &mut [ProcessQueue], work: Work, queued: usize)
-    requires { (limit : ℕ) × All (λ (q : Contents). q.limit ≡ limit) queues.old × HasQueue (spec_warrior_of work) (CanRestore limit work queued) (addresses_of queues.old) }
+    requires { (limit : ℕ) × All (λ (q : Contents). q.limit ≡ limit) queues.old
+        × HasQueue (spec_warrior_of work) (CanRestore limit work queued) (addresses_of queues.old) }
     ensures addresses { addresses_of queues.new ≡ with_queue (spec_warrior_of work) (queue_before work queued) (addresses_of queues.old) }
     ensures limits { (limit : ℕ) → All (λ (q : Contents). q.limit ≡ limit) queues.old → All (λ (q : Contents). q.limit ≡ limit) queues.new }
 {

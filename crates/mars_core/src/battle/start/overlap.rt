@@ -53,7 +53,8 @@ fn meets_others(
 ) -> bool
     requires core_size { 1 ≤ core_size }
     requires starts { length starts.now ≡ length others.now }
-    ensures { result ≡ share (addresses_from core_size start (length warrior.now.cells)) (loaded_addresses core_size others.now starts.now) }
+    ensures { result ≡ share (addresses_from core_size start (length warrior.now.cells))
+        (loaded_addresses core_size others.now starts.now) }
 {
     let len = warrior.cells().len();
     for i in 0..others.len() {
