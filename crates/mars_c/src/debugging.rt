@@ -25,7 +25,8 @@ fn starts_of(alloc: Global, terms: &Terms, warriors: u32) -> Result<(Vec<u32>, u
     requires few { warriors ≤ most_warriors }
     requires position { FitsPosition terms.now.params warriors terms.now.plan.fixed }
     ensures many { IfOk result (λ placed. vec_len placed.0 ≡ warriors) }
-    ensures value { IfOk result (λ placed. placed_for terms.now.params warriors terms.now.plan.fixed terms.now.plan.seed ≡ Ok (placed.0.items, placed.1)) }
+    ensures value { IfOk result (λ placed. placed_for terms.now.params warriors terms.now.plan.fixed terms.now.plan.seed
+        ≡ Ok (placed.0.items, placed.1)) }
 {
     let Some(position) = terms.plan.fixed else {
         return match place(alloc, &terms.params, warriors, terms.plan.seed) {

@@ -30,6 +30,7 @@ fn meet(
     match table {
         Ok(table) => match table.rows.get(0) {
             Some(row) => Ok(MarsRow::of(row)),
+            // There are as many rows as warriors: this is never reached, and any refusal would do.
             None => Err(Refusal::OutOfMemory),
         },
         Err(fault) => Err(Refusal::from(fault)),

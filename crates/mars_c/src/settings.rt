@@ -57,7 +57,8 @@ fn limit(limit: u32, core: u32) -> u32
 
 /// The parameters of settings.
 pub fn parameters(settings: &MarsSettings) -> Result<Params, Refusal>
-    ensures { MatchResult result (λ p. checked_parameters (asked settings.now) ≡ Ok p) (λ _. IsErr (checked_parameters (asked settings.now))) }
+    ensures { MatchResult result (λ p. checked_parameters (asked settings.now) ≡ Ok p)
+        (λ _. IsErr (checked_parameters (asked settings.now))) }
 {
     let core = settings.core;
     match Params::new(
@@ -76,7 +77,8 @@ pub fn parameters(settings: &MarsSettings) -> Result<Params, Refusal>
 
 /// Judges the rounds and the seed.
 fn check_numbers(settings: &MarsSettings) -> Result<(), Refusal>
-    ensures { OnOk result ((1 ≤ settings.now.rounds) × (settings.now.rounds ≤ 100000) × (1 ≤ settings.now.seed) × (settings.now.seed ≤ 2147483646)) }
+    ensures { OnOk result ((1 ≤ settings.now.rounds) × (settings.now.rounds ≤ 100000) × (1 ≤ settings.now.seed)
+        × (settings.now.seed ≤ 2147483646)) }
 {
     if settings.rounds < 1 || settings.rounds > MOST_ROUNDS {
         return Err(Refusal::Settings(SettingsFault::Rounds));
