@@ -1,7 +1,6 @@
 -- Worked examples: EQU names and their lines, what counts as an instruction, limits of loops and names.
-use Rattle.std.specs.Prelude.{◌≡◌, ℕ, zero, suc, ◌+◌, List, [], ◌∷◌, ◌++◌, map, replicate, Result, Ok, Err, codes, decimal, refl}
+use Rattle.std.specs.Prelude.{◌≡◌, ℕ, zero, suc, ◌+◌, List, [], ◌∷◌, ◌++◌, map, replicate, Ok, Err, codes, decimal, refl}
 use Rattle.std.specs.Fmt.{digits}
-use Rattle.redcode_text.specs.declared.fault.TextFault.{TextFault}
 use Rattle.redcode_text.specs.declared.fault.TextProblem.TheVariants.{BadToken, Duplicate, EquDepth, TooLong}
 use Rattle.redcode_text.specs.Expression.{value_of, tree_within}
 use Rattle.redcode_text.specs.Expansion.{expansion}
