@@ -13,3 +13,4 @@ pub mod FreeNames
 pub mod Unplaced
 pub mod PrintedTokens
 pub mod PrintedCells
+pub mod PrintedLines
