@@ -14,3 +14,4 @@ pub mod Unplaced
 pub mod PrintedTokens
 pub mod PrintedCells
 pub mod PrintedLines
+pub mod LoadSources
