@@ -15,3 +15,4 @@ pub mod PrintedTokens
 pub mod PrintedCells
 pub mod PrintedLines
 pub mod LoadSources
+pub mod LoadAssembled
