@@ -147,7 +147,7 @@ op_part op.Slt rest = refl
 op_part op.Spl rest = refl
 op_part op.Nop rest = refl
 
-op_read : (o : Op) → op_of (op_name o) ≡ Some o
+pub op_read : (o : Op) → op_of (op_name o) ≡ Some o
 unfolding op_of
 op_read op.Dat = refl
 op_read op.Mov = refl
@@ -176,7 +176,7 @@ modifier_part modifier.F rest = refl
 modifier_part modifier.X rest = refl
 modifier_part modifier.I rest = refl
 
-modifier_read : (f : Modifier) → modifier_of (modifier_name f) ≡ Some f
+pub modifier_read : (f : Modifier) → modifier_of (modifier_name f) ≡ Some f
 unfolding modifier_of
 modifier_read modifier.A = refl
 modifier_read modifier.B = refl

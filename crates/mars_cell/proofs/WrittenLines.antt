@@ -65,7 +65,7 @@ each_goes_on : (line : List ℕ) → list_all is_plain line ≡ true → list_al
 each_goes_on [] h = refl
 each_goes_on (b ∷ line) h = let h' = both (is_plain b) (list_all is_plain line) h in rw (plain_goes_on b h'.0, each_goes_on line h'.1) refl
 
-plain_line : {line : List ℕ} → IsPlain line → IsLine line
+pub plain_line : {line : List ℕ} → IsPlain line → IsLine line
 plain_line {line} h = record { each = each_goes_on line h.each }
 
 lines_of-line : (line bs : List ℕ) → list_all goes_on line ≡ true → lines_of (line ++ 10 ∷ bs) ≡ line ∷ lines_of bs
@@ -156,7 +156,7 @@ cell_is_plain m c small fits =
     let head_and_a = append_is_plain (append_is_plain head (text_is_plain (codes " ") refl)) (operand_is_plain m c.a_mode c.a fits.a small) in
     append_is_plain (append_is_plain head_and_a (text_is_plain (codes ", ") refl)) (operand_is_plain m c.b_mode c.b fits.b small)
 
-origin_is_plain : (n : ℕ) → n < 2 ^ 64 → IsPlain (codes "ORG " ++ decimal n)
+pub origin_is_plain : (n : ℕ) → n < 2 ^ 64 → IsPlain (codes "ORG " ++ decimal n)
 origin_is_plain n h = append_is_plain (text_is_plain (codes "ORG ") refl) (text_is_plain (decimal n) (decimal_is_plain n h))
 
 -- ---- what the lines say
@@ -277,10 +277,10 @@ name_is_line (b ∷ bs) h = let h' = both (is_within 32 126 b) (list_all (is_wit
 behind_is_line : (word bs : List ℕ) → list_all goes_on word ≡ true → list_all goes_on bs ≡ true → IsLine (word ++ bs)
 behind_is_line word bs e h = record { each = rw (list_all-append goes_on word bs, e, h) refl }
 
-name_line : (word name : List ℕ) → list_all goes_on word ≡ true → IsName name → IsLine (word ++ name)
+pub name_line : (word name : List ℕ) → list_all goes_on word ≡ true → IsName name → IsLine (word ++ name)
 name_line word name e is = behind_is_line word name e (name_is_line name (each_printed name is.printed))
 
-size_line : (m : ℕ) → m ≤ largest_core → IsLine (codes ";load 2 " ++ decimal m)
+pub size_line : (m : ℕ) → m ≤ largest_core → IsLine (codes ";load 2 " ++ decimal m)
 size_line m most = behind_is_line (codes ";load 2 ") (decimal m) refl (each_goes_on (decimal m) (decimal_is_plain m (omega arith)))
 
 -- ---- the whole file
@@ -306,7 +306,7 @@ cell_lines : (m : ℕ) (cells : List Cell) → m < 2 ^ 32 → AllByRecursion (Fi
 cell_lines m [] small all = tt
 cell_lines m (c ∷ cells) small all = (plain_line (cell_is_plain m c small all.0), cell_lines m cells small all.1)
 
-by_recursion : (m : ℕ) (cells : List Cell) → All (FitsCore m) cells → AllByRecursion (FitsCore m) cells
+pub by_recursion : (m : ℕ) (cells : List Cell) → All (FitsCore m) cells → AllByRecursion (FitsCore m) cells
 by_recursion m [] all = tt
 by_recursion m (c ∷ cells) all = (all 0 c (omega arith), by_recursion m cells (λ k d inside. all (suc k) d (omega arith)))
 

@@ -13,3 +13,6 @@ pub mod FreeNames
 pub mod Unplaced
 pub mod PrintedTokens
 pub mod PrintedCells
+pub mod PrintedLines
+pub mod LoadSources
+pub mod LoadAssembled

@@ -149,7 +149,7 @@ each-stays r (t ∷ ts) few =
     ∙ each-stays one ts (omega (arith, few, length-append r.tokens (t ∷ [])))
     ∙ ap (λ l. Ok (record { tokens = l; count = r.count })) (append_assoc r.tokens (t ∷ []) ts)
 
-stays : (source : ProgramValue) (ts : List Token) → source.equates ≡ [] → length ts ≤ limit → replaced source ts ≡ Ok ts
+pub stays : (source : ProgramValue) (ts : List Token) → source.equates ≡ [] → length ts ≤ limit → replaced source ts ≡ Ok ts
 stays source ts none few =
     ap (λ es. texted (without_line (substitution es ts))) none
     ∙ ap (λ r. texted (without_line (r >>> λ q. Ok q.tokens))) (each-stays (record { tokens = []; count = 0 }) ts (omega (arith, few)))

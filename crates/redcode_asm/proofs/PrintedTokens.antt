@@ -27,12 +27,12 @@ use Rattle.redcode_asm.specs.Laws.{cell_kinds, number_kinds, operand_kinds, sign
 -- ---- words
 
 -- a word that is a name, whatever stands behind it
-record IsNameWord (word : List ℕ) : Type 0 where
+pub record IsNameWord (word : List ℕ) : Type 0 where
   pub letters : list_all is_word_byte word ≡ true
   pub digits : list_all is_ascii_digit word ≡ false
   pub first : begins_name word ≡ true
 
-op-word : (o : Op) → IsNameWord (op_name o)
+pub op-word : (o : Op) → IsNameWord (op_name o)
 op-word op.Dat = record { letters = refl; digits = refl; first = refl }
 op-word op.Mov = record { letters = refl; digits = refl; first = refl }
 op-word op.Add = record { letters = refl; digits = refl; first = refl }
@@ -50,7 +50,7 @@ op-word op.Slt = record { letters = refl; digits = refl; first = refl }
 op-word op.Spl = record { letters = refl; digits = refl; first = refl }
 op-word op.Nop = record { letters = refl; digits = refl; first = refl }
 
-modifier-word : (m : Modifier) → IsNameWord (modifier_name m)
+pub modifier-word : (m : Modifier) → IsNameWord (modifier_name m)
 modifier-word modifier.A = record { letters = refl; digits = refl; first = refl }
 modifier-word modifier.B = record { letters = refl; digits = refl; first = refl }
 modifier-word modifier.Ab = record { letters = refl; digits = refl; first = refl }
@@ -62,7 +62,7 @@ modifier-word modifier.I = record { letters = refl; digits = refl; first = refl 
 no-equal : (b : ℕ) → is_ascii_digit b ≡ true → nat_eq 61 b ≡ false
 no-equal b e = grind (arith, nat_tests)
 
-first-digit : (b : ℕ) (bs : List ℕ) → list_all is_ascii_digit (b ∷ bs) ≡ true → is_ascii_digit b ≡ true
+pub first-digit : (b : ℕ) (bs : List ℕ) → list_all is_ascii_digit (b ∷ bs) ≡ true → is_ascii_digit b ≡ true
 first-digit b bs e = go (is_ascii_digit b) e
   where
     go : (t : Bool) → (t && list_all is_ascii_digit bs) ≡ true → t ≡ true
@@ -81,7 +81,7 @@ mode-token names mode.BPredecrement b bs e = (60, refl, ap (λ (t : Bool). sign_
 mode-token names mode.APostincrement b bs e = (125, refl, refl, refl)
 mode-token names mode.BPostincrement b bs e = (62, refl, ap (λ (t : Bool). sign_found names (elim t as (λ _. Option Sign) [ true ↦ Some GreaterEqual | false ↦ None ]) (Some Greater)) (ap (λ t. t && true) e), refl)
 
-few-kinds : (m n : ℕ) → length (number_kinds m n) ≤ 2
+pub few-kinds : (m n : ℕ) → length (number_kinds m n) ≤ 2
 few-kinds m n = go (nat_le n (m / 2))
   where
     go : (t : Bool) → length (cond t (Number (pos n) ∷ []) (token.Sign Minus ∷ Number (pos (m - n)) ∷ [])) ≤ 2
@@ -89,7 +89,7 @@ few-kinds m n = go (nat_le n (m / 2))
     go false = omega arith
 
 module _ (line room : ℕ) (last : List TokenKind) (end : List (List ℕ)) where
-  word-leads : (word rest : List ℕ) (ks : List TokenKind) (names : List (List ℕ)) → IsNameWord word → begins_word rest ≡ false → length ks < room
+  pub word-leads : (word rest : List ℕ) (ks : List TokenKind) (names : List (List ℕ)) → IsNameWord word → begins_word rest ≡ false → length ks < room
       → Leads line room last end (ks ++ Name (name_index names word) ∷ []) (with_name names word) rest → Leads line room last end ks names (word ++ rest)
   word-leads [] rest ks names is ends few next = let bad = is.first in absurd (cc)
   word-leads (b ∷ bs) rest ks names is ends few next = name-leads line room last end b bs rest ks names is.letters is.digits is.first ends few next
@@ -130,10 +130,10 @@ module _ (line room : ℕ) (last : List TokenKind) (end : List (List ℕ)) where
           subst (Leads line room last end ks names) (sym (append_assoc (mode_name x) (codes "-" ++ decimal (m - n)) rest)) all
 
 -- the text of a cell, part by part
-text-is : (m : ℕ) (c : Cell) → cell_text m c ≡ op_name c.op ++ (46 ∷ (modifier_name c.modifier ++ (32 ∷ (operand_text m c.a_mode c.a ++ (44 ∷ 32 ∷ operand_text m c.b_mode c.b)))))
+pub text-is : (m : ℕ) (c : Cell) → cell_text m c ≡ op_name c.op ++ (46 ∷ (modifier_name c.modifier ++ (32 ∷ (operand_text m c.a_mode c.a ++ (44 ∷ 32 ∷ operand_text m c.b_mode c.b)))))
 text-is m c = simp append_assoc
 
-seen : (line room : ℕ) (last : List TokenKind) (end : List (List ℕ)) (r : Result Scanned TextProblem) → Seen line room last end r → (s : Scanned) × (r ≡ Ok s) × (kinds s.tokens ≡ last) × (s.names ≡ end)
+pub seen : (line room : ℕ) (last : List TokenKind) (end : List (List ℕ)) (r : Result Scanned TextProblem) → Seen line room last end r → (s : Scanned) × (r ≡ Ok s) × (kinds s.tokens ≡ last) × (s.names ≡ end)
 seen line room last end (Ok s) h = (s, refl, h.0, h.1)
 seen line room last end (Err e) h = absurd h
 

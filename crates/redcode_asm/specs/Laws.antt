@@ -1,5 +1,5 @@
 -- The laws of names, of load files and of score formulas.
-use Rattle.std.specs.Prelude.{◌≡◌, ⊤, ℕ, ◌-◌, ◌/◌, ◌^◌, ◌<◌, ◌≤◌, nat_le, if◌then◌else◌, ℤ, pos, List, [], ◌∷◌, ◌++◌, map, Some, Ok, IfErr, codes}
+use Rattle.std.specs.Prelude.{◌≡◌, ◌≢◌, ⊤, ℕ, ◌-◌, ◌/◌, ◌^◌, ◌<◌, ◌≤◌, nat_le, if◌then◌else◌, ℤ, pos, List, [], ◌∷◌, ◌++◌, length, map, All, Some, Ok, IfErr, codes}
 use Rattle.std.specs.Str.{str_eq_ignore_ascii_case}
 use Rattle.mars_cell.specs.declared.instruction.Cell.{Cell}
 use Rattle.mars_cell.specs.declared.instruction.Mode.{Mode}
@@ -7,7 +7,7 @@ use Rattle.mars_cell.specs.declared.instruction.Mode.TheVariants as mode
 use Rattle.mars_cell.specs.Cells.{FitsCore}
 use Rattle.mars_cell.specs.Load.{load}
 use Rattle.mars_cell.specs.Parameters.{Parameters, AreInRange}
-use Rattle.mars_cell.specs.Warriors.{WarriorValue}
+use Rattle.mars_cell.specs.Warriors.{WarriorValue, IsWarrior}
 use Rattle.mars_cell.specs.Text.{cell_text}
 use Rattle.mars_cell.specs.Words.{op_name, op_of, modifier_name, modifier_of}
 use Rattle.mars_cell.specs.Written.{load_text}
@@ -23,7 +23,7 @@ use Rattle.redcode_text.specs.declared.token.TokenKind.TheVariants as token
 use Rattle.redcode_text.specs.Equates.{Equate}
 use Rattle.redcode_text.specs.Expression.{kinds}
 use Rattle.redcode_text.specs.Expansion.{ProgramValue, expansion}
-use Rattle.redcode_text.specs.Lines.{Assert, Line, Predefined, name_at, predefined_value, with_current_line}
+use Rattle.redcode_text.specs.Lines.{Assert, Line, Predefined, directive_value, name_at, predefined_value, with_current_line}
 use Rattle.redcode_asm.specs.Assembly.{Placed, assembly, cell_of, predefined, warrior_of}
 use Rattle.redcode_asm.specs.Formula.{formula_of, score_of}
 
@@ -118,3 +118,10 @@ abbrev pub CellIsAssembled : Type 0
 CellIsAssembled = (ps : Predefined) (m : ℕ) (c : Cell) (source : ProgramValue) (p : Placed) (opcode suffix : ℕ) → m < 2 ^ 32 → FitsCore m c → source.equates ≡ []
     → p.line.operation ≡ Some opcode → op_of (name_at source.names opcode) ≡ Some c.op → modifier_of (name_at source.names suffix) ≡ Some c.modifier
     → Name opcode ∷ kinds p.line.rest ≡ cell_kinds m c opcode suffix → cell_of ps m source p ≡ Ok c
+
+-- The load file of a warrior is a source of that warrior, where its names are what `;name` and `;author` give of them: not empty, and without a
+-- blank at either end. Each cell is at most ten tokens and the start two, so 6,553 cells are the most that stay within 65,536 tokens.
+abbrev pub LoadFileIsSource : Type 0
+LoadFileIsSource = (p : Parameters) (rounds warriors : ℕ) (w : WarriorValue) → AreInRange p → IsWarrior w → length w.cells ≤ p.max_length → length w.cells ≤ 6553
+    → All (FitsCore p.core_size) w.cells → w.name ≢ [] → directive_value w.name ≡ w.name → w.author ≢ [] → directive_value w.author ≡ w.author
+    → assembly p rounds warriors (load_text p.core_size w) ≡ Ok w

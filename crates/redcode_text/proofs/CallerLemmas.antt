@@ -1,4 +1,5 @@
--- What the crates above may cite of values, replacements, the spelling of trees and the words that a name may be, whose definitions they don't see into.
+-- What the crates above may cite of values, replacements, the spelling of trees, the words that a name may be, and lines that are read one after
+-- another, whose definitions they don't see into.
 use Rattle.std.specs.Bool.{⊤}
 use Rattle.std.proofs.lemmas.List.{length-map, map-append}
 use Rattle.std.proofs.Common.{◌≡◌, ◌∙◌, ℕ, zero, suc, ◌+◌, ℤ, pos, List, [], ◌∷◌, ◌++◌, length, Bool, true, false, nat_le, Option, Some, None, Result, Ok, Err, refl, ap, sym, subst, arith}
@@ -18,6 +19,10 @@ use Rattle.redcode_text.proofs.Evaluates.{evaluates, value_of-misshapen}
 pub use Rattle.redcode_text.proofs.PrintedNames.{program-printed}
 pub use Rattle.redcode_text.proofs.Moved.{kinds-moved, moved_tokens, substitution-moved}
 use Rattle.redcode_text.proofs.Moved.{only_tokens, only-tokens, without-lines}
+pub use Rattle.redcode_text.proofs.HeadLines.{author-read, code-whole, load-read, name-read, start-kind}
+pub use Rattle.redcode_text.proofs.KeptNames.{KeepNames, named-with, with-keeps}
+pub use Rattle.redcode_text.proofs.LineRead.{line_more, operation-read, operation_more}
+pub use Rattle.redcode_text.proofs.PlainRows.{IsPlain, all-read, each_row, ended, plain-tree, row-read}
 pub use Rattle.redcode_text.proofs.TokensRead.{Leads, Seen, blank-leads, decimal-is, end-leads, name-leads, number-leads, token-leads}
 pub use Rattle.redcode_text.proofs.Trees.{spelling, is_prefix, IsLevelled, rank-≤5}
 pub use Rattle.redcode_text.proofs.Shapes.{shaped}

@@ -42,3 +42,7 @@ pub mod PrintedNames
 pub mod BehindEnd
 pub mod Moved
 pub mod TokensRead
+pub mod PlainRows
+pub mod KeptNames
+pub mod LineRead
+pub mod HeadLines

@@ -1,0 +1,5 @@
+use Rattle.redcode_asm.proofs.LoadAssembled.{load-source}
+use Rattle.redcode_asm.proofs.laws.load_file_is_source.Goals as goal
+
+pub returns : goal.returns
+returns c = load-source
