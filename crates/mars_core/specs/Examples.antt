@@ -1,6 +1,7 @@
 -- Worked examples, as theorems: the check computes what the definitions give. Here are the words that they are told in.
 pub mod Edits
 pub mod Apart
+pub mod Reach
 pub mod Ends
 pub mod Starts
 pub mod Turns

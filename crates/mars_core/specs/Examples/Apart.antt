@@ -1,5 +1,5 @@
 -- Two imps out of each other's reach: each keeps to its half of the core, and fights as it would alone.
-use Rattle.std.specs.Prelude.{◌≡◌, ◌⊎◌, ℕ, zero, suc, ◌+◌, ◌/◌, ◌%◌, ◌<◌, ◌≤◌, ◌==◌, Bool, true, List, [], ◌∷◌, refl}
+use Rattle.std.specs.Prelude.{◌≡◌, ◌⊎◌, ℕ, zero, suc, ◌+◌, ◌/◌, ◌%◌, ◌<◌, ◌≤◌, ◌==◌, Bool, true, List, [], ◌∷◌, None, refl}
 use Rattle.std.proofs.Common.{suc-le-suc, ap, subst, sym, ◌∙◌, inl, inr}
 use Rattle.std.proofs.Math.Arith.{le-zero}
 use Rattle.std.proofs.Math.Nat.{le_of_suc-le-suc, not-suc-le-zero, not-le_of_lt}
@@ -10,6 +10,8 @@ use Rattle.mars_cell.specs.declared.instruction.Op.TheVariants.{Mov}
 use Rattle.mars_cell.specs.declared.instruction.Modifier.TheVariants.{I}
 use Rattle.mars_cell.specs.declared.instruction.Mode.TheVariants.{Direct}
 use Rattle.mars_cell.specs.Cells.{empty_cell}
+use Rattle.mars_cell.specs.Warriors.{WarriorValue}
+use Rattle.mars_core.specs.Start.{start_fault, start_state}
 use Rattle.mars_core.specs.State.{State, cell_at, queue_of}
 use Rattle.mars_core.specs.Addresses.{address_after}
 use Rattle.mars_core.specs.Turn.{after_turns}
@@ -32,6 +34,18 @@ two_imps = battle_of (sizes 8 8 1 2) core ((0 ∷ []) ∷ (4 ∷ []) ∷ [])
 -- the second one, alone in a core without the first
 abbrev lone_imp : State
 lone_imp = lone (sizes 8 8 1 2) (empty_cell ∷ empty_cell ∷ empty_cell ∷ empty_cell ∷ imp ∷ empty_cell ∷ empty_cell ∷ empty_cell ∷ []) (4 ∷ [])
+
+-- a warrior of that one cell
+abbrev imp_alone : WarriorValue
+imp_alone = record { name = []; author = []; cells = imp ∷ []; start = 0 }
+
+-- so these battles start, and their states are valid
+pub so_they_start :
+    (start_state (sizes 8 8 1 2) (imp_alone ∷ imp_alone ∷ []) (0 ∷ 4 ∷ []) ≡ two_imps)
+    × (start_fault (sizes 8 8 1 2) (imp_alone ∷ imp_alone ∷ []) (0 ∷ 4 ∷ []) ≡ None)
+    × (start_state (sizes 8 8 1 2) (imp_alone ∷ []) (4 ∷ []) ≡ lone_imp)
+unfolding the_machine
+so_they_start = (refl, refl, refl)
 
 -- the address is in the half of the core
 abbrev is_in_half : ℕ → ℕ → Bool
