@@ -1,4 +1,5 @@
 -- What a reader of the contracts has to believe, in this order; Examples has worked examples of it.
+pub mod Bytes
 pub mod Tokens
 pub mod Expression
 pub mod Source
