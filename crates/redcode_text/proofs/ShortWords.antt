@@ -9,7 +9,8 @@ use Rattle.std.specs.Str.{bytes_eq, str_eq_ignore_ascii_case, str_to_ascii_lower
 use Rattle.std.proofs.lemmas.List.{length-map}
 use Rattle.std.proofs.lemmas.Slice.Eq.{bytes_eq-Decides}
 use Rattle.redcode_text.specs.declared.names.predefined.PredefinedNames.{PredefinedNames}
-use Rattle.redcode_text.specs.Lines.{Predefined, operations, predefined_value, short, with_current_line}
+use Rattle.redcode_text.specs.Lines.{Predefined, operations, predefined_value, with_current_line}
+use Rattle.redcode_text.specs.ShortNames.{short}
 use Rattle.redcode_text.specs.Views.{predefined_of}
 
 -- whether a word has 1 to 255 bytes

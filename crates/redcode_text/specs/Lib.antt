@@ -8,6 +8,7 @@ pub mod Lines
 pub mod Expansion
 pub mod Programs
 pub mod Views
+pub mod ShortNames
 pub mod Outcomes
 pub mod Laws
 pub mod Examples

@@ -1,5 +1,5 @@
 -- What a line adds to all that has been read.
-use Rattle.std.specs.Prelude.{ℕ, zero, suc, ◌+◌, ◌-◌, List, [], ◌∷◌, ◌++◌, length, drop, take, map, filter, reverse, Bool, true, false, not, ◌&&◌, ◌||◌, ℤ, pos, Option, Some, None, Result, Ok, Err, nat_lt, nat_le, ◌==◌, codes, is_some, unwrap_or, slice_get, if◌then◌else◌}
+use Rattle.std.specs.Prelude.{ℕ, zero, suc, ◌+◌, ◌-◌, List, [], ◌∷◌, ◌++◌, length, drop, take, map, filter, reverse, Bool, true, false, not, ◌&&◌, ◌||◌, ℤ, pos, Option, Some, None, Result, Ok, Err, nat_lt, nat_le, ◌==◌, codes, is_some, unwrap_or, slice_get}
 use Rattle.std.specs.List.{list_any}
 use Rattle.std.specs.Str.{bytes_eq, str_eq_ignore_ascii_case}
 use Rattle.redcode_text.specs.declared.token.Token.{Token}
@@ -64,14 +64,6 @@ with_current_line ps instructions = (codes "CURLINE", pos instructions) ∷ ps
 -- the bytes of a name, by its index
 abbrev pub name_at : List (List ℕ) → ℕ → List ℕ
 name_at names n = unwrap_or (slice_get names n) []
-
--- a name of fewer than 256 bytes, since no longer one is a word that means something
-abbrev pub short : List ℕ → List ℕ
-short name = if nat_lt (length name) 256 then name else []
-
--- the bytes of a name of fewer than 256 bytes, by its index
-abbrev pub word_at : List (List ℕ) → ℕ → List ℕ
-word_at names n = short (name_at names n)
 
 abbrev pub is_predefined : Predefined → Reading → ℕ → Bool
 is_predefined ps st n = is_some (predefined_value (with_current_line ps 0) (name_at st.names n))
