@@ -4,6 +4,7 @@ use Rattle.std.specs.Prelude.{pos, negsuc, ◌^◌, nat_lt, neg_ℤ, ◌+ℤ◌,
 use Rattle.std.specs.Ordering.{int_eq}
 use Rattle.std.specs.List.{list_all}
 use Rattle.std.specs.Str.{bytes_eq}
+use Rattle.std.proofs.lemmas.Bool.{and_parts}
 use Rattle.std.proofs.lemmas.List.Folds.{list_all-append}
 use Rattle.redcode_text.specs.declared.token.Sign.{Sign}
 use Rattle.redcode_text.specs.declared.token.Sign.TheVariants.{Equal, NotEqual, LessEqual, GreaterEqual, And, Or, Plus, Minus, Star, Slash, Percent, Bang, Less, Greater}
@@ -72,23 +73,15 @@ known-by : (o : Option ℤ) → is_some o ≡ true → HasValue (known o)
 known-by (Some v) h = tt
 known-by None h = cc
 
-left-true : (a b : Bool) → (a && b) ≡ true → a ≡ true
-left-true true b h = refl
-left-true false b h = h
-
-right-true : (a b : Bool) → (a && b) ≡ true → b ≡ true
-right-true true b h = h
-right-true false b h = cc
-
 fronts-stand : (names : ℕ → Option ℤ) (xs ys : List TokenKind) → list_all (stands names) (xs ++ ys) ≡ true → list_all (stands names) xs ≡ true
-fronts-stand names xs ys h = left-true _ (list_all (stands names) ys) (sym (list_all-append (stands names) xs ys) ∙ h)
+fronts-stand names xs ys h = (and_parts _ (list_all (stands names) ys) (sym (list_all-append (stands names) xs ys) ∙ h)).0
 
 backs-stand : (names : ℕ → Option ℤ) (xs ys : List TokenKind) → list_all (stands names) (xs ++ ys) ≡ true → list_all (stands names) ys ≡ true
-backs-stand names xs ys h = right-true (list_all (stands names) xs) _ (sym (list_all-append (stands names) xs ys) ∙ h)
+backs-stand names xs ys h = (and_parts (list_all (stands names) xs) _ (sym (list_all-append (stands names) xs ys) ∙ h)).1
 
 tree-value : (names : ℕ → Option ℤ) (t : Tree) → IsLevelled t → list_all (stands names) (spelling t) ≡ true → HasValue (value names t)
 tree-value names (Numeral n) l h = tt
-tree-value names (Named n) l h = known-by (names n) (left-true (is_some (names n)) true h)
+tree-value names (Named n) l h = known-by (names n) (and_parts (is_some (names n)) true h).0
 tree-value names (Parens t) l h = tree-value names t l (fronts-stand names (spelling t) _ h)
 tree-value names (Unary s t) l h = bind-value (value names t) (λ v. unary s v) (tree-value names t l.2 h) (λ v. unary-value s v l.0)
 tree-value names (Binary a s b) l h =

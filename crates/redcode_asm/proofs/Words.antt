@@ -3,7 +3,7 @@ use Rattle.std.proofs.Common.{◌≡◌, ℕ, List, Bool, true, false, ◌||◌,
 use Rattle.std.specs.List.{find}
 use Rattle.std.specs.Str.{str_eq_ignore_ascii_case}
 use Rattle.mars_cell.specs.Words.{modifier_name, modifier_of, modifiers, op_name, op_of, ops}
-use Rattle.redcode_text.specs.Lines.{short}
+use Rattle.redcode_text.specs.ShortNames.{short}
 use Rattle.redcode_text.proofs.CallerLemmas.{find-same, name-same, spelled-same}
 use Rattle.redcode_asm.specs.Formula.{is_variable}
 

@@ -92,7 +92,7 @@ like-bind (Ok r) (Err e) f g h k = absurd h
 like-bind (Err e) (Ok s) f g h k = absurd h
 like-bind (Err e) (Err d) f g h k = h
 
-length-kinds : (ts us : List Token) → kinds ts ≡ kinds us → length ts ≡ length us
+pub length-kinds : (ts us : List Token) → kinds ts ≡ kinds us → length ts ≡ length us
 length-kinds ts us e = sym (length-map ts (λ t. t.kind)) ∙ ap length e ∙ length-map us (λ t. t.kind)
 
 kept-like : (r s : Replaced) (t u : Token) → Like r s → t.kind ≡ u.kind → LikeResult (kept r t) (kept s u)

@@ -62,12 +62,13 @@ prefix-moves st OpenParen h = cc
 prefix-moves st Plus h = refl
 prefix-moves st _ h = refl
 
-operator-reach : (s : Sign) → 0 < precedence s → reach s ≡ precedence s
+-- an operator reaches as far as its own level, and waits with the value before it
+pub operator-reach : (s : Sign) → 0 < precedence s → reach s ≡ precedence s
 operator-reach CloseParen h = absurd (omega arith)
 operator-reach Plus h = refl
 operator-reach _ h = refl
 
-operator-placed : (s : Sign) (v : ℤ) (stack : List Waiting) → 0 < precedence s → placed s v stack ≡ Ok (wants v (Left v s ∷ stack) [])
+pub operator-placed : (s : Sign) (v : ℤ) (stack : List Waiting) → 0 < precedence s → placed s v stack ≡ Ok (wants v (Left v s ∷ stack) [])
 operator-placed CloseParen v stack h = absurd (omega arith)
 operator-placed Plus v stack h = refl
 operator-placed _ v stack h = refl

@@ -2,13 +2,12 @@
 use Rattle.std.proofs.Common.{◌≡◌, ℕ, ◌<◌, ◌≤◌, List, ◌∷◌, [], arith, Ok, Err, refl, ap, sym, subst, ◌∙◌, ℤ, ◌-◌, take, drop, slice_range, false}
 use Rattle.redcode_text.specs.declared.token.Token.{Token}
 use Rattle.redcode_text.specs.declared.token.Sign.{Sign}
-use Rattle.redcode_text.specs.declared.token.Sign.TheVariants.{Plus, CloseParen}
 use Rattle.redcode_text.specs.declared.fault.ExprFault.{ExprFault}
 use Rattle.redcode_text.specs.declared.expression.evaluation.Pending.{Pending}
 use Rattle.redcode_text.specs.declared.expression.evaluation.Pending.TheVariants.{Value, Open}
 use Rattle.redcode_text.specs.Expression.{◌>>=◌, precedence, binary, kinds}
-use Rattle.redcode_text.specs.Code.Climbing.{Waiting, Left, wants, reach, placed, reduced, waiting_all, AreInside, StaysAt}
-use Rattle.redcode_text.proofs.Climbs.{reduced-tighter, reduced-looser}
+use Rattle.redcode_text.specs.Code.Climbing.{Waiting, Left, reach, placed, reduced, waiting_all, AreInside, StaysAt}
+use Rattle.redcode_text.proofs.Climbs.{operator-placed, operator-reach, reduced-looser, reduced-tighter}
 
 pub reduced-pop : (ts : List Token) (k : ℕ) (u v w : ℤ) (s : Sign) (old new : List Pending) → old ≡ Value u s ∷ new → precedence s ≤ k → binary s u v ≡ Ok w → reduced k (waiting_all ts old) v ≡ reduced k (waiting_all ts new) w
 reduced-pop ts k u v w s old new e le b =
@@ -29,16 +28,6 @@ inside-pop n u s old new e h = let P : List Pending → Type 0 = AreInside n in 
 -- no tokens stand between a place and itself
 pub none-between : (ts : List Token) (n : ℕ) → kinds (slice_range ts n n) ≡ []
 none-between ts n = ap (λ k. kinds (take k (drop n ts))) (let e : n - n ≡ 0 = omega arith in e)
-
-operator-reach : (s : Sign) → 0 < precedence s → reach s ≡ precedence s
-operator-reach CloseParen h = absurd (omega arith)
-operator-reach Plus h = refl
-operator-reach _ h = refl
-
-operator-placed : (s : Sign) (v : ℤ) (stack : List Waiting) → 0 < precedence s → placed s v stack ≡ Ok (wants v (Left v s ∷ stack) [])
-operator-placed CloseParen v stack h = absurd (omega arith)
-operator-placed Plus v stack h = refl
-operator-placed _ v stack h = refl
 
 pub operate-ok : (ts : List Token) (at : ℕ) (s : Sign) (v w : ℤ) (old new : List Waiting) → 0 < precedence s → reduced (precedence s) old v ≡ Ok (w, new)
     → (reduced (reach s) old v >>= λ r. placed s r.0 r.1) ≡ Ok (record { stack = Left w s ∷ new; signs = kinds (slice_range ts at at); value = w; after = false })

@@ -5,7 +5,7 @@ use Rattle.std.specs.Char.{is_ascii, is_ascii_digit}
 use Rattle.std.specs.List.{list_all, list_any}
 use Rattle.std.specs.Str.Parse.{digits_value}
 use Rattle.std.proofs.Math.Seq.{take-append_seam}
-use Rattle.std.proofs.lemmas.Bool.{lt-ltb}
+use Rattle.std.proofs.lemmas.Bool.{and_parts, lt-ltb}
 use Rattle.std.proofs.lemmas.Bool.Decides.{nat_tests}
 use Rattle.std.proofs.lemmas.Fmt.{decimal_nonempty, digits_decimal, digits_value-decimal}
 use Rattle.std.proofs.lemmas.Str.Parse.{IsNumeralModel, numerals_by_value}
@@ -23,10 +23,6 @@ use Rattle.redcode_text.proofs.WordSteps.{word_len-none}
 
 -- ---- words
 
-both : (a b : Bool) → (a && b) ≡ true → (a ≡ true) × (b ≡ true)
-both true b e = (refl, e)
-both false b e = cc
-
 either : (a b : Bool) → a ≡ true → (a || b) ≡ true
 either true b e = refl
 either false b e = cc
@@ -39,7 +35,7 @@ no-join b e = grind (arith, nat_tests)
 
 no-joins : (word : List ℕ) → list_all is_word_byte word ≡ true → list_any (λ b. b == 38) word ≡ false
 no-joins [] e = refl
-no-joins (b ∷ bs) e = let l = both (is_word_byte b) (list_all is_word_byte bs) e in rw (no-join b l.0) (no-joins bs l.1)
+no-joins (b ∷ bs) e = let l = and_parts (is_word_byte b) (list_all is_word_byte bs) e in rw (no-join b l.0) (no-joins bs l.1)
 
 ascii-byte : (b : ℕ) → is_word_byte b ≡ true → is_ascii b ≡ true
 ascii-byte b e = grind (arith, nat_tests)
@@ -50,14 +46,14 @@ not-blank b e = grind (arith, nat_tests)
 whole-word : (word rest : List ℕ) → list_all is_word_byte word ≡ true → begins_word rest ≡ false → word_len (word ++ rest) ≡ length word
 whole-word [] rest e ends = word_len-none rest ends
 whole-word (b ∷ bs) rest e ends =
-    let l = both (is_word_byte b) (list_all is_word_byte bs) e in
+    let l = and_parts (is_word_byte b) (list_all is_word_byte bs) e in
     ap (λ (t : Bool). elim t as (λ _. ℕ) [ true ↦ word_len (bs ++ rest) + 1 | false ↦ 0 ]) (begins b (bs ++ rest) l.0) ∙ omega (arith, whole-word bs rest l.1 ends)
 
 -- a word at the front is the token
 word-at : (names : List (List ℕ)) (b : ℕ) (bs rest : List ℕ) → list_all is_word_byte (b ∷ bs) ≡ true → begins_word rest ≡ false
     → token_at [] names (b ∷ (bs ++ rest)) ≡ plain_word_found names (length (b ∷ bs)) (b ∷ bs)
 word-at names b bs rest e ends =
-    let l = both (is_word_byte b) (list_all is_word_byte bs) e in
+    let l = and_parts (is_word_byte b) (list_all is_word_byte bs) e in
     let word : take (word_len (b ∷ (bs ++ rest))) (b ∷ (bs ++ rest)) ≡ b ∷ bs = ap (λ n. take n (b ∷ (bs ++ rest))) (whole-word (b ∷ bs) rest e ends) ∙ take-append_seam (b ∷ bs) rest in
     front (is_ascii b) (begins_word (b ∷ (bs ++ rest))) (ascii-byte b l.0) (begins b (bs ++ rest) l.0)
     ∙ ap (word_token [] names) word
@@ -113,7 +109,7 @@ module _ (line room : ℕ) (last : List TokenKind) (end : List (List ℕ)) where
   pub name-leads : (b : ℕ) (bs rest : List ℕ) (ks : List TokenKind) (names : List (List ℕ)) → list_all is_word_byte (b ∷ bs) ≡ true → list_all is_ascii_digit (b ∷ bs) ≡ false → begins_name (b ∷ bs) ≡ true
       → begins_word rest ≡ false → length ks < room → Leads (ks ++ Name (name_index names (b ∷ bs)) ∷ []) (with_name names (b ∷ bs)) rest → Leads ks names (b ∷ (bs ++ rest))
   name-leads b bs rest ks names word digits first ends few next =
-      token-leads b bs rest (Name (name_index names (b ∷ bs))) ks names (with_name names (b ∷ bs)) (not-blank b (both (is_word_byte b) (list_all is_word_byte bs) word).0) few
+      token-leads b bs rest (Name (name_index names (b ∷ bs))) ks names (with_name names (b ∷ bs)) (not-blank b (and_parts (is_word_byte b) (list_all is_word_byte bs) word).0) few
       (word-at names b bs rest word ends ∙ is (list_all is_ascii_digit (b ∷ bs)) (begins_name (b ∷ bs)) digits first) next
     where
       is : (d n : Bool) → d ≡ false → n ≡ true
@@ -128,7 +124,7 @@ module _ (line room : ℕ) (last : List TokenKind) (end : List (List ℕ)) where
 digits-are-word : (ds : List ℕ) → list_all is_ascii_digit ds ≡ true → list_all is_word_byte ds ≡ true
 digits-are-word [] e = refl
 digits-are-word (d ∷ ds) e =
-    let l = both (is_ascii_digit d) (list_all is_ascii_digit ds) e in
+    let l = and_parts (is_ascii_digit d) (list_all is_ascii_digit ds) e in
     let one : is_word_byte d ≡ true = grind (arith, nat_tests, l) in
     rw one (digits-are-word ds l.1)
 
@@ -161,5 +157,5 @@ module _ (line room : ℕ) (last : List TokenKind) (end : List (List ℕ)) where
       ∙ ap (λ v. number_kind v >>= λ kind. Ok (record { kind = kind; len = length (d.first ∷ d.others); names = names })) value
       ∙ ap (λ t. cond t (Ok (Number (pos n))) (Err BadToken) >>= λ kind. Ok (record { kind = kind; len = length (d.first ∷ d.others); names = names })) (lt-ltb n (2 ^ 63) small) in
       subst (λ l. Leads line room last end ks names (l ++ rest)) (sym d.is)
-      (token-leads line room last end d.first d.others rest (Number (pos n)) ks names names (not-blank d.first (both (is_word_byte d.first) (list_all is_word_byte d.others) word).0) few
+      (token-leads line room last end d.first d.others rest (Number (pos n)) ks names names (not-blank d.first (and_parts (is_word_byte d.first) (list_all is_word_byte d.others) word).0) few
       (word-at names d.first d.others rest word ends ∙ found) next)

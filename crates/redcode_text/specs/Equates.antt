@@ -1,6 +1,5 @@
 -- EQU names, and tokens with EQU names replaced.
-use Rattle.std.specs.Prelude.{ℕ, zero, suc, ◌+◌, List, [], ◌∷◌, ◌++◌, length, Bool, true, false, Option, Some, None, Result, Ok, Err, is_some, nat_le, ◌==◌}
-use Rattle.std.specs.List.{list_any}
+use Rattle.std.specs.Prelude.{ℕ, zero, suc, ◌+◌, List, [], ◌∷◌, ◌++◌, length, true, false, Option, Some, None, Result, Ok, Err, nat_le, ◌==◌}
 use Rattle.redcode_text.specs.declared.token.Token.{Token}
 use Rattle.redcode_text.specs.declared.token.TokenKind.{TokenKind}
 use Rattle.redcode_text.specs.declared.token.TokenKind.TheVariants.{Name}
@@ -76,10 +75,6 @@ abbrev pub each_replaced_at_line : List Equate → Replaced → List Token → R
 each_replaced_at_line equates r [] = Ok r
 each_replaced_at_line equates r (t ∷ ts) =
     at_line t.line (replaced_token (replacing depth_limit equates) r t (token_lines equates t.kind)) >>> λ s. each_replaced_at_line equates s ts
-
--- whether an EQU name is among tokens
-abbrev pub has_equate : List Equate → List Token → Bool
-has_equate equates ts = list_any (λ t. is_some (token_lines equates t.kind)) ts
 
 -- tokens with each EQU name replaced
 abbrev pub substitution : List Equate → List Token → Result (List Token) TextFault

@@ -22,9 +22,13 @@ has_label ps st [] = false
 has_label ps st (Name n ∷ ks) = not (is_predefined ps st n) || has_label ps st ks
 has_label ps st (_ ∷ ks) = has_label ps st ks
 
--- a count is a value from 0 to 10,000
+-- how often a loop may be read
+abbrev pub count_limit : ℕ
+count_limit = 10000
+
+-- a count is a value from 0 to the limit
 abbrev pub as_count : Result ℤ ExprFault → Result ℕ TextProblem
-as_count (Ok (pos n)) = elim (nat_le n 10000) [ true ↦ Ok n | false ↦ Err BadCount ]
+as_count (Ok (pos n)) = elim (nat_le n count_limit) [ true ↦ Ok n | false ↦ Err BadCount ]
 as_count (Ok (negsuc n)) = Err BadCount
 as_count (Err e) = Err (Expression e)
 
@@ -45,8 +49,12 @@ abbrev pub counter_name : Reading → Option ℕ → Option (List ℕ)
 counter_name st (Some n) = Some (name_at st.names n)
 counter_name st None = None
 
+-- how many loops may be open
+abbrev pub loop_limit : ℕ
+loop_limit = 32
+
 abbrev pub room_for_loop : Reading → Result Reading TextProblem
-room_for_loop st = elim (nat_le 32 (length st.loops)) [ true ↦ Err TooLong | false ↦ Ok st ]
+room_for_loop st = elim (nat_le loop_limit (length st.loops)) [ true ↦ Err TooLong | false ↦ Ok st ]
 
 -- where the word FOR of a row begins in the source
 abbrev pub for_word_at : Row → ℕ

@@ -1,4 +1,5 @@
 -- What a reader of the contracts has to believe, in this order; Examples has worked examples of it.
+pub mod Bytes
 pub mod Tokens
 pub mod Expression
 pub mod Source
@@ -7,6 +8,7 @@ pub mod Lines
 pub mod Expansion
 pub mod Programs
 pub mod Views
+pub mod ShortNames
 pub mod Outcomes
 pub mod Laws
 pub mod Examples

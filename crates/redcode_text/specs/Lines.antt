@@ -1,5 +1,5 @@
 -- What a line adds to all that has been read.
-use Rattle.std.specs.Prelude.{ℕ, zero, suc, ◌+◌, ◌-◌, List, [], ◌∷◌, ◌++◌, length, drop, take, map, filter, reverse, Bool, true, false, not, ◌&&◌, ◌||◌, ℤ, pos, Option, Some, None, Result, Ok, Err, nat_lt, nat_le, ◌==◌, codes, is_some, unwrap_or, slice_get, if◌then◌else◌}
+use Rattle.std.specs.Prelude.{ℕ, zero, suc, ◌+◌, ◌-◌, List, [], ◌∷◌, ◌++◌, length, drop, take, map, filter, reverse, Bool, true, false, not, ◌&&◌, ◌||◌, ℤ, pos, Option, Some, None, Result, Ok, Err, nat_lt, nat_le, ◌==◌, codes, is_some, unwrap_or, slice_get}
 use Rattle.std.specs.List.{list_any}
 use Rattle.std.specs.Str.{bytes_eq, str_eq_ignore_ascii_case}
 use Rattle.redcode_text.specs.declared.token.Token.{Token}
@@ -9,10 +9,11 @@ use Rattle.redcode_text.specs.declared.token.TokenKind.TheVariants as token
 use Rattle.redcode_text.specs.declared.token.Sign.TheVariants.{Colon}
 use Rattle.redcode_text.specs.declared.fault.TextProblem.{TextProblem}
 use Rattle.redcode_text.specs.declared.fault.TextProblem.TheVariants.{BadToken, Duplicate, EquDepth, TooLong}
+use Rattle.redcode_text.specs.Bytes.{semicolon}
 use Rattle.redcode_text.specs.Expression.{kinds}
 use Rattle.redcode_text.specs.Tokens.{◌>>=◌, OpenLoop, tokens}
 use Rattle.redcode_text.specs.Source.{Row, LineKind, EquLine, line_kind, is_comment, has_directive_word, directive_text, directive_text_at, without_blanks}
-use Rattle.redcode_text.specs.Equates.{Equate, equate_lines, limit}
+use Rattle.redcode_text.specs.Equates.{Equate, depth_limit, equate_lines, limit}
 
 -- ---- all that has been read
 
@@ -64,14 +65,6 @@ with_current_line ps instructions = (codes "CURLINE", pos instructions) ∷ ps
 abbrev pub name_at : List (List ℕ) → ℕ → List ℕ
 name_at names n = unwrap_or (slice_get names n) []
 
--- a name of fewer than 256 bytes, since no longer one is a word that means something
-abbrev pub short : List ℕ → List ℕ
-short name = if nat_lt (length name) 256 then name else []
-
--- the bytes of a name of fewer than 256 bytes, by its index
-abbrev pub word_at : List (List ℕ) → ℕ → List ℕ
-word_at names n = short (name_at names n)
-
 abbrev pub is_predefined : Predefined → Reading → ℕ → Bool
 is_predefined ps st n = is_some (predefined_value (with_current_line ps 0) (name_at st.names n))
 
@@ -89,10 +82,10 @@ line_read st = elim (nat_le limit st.lines_read) [ true ↦ Err TooLong | false 
 abbrev pub tokens_counted : List Token → Step
 tokens_counted ts st = elim (nat_lt limit (st.tokens_read + length ts)) [ true ↦ Err TooLong | false ↦ Ok (record st { tokens_read = st.tokens_read + length ts }) ]
 
--- the bytes up to a `;`, 59
+-- the bytes up to a `;`
 abbrev pub before_comment : List ℕ → List ℕ
 before_comment [] = []
-before_comment (b ∷ bs) = elim (b == 59) [ true ↦ [] | false ↦ b ∷ before_comment bs ]
+before_comment (b ∷ bs) = elim (b == semicolon) [ true ↦ [] | false ↦ b ∷ before_comment bs ]
 
 -- what was read with some tokens
 abbrev pub WithTokens : Type 0
@@ -285,7 +278,7 @@ comment_line row st =
 abbrev pub tokens_line : Predefined → LineKind → Row → List Token → Step
 tokens_line ps kind row [] st = Ok st
 tokens_line ps (EquLine at) row (t ∷ ts) st = equ_line ps (row.at + at) (t ∷ ts) st
-tokens_line ps kind row (t ∷ ts) st = ordinary_line ps row.number 32 (t ∷ ts) st
+tokens_line ps kind row (t ∷ ts) st = ordinary_line ps row.number depth_limit (t ∷ ts) st
 
 abbrev pub plain_line : Predefined → Row → Step
 plain_line ps row st =

@@ -2,6 +2,7 @@
 use Rattle.std.specs.Prelude.{ℕ, ◌+◌, List, [], ◌∷◌, length, drop, take, Bool, true, false, ◌&&◌, Option, Some, None, ◌==◌, codes, nat_eq}
 use Rattle.std.specs.List.{starts_with, list_any, onto_first, prefix_len}
 use Rattle.std.specs.Str.{str_eq_ignore_ascii_case, str_to_ascii_lowercase}
+use Rattle.redcode_text.specs.Bytes.{line_feed, semicolon}
 use Rattle.redcode_text.specs.Tokens.{is_blank, word_len}
 
 -- ---- lines
@@ -12,10 +13,10 @@ pub record Row : Type 0 where
   pub at : ℕ
   pub bytes : List ℕ
 
--- each line is ended by the byte 10, the last perhaps not
+-- each line is ended by LF, the last perhaps not
 abbrev pub lines_of : List ℕ → List (List ℕ)
 lines_of [] = []
-lines_of (b ∷ bs) = elim (b == 10) [ true ↦ [] ∷ lines_of bs | false ↦ onto_first b (lines_of bs) ]
+lines_of (b ∷ bs) = elim (b == line_feed) [ true ↦ [] ∷ lines_of bs | false ↦ onto_first b (lines_of bs) ]
 
 abbrev pub rows_from : ℕ → ℕ → List (List ℕ) → List Row
 rows_from number at [] = []
@@ -88,18 +89,18 @@ line_kind bytes =
       | false ↦ for_or (equ_or_other (leading_word_at (codes "equ") bytes)) (leading_word_at (codes "for") bytes)
     ]
 
--- ---- directives: 59 is `;`
+-- ---- directives
 
 -- a line without the blanks in front
 abbrev pub without_blanks : List ℕ → List ℕ
 without_blanks bytes = drop (blank_len bytes) bytes
 
 abbrev pub is_comment : List ℕ → Bool
-is_comment bytes = starts_with nat_eq (without_blanks bytes) (59 ∷ [])
+is_comment bytes = starts_with nat_eq (without_blanks bytes) (semicolon ∷ [])
 
 -- whether a line is a comment that begins with this word, in either case
 abbrev pub has_directive : List ℕ → List ℕ → Bool
-has_directive word bytes = starts_with nat_eq (str_to_ascii_lowercase (without_blanks bytes)) (59 ∷ word)
+has_directive word bytes = starts_with nat_eq (str_to_ascii_lowercase (without_blanks bytes)) (semicolon ∷ word)
 
 -- where what stands behind the word of a directive begins
 abbrev pub directive_text_at : List ℕ → List ℕ → ℕ

@@ -4,6 +4,7 @@ use Rattle.std.specs.Char.{is_ascii, is_ascii_alphabetic, is_ascii_digit}
 use Rattle.std.specs.List.{list_all, list_any, onto_first, position_or_len}
 use Rattle.std.specs.Str.{bytes_eq}
 use Rattle.std.specs.Str.Parse.{digits_value}
+use Rattle.redcode_text.specs.Bytes.{ampersand, line_feed}
 use Rattle.redcode_text.specs.declared.token.Token.{Token}
 use Rattle.redcode_text.specs.declared.token.TokenKind.{TokenKind}
 use Rattle.redcode_text.specs.declared.token.TokenKind.TheVariants.{Number, Name}
@@ -38,7 +39,7 @@ without_line (Err e) = Err e.problem
 
 -- every byte up to 32 but LF
 abbrev pub is_blank : ℕ → Bool
-is_blank b = nat_lt b 33 && not (b == 10)
+is_blank b = nat_lt b 33 && not (b == line_feed)
 
 -- 95 is `_`
 abbrev pub is_letter : ℕ → Bool
@@ -51,10 +52,10 @@ abbrev pub begins_name : List ℕ → Bool
 begins_name [] = false
 begins_name (b ∷ bs) = is_letter b
 
--- a byte of a word, or a join: 38 is `&`
+-- a byte of a word, or a join
 abbrev pub begins_word : List ℕ → Bool
 begins_word [] = false
-begins_word (b ∷ bs) = is_word_byte b || ((b == 38) && begins_name bs)
+begins_word (b ∷ bs) = is_word_byte b || ((b == ampersand) && begins_name bs)
 
 -- how many bytes the word at the front has, its joins too
 abbrev pub word_len : List ℕ → ℕ
@@ -84,7 +85,7 @@ round_digits n = if nat_lt n 10 then 48 ∷ decimal n else decimal n
 -- what stands before the first join of a word, and the name of each join
 abbrev pub parts_at_joins : List ℕ → List (List ℕ)
 parts_at_joins [] = [] ∷ []
-parts_at_joins (b ∷ bs) = elim (b == 38) [ true ↦ [] ∷ parts_at_joins bs | false ↦ onto_first b (parts_at_joins bs) ]
+parts_at_joins (b ∷ bs) = elim (b == ampersand) [ true ↦ [] ∷ parts_at_joins bs | false ↦ onto_first b (parts_at_joins bs) ]
 
 abbrev pub round_or_bad : Option ℕ → Result ℕ TextProblem
 round_or_bad (Some n) = Ok n

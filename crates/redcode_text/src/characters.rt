@@ -3,6 +3,7 @@ ghost use Rattle.std.specs.Prelude.{◌≡◌, ◌≤◌, ◌++◌, ◌==◌, le
 ghost use Rattle.std.specs.Char.{is_ascii_digit};
 ghost use Rattle.std.specs.List.{list_all, prefix_len};
 ghost use Rattle.std.specs.Str.{bytes_eq, str_eq_ignore_ascii_case};
+ghost use Rattle.redcode_text.specs.Bytes.{ampersand};
 ghost use Rattle.redcode_text.specs.Source.{blank_len};
 ghost use Rattle.redcode_text.specs.Tokens.{is_blank, is_letter, is_word_byte, begins_name, begins_word, word_len};
 
@@ -79,7 +80,7 @@ pub fn word_len(bytes: &[u8]) -> usize
 
 /// How many bytes stand before the next join.
 pub fn part_len(bytes: &[u8]) -> usize
-    ensures value { result ≡ prefix_len (λ b. not (b == 38)) bytes.now }
+    ensures value { result ≡ prefix_len (λ b. not (b == ampersand)) bytes.now }
     ensures within { result ≤ length bytes.now }
 {
     bytes.iter().take_while(|byte| **byte != b'&').count()

@@ -2,7 +2,8 @@
 ghost use Rattle.std.specs.Prelude.{◌≡◌, ◌++◌, length, string_bytes, [], IfOk, OnOk, IsAscii};
 ghost use Rattle.std.specs.Str.{str_eq_ignore_ascii_case};
 ghost use Rattle.redcode_text.specs.Code.Parts.{front_len};
-ghost use Rattle.redcode_text.specs.Lines.{name_at, word_at};
+ghost use Rattle.redcode_text.specs.Lines.{name_at};
+ghost use Rattle.redcode_text.specs.ShortNames.{word_at};
 ghost use Rattle.redcode_text.specs.Tokens.{name_index, with_name};
 
 pub mod equates;

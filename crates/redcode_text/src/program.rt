@@ -75,7 +75,8 @@ impl Model for Program {
 
 impl Program {
     ghost use Rattle.std.specs.Prelude.{◌≡◌, ◌≤◌, IfOk, length, map, option_map, vec_len};
-    ghost use Rattle.redcode_text.specs.Equates.{equate_lines, has_equate, limit, substitution};
+    ghost use Rattle.redcode_text.specs.Code.Values.{has_equate};
+    ghost use Rattle.redcode_text.specs.Equates.{equate_lines, limit, substitution};
     ghost use Rattle.redcode_text.specs.Views.{assert_of, line_of};
     ghost use Rattle.redcode_text.specs.Outcomes.{Answers};
     ghost use Rattle.redcode_text.specs.Programs.{IsPrinted};

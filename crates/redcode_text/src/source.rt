@@ -1,6 +1,7 @@
 //! The lines of a source, and which ROF closes which FOR.
 ghost use Rattle.std.specs.Prelude.{◌≡◌, ◌≤◌, ◌==◌, length, map, not, IfOk, ℕ, ◌+◌, ◌<◌, slice_index, vec_len};
 ghost use Rattle.std.specs.List.{prefix_len};
+ghost use Rattle.redcode_text.specs.Bytes.{line_feed};
 ghost use Rattle.redcode_text.specs.Code.Runs.{AreRuns};
 ghost use Rattle.redcode_text.specs.Code.Rows.{row_of};
 ghost use Rattle.redcode_text.specs.Source.{read_rows, rows_of};
@@ -16,7 +17,7 @@ use std::alloc::{AllocError, Global};
 
 /// How many bytes the first line has.
 fn line_len(bytes: &[u8]) -> usize
-    ensures value { result ≡ prefix_len (λ b. not (b == 10)) bytes.now }
+    ensures value { result ≡ prefix_len (λ b. not (b == line_feed)) bytes.now }
     ensures within { result ≤ length bytes.now }
 {
     bytes.iter().take_while(|byte| **byte != b'\n').count()

@@ -2,6 +2,7 @@
 use Rattle.std.specs.Prelude.{ℕ, ◌+◌, ◌++◌, ◌&&◌, List, [], ◌∷◌, Option, Some, None, Result, Ok, codes, drop, length, map, nat_eq, reverse, take, if◌then◌else◌}
 use Rattle.std.specs.List.{starts_with}
 use Rattle.std.specs.Str.{str_to_ascii_lowercase}
+use Rattle.redcode_text.specs.Bytes.{semicolon}
 use Rattle.redcode_text.specs.declared.fault.TextProblem.{TextProblem}
 use Rattle.redcode_text.specs.declared.source.directives.Comment.{Comment}
 use Rattle.redcode_text.specs.declared.source.directives.Comment.TheVariants.{Name, Author, Assert, Other}
@@ -66,11 +67,11 @@ name_or bytes other (Some at) = NameSaid (trimmed (drop at bytes))
 name_or bytes other None = other
 
 abbrev pub author_said : List ℕ → Said
-author_said bytes = author_or bytes (assert_or_nothing (text_found (59 ∷ codes "assert") bytes)) (text_found (59 ∷ codes "author") bytes)
+author_said bytes = author_or bytes (assert_or_nothing (text_found (semicolon ∷ codes "assert") bytes)) (text_found (semicolon ∷ codes "author") bytes)
 
 -- what a line says
 abbrev pub said : List ℕ → Said
-said bytes = name_or bytes (author_said bytes) (text_found (59 ∷ codes "name") bytes)
+said bytes = name_or bytes (author_said bytes) (text_found (semicolon ∷ codes "name") bytes)
 
 abbrev pub said_line : Said → Row → Reading → Result Reading TextProblem
 said_line (NameSaid text) row st = Ok (with_name_text text st)

@@ -1,11 +1,16 @@
--- Values of expressions that are kept.
-use Rattle.std.specs.Prelude.{◌≡◌, ℕ, ℤ, List, [], ◌∷◌, Option, Some, None, Ok, true, false, ◌==◌}
+-- Values of expressions that are kept, and which tokens may be worth that.
+use Rattle.std.specs.Prelude.{◌≡◌, ℕ, ℤ, List, [], ◌∷◌, Bool, Option, Some, None, is_some, Ok, true, false, ◌==◌}
+use Rattle.std.specs.List.{list_any}
 use Rattle.redcode_text.specs.declared.shortcuts.values.KnownValue.{KnownValue}
 use Rattle.redcode_text.specs.declared.shortcuts.values.NameValue.{NameValue}
 use Rattle.redcode_text.specs.declared.token.Token.{Token}
-use Rattle.redcode_text.specs.Equates.{Equate, substitution}
+use Rattle.redcode_text.specs.Equates.{Equate, substitution, token_lines}
 use Rattle.redcode_text.specs.Expression.{kinds, value_of}
 use Rattle.redcode_text.specs.Tokens.{without_line}
+
+-- whether an EQU name is among tokens, so that they may stand for many others
+abbrev pub has_equate : List Equate → List Token → Bool
+has_equate equates ts = list_any (λ t. is_some (token_lines equates t.kind)) ts
 
 -- what a name stands for, among these
 abbrev pub value_among : List NameValue → ℕ → Option ℤ

@@ -1,10 +1,11 @@
 //! EQU names, and tokens with EQU names replaced.
 ghost use Rattle.std.specs.Prelude.{◌≡◌, [], ◌∷◌, ◌++◌, map, Some, None, Ok, Err, MatchResult, option_map, ◌≤◌, vec_len, IfOk, IfSome, OnOk, slice_get};
 ghost use Rattle.redcode_text.specs.declared.limits.TheConstants.{MAX_REPLACED};
-ghost use Rattle.redcode_text.specs.Equates.{Replaced, equate_lines, has_equate, token_lines, one_line, one_more, kept, replaced_name, replaced_token, each_replaced, replacing, depth_limit, each_replaced_at_line, substitution};
+ghost use Rattle.redcode_text.specs.Equates.{Replaced, equate_lines, token_lines, one_line, one_more, kept, replaced_name, replaced_token, each_replaced, replacing, depth_limit, each_replaced_at_line, substitution};
 ghost use Rattle.redcode_text.specs.Lines.{with_line};
 ghost use Rattle.redcode_text.specs.Outcomes.{Answers};
 ghost use Rattle.redcode_text.specs.Code.Problems.{Gives};
+ghost use Rattle.redcode_text.specs.Code.Values.{has_equate};
 ghost use Rattle.redcode_text.specs.Tokens.{at_line};
 
 use crate::fault::{TextFault, TextProblem};

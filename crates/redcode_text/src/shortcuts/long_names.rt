@@ -2,7 +2,8 @@
 ghost use Rattle.std.specs.Prelude.{◌≡◌, ◌≤◌, ◌<◌, ◌++◌, length, map, true, [], IfOk, IfSome, OnOk, IsAscii};
 ghost use Rattle.std.specs.Str.{bytes_eq};
 ghost use Rattle.redcode_text.specs.Code.Parts.{AllParts, AreParts, HasParts, IsFrontOf, front_len, name_of, parts_of};
-ghost use Rattle.redcode_text.specs.Lines.{name_at, word_at};
+ghost use Rattle.redcode_text.specs.Lines.{name_at};
+ghost use Rattle.redcode_text.specs.ShortNames.{word_at};
 ghost use Rattle.redcode_text.specs.Tokens.{begins_name, name_index, with_name};
 
 mod texts;

@@ -3,6 +3,7 @@ ghost use Rattle.std.specs.Prelude.{◌≡◌, ◌++◌, ◌≤◌, Some, length
 ghost use Rattle.std.specs.Char.{is_ascii_digit};
 ghost use Rattle.std.specs.List.{list_all, list_any, prefix_len};
 ghost use Rattle.std.specs.Str.Parse.{digits_value};
+ghost use Rattle.redcode_text.specs.Bytes.{ampersand};
 ghost use Rattle.redcode_text.specs.Code.Parts.{front_len};
 ghost use Rattle.redcode_text.specs.Code.Problems.{Gives};
 ghost use Rattle.redcode_text.specs.Code.Runs.{IsKnownStart};
@@ -87,7 +88,7 @@ pub fn past_zeros<'a>(word: Word<'a>) -> &'a [u8]
 /// Whether a word has joins.
 pub fn has_joins(word: Word<'_>) -> bool
     requires { IsKnownStart word.known word.bytes.now }
-    ensures { result ≡ list_any (λ b. b == 38) word.entry.bytes.now }
+    ensures { result ≡ list_any (λ b. b == ampersand) word.entry.bytes.now }
 {
     word.bytes[word.known.plain..].contains(&b'&')
 }
@@ -95,7 +96,7 @@ pub fn has_joins(word: Word<'_>) -> bool
 /// How many bytes of a word stand before its first join.
 fn first_part_len(word: Word<'_>) -> usize
     requires { IsKnownStart word.known word.bytes.now }
-    ensures value { result ≡ prefix_len (λ b. not (b == 38)) word.entry.bytes.now }
+    ensures value { result ≡ prefix_len (λ b. not (b == ampersand)) word.entry.bytes.now }
     ensures within { result ≤ length word.entry.bytes.now }
 {
     word.known.plain + part_len(&word.bytes[word.known.plain..])
@@ -106,7 +107,7 @@ fn first_part_len(word: Word<'_>) -> usize
 pub fn kept_len(word: Word<'_>) -> usize
     requires { IsKnownStart word.known word.bytes.now }
     ensures within { result ≤ length word.entry.bytes.now }
-    ensures first { result ≤ prefix_len (λ b. not (b == 38)) word.entry.bytes.now }
+    ensures first { result ≤ prefix_len (λ b. not (b == ampersand)) word.entry.bytes.now }
 {
     front_len(&word.bytes[..first_part_len(word)])
 }

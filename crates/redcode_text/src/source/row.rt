@@ -1,6 +1,7 @@
 //! A line of a source, and what kind it is of.
 ghost use Rattle.std.specs.Prelude.{◌≡◌, ◌≤◌, ◌<◌, ◌+◌, ◌==◌, not, drop, length, IfSome};
 ghost use Rattle.std.specs.List.{prefix_len};
+ghost use Rattle.redcode_text.specs.Bytes.{semicolon};
 ghost use Rattle.redcode_text.specs.Code.Runs.{AreRuns};
 ghost use Rattle.redcode_text.specs.Code.Comments.{assert_place, said, said_of};
 ghost use Rattle.redcode_text.specs.Code.Kinds.{IsKind, kind_of, word_place};
@@ -106,7 +107,7 @@ fn line_kind(bytes: &[u8]) -> LineKind
 
 /// How many bytes stand before a comment.
 fn code_len(bytes: &[u8]) -> usize
-    ensures value { result ≡ prefix_len (λ b. not (b == 59)) bytes.now }
+    ensures value { result ≡ prefix_len (λ b. not (b == semicolon)) bytes.now }
     ensures within { result ≤ length bytes.now }
 {
     bytes.iter().take_while(|byte| **byte != b';').count()
@@ -115,7 +116,7 @@ fn code_len(bytes: &[u8]) -> usize
 /// How many bytes behind the first `;`, which stands at a place, stand before the next one.
 fn comment_len(bytes: &[u8], at: usize) -> usize
     requires { at ≤ length bytes.now }
-    ensures value { result ≡ prefix_len (λ b. not (b == 59)) (drop (at + 1) bytes.now) }
+    ensures value { result ≡ prefix_len (λ b. not (b == semicolon)) (drop (at + 1) bytes.now) }
     ensures within { at < length bytes.now → at + 1 + result ≤ length bytes.now }
 {
     match &bytes[at..] {
@@ -148,9 +149,9 @@ pub struct Row<'a> {
     ghost kind_is: { IsKind kind bytes.now },
     ghost indent_is: { indent ≡ blank_len bytes.now },
     ghost indented: { indent ≤ length bytes.now },
-    ghost code_len_is: { code_len ≡ prefix_len (λ b. not (b == 59)) bytes.now },
+    ghost code_len_is: { code_len ≡ prefix_len (λ b. not (b == semicolon)) bytes.now },
     ghost code_inside: { code_len ≤ length bytes.now },
-    ghost comment_len_is: { comment_len ≡ prefix_len (λ b. not (b == 59)) (drop (code_len + 1) bytes.now) },
+    ghost comment_len_is: { comment_len ≡ prefix_len (λ b. not (b == semicolon)) (drop (code_len + 1) bytes.now) },
     ghost comment_inside: { code_len < length bytes.now → code_len + 1 + comment_len ≤ length bytes.now },
     ghost comment_is: { said_of comment ≡ said bytes.now },
     ghost assert_inside: { assert_place comment ≤ length bytes.now },
@@ -200,7 +201,7 @@ impl<'a> Row<'a> {
     /// How many bytes from a place on stand before a comment.
     pub fn code_len(&self, at: usize) -> usize
         requires { at ≤ length self.now.bytes.now }
-        ensures value { result ≡ prefix_len (λ b. not (b == 59)) (drop at self.now.bytes.now) }
+        ensures value { result ≡ prefix_len (λ b. not (b == semicolon)) (drop at self.now.bytes.now) }
         ensures within { at + result ≤ length self.now.bytes.now }
     {
         if at <= self.code_len {

@@ -2,7 +2,8 @@ use Rattle.std.proofs.Common.{◌≡◌, ◌∙◌, refl, sym, ap, codes, false,
 use Rattle.std.specs.Map.{lookup}
 use Rattle.std.specs.Str.{bytes_eq}
 use Rattle.redcode_text.specs.Views.{predefined_of}
-use Rattle.redcode_text.specs.Lines.{name_at, predefined_value, with_current_line, word_at}
+use Rattle.redcode_text.specs.Lines.{name_at, predefined_value, with_current_line}
+use Rattle.redcode_text.specs.ShortNames.{word_at}
 use Rattle.redcode_text.proofs.CallerLemmas.{word-same}
 use Rattle.redcode_asm.specs.Assembly.{label_among, placed}
 use Rattle.redcode_asm.proofs.Tables.{lookup-table}
