@@ -1,5 +1,5 @@
 -- The clock after an edit of a queue.
-use Rattle.std.proofs.Common.{◌≡◌, ◌≢◌, ℕ, zero, suc, ◌+◌, ◌-◌, ◌*◌, ◌<◌, ◌≤◌, List, [], ◌∷◌, length, get_or, set, drop, refl, ap, sym, ◌∙◌, arith, Option, None, Some, cond, true, inl, inr}
+use Rattle.std.proofs.Common.{◌≡◌, ◌≢◌, ℕ, zero, suc, ◌+◌, ◌-◌, ◌*◌, ◌<◌, ◌≤◌, List, [], ◌∷◌, length, get_or, set, drop, refl, ap, sym, ◌∙◌, arith, Option, None, Some, cond, inl, inr}
 use Rattle.std.specs.Prelude.{option_map}
 use Rattle.std.proofs.lemmas.List.{length-set, get_or-drop, length-drop, get_or-set_same, get_or-set_other}
 use Rattle.std.proofs.lemmas.List.Sums.{sum_by-set, sum_by-append}
@@ -38,10 +38,6 @@ live_survives ((x ∷ q) ∷ qs) k h n =
 
 more_turns : (c w m i k : ℕ) → m ≤ c * w + i → i < w → m ≤ (c + 1) * w + k
 more_turns c w m i k h l = omega arith
-
-is_none : (q : List ℕ) → is_empty q ≡ true → q ≡ []
-is_none [] e = refl
-is_none (x ∷ q) e = cc
 
 module _ (cycles : ℕ) (qs : List (List ℕ)) (clock : Clock) (made w : ℕ) (k : IsClock cycles qs clock made) (inside : w < length qs) (lives : get_or qs w [] ≢ []) where
   alive : 1 ≤ survivors_of qs

@@ -6,7 +6,7 @@ use Rattle.std.proofs.lemmas.List.Elements.{All-set, All-get_or}
 use Rattle.mars_cell.specs.declared.instruction.Cell.{Cell}
 use Rattle.mars_cell.specs.Parameters.{Parameters}
 use Rattle.mars_core.specs.Limits.{most_warriors}
-use Rattle.mars_core.specs.State.{State, state_of, cell_at, is_empty, survivors_of, queue_of, advanced, clock_of}
+use Rattle.mars_core.specs.State.{State, state_of, is_empty, survivors_of, queue_of, advanced, clock_of}
 use Rattle.mars_core.specs.Queue.{Queue, addresses_of}
 use Rattle.mars_core.specs.Turn.{with_death}
 use Rattle.mars_core.specs.Edit.{left_of, killed, edited, edit_record}
@@ -42,13 +42,6 @@ atom_is a b c d e f g = rw (a, b, c, d, e, f, g) refl
 
 stays : (n : ℕ) → false ≡ not (n == n)
 stays n = rw (same_eq n) refl
-
--- the record of an edit that leaves the clock
-pub set_cell_record : (s : State) (a : ℕ) (c : Cell) (cells : List CellChange) → cells ≡ record { address = a; before = cell_at s.core a; after = c } ∷ []
-    → ◌≡◌ {A = Atom} (record { work = work.SetCell; cells = record { items = cells }; queued = record { items = [] }; next_before = s.next; next_after = s.next; cycle_added = false; died = false })
-    (edit_record s (edit.SetCell a c))
-unfolding edit_record edited
-set_cell_record s a c cells e = atom_is refl e refl refl refl (stays s.cycle) refl
 
 pub move_record : (s : State) (w i a from : ℕ) → from ≡ get_or (queue_of s.queues w) i 0
     → ◌≡◌ {A = Atom} (record { work = work.MoveProcess w i from a; cells = record { items = [] }; queued = record { items = [] }; next_before = s.next; next_after = s.next; cycle_added = false; died = false })

@@ -56,11 +56,6 @@ one_filled [] i h = absurd (omega arith)
 one_filled (a ∷ xs) zero h = refl
 one_filled (a ∷ xs) (suc i) h = one_filled xs i (omega arith)
 
-one_at : (xs : List ℕ) (i : ℕ) → i < length xs → get_or (map one xs) i [] ≡ one (get_or xs i 0)
-one_at [] i h = absurd (omega arith)
-one_at (a ∷ xs) zero h = refl
-one_at (a ∷ xs) (suc i) h = one_at xs i (omega arith)
-
 all_live : (xs : List ℕ) → survivors_of (map one xs) ≡ length xs
 all_live [] = refl
 all_live (a ∷ xs) = omega (arith, sum_by-cons (λ (q : List ℕ). cond (is_empty q) 0 1) (one a) (map one xs), all_live xs)

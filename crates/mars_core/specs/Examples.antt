@@ -10,9 +10,9 @@ use Rattle.std.specs.Prelude.{⊤, ◌≡◌, ℕ, List, [], ◌∷◌, ◌++◌
 use Rattle.std.proofs.Common.{replicate}
 use Rattle.mars_cell.specs.declared.instruction.Cell.{Cell}
 use Rattle.mars_cell.specs.declared.instruction.Op.{Op}
-use Rattle.mars_cell.specs.declared.instruction.Op.TheVariants.{Dat}
+use Rattle.mars_cell.specs.declared.instruction.Op.TheVariants.{Dat, Mov}
 use Rattle.mars_cell.specs.declared.instruction.Modifier.{Modifier}
-use Rattle.mars_cell.specs.declared.instruction.Modifier.TheVariants.{F}
+use Rattle.mars_cell.specs.declared.instruction.Modifier.TheVariants.{F, I}
 use Rattle.mars_cell.specs.declared.instruction.Mode.{Mode}
 use Rattle.mars_cell.specs.declared.instruction.Mode.TheVariants.{Direct}
 use Rattle.mars_cell.specs.Cells.{empty_cell}
@@ -41,6 +41,10 @@ cell_of op modifier a_mode a b_mode b = record { op = op; modifier = modifier; a
 -- a cell that does nothing but hold two numbers
 abbrev pub numbers : ℕ → ℕ → Cell
 numbers a b = cell_of Dat F Direct a Direct b
+
+-- the imp, MOV.I $0, $1, copies itself
+abbrev pub imp : Cell
+imp = cell_of Mov I Direct 0 Direct 1
 
 -- parameters of a core size, a process limit, a read and a write limit
 abbrev pub sizes : ℕ → ℕ → ℕ → ℕ → Parameters

@@ -6,9 +6,6 @@ use Rattle.std.proofs.Math.Nat.{le_of_suc-le-suc, not-suc-le-zero, not-le_of_lt}
 use Rattle.std.proofs.Math.Numerals.{add-one, add-two}
 use Rattle.std.proofs.lemmas.Bool.{true≢false}
 use Rattle.mars_cell.specs.declared.instruction.Cell.{Cell}
-use Rattle.mars_cell.specs.declared.instruction.Op.TheVariants.{Mov}
-use Rattle.mars_cell.specs.declared.instruction.Modifier.TheVariants.{I}
-use Rattle.mars_cell.specs.declared.instruction.Mode.TheVariants.{Direct}
 use Rattle.mars_cell.specs.Cells.{empty_cell}
 use Rattle.mars_cell.specs.Warriors.{WarriorValue}
 use Rattle.mars_core.specs.Start.{start_fault, start_state}
@@ -17,11 +14,7 @@ use Rattle.mars_core.specs.Addresses.{address_after}
 use Rattle.mars_core.specs.Turn.{after_turns}
 use Rattle.mars_core.specs.Reach.{Reaches}
 use Rattle.mars_core.specs.Apart.{GoesOn, KeepsTo, IsLeftTo, own_turns, AgreesOn}
-use Rattle.mars_core.specs.Examples.{the_machine, cell_of, sizes, battle_of, lone}
-
--- MOV.I $0, $1
-abbrev imp : Cell
-imp = cell_of Mov I Direct 0 Direct 1
+use Rattle.mars_core.specs.Examples.{the_machine, imp, sizes, battle_of, lone}
 
 -- one imp in each half
 abbrev core : List Cell
@@ -39,13 +32,13 @@ lone_imp = lone (sizes 8 8 1 2) (empty_cell ∷ empty_cell ∷ empty_cell ∷ em
 abbrev imp_alone : WarriorValue
 imp_alone = record { name = []; author = []; cells = imp ∷ []; start = 0 }
 
--- so these battles start, and their states are valid
-pub so_they_start :
+-- these are the starts of battles of such warriors
+pub battles_of_imps_start :
     (start_state (sizes 8 8 1 2) (imp_alone ∷ imp_alone ∷ []) (0 ∷ 4 ∷ []) ≡ two_imps)
     × (start_fault (sizes 8 8 1 2) (imp_alone ∷ imp_alone ∷ []) (0 ∷ 4 ∷ []) ≡ None)
     × (start_state (sizes 8 8 1 2) (imp_alone ∷ []) (4 ∷ []) ≡ lone_imp)
 unfolding the_machine
-so_they_start = (refl, refl, refl)
+battles_of_imps_start = (refl, refl, refl)
 
 -- the address is in the half of the core
 abbrev is_in_half : ℕ → ℕ → Bool
