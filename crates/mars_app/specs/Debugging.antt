@@ -1,12 +1,13 @@
 -- What the program debugs, and how that may end.
 use Rattle.std.specs.Prelude.{◌≡◌, ◌⊎◌, ℕ, false, List, length, Option, Some, Result, Err}
 use Rattle.std.specs.Io.KnownBytes.{Keeps}
+use Rattle.redcode_text.specs.Results.{◌>>=◌}
 use Rattle.mars_cell.specs.Parameters.{Parameters}
 use Rattle.mars_cell.specs.Warriors.{WarriorValue}
 use Rattle.mars_core.specs.State.{State}
 use Rattle.mars_core.specs.Start.{start_fault, start_state}
 use Rattle.mars_match.specs.Battles.{unless}
-use Rattle.mars_match.specs.Rounds.{◌>>=◌, placed_for}
+use Rattle.mars_match.specs.Rounds.{placed_for}
 use Rattle.mars_match.specs.declared.fault.MatchFault.{MatchFault}
 use Rattle.mars_session.specs.History.{beginning}
 use Rattle.mars_session.specs.Script.{SessionState}

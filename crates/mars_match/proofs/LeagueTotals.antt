@@ -3,10 +3,11 @@ use Rattle.std.proofs.Common.{◌≡◌, refl, sym, ◌∙◌, ap, ℕ, zero, su
 use Rattle.std.specs.Prelude.{sum_by}
 use Rattle.std.proofs.lemmas.Int.{ints}
 use Rattle.std.proofs.lemmas.List.Sums.{sum_by-cons}
+use Rattle.redcode_text.specs.Results.{◌>>=◌}
 use Rattle.mars_cell.specs.Parameters.{Parameters}
 use Rattle.mars_cell.specs.Warriors.{WarriorValue}
 use Rattle.redcode_text.specs.Tokens.{Scanned}
-use Rattle.mars_match.specs.Rounds.{◌>>=◌, table_of, checked_rows}
+use Rattle.mars_match.specs.Rounds.{table_of, checked_rows}
 use Rattle.mars_match.specs.Tables.{RowValue}
 use Rattle.mars_match.specs.Code.Tallies.{no_rounds, row_with, rows_with}
 use Rattle.mars_match.specs.Leagues.{Pair, PlacedRow, placed_rows, rows_of_pairs, all_pairs, own_rows, all_points, sum_of_rows, sums_from, league_of}

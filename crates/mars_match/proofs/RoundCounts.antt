@@ -5,12 +5,13 @@ use Rattle.std.specs.List.{list_all}
 use Rattle.std.proofs.lemmas.Bool.{cases_Bool}
 use Rattle.std.proofs.lemmas.List.Elements.{All-nil, All-cons}
 use Rattle.std.proofs.lemmas.List.Sums.{sum_by-cons}
+use Rattle.redcode_text.specs.Results.{◌>>=◌}
 use Rattle.mars_cell.specs.Parameters.{Parameters}
 use Rattle.mars_cell.specs.Warriors.{WarriorValue}
 use Rattle.redcode_text.specs.Tokens.{Scanned}
 use Rattle.mars_core.specs.declared.battle.start.BattleFault.{BattleFault}
 use Rattle.mars_match.specs.Battles.{count_fault}
-use Rattle.mars_match.specs.Rounds.{◌>>=◌, Outcome, outcomes, how_many, has_lived, has_won, has_tied, has_lost, rows_from, row_of, fits_in_64, checked_rows, counted, placed_for, ended, table_of}
+use Rattle.mars_match.specs.Rounds.{Outcome, outcomes, how_many, has_lived, has_won, has_tied, has_lost, rows_from, row_of, fits_in_64, checked_rows, counted, placed_for, ended, table_of}
 use Rattle.mars_match.specs.Tables.{RowValue}
 use Rattle.mars_match.specs.Leagues.{Pair, PlacedRow, pairs_with, all_pairs, placed_rows, rows_of_pairs, own_rows, sum_of_rows, sums_from, league_of}
 use Rattle.mars_match.specs.Laws.{rounds_of}

@@ -1,6 +1,7 @@
 -- Rounds: who survives each, what a survivor gets, and the sums.
 use Rattle.std.specs.Prelude.{ℕ, zero, suc, ◌+◌, ◌^◌, ℤ, pos, negsuc, ◌+ℤ◌, Bool, false, not, ◌&&◌, ◌==◌, nat_lt, if◌then◌else◌, List, [], ◌∷◌, length, count_by, slice_index_or, Option, None, Some, Result, Ok, Err}
 use Rattle.std.specs.List.{list_all}
+use Rattle.redcode_text.specs.Results.{◌>>=◌}
 use Rattle.mars_cell.specs.Parameters.{Parameters}
 use Rattle.mars_cell.specs.Warriors.{WarriorValue}
 use Rattle.mars_core.specs.declared.battle.start.BattleFault.{BattleFault}
@@ -14,12 +15,6 @@ use Rattle.mars_match.specs.Tables.{RowValue}
 use Rattle.mars_match.specs.declared.fault.MatchFault.{MatchFault}
 use Rattle.mars_match.specs.declared.fault.MatchFault.TheVariants as fault
 use Rattle.mars_match.specs.declared.placement.PlaceFault.{PlaceFault}
-
-infixl 10 ◌>>=◌
--- the second, with what the first gives; a fault of the first is the fault
-abbrev pub ◌>>=◌ : {A B : Type 0} → Result A MatchFault → (A → Result B MatchFault) → Result B MatchFault
-(Ok x) >>= f = f x
-(Err e) >>= f = Err e
 
 -- how a round ended: who lived, in load order, and what each of them gets
 pub record Outcome : Type 0 where

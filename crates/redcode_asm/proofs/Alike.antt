@@ -2,6 +2,7 @@
 use Rattle.std.specs.Bool.{⊤}
 use Rattle.std.proofs.Common.{◌≡◌, ◌∙◌, ℕ, ℤ, ◌==◌, ◌||◌, Bool, true, false, List, [], ◌∷◌, length, map, if◌then◌else◌, Option, Some, None, Result, Ok, Err, refl, ap, sym, subst, arith}
 use Rattle.std.specs.List.{list_any, onto_first}
+use Rattle.redcode_text.specs.Results.{◌>>=◌}
 use Rattle.mars_cell.specs.Numbers.{residue}
 use Rattle.mars_cell.specs.declared.instruction.Cell.{Cell}
 use Rattle.mars_cell.specs.declared.instruction.Mode.{Mode}
@@ -17,7 +18,7 @@ use Rattle.redcode_text.specs.Expression.{kinds, value_of}
 use Rattle.redcode_text.specs.Equates.{substitution}
 use Rattle.redcode_text.specs.Tokens.{without_line}
 use Rattle.redcode_text.proofs.CallerLemmas.{LikeTokens, length-kinds, replaced-like}
-use Rattle.redcode_asm.specs.Assembly.{◌>>=◌, Operands, cell_from, cell_with, expressed, full_operands, given_operands, is_comma, is_dot, mode_of, modifier_first, modifier_in, no_operand, one_operand, operand_value, operands_of, parts_at_commas, replaced, split_mode, split_modifier, texted}
+use Rattle.redcode_asm.specs.Assembly.{Operands, cell_from, cell_with, expressed, full_operands, given_operands, is_comma, is_dot, mode_of, modifier_first, modifier_in, no_operand, one_operand, operand_value, operands_of, parts_at_commas, replaced, split_mode, split_modifier, texted}
 use Rattle.redcode_asm.specs.declared.fault.AsmProblem.{AsmProblem}
 use Rattle.redcode_asm.specs.declared.fault.AsmProblem.TheVariants.{Operand}
 

@@ -1,6 +1,7 @@
 -- What is the same wherever a line stands.
 use Rattle.std.proofs.Common.{◌≡◌, ◌∙◌, Bor, ◌+◌, append_assoc, cond, drop, filter, map, ℕ, ℤ, pos, ◌-ℤ◌, ◌<◌, ◌≤◌, ◌⊎◌, inl, inr, arith, length, length-append, get_or, Bool, true, false, List, [], ◌∷◌, ◌++◌, Option, Some, None, option_map, Result, Ok, Err, codes, refl, ap, sym, subst}
 use Rattle.std.specs.Str.{bytes_eq}
+use Rattle.redcode_text.specs.Results.{◌>>=◌}
 use Rattle.mars_cell.specs.Numbers.{residue}
 use Rattle.mars_cell.specs.declared.instruction.Cell.{Cell}
 use Rattle.mars_cell.specs.declared.instruction.Modifier.{Modifier}
@@ -11,7 +12,7 @@ use Rattle.redcode_text.specs.Expansion.{ProgramValue}
 use Rattle.redcode_text.specs.Expression.{kinds, value_of}
 use Rattle.redcode_text.specs.Lines.{Assert, Line, is_instruction, Predefined, name_at, predefined_value}
 use Rattle.redcode_text.proofs.CallerLemmas.{Extends, Follows, follows-itself, value-follows}
-use Rattle.redcode_asm.specs.Assembly.{◌>>=◌, Placed, assert_holds, holds, at_line, placed_from, cells_of, cell_from, cell_of, expressed, given_operands, known_value, label_among, name_value, opcode_of, operand_value, placed, replaced, split_mode, split_modifier, value_in, value_or}
+use Rattle.redcode_asm.specs.Assembly.{Placed, assert_holds, holds, at_line, placed_from, cells_of, cell_from, cell_of, expressed, given_operands, known_value, label_among, name_value, opcode_of, operand_value, placed, replaced, split_mode, split_modifier, value_in, value_or}
 use Rattle.redcode_asm.specs.Code.Fixed.{AreFixed, AreHeld, IsFixed, IsHeld, fixed_value, unless_label}
 use Rattle.redcode_asm.specs.Code.Problems.{Gives}
 use Rattle.redcode_asm.specs.declared.shortcuts.fixed_cells.FixedCell.{FixedCell}

@@ -1,5 +1,6 @@
 -- What fails at first fails as a whole.
 use Rattle.std.proofs.Common.{◌≡◌, ◌∙◌, ℕ, Result, Ok, Err, ap, refl, sym, subst}
+use Rattle.redcode_text.specs.Results.{◌>>=◌}
 use Rattle.redcode_text.specs.declared.fault.TextFault.{TextFault}
 use Rattle.redcode_text.specs.declared.fault.TextProblem.{TextProblem}
 use Rattle.redcode_text.specs.declared.fault.TextProblem.TheVariants as text
@@ -8,7 +9,7 @@ use Rattle.redcode_text.specs.Outcomes.{FailsAt as TextFailsAt}
 use Rattle.redcode_asm.specs.declared.fault.AsmFault.{AsmFault}
 use Rattle.redcode_asm.specs.declared.fault.AsmProblem.{AsmProblem}
 use Rattle.redcode_asm.specs.declared.fault.AsmProblem.TheVariants.{Text, Operation, Operand, Expression, AssertFailed, BadOrigin, Empty, TooLong, OutOfMemory}
-use Rattle.redcode_asm.specs.Assembly.{◌>>=◌, at_line, text_read}
+use Rattle.redcode_asm.specs.Assembly.{at_line, text_read}
 use Rattle.redcode_asm.specs.Outcomes.{FailsAt}
 use Rattle.redcode_asm.specs.Code.Problems.{Fails, Gives, fault_line, problem_of_text}
 

@@ -1,6 +1,7 @@
 -- Names are free: a program with its names spelled otherwise gives the same warrior.
 use Rattle.std.proofs.Common.{◌≡◌, refl, ◌∙◌, ap, ℕ, ◌+◌, pos, ◌&&◌, ◌||◌, true, false, List, [], ◌∷◌, length, nat_lt, is_some, Option, Some, None, Result, Ok}
 use Rattle.std.specs.Prelude.{not, filter, option_map, ◌-ℤ◌}
+use Rattle.redcode_text.specs.Results.{◌>>=◌}
 use Rattle.mars_cell.specs.declared.instruction.Modifier.{Modifier}
 use Rattle.mars_cell.specs.Parameters.{Parameters}
 use Rattle.redcode_text.specs.declared.token.Token.{Token}
@@ -11,7 +12,7 @@ use Rattle.redcode_text.specs.Expansion.{ProgramValue}
 use Rattle.redcode_text.specs.Lines.{Line, Assert, Predefined, name_at, is_org, is_end, is_instruction}
 use Rattle.redcode_asm.specs.declared.fault.AsmProblem.{AsmProblem}
 use Rattle.redcode_asm.specs.declared.fault.AsmProblem.TheVariants.{Operation}
-use Rattle.redcode_asm.specs.Assembly.{◌>>=◌, Placed, asserts_hold, as_start, at_line, cell_from, cells_of, cell_of, end_operand, holds, index_after, instructions, is_dot, known_value, label_among, last_where, length_checked, modifier_first, modifier_in, name_value, ok_or, opcode_of, placed, placed_from, replaced, split_modifier, start_at, start_by, start_of, value_in, value_or, warrior_of}
+use Rattle.redcode_asm.specs.Assembly.{Placed, asserts_hold, as_start, at_line, cell_from, cells_of, cell_of, end_operand, holds, index_after, instructions, is_dot, known_value, label_among, last_where, length_checked, modifier_first, modifier_in, name_value, ok_or, opcode_of, placed, placed_from, replaced, split_modifier, start_at, start_by, start_of, value_in, value_or, warrior_of}
 use Rattle.redcode_asm.specs.Laws.{SaysTheSame}
 
 module _ (ps : Predefined) (s : ProgramValue) (names : List (List ℕ)) (same : (n : ℕ) → SaysTheSame ps (name_at s.names n) (name_at names n)) where

@@ -4,6 +4,7 @@ use Rattle.std.proofs.lemmas.Bool.{lt-ltb}
 use Rattle.std.proofs.lemmas.List.{drop_all, length-map}
 use Rattle.std.specs.List.{AllByRecursion, last_or}
 use Rattle.std.specs.Str.{str_eq_ignore_ascii_case}
+use Rattle.redcode_text.specs.Results.{◌>>=◌}
 use Rattle.mars_cell.specs.declared.instruction.Cell.{Cell}
 use Rattle.mars_cell.specs.declared.instruction.Op.{Op}
 use Rattle.mars_cell.specs.Cells.{FitsCore}
@@ -19,7 +20,7 @@ use Rattle.redcode_text.specs.Expression.{kinds, tree_within, value_of}
 use Rattle.redcode_text.specs.Lines.{Line, Predefined, directive_value, is_end, is_instruction, is_org, name_at}
 use Rattle.redcode_asm.specs.declared.fault.AsmFault.{AsmFault}
 use Rattle.redcode_asm.specs.declared.fault.AsmProblem.TheVariants.{BadOrigin}
-use Rattle.redcode_asm.specs.Assembly.{◌>>=◌, Placed, as_start, assembly, asserts_hold, at_line, cells_of, expressed, index_after, instructions, last_where, length_checked, name_value, none_past, not_empty, org_start, placed, placed_from, predefined, start_at, start_by, start_of, text_read, warrior_of}
+use Rattle.redcode_asm.specs.Assembly.{Placed, as_start, assembly, asserts_hold, at_line, cells_of, expressed, index_after, instructions, last_where, length_checked, name_value, none_past, not_empty, org_start, placed, placed_from, predefined, start_at, start_by, start_of, text_read, warrior_of}
 use Rattle.redcode_asm.proofs.Counts.{cells-counted}
 use Rattle.redcode_asm.proofs.LoadSources.{AreSpelled, IsExpanded, load-expanded}
 use Rattle.redcode_asm.proofs.PrintedCells.{cell-assembled, stays}

@@ -5,6 +5,7 @@ use Rattle.std.proofs.lemmas.Bool.Decides.{nat_tests}
 use Rattle.std.proofs.lemmas.Int.{ints}
 use Rattle.std.proofs.lemmas.List.{length-map}
 use Rattle.std.specs.List.{onto_first}
+use Rattle.redcode_text.specs.Results.{◌>>=◌}
 use Rattle.mars_cell.specs.declared.instruction.Cell.{Cell}
 use Rattle.mars_cell.specs.declared.instruction.Mode.{Mode}
 use Rattle.mars_cell.specs.declared.instruction.Mode.TheVariants as mode
@@ -26,10 +27,10 @@ use Rattle.redcode_text.specs.Equates.{Replaced, depth_limit, each_replaced_at_l
 use Rattle.redcode_text.specs.Expansion.{ProgramValue}
 use Rattle.redcode_text.specs.Expression.{kinds, tree_within, value_of}
 use Rattle.redcode_text.specs.Lines.{Predefined, name_at}
-use Rattle.redcode_text.specs.Tokens.{◌>>>◌, at_line, without_line}
+use Rattle.redcode_text.specs.Tokens.{at_line, without_line}
 use Rattle.redcode_asm.specs.declared.fault.AsmProblem.{AsmProblem}
 use Rattle.redcode_asm.specs.declared.fault.AsmProblem.TheVariants.{Operation}
-use Rattle.redcode_asm.specs.Assembly.{◌>>=◌, Placed, cell_from, cell_of, cell_with, expressed, full_operands, is_comma, is_dot, mode_of, modifier_first, modifier_in, name_value, ok_or, opcode_of, operand_value, parts_at_commas, replaced, split_modifier, texted}
+use Rattle.redcode_asm.specs.Assembly.{Placed, cell_from, cell_of, cell_with, expressed, full_operands, is_comma, is_dot, mode_of, modifier_first, modifier_in, name_value, ok_or, opcode_of, operand_value, parts_at_commas, replaced, split_modifier, texted}
 use Rattle.redcode_asm.specs.Laws.{cell_kinds, number_kinds, operand_kinds, sign_of}
 use Rattle.redcode_asm.proofs.Alike.{cell-like}
 use Rattle.redcode_asm.proofs.Makes.{cell-made}
@@ -144,15 +145,15 @@ each-stays r [] few = ap (λ l. Ok (record { tokens = l; count = r.count })) (sy
 each-stays r (t ∷ ts) few =
     let one : Replaced = record { tokens = r.tokens ++ t ∷ []; count = r.count } in
     let room : nat_le limit (length r.tokens) ≡ false = grind (arith, nat_tests, few) in
-    ap (λ o. at_line t.line (replaced_token (replacing depth_limit []) r t o) >>> λ s. each_replaced_at_line [] s ts) (none-lines t.kind)
-    ∙ ap (λ (b : Bool). at_line t.line (elim b as (λ _. Result Replaced TextProblem) [ true ↦ Err TooLong | false ↦ Ok one ]) >>> λ s. each_replaced_at_line [] s ts) room
+    ap (λ o. at_line t.line (replaced_token (replacing depth_limit []) r t o) >>= λ s. each_replaced_at_line [] s ts) (none-lines t.kind)
+    ∙ ap (λ (b : Bool). at_line t.line (elim b as (λ _. Result Replaced TextProblem) [ true ↦ Err TooLong | false ↦ Ok one ]) >>= λ s. each_replaced_at_line [] s ts) room
     ∙ each-stays one ts (omega (arith, few, length-append r.tokens (t ∷ [])))
     ∙ ap (λ l. Ok (record { tokens = l; count = r.count })) (append_assoc r.tokens (t ∷ []) ts)
 
 pub stays : (source : ProgramValue) (ts : List Token) → source.equates ≡ [] → length ts ≤ limit → replaced source ts ≡ Ok ts
 stays source ts none few =
     ap (λ es. texted (without_line (substitution es ts))) none
-    ∙ ap (λ r. texted (without_line (r >>> λ q. Ok q.tokens))) (each-stays (record { tokens = []; count = 0 }) ts (omega (arith, few)))
+    ∙ ap (λ r. texted (without_line (r >>= λ q. Ok q.tokens))) (each-stays (record { tokens = []; count = 0 }) ts (omega (arith, few)))
 
 -- `.`, a modifier and the rest
 record IsSplit (names : List (List ℕ)) (given : Modifier) (ks : List TokenKind) (ts : List Token) : Type 0 where

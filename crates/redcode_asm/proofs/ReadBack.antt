@@ -2,6 +2,7 @@
 use Rattle.std.proofs.Common.{◌≡◌, ◌∙◌, refl, ap, subst, ℕ, ◌<◌, ◌≤◌, ℤ, pos, negsuc, List, [], ◌∷◌, length, drop, All, Bool, true, false, cond, nat_lt, Option, Some, None, Result, Ok, Err, arith}
 use Rattle.std.proofs.lemmas.List.{length-drop}
 use Rattle.std.proofs.lemmas.List.Elements.{All-nil, All-cons}
+use Rattle.redcode_text.specs.Results.{◌>>=◌}
 use Rattle.mars_cell.specs.declared.instruction.Cell.{Cell}
 use Rattle.mars_cell.specs.declared.instruction.Mode.{Mode}
 use Rattle.mars_cell.specs.declared.instruction.Modifier.{Modifier}
@@ -22,7 +23,7 @@ use Rattle.redcode_text.proofs.CallerLemmas.{program-printed}
 use Rattle.redcode_asm.specs.declared.fault.AsmFault.{AsmFault}
 use Rattle.redcode_asm.specs.declared.fault.AsmProblem.{AsmProblem}
 use Rattle.redcode_asm.specs.declared.fault.AsmProblem.TheVariants.{BadOrigin}
-use Rattle.redcode_asm.specs.Assembly.{◌>>=◌, Placed, as_start, assembly, asserts_hold, at_line, cell_from, cell_of, cell_with, cells_of, end_operand, end_start, given_operands, instructions, last_where, length_checked, name_value, none_past, not_empty, opcode_of, operand_value, org_start, placed, predefined, replaced, split_mode, split_modifier, start_at, start_by, start_of, text_read, value_in, warrior_of}
+use Rattle.redcode_asm.specs.Assembly.{Placed, as_start, assembly, asserts_hold, at_line, cell_from, cell_of, cell_with, cells_of, end_operand, end_start, given_operands, instructions, last_where, length_checked, name_value, none_past, not_empty, opcode_of, operand_value, org_start, placed, predefined, replaced, split_mode, split_modifier, start_at, start_by, start_of, text_read, value_in, warrior_of}
 use Rattle.redcode_asm.proofs.Counts.{cells-counted}
 
 -- a result comes from that of each step

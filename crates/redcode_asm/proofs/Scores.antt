@@ -6,6 +6,7 @@ use Rattle.std.specs.List.{list_all}
 use Rattle.std.specs.Str.{bytes_eq}
 use Rattle.std.proofs.lemmas.Bool.{and_parts}
 use Rattle.std.proofs.lemmas.List.Folds.{list_all-append}
+use Rattle.redcode_text.specs.Results.{◌>>=◌}
 use Rattle.redcode_text.specs.declared.token.Sign.{Sign}
 use Rattle.redcode_text.specs.declared.token.Sign.TheVariants.{Equal, NotEqual, LessEqual, GreaterEqual, And, Or, Plus, Minus, Star, Slash, Percent, Bang, Less, Greater}
 use Rattle.redcode_text.specs.declared.token.TokenKind.{TokenKind}
@@ -14,7 +15,7 @@ use Rattle.redcode_text.specs.declared.token.TokenKind.TheVariants as token
 use Rattle.redcode_text.specs.declared.fault.ExprFault.{ExprFault}
 use Rattle.redcode_text.specs.declared.fault.ExprFault.TheVariants.{Syntax, Unknown, DivideByZero, Range}
 use Rattle.redcode_text.specs.declared.fault.TextFault.{TextFault}
-use Rattle.redcode_text.specs.Expression.{◌>>=◌, Tree, Numeral, Named, Parens, Unary, Binary, Missing, binary, in_range, kinds, known, precedence, shape, start, tree_within, unary, value, value_of}
+use Rattle.redcode_text.specs.Expression.{Tree, Numeral, Named, Parens, Unary, Binary, Missing, binary, in_range, kinds, known, precedence, shape, start, tree_within, unary, value, value_of}
 use Rattle.redcode_text.specs.Lines.{name_at}
 use Rattle.redcode_text.specs.Tokens.{Scanned, scanned}
 use Rattle.redcode_text.proofs.CallerLemmas.{spelling, is_prefix, IsLevelled, rank-≤5, shaped, tree-spelled}

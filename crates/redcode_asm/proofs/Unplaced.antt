@@ -3,6 +3,7 @@ use Rattle.std.proofs.Common.{◌≡◌, ◌∙◌, ℕ, zero, suc, ◌+◌, ◌
 use Rattle.std.specs.Prelude.{not, filter, option_map, ◌-ℤ◌}
 use Rattle.std.specs.List.{last_or, list_any}
 use Rattle.std.proofs.lemmas.List.{length-map}
+use Rattle.redcode_text.specs.Results.{◌>>=◌}
 use Rattle.mars_cell.specs.declared.instruction.Modifier.{Modifier}
 use Rattle.mars_cell.specs.declared.instruction.Op.{Op}
 use Rattle.mars_cell.specs.Parameters.{Parameters}
@@ -15,7 +16,7 @@ use Rattle.redcode_text.specs.Lines.{Line, Assert, Predefined, name_at, is_org, 
 use Rattle.redcode_text.specs.Tokens.{without_line}
 use Rattle.redcode_text.proofs.CallerLemmas.{kinds-moved, moved_tokens, substitution-moved}
 use Rattle.redcode_asm.specs.declared.fault.AsmProblem.{AsmProblem}
-use Rattle.redcode_asm.specs.Assembly.{◌>>=◌, Placed, as_start, assembly, asserts_hold, at_line, cell_from, cell_of, cells_of, end_operand, expressed, holds, index_after, instructions, is_dot, known_value, label_among, last_where, length_checked, modifier_first, modifier_in, name_value, none_past, not_empty, opcode_of, placed, placed_from, predefined, replaced, split_modifier, start_at, start_by, start_of, text_read, texted, value_or, warrior_of}
+use Rattle.redcode_asm.specs.Assembly.{Placed, as_start, assembly, asserts_hold, at_line, cell_from, cell_of, cells_of, end_operand, expressed, holds, index_after, instructions, is_dot, known_value, label_among, last_where, length_checked, modifier_first, modifier_in, name_value, none_past, not_empty, opcode_of, placed, placed_from, predefined, replaced, split_modifier, start_at, start_by, start_of, text_read, texted, value_or, warrior_of}
 use Rattle.redcode_asm.specs.Laws.{SaysTheSame, unplaced, unplaced_assert, unplaced_line, unplaced_program, unplaced_token}
 use Rattle.redcode_asm.proofs.Alike.{cell-like}
 use Rattle.redcode_asm.proofs.FreeNames.{warrior-same}

@@ -1,6 +1,7 @@
 -- What a source is assembled to.
 use Rattle.std.specs.Prelude.{ℕ, zero, ◌+◌, List, [], ◌∷◌, length, drop, filter, Bool, true, false, ◌==◌, ℤ, pos, negsuc, ◌-ℤ◌, Option, Some, None, unwrap_or, option_map, Result, Ok, Err, if◌then◌else◌, nat_lt, codes}
 use Rattle.std.specs.List.{list_any, onto_first, last_or}
+use Rattle.redcode_text.specs.Results.{◌>>=◌}
 use Rattle.mars_cell.specs.declared.instruction.Cell.{Cell}
 use Rattle.mars_cell.specs.declared.instruction.Mode.{Mode}
 use Rattle.mars_cell.specs.declared.instruction.Mode.TheVariants as mode
@@ -29,11 +30,6 @@ use Rattle.redcode_text.specs.Lines.{Line, Assert, Predefined, predefined_value,
 use Rattle.redcode_asm.specs.declared.fault.AsmFault.{AsmFault}
 use Rattle.redcode_asm.specs.declared.fault.AsmProblem.{AsmProblem}
 use Rattle.redcode_asm.specs.declared.fault.AsmProblem.TheVariants.{Text, Operation, Operand, Expression, AssertFailed, BadOrigin, Empty, TooLong}
-
-infixl 10 ◌>>=◌
-abbrev pub ◌>>=◌ : {A B E : Type 0} → Result A E → (A → Result B E) → Result B E
-(Ok x) >>= f = f x
-(Err e) >>= f = Err e
 
 abbrev pub ok_or : {A : Type 0} → AsmProblem → Option A → Result A AsmProblem
 ok_or problem (Some x) = Ok x

@@ -2,6 +2,7 @@
 use Rattle.std.specs.Prelude.{◌≡◌, ⊤, true, ℕ, ℤ, List, length, Bool, ◌||◌, Option, Some, None, Result, Ok, Err, if◌then◌else◌, nat_lt, codes}
 use Rattle.std.specs.List.{list_all}
 use Rattle.std.specs.Str.{bytes_eq}
+use Rattle.redcode_text.specs.Results.{◌>>=◌}
 use Rattle.redcode_text.specs.declared.fault.ExprFault.{ExprFault}
 use Rattle.redcode_text.specs.declared.fault.ExprFault.TheVariants.{Syntax, Unknown}
 use Rattle.redcode_asm.specs.declared.fault.FormulaFault.{FormulaFault}
@@ -9,7 +10,7 @@ use Rattle.redcode_asm.specs.declared.fault.FormulaFault.TheVariants.{Expression
 use Rattle.redcode_text.specs.declared.fault.TextFault.{TextFault}
 use Rattle.redcode_text.specs.declared.token.TokenKind.{TokenKind}
 use Rattle.redcode_text.specs.declared.token.TokenKind.TheVariants.{Name}
-use Rattle.redcode_text.specs.Expression.{◌>>=◌, kinds, shape, start, value_of}
+use Rattle.redcode_text.specs.Expression.{kinds, shape, start, value_of}
 use Rattle.redcode_text.specs.Lines.{name_at}
 use Rattle.redcode_text.specs.Tokens.{Scanned, scanned}
 

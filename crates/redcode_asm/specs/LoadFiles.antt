@@ -1,9 +1,10 @@
 -- The load file of a source.
 use Rattle.std.specs.Prelude.{ℕ, List, Result, Ok}
+use Rattle.redcode_text.specs.Results.{◌>>=◌}
 use Rattle.mars_cell.specs.Parameters.{Parameters}
 use Rattle.mars_cell.specs.Written.{load_text}
 use Rattle.redcode_asm.specs.declared.fault.AsmFault.{AsmFault}
-use Rattle.redcode_asm.specs.Assembly.{◌>>=◌, assembly}
+use Rattle.redcode_asm.specs.Assembly.{assembly}
 
 -- the load file of the warrior that a source is assembled to, or the source's first fault
 abbrev pub assembled_load : Parameters → ℕ → ℕ → List ℕ → Result (List ℕ) AsmFault

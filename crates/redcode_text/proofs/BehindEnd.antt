@@ -2,6 +2,7 @@
 use Rattle.std.proofs.Common.{◌≡◌, ◌∙◌, refl, ap, sym, ℕ, ◌+◌, Bool, true, false, ◌||◌, List, [], ◌∷◌, ◌++◌, length, Result, Ok, Err}
 use Rattle.std.specs.Prelude.{⊤, codes, ◌==◌}
 use Rattle.std.specs.List.{list_any, onto_first}
+use Rattle.redcode_text.specs.Results.{◌>>=◌}
 use Rattle.redcode_text.specs.declared.fault.TextFault.{TextFault}
 use Rattle.redcode_text.specs.declared.fault.TextProblem.{TextProblem}
 use Rattle.redcode_text.specs.declared.fault.TextProblem.TheVariants.{UnclosedFor, RofAlone}
@@ -9,7 +10,7 @@ use Rattle.redcode_text.specs.Expansion.{expansion, flat, head_line, nothing_rea
 use Rattle.redcode_text.specs.Lines.{Reading, Predefined, line_read, plain_line, unless_ended}
 use Rattle.redcode_text.specs.Source as source
 use Rattle.redcode_text.specs.Source.{Row, Items, Nothing, Plain, Loop, LoneRof, LineKind, RofLine, ForLine, EquLine, OtherLine, Pairing, begins_redcode, from_redcode, has_directive, line_kind, lines_of, opened, paired, paired_with, read_rows, rows_from, rows_of, then_lone, tree_of, tree_of_rows, with_lone}
-use Rattle.redcode_text.specs.Tokens.{◌>>=◌, ◌>>>◌, at_line}
+use Rattle.redcode_text.specs.Tokens.{at_line}
 use Rattle.redcode_text.proofs.Kept.{Kept, rof-ended}
 
 -- ---- rows
@@ -153,7 +154,7 @@ module _ (read : Reading) (ends : read.ended ≡ true) where
   abbrev Same : Result Reading TextFault → Result Reading TextFault → Type 0
   Same r s = r ≡ Ok read → s ≡ Ok read
 
-  after : {A : Type 0} (r : Result A TextFault) (f g : A → Result Reading TextFault) → ((a : A) → r ≡ Ok a → Same (f a) (g a)) → Same (r >>> f) (r >>> g)
+  after : {A : Type 0} (r : Result A TextFault) (f g : A → Result Reading TextFault) → ((a : A) → r ≡ Ok a → Same (f a) (g a)) → Same (r >>= f) (r >>= g)
   after (Ok a) f g h e = h a refl e
   after (Err x) f g h e = cc
 
@@ -178,10 +179,10 @@ module _ (read : Reading) (ends : read.ended ≡ true) where
       rw b.1 (after (at_line row.number (plain_line ps row st)) (λ a. unless_ended a (flat ps rest)) (λ a. unless_ended a (flat ps b.0))
       (λ a is. unless a (flat ps rest) (flat ps b.0) (reads-same ps rest b.0 b.2 a)) e)
   reads-same ps (Loop head body rof rest) more b st going e =
-      let behind : Items → Reading → Result Reading TextFault = λ items a. at_line rof.number (rof_line rof a) >>> flat ps items in
+      let behind : Items → Reading → Result Reading TextFault = λ items a. at_line rof.number (rof_line rof a) >>= flat ps items in
       rw b.1 (after (at_line head.number (head_line ps head st))
-      (λ h. rounds (flat ps body) h.counter 1 h.count h.reading >>> λ a. unless_ended a (behind rest))
-      (λ h. rounds (flat ps body) h.counter 1 h.count h.reading >>> λ a. unless_ended a (behind b.0))
+      (λ h. rounds (flat ps body) h.counter 1 h.count h.reading >>= λ a. unless_ended a (behind rest))
+      (λ h. rounds (flat ps body) h.counter 1 h.count h.reading >>= λ a. unless_ended a (behind b.0))
       (λ h is. after (rounds (flat ps body) h.counter 1 h.count h.reading) (λ a. unless_ended a (behind rest)) (λ a. unless_ended a (behind b.0))
       (λ a was. unless a (behind rest) (behind b.0)
       (λ on. after (at_line rof.number (rof_line rof a)) (flat ps rest) (flat ps b.0) (λ c closed. reads-same ps rest b.0 b.2 c (rof-goes-on rof a c on closed))))) e)
@@ -204,4 +205,4 @@ pub behind-end : (ps : Predefined) (before after : List ℕ) (read : Reading) �
 unfolding expansion
 behind-end ps before after read is ends none =
     let same = reads-same read ends ps (tree_of (before ++ 10 ∷ [])) (tree_of (before ++ 10 ∷ after)) (begins-source before after none) nothing_read refl is in
-    ap (λ r. r >>> λ st. Ok (program_of st)) (same ∙ sym is)
+    ap (λ r. r >>= λ st. Ok (program_of st)) (same ∙ sym is)

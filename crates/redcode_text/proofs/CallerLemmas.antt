@@ -3,6 +3,7 @@
 use Rattle.std.specs.Bool.{⊤}
 use Rattle.std.proofs.lemmas.List.{length-map, map-append}
 use Rattle.std.proofs.Common.{◌≡◌, ◌∙◌, ℕ, zero, suc, ◌+◌, ℤ, pos, List, [], ◌∷◌, ◌++◌, length, Bool, true, false, nat_le, Option, Some, None, Result, Ok, Err, refl, ap, sym, subst, arith}
+use Rattle.redcode_text.specs.Results.{◌>>=◌}
 use Rattle.redcode_text.specs.declared.token.TokenKind.{TokenKind}
 use Rattle.redcode_text.specs.declared.token.TokenKind.TheVariants.{Number, Name}
 use Rattle.redcode_text.specs.declared.token.TokenKind.TheVariants as token
@@ -11,9 +12,8 @@ use Rattle.redcode_text.specs.declared.fault.TextProblem.{TextProblem}
 use Rattle.redcode_text.specs.declared.fault.TextProblem.TheVariants.{TooLong}
 use Rattle.redcode_text.specs.declared.token.Token.{Token}
 use Rattle.redcode_text.specs.Equates.{Equate, Replaced, Replacing, depth_limit, each_replaced, kept, limit, one_line, one_more, replaced_name, replaced_token, replacing, substitution, token_lines}
-use Rattle.redcode_text.specs.Tokens.{◌>>>◌, at_line, without_line}
-use Rattle.redcode_text.specs.Tokens as tokens
-use Rattle.redcode_text.specs.Expression.{◌>>=◌, kinds, known, shape, start, value_of}
+use Rattle.redcode_text.specs.Tokens.{without_line}
+use Rattle.redcode_text.specs.Expression.{kinds, known, shape, start, value_of}
 use Rattle.redcode_text.specs.Code.Climbing.{State, move, operand, run, wants}
 use Rattle.redcode_text.proofs.Evaluates.{evaluates, value_of-misshapen}
 pub use Rattle.redcode_text.proofs.PrintedNames.{program-printed}
@@ -86,7 +86,7 @@ LikeResult (Ok r) (Err e) = ⊥
 LikeResult (Err e) (Ok s) = ⊥
 LikeResult (Err e) (Err f) = e ≡ f
 
-like-bind : (a b : Result Replaced TextProblem) (f g : Replaced → Result Replaced TextProblem) → LikeResult a b → ((r s : Replaced) → Like r s → LikeResult (f r) (g s)) → LikeResult (tokens.◌>>=◌ a f) (tokens.◌>>=◌ b g)
+like-bind : (a b : Result Replaced TextProblem) (f g : Replaced → Result Replaced TextProblem) → LikeResult a b → ((r s : Replaced) → Like r s → LikeResult (f r) (g s)) → LikeResult (◌>>=◌ a f) (◌>>=◌ b g)
 like-bind (Ok r) (Ok s) f g h k = k r s h
 like-bind (Ok r) (Err e) f g h k = absurd h
 like-bind (Err e) (Ok s) f g h k = absurd h
@@ -119,7 +119,7 @@ name-like : (deeper : Option Replacing) → Respects deeper → (r s : Replaced)
 name-like None h r s lines like = refl
 name-like (Some f) h r s lines like = go (one_line lines)
   where
-    go : (l : Result (List Token) TextProblem) → LikeResult (tokens.◌>>=◌ l (λ line. tokens.◌>>=◌ (one_more r) (λ q. f q line))) (tokens.◌>>=◌ l (λ line. tokens.◌>>=◌ (one_more s) (λ q. f q line)))
+    go : (l : Result (List Token) TextProblem) → LikeResult (◌>>=◌ l (λ line. ◌>>=◌ (one_more r) (λ q. f q line))) (◌>>=◌ l (λ line. ◌>>=◌ (one_more s) (λ q. f q line)))
     go (Ok line) = like-bind (one_more r) (one_more s) (λ q. f q line) (λ q. f q line) (one-more-like r s like) (λ p q k. h p q line k)
     go (Err e) = refl
 

@@ -1,12 +1,13 @@
 -- The climbing reader gives a spelled tree its value.
 use Rattle.std.proofs.Common.{◌≡◌, ℕ, ◌<◌, ◌≤◌, List, ◌∷◌, [], ◌++◌, true, arith, Result, Ok, Err, refl, ap, sym, ◌∙◌, append_assoc, Option, cond, ℤ}
+use Rattle.redcode_text.specs.Results.{◌>>=◌}
 use Rattle.redcode_text.specs.declared.token.TokenKind.{TokenKind}
 use Rattle.redcode_text.specs.declared.token.TokenKind.TheVariants.{Number, Name}
 use Rattle.redcode_text.specs.declared.token.TokenKind.TheVariants as token
 use Rattle.redcode_text.specs.declared.token.Sign.{Sign}
 use Rattle.redcode_text.specs.declared.token.Sign.TheVariants.{Plus, OpenParen, CloseParen}
 use Rattle.redcode_text.specs.declared.fault.ExprFault.{ExprFault}
-use Rattle.redcode_text.specs.Expression.{◌>>=◌, precedence, unary, binary, known, value, Tree, Numeral, Named, Parens, Unary, Binary, Missing}
+use Rattle.redcode_text.specs.Expression.{precedence, unary, binary, known, value, Tree, Numeral, Named, Parens, Unary, Binary, Missing}
 use Rattle.redcode_text.specs.Code.Climbing.{Waiting, Left, Opened, State, wants, has, signed, reduced, operand, reach, placed, before_mark, run, IsLooser}
 use Rattle.redcode_text.proofs.Trees.{spelling, rank, is_prefix, IsLevelled, precedence-≤5, rank-≤5}
 use Rattle.std.proofs.lemmas.Bool.{le-leb, lt-leb}

@@ -1,5 +1,6 @@
 -- A count, from what its tokens stand for.
 use Rattle.std.proofs.Common.{◌≡◌, ℕ, List, Bool, true, false, Result, Ok, Err, ap, sym, ◌∙◌}
+use Rattle.redcode_text.specs.Results.{◌>>=◌}
 use Rattle.redcode_text.specs.declared.fault.TextProblem.{TextProblem}
 use Rattle.redcode_text.specs.declared.fault.TextProblem.TheVariants.{LabelInCount}
 use Rattle.redcode_text.specs.declared.token.Token.{Token}
@@ -7,7 +8,7 @@ use Rattle.redcode_text.specs.Equates.{substitution}
 use Rattle.redcode_text.specs.Expansion.{as_count, count_of, has_label}
 use Rattle.redcode_text.specs.Expression.{kinds, value_of}
 use Rattle.redcode_text.specs.Lines.{Predefined, Reading, name_at, predefined_value, with_current_line}
-use Rattle.redcode_text.specs.Tokens.{◌>>=◌, without_line}
+use Rattle.redcode_text.specs.Tokens.{without_line}
 
 module _ (ps : Predefined) (st : Reading) where
   abbrev pub valued : List Token → Result ℕ TextProblem

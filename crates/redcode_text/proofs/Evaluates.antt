@@ -1,8 +1,9 @@
 -- The climbing reader gives an expression its value.
 use Rattle.std.proofs.Common.{◌≡◌, ℕ, List, [], length, Option, ℤ, Ok, Err, ap, sym, subst, ◌∙◌, append-nil, arith}
+use Rattle.redcode_text.specs.Results.{◌>>=◌}
 use Rattle.redcode_text.specs.declared.token.TokenKind.{TokenKind}
 use Rattle.redcode_text.specs.declared.fault.ExprFault.{ExprFault}
-use Rattle.redcode_text.specs.Expression.{◌>>=◌, shape, start, value, value_of, tree_within}
+use Rattle.redcode_text.specs.Expression.{shape, start, value, value_of, tree_within}
 use Rattle.redcode_text.specs.Code.Climbing.{wants, run}
 use Rattle.redcode_text.proofs.Trees.{spelling, rank-≤5}
 use Rattle.redcode_text.proofs.Shapes.{shaped}

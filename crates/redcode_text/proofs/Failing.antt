@@ -1,11 +1,12 @@
 -- What fails at first fails as a whole.
 use Rattle.std.proofs.Common.{◌≡◌, ◌∙◌, ℕ, Result, Ok, Err, ap, refl, sym, subst}
+use Rattle.redcode_text.specs.Results.{◌>>=◌}
 use Rattle.redcode_text.specs.declared.fault.TextFault.{TextFault}
 use Rattle.redcode_text.specs.declared.fault.TextProblem.{TextProblem}
 use Rattle.redcode_text.specs.declared.fault.TextProblem.TheVariants.{NotAscii, BadToken, UnclosedFor, RofAlone, BadCount, LabelInCount, Duplicate, EquDepth, TooLong, Expression, OutOfMemory}
 use Rattle.redcode_text.specs.Outcomes.{FailsAt}
 use Rattle.redcode_text.specs.Code.Problems.{Fails, fault_line}
-use Rattle.redcode_text.specs.Tokens.{◌>>=◌, at_line, without_line}
+use Rattle.redcode_text.specs.Tokens.{at_line, without_line}
 
 pub fails-bind : {A B : Type 0} (e : TextProblem) (r : Result A TextProblem) (f : A → Result B TextProblem) → Fails e r → Fails e (r >>= f)
 fails-bind NotAscii r f h = ap (λ r. r >>= f) h

@@ -1,5 +1,6 @@
 -- Lines leave the open loops as they are.
 use Rattle.std.proofs.Common.{◌≡◌, ◌∙◌, ℕ, zero, suc, ◌+◌, ◌-◌, ◌<◌, List, [], ◌∷◌, ◌++◌, length, drop, Bool, true, false, Option, Some, None, Result, Ok, Err, ap, refl, arith, nat_le, nat_lt}
+use Rattle.redcode_text.specs.Results.{◌>>=◌}
 use Rattle.redcode_text.specs.declared.fault.TextProblem.{TextProblem}
 use Rattle.redcode_text.specs.declared.fault.TextProblem.TheVariants.{BadToken, Duplicate, TooLong}
 use Rattle.redcode_text.specs.declared.token.Token.{Token}
@@ -8,7 +9,7 @@ use Rattle.redcode_text.specs.Expression.{kinds}
 use Rattle.redcode_text.specs.Lines.{Reading, Step, Parts, Predefined, WithTokens, each_line, equated, line_read, name_in_front, ordinary_line, ordinary_with, parts_of, parts_read, plain_line, comment_line, assert_line, row_tokens, tokens_before, tokens_after, tokens_counted, tokens_line, unless_ended, before_first, behind_last, before_comment, operation_lines, unless_empty, directive_value, is_equate, is_label, is_predefined, with_line}
 use Rattle.redcode_text.specs.Equates.{limit}
 use Rattle.redcode_text.specs.Source.{Row, LineKind, RofLine, ForLine, EquLine, OtherLine, line_kind, is_comment, directive_text, directive_text_at, has_directive_word}
-use Rattle.redcode_text.specs.Tokens.{◌>>=◌, OpenLoop, Scanned, tokens}
+use Rattle.redcode_text.specs.Tokens.{OpenLoop, Scanned, tokens}
 use Rattle.std.specs.Prelude.{⊤, codes, ◌||◌}
 
 -- what is read keeps this part of the reading

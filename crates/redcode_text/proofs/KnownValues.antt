@@ -5,6 +5,7 @@ use Rattle.std.specs.List.{All}
 use Rattle.std.specs.Result.{OnErr, OnOk}
 use Rattle.std.specs.Str.{bytes_eq}
 use Rattle.std.proofs.lemmas.List.Elements.{All-append, All-cons, All-nil}
+use Rattle.redcode_text.specs.Results.{◌>>=◌}
 use Rattle.redcode_text.specs.declared.fault.ExprFault.{ExprFault}
 use Rattle.redcode_text.specs.declared.fault.TextProblem.{TextProblem}
 use Rattle.redcode_text.specs.declared.fault.TextProblem.TheVariants.{LabelInCount}
@@ -19,10 +20,9 @@ use Rattle.redcode_text.specs.Code.Climbing.{State, move, operand, run, wants}
 use Rattle.redcode_text.specs.Code.Values.{IsKnown, IsValued, value_among}
 use Rattle.redcode_text.specs.Equates.{Equate, substitution}
 use Rattle.redcode_text.specs.Expansion.{as_count, count_of, has_label}
-use Rattle.redcode_text.specs.Expression.{◌>>=◌, kinds, known, shape, start, value_of}
+use Rattle.redcode_text.specs.Expression.{kinds, known, shape, start, value_of}
 use Rattle.redcode_text.specs.Lines.{Predefined, Reading, is_predefined, name_at, predefined_value, with_current_line}
 use Rattle.redcode_text.specs.Tokens.{without_line}
-use Rattle.redcode_text.specs.Tokens as tokens
 use Rattle.redcode_text.proofs.CallerLemmas.{Extends, Follows, LikeTokens, replaced-like, value-follows}
 use Rattle.redcode_text.proofs.CountSteps.{judged}
 use Rattle.redcode_text.proofs.Evaluates.{evaluates, value_of-misshapen}
@@ -112,7 +112,7 @@ module _ (ps : Predefined) (st : Reading) where
   count-valued ts v is =
       ap as_count (sym is.is)
       ∙ sym (ap (λ (b : Bool). elim b as (λ _. Result ℕ TextProblem) [ true ↦ Err LabelInCount | false ↦ as_count (value_of count_names (kinds is.made)) ]) (no-label (kinds is.made) (value-known count_names v (kinds is.made) is.is)))
-      ∙ sym (ap (λ q. tokens.◌>>=◌ q (judged ps st)) is.replaced)
+      ∙ sym (ap (λ q. ◌>>=◌ q (judged ps st)) is.replaced)
 
 -- the values, once one was to be put behind them
 pub after-add : {X : Type 0} (equates : List Equate) (r : Result (Unit {0}) X) (ks more : List KnownValue) (k : KnownValue) → OnOk r (more ≡ ks ++ k ∷ []) → OnErr r (more ≡ ks) → All (IsKnown equates) ks → IsKnown equates k → All (IsKnown equates) more

@@ -3,6 +3,7 @@ use Rattle.std.proofs.Common.{◌≡◌, ◌∙◌, refl, ap, ℕ, ◌+◌, ◌-
 use Rattle.std.proofs.lemmas.Bool.Decides.{nat_tests}
 use Rattle.std.specs.List.{list_any}
 use Rattle.std.specs.Str.{str_eq_ignore_ascii_case}
+use Rattle.redcode_text.specs.Results.{◌>>=◌}
 use Rattle.redcode_text.specs.declared.fault.TextProblem.{TextProblem}
 use Rattle.redcode_text.specs.declared.fault.TextProblem.TheVariants.{TooLong, Duplicate}
 use Rattle.redcode_text.specs.declared.token.Token.{Token}
@@ -13,7 +14,7 @@ use Rattle.redcode_text.specs.Equates.{equate_lines, limit}
 use Rattle.redcode_text.specs.Expression.{kinds}
 use Rattle.redcode_text.specs.Lines.{Reading, Parts, Predefined, WithTokens, before_comment, comment_line, is_operation, line_added, line_read, may_label, name_at, on_line, operation_lines, operations, ordinary_line, parts_of, parts_read, parts_within, plain_line, row_tokens, split_colon, tokens_line, token_on_line}
 use Rattle.redcode_text.specs.Source.{Row, OtherLine, is_comment, line_kind}
-use Rattle.redcode_text.specs.Tokens.{◌>>=◌, Scanned, tokens}
+use Rattle.redcode_text.specs.Tokens.{Scanned, tokens}
 use Rattle.redcode_text.proofs.Moved.{kinds-moved}
 
 -- a reading with one line more read

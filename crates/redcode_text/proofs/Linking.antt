@@ -2,6 +2,7 @@
 use Rattle.std.proofs.Common.{◌≡◌, ℕ, suc, ◌+◌, ◌-◌, ◌<◌, ◌≤◌, List, [], ◌∷◌, ◌++◌, length, drop, take, get_or, slice_range, Bool, true, false, cond, leb, ℤ, Option, Result, Ok, Err, refl, ap, sym, ◌∙◌, arith, add-one, take-suc, length-drop, get_or-drop}
 use Rattle.std.proofs.lemmas.List.{map-append}
 use Rattle.std.proofs.Math.Seq.{drop-cons}
+use Rattle.redcode_text.specs.Results.{◌>>=◌}
 use Rattle.redcode_text.specs.declared.token.Token.{Token}
 use Rattle.redcode_text.specs.declared.token.TokenKind.{TokenKind}
 use Rattle.redcode_text.specs.declared.token.TokenKind.TheVariants.{Number, Name}
@@ -12,7 +13,7 @@ use Rattle.redcode_text.specs.declared.fault.ExprFault.{ExprFault}
 use Rattle.redcode_text.specs.declared.expression.evaluation.Pending.{Pending}
 use Rattle.redcode_text.specs.declared.expression.evaluation.Pending.TheVariants.{Value, Open}
 use Rattle.redcode_text.specs.declared.expression.evaluation.Evaluation.{Evaluation}
-use Rattle.redcode_text.specs.Expression.{◌>>=◌, precedence, binary, kinds, known, shape, next_state}
+use Rattle.redcode_text.specs.Expression.{precedence, binary, kinds, known, shape, next_state}
 use Rattle.redcode_text.specs.Code.Climbing.{Left, State, signed, reduced, placed, before_mark, after_mark, move, run, operand, waiting_all, seen}
 use Rattle.redcode_text.specs.Code.Positions.{Stands, reduced_on, popped, taken, before_on, after_on, advance, run_on}
 use Rattle.redcode_text.proofs.Climbs.{assoc}

@@ -1,5 +1,6 @@
 -- A source whose items end at a ROF that closes nothing.
 use Rattle.std.proofs.Common.{◌≡◌, ◌∙◌, ℕ, ◌<◌, List, [], ◌∷◌, length, map, Bool, true, false, Result, Ok, Err, ap, refl, subst, sym, get_or}
+use Rattle.redcode_text.specs.Results.{◌>>=◌}
 use Rattle.redcode_text.specs.declared.fault.TextFault.{TextFault}
 use Rattle.redcode_text.specs.declared.fault.TextProblem.{TextProblem}
 use Rattle.redcode_text.specs.declared.fault.TextProblem.TheVariants.{UnclosedFor, RofAlone}
@@ -12,7 +13,7 @@ use Rattle.redcode_text.specs.Code.Rows.{row_of}
 use Rattle.redcode_text.specs.Code.Pairs.{here_from, EndsAt}
 use Rattle.redcode_text.specs.Source.{Items, Nothing, Plain, Loop, LoneRof, Row, paired, then_lone, tree_of_rows, with_lone}
 use Rattle.redcode_text.specs.Source as source
-use Rattle.redcode_text.specs.Tokens.{◌>>>◌, ◌>>=◌, at_line}
+use Rattle.redcode_text.specs.Tokens.{at_line}
 use Rattle.redcode_text.proofs.LoopSteps.{flat-loop, goes-on, stops, then-fails}
 use Rattle.redcode_text.proofs.PairSteps.{rof-at}
 
@@ -20,29 +21,29 @@ abbrev lone : Row → Reading → Result Reading TextFault
 lone rof st = at_line rof.number (unpaired_line RofAlone st)
 
 -- a step, and what follows it up to a lone ROF
-step-lone : (r : Result Reading TextFault) (f g h : Reading → Result Reading TextFault) → ((a : Reading) → a.ended ≡ false → g a ≡ (f a >>> λ b. unless_ended b h))
-    → (r >>> λ a. unless_ended a g) ≡ ((r >>> λ a. unless_ended a f) >>> λ b. unless_ended b h)
+step-lone : (r : Result Reading TextFault) (f g h : Reading → Result Reading TextFault) → ((a : Reading) → a.ended ≡ false → g a ≡ (f a >>= λ b. unless_ended b h))
+    → (r >>= λ a. unless_ended a g) ≡ ((r >>= λ a. unless_ended a f) >>= λ b. unless_ended b h)
 step-lone (Err e) f g h same = refl
 step-lone (Ok a) f g h same = go a.ended refl
   where
-    go : (c : Bool) → a.ended ≡ c → elim c as (λ _. Result Reading TextFault) [ true ↦ Ok a | false ↦ g a ] ≡ (elim c as (λ _. Result Reading TextFault) [ true ↦ Ok a | false ↦ f a ] >>> λ b. unless_ended b h)
+    go : (c : Bool) → a.ended ≡ c → elim c as (λ _. Result Reading TextFault) [ true ↦ Ok a | false ↦ g a ] ≡ (elim c as (λ _. Result Reading TextFault) [ true ↦ Ok a | false ↦ f a ] >>= λ b. unless_ended b h)
     go true e = sym (stops a h e)
     go false e = same a e
 
-unpaired-fails : (p : TextProblem) (n : ℕ) (st : Reading) (h : Reading → Result Reading TextFault) → at_line n (unpaired_line p st) ≡ (at_line n (unpaired_line p st) >>> λ b. unless_ended b h)
+unpaired-fails : (p : TextProblem) (n : ℕ) (st : Reading) (h : Reading → Result Reading TextFault) → at_line n (unpaired_line p st) ≡ (at_line n (unpaired_line p st) >>= λ b. unless_ended b h)
 unpaired-fails p n st h = go (line_read st)
   where
-    go : (r : Result Reading TextProblem) → at_line n (r >>= λ _. Err p) ≡ (at_line n (r >>= λ _. Err p) >>> λ b. unless_ended b h)
+    go : (r : Result Reading TextProblem) → at_line n (r >>= λ _. Err p) ≡ (at_line n (r >>= λ _. Err p) >>= λ b. unless_ended b h)
     go (Ok a) = refl
     go (Err e) = refl
 
-pub flat-lone : (ps : Predefined) (rof : Row) (items : Items) (st : Reading) → st.ended ≡ false → flat ps (then_lone rof items) st ≡ (flat ps items st >>> λ a. unless_ended a (lone rof))
+pub flat-lone : (ps : Predefined) (rof : Row) (items : Items) (st : Reading) → st.ended ≡ false → flat ps (then_lone rof items) st ≡ (flat ps items st >>= λ a. unless_ended a (lone rof))
 flat-lone ps rof Nothing st e = sym (goes-on st (lone rof) e)
 flat-lone ps rof (Plain row rest) st e = step-lone (at_line row.number (plain_line ps row st)) (flat ps rest) (flat ps (then_lone rof rest)) (lone rof) (flat-lone ps rof rest)
 flat-lone ps rof (Loop head body end rest) st e =
     flat-loop ps head body end (then_lone rof rest) st
     ∙ step-lone (one_loop ps head body end st) (flat ps rest) (flat ps (then_lone rof rest)) (lone rof) (flat-lone ps rof rest)
-    ∙ ap (λ r. r >>> λ a. unless_ended a (lone rof)) (sym (flat-loop ps head body end rest st))
+    ∙ ap (λ r. r >>= λ a. unless_ended a (lone rof)) (sym (flat-loop ps head body end rest st))
 flat-lone ps rof (source.UnclosedFor row rest) st e = unpaired-fails UnclosedFor row.number st (lone rof)
 flat-lone ps rof (LoneRof row rest) st e = unpaired-fails RofAlone row.number st (lone rof)
 
@@ -52,7 +53,7 @@ lone-fails ps items (rof ∷ waiting) st fault e h = subst (FailsAt fault.proble
 
 pub lone-ended : (ps : Predefined) (items : Items) (waiting : List (Row × Items)) (st a : Reading) → st.ended ≡ false → flat ps items st ≡ Ok a → a.ended ≡ true → flat ps (with_lone items waiting) st ≡ Ok a
 lone-ended ps items [] st a e h ended = h
-lone-ended ps items (rof ∷ waiting) st a e h ended = flat-lone ps rof.0 items st e ∙ ap (λ r. r >>> λ a. unless_ended a (lone rof.0)) h ∙ stops a (lone rof.0) ended
+lone-ended ps items (rof ∷ waiting) st a e h ended = flat-lone ps rof.0 items st e ∙ ap (λ r. r >>= λ a. unless_ended a (lone rof.0)) h ∙ stops a (lone rof.0) ended
 
 -- the items of all rows end at a ROF
 pub lone-at : (ps : Predefined) (rows : List code.Row) (j : ℕ) (s : code.Row) (st a : Reading) → st.ended ≡ false → flat ps (here_from rows 0) st ≡ Ok a → a.ended ≡ false → EndsAt rows 0 j → j < length rows → s ≡ get_or rows j s
@@ -61,6 +62,6 @@ lone-at ps rows j s st a e h going ends inside si =
     let rof = row_of (get_or rows j s) in
     ap (λ w. flat ps (with_lone (here_from rows 0) w) st) (ends.waiting ∙ rof-at rows j s inside ends.at_end)
     ∙ flat-lone ps rof (here_from rows 0) st e
-    ∙ ap (λ r. r >>> λ a. unless_ended a (lone rof)) h
+    ∙ ap (λ r. r >>= λ a. unless_ended a (lone rof)) h
     ∙ goes-on a (lone rof) going
     ∙ ap (λ row. at_line (row_of row).number (unpaired_line RofAlone a)) (sym si)

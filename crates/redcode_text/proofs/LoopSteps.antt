@@ -1,6 +1,7 @@
 -- The items of a source, and the rounds of a loop, one further.
 use Rattle.std.proofs.Common.{◌≡◌, ◌∙◌, ℕ, zero, suc, ◌+◌, ◌-◌, ◌<◌, ◌≤◌, List, ◌∷◌, length, Bool, true, false, Option, Result, Ok, Err, ap, refl, subst, sym, arith, get_or}
 use Rattle.std.proofs.lemmas.List.{get_or_default}
+use Rattle.redcode_text.specs.Results.{◌>>=◌}
 use Rattle.redcode_text.specs.declared.source.row.Row as code
 use Rattle.redcode_text.specs.Code.Pairs.{here_from, EndsAt}
 use Rattle.redcode_text.proofs.PairSteps.{for-at, paired-drop}
@@ -16,29 +17,29 @@ use Rattle.redcode_text.specs.Outcomes.{FailsAt}
 use Rattle.redcode_text.specs.Code.Kinds.{kind_of}
 use Rattle.redcode_text.specs.Code.Rows.{row_of}
 use Rattle.redcode_text.specs.Source.{Items, Nothing, Plain, Loop, Row, EquLine, OtherLine, line_kind}
-use Rattle.redcode_text.specs.Tokens.{◌>>>◌, OpenLoop, at_line}
+use Rattle.redcode_text.specs.Tokens.{OpenLoop, at_line}
 use Rattle.redcode_text.proofs.Kept.{Kept, rof-ended}
 
 -- ---- what fails at first fails as a whole
 
-then-problem : {A B : Type 0} (p : TextProblem) (fault : TextFault) (r : Result A TextFault) (f : A → Result B TextFault) → FailsAt p fault r → FailsAt p fault (r >>> f)
-then-problem NotAscii fault r f h = ap (λ r. r >>> f) h
-then-problem BadToken fault r f h = ap (λ r. r >>> f) h
-then-problem UnclosedFor fault r f h = ap (λ r. r >>> f) h
-then-problem RofAlone fault r f h = ap (λ r. r >>> f) h
-then-problem BadCount fault r f h = ap (λ r. r >>> f) h
-then-problem LabelInCount fault r f h = ap (λ r. r >>> f) h
-then-problem Duplicate fault r f h = ap (λ r. r >>> f) h
-then-problem EquDepth fault r f h = ap (λ r. r >>> f) h
-then-problem TooLong fault r f h = ap (λ r. r >>> f) h
-then-problem (Expression e) fault r f h = ap (λ r. r >>> f) h
+then-problem : {A B : Type 0} (p : TextProblem) (fault : TextFault) (r : Result A TextFault) (f : A → Result B TextFault) → FailsAt p fault r → FailsAt p fault (r >>= f)
+then-problem NotAscii fault r f h = ap (λ r. r >>= f) h
+then-problem BadToken fault r f h = ap (λ r. r >>= f) h
+then-problem UnclosedFor fault r f h = ap (λ r. r >>= f) h
+then-problem RofAlone fault r f h = ap (λ r. r >>= f) h
+then-problem BadCount fault r f h = ap (λ r. r >>= f) h
+then-problem LabelInCount fault r f h = ap (λ r. r >>= f) h
+then-problem Duplicate fault r f h = ap (λ r. r >>= f) h
+then-problem EquDepth fault r f h = ap (λ r. r >>= f) h
+then-problem TooLong fault r f h = ap (λ r. r >>= f) h
+then-problem (Expression e) fault r f h = ap (λ r. r >>= f) h
 then-problem OutOfMemory fault r f h = h
 
-pub then-fails : {A B : Type 0} (fault : TextFault) (r : Result A TextFault) (f : A → Result B TextFault) → FailsAt fault.problem fault r → FailsAt fault.problem fault (r >>> f)
+pub then-fails : {A B : Type 0} (fault : TextFault) (r : Result A TextFault) (f : A → Result B TextFault) → FailsAt fault.problem fault r → FailsAt fault.problem fault (r >>= f)
 then-fails fault r f h = then-problem fault.problem fault r f h
 
-pub then-ok : {A B : Type 0} (r : Result A TextFault) (x : A) (f : A → Result B TextFault) → r ≡ Ok x → (r >>> f) ≡ f x
-then-ok r x f h = ap (λ r. r >>> f) h
+pub then-ok : {A B : Type 0} (r : Result A TextFault) (x : A) (f : A → Result B TextFault) → r ≡ Ok x → (r >>= f) ≡ f x
+then-ok r x f h = ap (λ r. r >>= f) h
 
 -- ---- END
 
@@ -51,32 +52,32 @@ stops st f e = ap (λ (c : Bool). elim c as (λ _. Result Reading TextFault) [ t
 -- ---- a loop and what follows
 
 after-rof : (ps : Predefined) (rof : Row) (rest : Items) (a : Reading) (c : Bool) → a.ended ≡ c
-    → elim c as (λ _. Result Reading TextFault) [ true ↦ Ok a | false ↦ at_line rof.number (rof_line rof a) >>> flat ps rest ]
-    ≡ (elim c as (λ _. Result Reading TextFault) [ true ↦ Ok a | false ↦ at_line rof.number (rof_line rof a) ] >>> λ b. unless_ended b (flat ps rest))
+    → elim c as (λ _. Result Reading TextFault) [ true ↦ Ok a | false ↦ at_line rof.number (rof_line rof a) >>= flat ps rest ]
+    ≡ (elim c as (λ _. Result Reading TextFault) [ true ↦ Ok a | false ↦ at_line rof.number (rof_line rof a) ] >>= λ b. unless_ended b (flat ps rest))
 after-rof ps rof rest a true e = sym (stops a (flat ps rest) e)
 after-rof ps rof rest a false e = go (rof_line rof a) (rof-ended rof a)
   where
-    go : (r : Result Reading TextProblem) → Kept (λ st. st.ended) a.ended r → (at_line rof.number r >>> flat ps rest) ≡ (at_line rof.number r >>> λ b. unless_ended b (flat ps rest))
+    go : (r : Result Reading TextProblem) → Kept (λ st. st.ended) a.ended r → (at_line rof.number r >>= flat ps rest) ≡ (at_line rof.number r >>= λ b. unless_ended b (flat ps rest))
     go (Ok b) k = sym (goes-on b (flat ps rest) (k ∙ e))
     go (Err p) k = refl
 
 pub flat-loop : (ps : Predefined) (head : Row) (body : Items) (rof : Row) (rest : Items) (st : Reading)
-    → flat ps (Loop head body rof rest) st ≡ (one_loop ps head body rof st >>> λ a. unless_ended a (flat ps rest))
+    → flat ps (Loop head body rof rest) st ≡ (one_loop ps head body rof st >>= λ a. unless_ended a (flat ps rest))
 flat-loop ps head body rof rest st = go (at_line head.number (head_line ps head st))
   where
-    rounds_then : (r : Result Reading TextFault) → (r >>> λ a. unless_ended a (λ b. at_line rof.number (rof_line rof b) >>> flat ps rest)) ≡ ((r >>> λ a. unless_ended a (λ b. at_line rof.number (rof_line rof b))) >>> λ a. unless_ended a (flat ps rest))
+    rounds_then : (r : Result Reading TextFault) → (r >>= λ a. unless_ended a (λ b. at_line rof.number (rof_line rof b) >>= flat ps rest)) ≡ ((r >>= λ a. unless_ended a (λ b. at_line rof.number (rof_line rof b))) >>= λ a. unless_ended a (flat ps rest))
     rounds_then (Ok a) = after-rof ps rof rest a a.ended refl
     rounds_then (Err p) = refl
 
-    go : (r : Result Head TextFault) → (r >>> λ h. rounds (flat ps body) h.counter 1 h.count h.reading >>> λ a. unless_ended a (λ b. at_line rof.number (rof_line rof b) >>> flat ps rest))
-        ≡ ((r >>> λ h. rounds (flat ps body) h.counter 1 h.count h.reading >>> λ a. unless_ended a (λ b. at_line rof.number (rof_line rof b))) >>> λ a. unless_ended a (flat ps rest))
+    go : (r : Result Head TextFault) → (r >>= λ h. rounds (flat ps body) h.counter 1 h.count h.reading >>= λ a. unless_ended a (λ b. at_line rof.number (rof_line rof b) >>= flat ps rest))
+        ≡ ((r >>= λ h. rounds (flat ps body) h.counter 1 h.count h.reading >>= λ a. unless_ended a (λ b. at_line rof.number (rof_line rof b))) >>= λ a. unless_ended a (flat ps rest))
     go (Ok h) = rounds_then (rounds (flat ps body) h.counter 1 h.count h.reading)
     go (Err p) = refl
 
 -- ---- rounds
 
 pub one-round : (body : Reading → Result Reading TextFault) (counter : Option (List ℕ)) (n t : ℕ) (st : Reading) → t ≤ n
-    → rounds body counter t (n + 1 - t) st ≡ (body (in_round counter t st) >>> λ a. unless_ended (record a { loops = st.loops }) (rounds body counter (t + 1) (n + 1 - (t + 1))))
+    → rounds body counter t (n + 1 - t) st ≡ (body (in_round counter t st) >>= λ a. unless_ended (record a { loops = st.loops }) (rounds body counter (t + 1) (n + 1 - (t + 1))))
 one-round body counter n t st h =
     let e : n + 1 - t ≡ suc (n + 1 - (t + 1)) = omega arith in
     ap (λ m. rounds body counter t m st) e
@@ -93,9 +94,9 @@ empty-rounds ps counter (suc n) t st = go st.ended (empty-rounds ps counter n (t
 -- one round, whose loop was opened and closed
 round-once : (body : Reading → Result Reading TextFault) (counter : Option (List ℕ)) (n t : ℕ) (st : Reading) (l : List OpenLoop) (whole : Result Reading TextFault)
     → t ≤ n → rounds body counter t (n + 1 - t) st ≡ whole → l ≡ record { counter = counter; round = t } ∷ st.loops
-    → whole ≡ (body (record st { loops = l }) >>> λ a. unless_ended (record a { loops = st.loops }) (rounds body counter (t + 1) (n + 1 - (t + 1))))
+    → whole ≡ (body (record st { loops = l }) >>= λ a. unless_ended (record a { loops = st.loops }) (rounds body counter (t + 1) (n + 1 - (t + 1))))
 round-once body counter n t st l whole h is opened =
-    sym is ∙ one-round body counter n t st h ∙ ap (λ l. body (record st { loops = l }) >>> λ a. unless_ended (record a { loops = st.loops }) (rounds body counter (t + 1) (n + 1 - (t + 1)))) (sym opened)
+    sym is ∙ one-round body counter n t st h ∙ ap (λ l. body (record st { loops = l }) >>= λ a. unless_ended (record a { loops = st.loops }) (rounds body counter (t + 1) (n + 1 - (t + 1)))) (sym opened)
 
 pub round-fails : (body : Reading → Result Reading TextFault) (counter : Option (List ℕ)) (n t : ℕ) (st : Reading) (l : List OpenLoop) (whole : Result Reading TextFault) (fault : TextFault)
     → t ≤ n → rounds body counter t (n + 1 - t) st ≡ whole → l ≡ record { counter = counter; round = t } ∷ st.loops → FailsAt fault.problem fault (body (record st { loops = l })) → FailsAt fault.problem fault whole
@@ -108,7 +109,7 @@ round-ok : (body : Reading → Result Reading TextFault) (counter : Option (List
     → whole ≡ unless_ended (record a { loops = k }) (rounds body counter (t + 1) (n + 1 - (t + 1)))
 round-ok body counter n t st a l k whole h is opened b close =
     round-once body counter n t st l whole h is opened
-    ∙ ap (λ r. r >>> λ a. unless_ended (record a { loops = st.loops }) (rounds body counter (t + 1) (n + 1 - (t + 1)))) b
+    ∙ ap (λ r. r >>= λ a. unless_ended (record a { loops = st.loops }) (rounds body counter (t + 1) (n + 1 - (t + 1)))) b
     ∙ ap (λ k. unless_ended (record a { loops = k }) (rounds body counter (t + 1) (n + 1 - (t + 1)))) (sym close)
 
 pub round-done : (body : Reading → Result Reading TextFault) (counter : Option (List ℕ)) (n t : ℕ) (st a : Reading) (l k : List OpenLoop) (whole : Result Reading TextFault)
@@ -126,27 +127,27 @@ round-ended body counter n t st a l k whole h is opened b close e =
 -- ---- a loop at a place
 
 pub loop-at : (ps : Predefined) (rows : List code.Row) (i j at : ℕ) (dh dr : code.Row) (st : Reading) → i < length rows → j < length rows → IsFor rows i at → EndsAt rows (i + 1) j
-    → flat ps (here_from rows i) st ≡ (one_loop ps (row_of (get_or rows i dh)) (here_from rows (i + 1)) (row_of (get_or rows j dr)) st >>> λ a. unless_ended a (flat ps (here_from rows (j + 1))))
+    → flat ps (here_from rows i) st ≡ (one_loop ps (row_of (get_or rows i dh)) (here_from rows (i + 1)) (row_of (get_or rows j dr)) st >>= λ a. unless_ended a (flat ps (here_from rows (j + 1))))
 loop-at ps rows i j at dh dr st hi hj is ends =
     ap (λ p. flat ps p.here st) (for-at rows i j at dr hi hj (is dr).0 ends)
     ∙ flat-loop ps (row_of (get_or rows i dr)) (here_from rows (i + 1)) (row_of (get_or rows j dr)) (here_from rows (j + 1)) st
-    ∙ ap (λ row. one_loop ps (row_of row) (here_from rows (i + 1)) (row_of (get_or rows j dr)) st >>> λ a. unless_ended a (flat ps (here_from rows (j + 1)))) (get_or_default rows i dr dh hi)
+    ∙ ap (λ row. one_loop ps (row_of row) (here_from rows (i + 1)) (row_of (get_or rows j dr)) st >>= λ a. unless_ended a (flat ps (here_from rows (j + 1)))) (get_or_default rows i dr dh hi)
 
 -- a loop whose head, rounds or ROF fail, and what follows
 pub head-fails : (ps : Predefined) (head : Row) (body : Items) (rof : Row) (st : Reading) (f : Reading → Result Reading TextFault) (fault : TextFault) (whole : Result Reading TextFault)
-    → whole ≡ (one_loop ps head body rof st >>> f) → FailsAt fault.problem fault (at_line head.number (head_line ps head st)) → FailsAt fault.problem fault whole
+    → whole ≡ (one_loop ps head body rof st >>= f) → FailsAt fault.problem fault (at_line head.number (head_line ps head st)) → FailsAt fault.problem fault whole
 head-fails ps head body rof st f fault whole is h =
-    subst (FailsAt fault.problem fault) (sym is) (then-fails fault (one_loop ps head body rof st) f (then-fails fault (at_line head.number (head_line ps head st)) (λ h. rounds (flat ps body) h.counter 1 h.count h.reading >>> λ a. unless_ended a (λ b. at_line rof.number (rof_line rof b))) h))
+    subst (FailsAt fault.problem fault) (sym is) (then-fails fault (one_loop ps head body rof st) f (then-fails fault (at_line head.number (head_line ps head st)) (λ h. rounds (flat ps body) h.counter 1 h.count h.reading >>= λ a. unless_ended a (λ b. at_line rof.number (rof_line rof b))) h))
 
 pub rounds_then : (ps : Predefined) (head : Row) (body : Items) (rof : Row) (st : Reading) (h : Head) → at_line head.number (head_line ps head st) ≡ Ok h
-    → one_loop ps head body rof st ≡ (rounds (flat ps body) h.counter 1 h.count h.reading >>> λ a. unless_ended a (λ b. at_line rof.number (rof_line rof b)))
-rounds_then ps head body rof st h is = then-ok (at_line head.number (head_line ps head st)) h (λ h. rounds (flat ps body) h.counter 1 h.count h.reading >>> λ a. unless_ended a (λ b. at_line rof.number (rof_line rof b))) is
+    → one_loop ps head body rof st ≡ (rounds (flat ps body) h.counter 1 h.count h.reading >>= λ a. unless_ended a (λ b. at_line rof.number (rof_line rof b)))
+rounds_then ps head body rof st h is = then-ok (at_line head.number (head_line ps head st)) h (λ h. rounds (flat ps body) h.counter 1 h.count h.reading >>= λ a. unless_ended a (λ b. at_line rof.number (rof_line rof b))) is
 
 pub rounds-fail : (ps : Predefined) (head : Row) (body : Items) (rof : Row) (st : Reading) (h : Head) (f : Reading → Result Reading TextFault) (fault : TextFault) (whole : Result Reading TextFault)
-    → whole ≡ (one_loop ps head body rof st >>> f) → at_line head.number (head_line ps head st) ≡ Ok h → FailsAt fault.problem fault (rounds (flat ps body) h.counter 1 h.count h.reading) → FailsAt fault.problem fault whole
+    → whole ≡ (one_loop ps head body rof st >>= f) → at_line head.number (head_line ps head st) ≡ Ok h → FailsAt fault.problem fault (rounds (flat ps body) h.counter 1 h.count h.reading) → FailsAt fault.problem fault whole
 rounds-fail ps head body rof st h f fault whole is first t =
-    subst (FailsAt fault.problem fault) (sym (is ∙ ap (λ r. r >>> f) (rounds_then ps head body rof st h first)))
-    (then-fails fault (rounds (flat ps body) h.counter 1 h.count h.reading >>> λ a. unless_ended a (λ b. at_line rof.number (rof_line rof b))) f
+    subst (FailsAt fault.problem fault) (sym (is ∙ ap (λ r. r >>= f) (rounds_then ps head body rof st h first)))
+    (then-fails fault (rounds (flat ps body) h.counter 1 h.count h.reading >>= λ a. unless_ended a (λ b. at_line rof.number (rof_line rof b))) f
     (then-fails fault (rounds (flat ps body) h.counter 1 h.count h.reading) (λ a. unless_ended a (λ b. at_line rof.number (rof_line rof b))) t))
 
 pub behind-rounds : (ps : Predefined) (head : Row) (body : Items) (rof : Row) (st : Reading) (h : Head) (a : Reading) → at_line head.number (head_line ps head st) ≡ Ok h → rounds (flat ps body) h.counter 1 h.count h.reading ≡ Ok a
@@ -154,29 +155,29 @@ pub behind-rounds : (ps : Predefined) (head : Row) (body : Items) (rof : Row) (s
 behind-rounds ps head body rof st h a first t = rounds_then ps head body rof st h first ∙ then-ok (rounds (flat ps body) h.counter 1 h.count h.reading) a (λ a. unless_ended a (λ b. at_line rof.number (rof_line rof b))) t
 
 pub loop-ended : (ps : Predefined) (head : Row) (body : Items) (rof : Row) (st : Reading) (h : Head) (a : Reading) (f : Reading → Result Reading TextFault) (whole : Result Reading TextFault)
-    → whole ≡ (one_loop ps head body rof st >>> λ a. unless_ended a f) → at_line head.number (head_line ps head st) ≡ Ok h → rounds (flat ps body) h.counter 1 h.count h.reading ≡ Ok a → a.ended ≡ true → whole ≡ unless_ended a f
-loop-ended ps head body rof st h a f whole is first t e = is ∙ ap (λ r. r >>> λ a. unless_ended a f) (behind-rounds ps head body rof st h a first t ∙ stops a (λ b. at_line rof.number (rof_line rof b)) e)
+    → whole ≡ (one_loop ps head body rof st >>= λ a. unless_ended a f) → at_line head.number (head_line ps head st) ≡ Ok h → rounds (flat ps body) h.counter 1 h.count h.reading ≡ Ok a → a.ended ≡ true → whole ≡ unless_ended a f
+loop-ended ps head body rof st h a f whole is first t e = is ∙ ap (λ r. r >>= λ a. unless_ended a f) (behind-rounds ps head body rof st h a first t ∙ stops a (λ b. at_line rof.number (rof_line rof b)) e)
 
 pub rof-fails : (ps : Predefined) (head : Row) (body : Items) (rof : Row) (st : Reading) (h : Head) (a : Reading) (f : Reading → Result Reading TextFault) (fault : TextFault) (whole : Result Reading TextFault)
-    → whole ≡ (one_loop ps head body rof st >>> f) → at_line head.number (head_line ps head st) ≡ Ok h → rounds (flat ps body) h.counter 1 h.count h.reading ≡ Ok a → a.ended ≡ false
+    → whole ≡ (one_loop ps head body rof st >>= f) → at_line head.number (head_line ps head st) ≡ Ok h → rounds (flat ps body) h.counter 1 h.count h.reading ≡ Ok a → a.ended ≡ false
     → FailsAt fault.problem fault (at_line rof.number (rof_line rof a)) → FailsAt fault.problem fault whole
 rof-fails ps head body rof st h a f fault whole is first t e r =
-    subst (FailsAt fault.problem fault) (sym (is ∙ ap (λ r. r >>> f) (behind-rounds ps head body rof st h a first t ∙ goes-on a (λ b. at_line rof.number (rof_line rof b)) e)))
+    subst (FailsAt fault.problem fault) (sym (is ∙ ap (λ r. r >>= f) (behind-rounds ps head body rof st h a first t ∙ goes-on a (λ b. at_line rof.number (rof_line rof b)) e)))
     (then-fails fault (at_line rof.number (rof_line rof a)) f r)
 
 pub loop-done : (ps : Predefined) (head : Row) (body : Items) (rof : Row) (st : Reading) (h : Head) (a b : Reading) (f : Reading → Result Reading TextFault) (whole : Result Reading TextFault)
-    → whole ≡ (one_loop ps head body rof st >>> f) → at_line head.number (head_line ps head st) ≡ Ok h → rounds (flat ps body) h.counter 1 h.count h.reading ≡ Ok a → a.ended ≡ false
+    → whole ≡ (one_loop ps head body rof st >>= f) → at_line head.number (head_line ps head st) ≡ Ok h → rounds (flat ps body) h.counter 1 h.count h.reading ≡ Ok a → a.ended ≡ false
     → at_line rof.number (rof_line rof a) ≡ Ok b → whole ≡ f b
 loop-done ps head body rof st h a b f whole is first t e r =
-    is ∙ ap (λ r. r >>> f) (behind-rounds ps head body rof st h a first t ∙ goes-on a (λ b. at_line rof.number (rof_line rof b)) e ∙ r)
+    is ∙ ap (λ r. r >>= f) (behind-rounds ps head body rof st h a first t ∙ goes-on a (λ b. at_line rof.number (rof_line rof b)) e ∙ r)
 
 -- the same by the rows themselves
 loop-of : (ps : Predefined) (rows : List code.Row) (i j at : ℕ) (r s : code.Row) (st : Reading) → i < length rows → j < length rows → IsFor rows i at → EndsAt rows (i + 1) j → r ≡ get_or rows i r → s ≡ get_or rows j s
-    → flat ps (here_from rows i) st ≡ (one_loop ps (row_of r) (here_from rows (i + 1)) (row_of s) st >>> λ a. unless_ended a (flat ps (here_from rows (j + 1))))
+    → flat ps (here_from rows i) st ≡ (one_loop ps (row_of r) (here_from rows (i + 1)) (row_of s) st >>= λ a. unless_ended a (flat ps (here_from rows (j + 1))))
 loop-of ps rows i j at r s st hi hj is ends ri si =
     loop-at ps rows i j at r s st hi hj is ends
-    ∙ ap (λ row. one_loop ps (row_of row) (here_from rows (i + 1)) (row_of (get_or rows j s)) st >>> λ a. unless_ended a (flat ps (here_from rows (j + 1)))) (sym ri)
-    ∙ ap (λ row. one_loop ps (row_of r) (here_from rows (i + 1)) (row_of row) st >>> λ a. unless_ended a (flat ps (here_from rows (j + 1)))) (sym si)
+    ∙ ap (λ row. one_loop ps (row_of row) (here_from rows (i + 1)) (row_of (get_or rows j s)) st >>= λ a. unless_ended a (flat ps (here_from rows (j + 1)))) (sym ri)
+    ∙ ap (λ row. one_loop ps (row_of r) (here_from rows (i + 1)) (row_of row) st >>= λ a. unless_ended a (flat ps (here_from rows (j + 1)))) (sym si)
 
 pub head-fails-at : (ps : Predefined) (rows : List code.Row) (i j at : ℕ) (r : code.Row) (st : Reading) (fault : TextFault) → i < length rows → j < length rows → IsFor rows i at → EndsAt rows (i + 1) j → r ≡ get_or rows i r → FailsAt fault.problem fault (at_line (row_of r).number (head_line ps (row_of r) st)) → FailsAt fault.problem fault (flat ps (here_from rows i) st)
 head-fails-at ps rows i j at r st fault hi hj is ends ri e = head-fails ps (row_of r) (here_from rows (i + 1)) (row_of (get_or rows j r)) st (λ a. unless_ended a (flat ps (here_from rows (j + 1)))) fault (flat ps (here_from rows i) st) (loop-of ps rows i j at r (get_or rows j r) st hi hj is ends ri (get_or_default rows j r (get_or rows j r) hj)) e
@@ -204,7 +205,7 @@ plain-at rows i d line.Other h is no-for no-rof = λ e. ap (λ p. p.here) (paire
 
 pub row-done : (ps : Predefined) (rows : List code.Row) (i : ℕ) (d : code.Row) (st a : Reading) → IsPlain rows i → at_line (row_of (get_or rows i d)).number (plain_line ps (row_of (get_or rows i d)) st) ≡ Ok a
     → flat ps (here_from rows i) st ≡ unless_ended a (flat ps (here_from rows (i + 1)))
-row-done ps rows i d st a is h = ap (λ items. flat ps items st) (is d) ∙ ap (λ r. r >>> λ a. unless_ended a (flat ps (here_from rows (i + 1)))) h
+row-done ps rows i d st a is h = ap (λ items. flat ps items st) (is d) ∙ ap (λ r. r >>= λ a. unless_ended a (flat ps (here_from rows (i + 1)))) h
 
 pub row-fails : (ps : Predefined) (rows : List code.Row) (i : ℕ) (d : code.Row) (st : Reading) (fault : TextFault) → IsPlain rows i → FailsAt fault.problem fault (at_line (row_of (get_or rows i d)).number (plain_line ps (row_of (get_or rows i d)) st))
     → FailsAt fault.problem fault (flat ps (here_from rows i) st)

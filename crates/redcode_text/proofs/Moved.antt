@@ -2,6 +2,7 @@
 use Rattle.std.proofs.Common.{◌≡◌, ◌∙◌, ℕ, zero, suc, ◌+◌, ◌==◌, List, [], ◌∷◌, ◌++◌, length, map, Bool, true, false, nat_le, Option, Some, None, Result, Ok, Err, refl, ap, sym}
 use Rattle.std.specs.Prelude.{⊤}
 use Rattle.std.proofs.lemmas.List.{length-map, map-append}
+use Rattle.redcode_text.specs.Results.{◌>>=◌}
 use Rattle.redcode_text.specs.declared.fault.TextFault.{TextFault}
 use Rattle.redcode_text.specs.declared.fault.TextProblem.{TextProblem}
 use Rattle.redcode_text.specs.declared.fault.TextProblem.TheVariants.{TooLong}
@@ -11,7 +12,7 @@ use Rattle.redcode_text.specs.declared.token.TokenKind.TheVariants.{Number, Name
 use Rattle.redcode_text.specs.declared.token.TokenKind.TheVariants as token
 use Rattle.redcode_text.specs.Equates.{Equate, Replaced, Replacing, depth_limit, each_replaced, each_replaced_at_line, equate_lines, kept, limit, one_more, replaced_name, replaced_token, replacing, substitution, token_lines}
 use Rattle.redcode_text.specs.Expression.{kinds}
-use Rattle.redcode_text.specs.Tokens.{◌>>=◌, ◌>>>◌, at_line, without_line}
+use Rattle.redcode_text.specs.Tokens.{at_line, without_line}
 
 -- ---- lines apart
 
@@ -20,7 +21,7 @@ without-lines equates r [] = refl
 without-lines equates r (t ∷ ts) = go (replaced_token (replacing depth_limit equates) r t (token_lines equates t.kind)) (λ s. without-lines equates s ts)
   where
     go : (x : Result Replaced TextProblem) → ((s : Replaced) → without_line (each_replaced_at_line equates s ts) ≡ each_replaced equates (replacing depth_limit equates) s ts)
-        → without_line (at_line t.line x >>> λ s. each_replaced_at_line equates s ts) ≡ ◌>>=◌ x (λ s. each_replaced equates (replacing depth_limit equates) s ts)
+        → without_line (at_line t.line x >>= λ s. each_replaced_at_line equates s ts) ≡ ◌>>=◌ x (λ s. each_replaced equates (replacing depth_limit equates) s ts)
     go (Ok s) k = k s
     go (Err e) k = refl
 
@@ -30,7 +31,7 @@ only_tokens r = ◌>>=◌ r (λ q. Ok q.tokens)
 pub only-tokens : (equates : List Equate) (ts : List Token) → without_line (substitution equates ts) ≡ only_tokens (without_line (each_replaced_at_line equates (record { tokens = []; count = 0 }) ts))
 only-tokens equates ts = go (each_replaced_at_line equates (record { tokens = []; count = 0 }) ts)
   where
-    go : (x : Result Replaced TextFault) → without_line (x >>> λ r. Ok r.tokens) ≡ only_tokens (without_line x)
+    go : (x : Result Replaced TextFault) → without_line (x >>= λ r. Ok r.tokens) ≡ only_tokens (without_line x)
     go (Ok r) = refl
     go (Err e) = refl
 

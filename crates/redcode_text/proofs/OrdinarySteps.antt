@@ -1,10 +1,10 @@
 -- An ordinary line by its parts.
 use Rattle.std.proofs.Common.{◌≡◌, ℕ, zero, suc, ◌-◌, List, Option, None, Some, Result, Ok, refl, ap, ◌∙◌, arith}
+use Rattle.redcode_text.specs.Results.{◌>>=◌}
 use Rattle.redcode_text.specs.declared.fault.TextProblem.{TextProblem}
 use Rattle.redcode_text.specs.declared.token.Token.{Token}
 use Rattle.redcode_text.specs.Lines.{Parts, Predefined, Reading, Step, before_first, behind_last, each_line, line_added, on_line, operation_lines, ordinary_line, parts_of, parts_read}
 use Rattle.redcode_text.specs.Code.Problems.{Fails}
-use Rattle.redcode_text.specs.Tokens.{◌>>=◌}
 use Rattle.redcode_text.proofs.Failing.{fails-bind}
 
 module _ (ps : Predefined) (number : ℕ) (ts : List Token) (st : Reading) where

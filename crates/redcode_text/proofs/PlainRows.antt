@@ -3,11 +3,12 @@ use Rattle.std.proofs.Common.{◌≡◌, ◌∙◌, refl, ap, ℕ, ◌+◌, Bool
 use Rattle.std.proofs.lemmas.Bool.Decides.{nat_tests}
 use Rattle.std.specs.Prelude.{codes}
 use Rattle.std.specs.List.{AllByRecursion, flat_map, list_all, list_any, onto_first}
+use Rattle.redcode_text.specs.Results.{◌>>=◌}
 use Rattle.redcode_text.specs.declared.fault.TextFault.{TextFault}
 use Rattle.redcode_text.specs.Expansion.{expansion, flat, nothing_read, program_of}
 use Rattle.redcode_text.specs.Lines.{Reading, Predefined, plain_line, unless_ended}
 use Rattle.redcode_text.specs.Source.{Row, Items, Nothing, Plain, OtherLine, begins_redcode, from_redcode, has_directive, line_kind, lines_of, paired, paired_with, read_rows, rows_from, tree_of, tree_of_rows, with_lone}
-use Rattle.redcode_text.specs.Tokens.{◌>>>◌, at_line}
+use Rattle.redcode_text.specs.Tokens.{at_line}
 use Rattle.redcode_text.proofs.SourceLines.{goes_on}
 
 -- a line that is neither FOR, ROF nor `;redcode`
@@ -63,8 +64,8 @@ plain-tree lines all =
 -- a line that is read, and doesn't end the source
 pub row-read : (ps : Predefined) (row : Row) (rest : Items) (st next : Reading) → plain_line ps row st ≡ Ok next → next.ended ≡ false → flat ps (Plain row rest) st ≡ flat ps rest next
 row-read ps row rest st next is on =
-    ap (λ r. at_line row.number r >>> λ a. unless_ended a (flat ps rest)) is ∙ ap (λ t. elim t as (λ _. Result Reading TextFault) [ true ↦ Ok next | false ↦ flat ps rest next ]) on
+    ap (λ r. at_line row.number r >>= λ a. unless_ended a (flat ps rest)) is ∙ ap (λ t. elim t as (λ _. Result Reading TextFault) [ true ↦ Ok next | false ↦ flat ps rest next ]) on
 
 pub all-read : (ps : Predefined) (source : List ℕ) (items : Items) (end : Reading) → tree_of source ≡ items → flat ps items nothing_read ≡ Ok end → expansion ps source ≡ Ok (program_of end)
 unfolding expansion
-all-read ps source items end tree is = ap (λ t. flat ps t nothing_read >>> λ st. Ok (program_of st)) tree ∙ ap (λ r. r >>> λ st. Ok (program_of st)) is
+all-read ps source items end tree is = ap (λ t. flat ps t nothing_read >>= λ st. Ok (program_of st)) tree ∙ ap (λ r. r >>= λ st. Ok (program_of st)) is

@@ -3,6 +3,7 @@ use Rattle.std.proofs.Common.{◌≡◌, ℕ, zero, suc, ◌+◌, ◌-◌, ◌�
 use Rattle.std.specs.Prelude.{⊤, codes, ◌||◌}
 use Rattle.std.proofs.lemmas.List.{length-take}
 use Rattle.std.proofs.lemmas.List.Elements.{All-take}
+use Rattle.redcode_text.specs.Results.{◌>>=◌}
 use Rattle.redcode_text.specs.declared.fault.TextFault.{TextFault}
 use Rattle.redcode_text.specs.declared.fault.TextProblem.{TextProblem}
 use Rattle.redcode_text.specs.declared.fault.TextProblem.TheVariants.{BadToken, Duplicate, TooLong, UnclosedFor, RofAlone}
@@ -14,7 +15,7 @@ use Rattle.redcode_text.specs.Equates.{limit}
 use Rattle.redcode_text.specs.Programs.{IsPrinted}
 use Rattle.redcode_text.specs.Source as source
 use Rattle.redcode_text.specs.Source.{Row, Items, Plain, Loop, LineKind, RofLine, ForLine, EquLine, OtherLine, directive_text, directive_text_at, has_directive_word, is_comment, line_kind, tree_of, without_blanks}
-use Rattle.redcode_text.specs.Tokens.{◌>>=◌, ◌>>>◌, Scanned, at_line, tokens}
+use Rattle.redcode_text.specs.Tokens.{Scanned, at_line, tokens}
 use Rattle.redcode_text.proofs.Printing.{all-printed, is-printed}
 
 -- ---- names
@@ -191,11 +192,11 @@ head-keeps ps row st p = go (line_read st) (line-keeps st p)
 
 -- ---- the whole
 
-after-keeps : (r : Result Reading TextFault) (g : Reading → Result Reading TextFault) → Keeps r → ((a : Reading) → ArePrinted a → Keeps (g a)) → Keeps (r >>> g)
+after-keeps : (r : Result Reading TextFault) (g : Reading → Result Reading TextFault) → Keeps r → ((a : Reading) → ArePrinted a → Keeps (g a)) → Keeps (r >>= g)
 after-keeps (Ok a) g q h = h a q
 after-keeps (Err e) g q h = tt
 
-after-head : (n : ℕ) (r : Result Head TextProblem) (g : Head → Result Reading TextFault) → HeadKeeps r → ((h : Head) → ArePrinted h.reading → Keeps (g h)) → Keeps (at_line n r >>> g)
+after-head : (n : ℕ) (r : Result Head TextProblem) (g : Head → Result Reading TextFault) → HeadKeeps r → ((h : Head) → ArePrinted h.reading → Keeps (g h)) → Keeps (at_line n r >>= g)
 after-head n (Ok h) g q k = k h q
 after-head n (Err e) g q k = tt
 
@@ -221,7 +222,7 @@ flat-keeps ps (Plain row rest) st p =
 flat-keeps ps (Loop head body rof rest) st p =
     after-head head.number (head_line ps head st) _ (head-keeps ps head st p) (λ h q.
     after-keeps (rounds (flat ps body) h.counter 1 h.count h.reading) _ (rounds-keep (flat ps body) (flat-keeps ps body) h.counter 1 h.count h.reading q) (λ a r.
-    keeps-unless (λ b. at_line rof.number (rof_line rof b) >>> flat ps rest) a r
+    keeps-unless (λ b. at_line rof.number (rof_line rof b) >>= flat ps rest) a r
     (after-keeps (at_line rof.number (rof_line rof a)) (flat ps rest) (at-line-keeps rof.number (rof_line rof a) (rof-keeps rof a r)) (flat-keeps ps rest))))
 flat-keeps ps (source.UnclosedFor row rest) st p = at-line-keeps row.number (unpaired_line UnclosedFor st) (unpaired-keeps UnclosedFor (line_read st))
 flat-keeps ps (source.LoneRof row rest) st p = at-line-keeps row.number (unpaired_line RofAlone st) (unpaired-keeps RofAlone (line_read st))
@@ -230,6 +231,6 @@ pub program-printed : (ps : Predefined) (bytes : List ℕ) (p : ProgramValue) �
 unfolding expansion
 program-printed ps bytes p = go (flat ps (tree_of bytes) nothing_read) (flat-keeps ps (tree_of bytes) nothing_read (is-printed (codes "Unknown") (omega arith), is-printed (codes "Anonymous") (omega arith)))
   where
-    go : (r : Result Reading TextFault) → Keeps r → (r >>> λ st. Ok (program_of st)) ≡ Ok p → IsPrinted p.name × IsPrinted p.author
+    go : (r : Result Reading TextFault) → Keeps r → (r >>= λ st. Ok (program_of st)) ≡ Ok p → IsPrinted p.name × IsPrinted p.author
     go (Ok st) q e = let same : program_of st ≡ p = cc in subst (λ (x : ProgramValue). IsPrinted x.name × IsPrinted x.author) same q
     go (Err f) q e = absurd (cc)

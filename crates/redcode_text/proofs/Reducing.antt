@@ -1,11 +1,12 @@
 -- One step of applying what waits.
 use Rattle.std.proofs.Common.{◌≡◌, ℕ, ◌<◌, ◌≤◌, List, ◌∷◌, [], arith, Ok, Err, refl, ap, sym, subst, ◌∙◌, ℤ, ◌-◌, take, drop, slice_range, false}
+use Rattle.redcode_text.specs.Results.{◌>>=◌}
 use Rattle.redcode_text.specs.declared.token.Token.{Token}
 use Rattle.redcode_text.specs.declared.token.Sign.{Sign}
 use Rattle.redcode_text.specs.declared.fault.ExprFault.{ExprFault}
 use Rattle.redcode_text.specs.declared.expression.evaluation.Pending.{Pending}
 use Rattle.redcode_text.specs.declared.expression.evaluation.Pending.TheVariants.{Value, Open}
-use Rattle.redcode_text.specs.Expression.{◌>>=◌, precedence, binary, kinds}
+use Rattle.redcode_text.specs.Expression.{precedence, binary, kinds}
 use Rattle.redcode_text.specs.Code.Climbing.{Waiting, Left, reach, placed, reduced, waiting_all, AreInside, StaysAt}
 use Rattle.redcode_text.proofs.Climbs.{operator-placed, operator-reach, reduced-looser, reduced-tighter}
 

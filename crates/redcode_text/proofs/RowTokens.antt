@@ -2,13 +2,14 @@
 use Rattle.std.proofs.Common.{◌≡◌, ℕ, zero, suc, ◌+◌, ◌-◌, ◌<◌, ◌≤◌, List, [], ◌∷◌, length, drop, take, Bool, true, false, not, ◌==◌, cond, Result, Ok, refl, ap, sym, ◌∙◌, arith, subst}
 use Rattle.std.proofs.lemmas.List.{drop-drop}
 use Rattle.std.specs.List.{prefix_len}
+use Rattle.redcode_text.specs.Results.{◌>>=◌}
 use Rattle.redcode_text.specs.declared.fault.TextProblem.{TextProblem}
 use Rattle.redcode_text.specs.declared.token.Token.{Token}
 use Rattle.redcode_text.specs.Equates.{limit}
 use Rattle.redcode_text.specs.Lines.{Reading, WithTokens, before_comment, row_tokens}
 use Rattle.redcode_text.specs.Code.Problems.{Fails}
 use Rattle.redcode_text.specs.Source.{Row}
-use Rattle.redcode_text.specs.Tokens.{◌>>=◌, Scanned, scan_from, tokens}
+use Rattle.redcode_text.specs.Tokens.{Scanned, scan_from, tokens}
 use Rattle.redcode_text.proofs.Failing.{fails-bind}
 
 abbrev no_comment : ℕ → Bool

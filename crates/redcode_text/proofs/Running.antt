@@ -2,13 +2,14 @@
 use Rattle.std.proofs.Common.{◌≡◌, ℕ, ◌+◌, ◌<◌, ◌≤◌, List, [], ◌∷◌, length, drop, get_or, slice_range, slice_get, false, ℤ, pos, Option, Some, Ok, Err, IfSome, refl, ap, sym, subst, ◌∙◌, arith, add-one, length-drop}
 use Rattle.std.proofs.Math.Seq.{drop-cons}
 use Rattle.std.proofs.lemmas.Option.{slice_get-get_or}
+use Rattle.redcode_text.specs.Results.{◌>>=◌}
 use Rattle.redcode_text.specs.declared.token.Token.{Token}
 use Rattle.redcode_text.specs.declared.token.TokenKind.TheVariants.{Number}
 use Rattle.redcode_text.specs.declared.fault.ExprFault.{ExprFault}
 use Rattle.redcode_text.specs.declared.expression.evaluation.Pending.{Pending}
 use Rattle.redcode_text.specs.declared.expression.shape.ShapeState.{ShapeState}
 use Rattle.redcode_text.specs.declared.expression.evaluation.Evaluation.{Evaluation}
-use Rattle.redcode_text.specs.Expression.{◌>>=◌, kinds, shape, start, next_state, value_of}
+use Rattle.redcode_text.specs.Expression.{kinds, shape, start, next_state, value_of}
 use Rattle.redcode_text.specs.Code.Climbing.{wants, run, waiting_all, seen, AreInside}
 use Rattle.redcode_text.specs.Code.Positions.{Stands, IsOrdered, reduced_on, advance, run_on, finished}
 use Rattle.redcode_text.proofs.Reducing.{none-between}

@@ -4,6 +4,7 @@ use Rattle.std.proofs.Math.Seq.{drop-cons}
 use Rattle.std.proofs.lemmas.Bool.Decides.{nat_tests}
 use Rattle.std.proofs.lemmas.List.{take_rest}
 use Rattle.std.specs.Char.{is_ascii}
+use Rattle.redcode_text.specs.Results.{◌>>=◌}
 use Rattle.redcode_text.specs.declared.fault.TextProblem.{TextProblem}
 use Rattle.redcode_text.specs.declared.fault.TextProblem.TheVariants.{NotAscii, TooLong}
 use Rattle.redcode_text.specs.declared.token.Sign.{Sign}
@@ -12,7 +13,7 @@ use Rattle.redcode_text.proofs.Failing.{bind-ok, fails-bind, fails-itself}
 use Rattle.redcode_text.specs.Code.Problems.{Gives, Fails}
 use Rattle.redcode_text.specs.Code.Scanning.{with_names, found_alone}
 use Rattle.redcode_text.specs.Code.Scanning.{one_token}
-use Rattle.redcode_text.specs.Tokens.{◌>>=◌, OpenLoop, Found, Scanned, is_blank, begins_word, token_at, word_token, word_len, look_up, one_byte_signs, two_byte_signs, sign_found, sign_token, scan_from, with_room, with_token}
+use Rattle.redcode_text.specs.Tokens.{OpenLoop, Found, Scanned, is_blank, begins_word, token_at, word_token, word_len, look_up, one_byte_signs, two_byte_signs, sign_found, sign_token, scan_from, with_room, with_token}
 
 -- ---- signs
 

@@ -1,10 +1,11 @@
 -- The shape of the tokens from a place on, one token further.
 use Rattle.std.proofs.Common.{◌≡◌, ℕ, ◌+◌, ◌<◌, drop, length, get_or, refl, ap, ◌∙◌, List, ◌∷◌, Ok, Err, add-one}
 use Rattle.std.proofs.Math.Seq.{drop-cons}
+use Rattle.redcode_text.specs.Results.{◌>>=◌}
 use Rattle.redcode_text.specs.declared.token.Token.{Token}
 use Rattle.redcode_text.specs.declared.fault.ExprFault.{ExprFault}
 use Rattle.redcode_text.specs.declared.expression.shape.ShapeState.{ShapeState}
-use Rattle.redcode_text.specs.Expression.{next_state, kinds, shape, ◌>>=◌}
+use Rattle.redcode_text.specs.Expression.{next_state, kinds, shape}
 
 -- the token at i, and the tokens after it
 pub kinds-drop : (ts : List Token) (i : ℕ) (d : Token) → i < length ts → kinds (drop i ts) ≡ (get_or ts i d).kind ∷ kinds (drop (i + 1) ts)

@@ -2,6 +2,7 @@
 use Rattle.std.proofs.Common.{◌≡◌, ℕ, ◌+◌, ◌-◌, ◌<◌, ◌≤◌, List, ◌∷◌, [], ◌++◌, Bool, true, false, arith, refl, ap, sym, subst, ◌∙◌, append_assoc, append-nil, cond, eqb, leb, ◌⊎◌, inl, inr, ⊎_elim, Result, Ok, Err}
 use Rattle.std.proofs.lemmas.Bool.{eqb-false, cases_lt}
 use borrow.Author.Tests.{eqb-true}
+use Rattle.redcode_text.specs.Results.{◌>>=◌}
 use Rattle.redcode_text.specs.declared.token.TokenKind.{TokenKind}
 use Rattle.redcode_text.specs.declared.token.TokenKind.TheVariants.{Number, Name}
 use Rattle.redcode_text.specs.declared.token.TokenKind.TheVariants as token
@@ -10,7 +11,7 @@ use Rattle.redcode_text.specs.declared.token.Sign.TheVariants.{Plus, Minus, Bang
 use Rattle.redcode_text.specs.declared.fault.ExprFault.{ExprFault}
 use Rattle.redcode_text.specs.declared.fault.ExprFault.TheVariants.{Syntax, Depth}
 use Rattle.redcode_text.specs.declared.expression.shape.ShapeState.{ShapeState}
-use Rattle.redcode_text.specs.Expression.{◌>>=◌, precedence, Tree, Numeral, Named, Parens, Unary, Binary, shape, start, after_sign}
+use Rattle.redcode_text.specs.Expression.{precedence, Tree, Numeral, Named, Parens, Unary, Binary, shape, start, after_sign}
 use Rattle.redcode_text.proofs.Trees.{spelling, rank, is_prefix, IsLevelled, precedence-≤5, rank-≤5}
 
 -- these tokens spell a tree

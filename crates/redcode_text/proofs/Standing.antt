@@ -1,6 +1,7 @@
 -- The reading stands where the shape stands.
 use Rattle.std.proofs.Common.{◌≡◌, ℕ, ◌+◌, ◌-◌, ◌*◌, ◌<◌, ◌≤◌, List, [], ◌∷◌, length, slice_range, Bool, true, false, cond, eqb, leb, ℤ, Option, Result, Ok, Err, refl, ap, sym, subst, ◌∙◌, arith, ⊎_elim}
 use Rattle.std.proofs.lemmas.Bool.{eqb-false, leb-false, cases_lt, le-leb, lt-leb}
+use Rattle.redcode_text.specs.Results.{◌>>=◌}
 use Rattle.redcode_text.specs.declared.token.Token.{Token}
 use Rattle.redcode_text.specs.declared.token.TokenKind.{TokenKind}
 use Rattle.redcode_text.specs.declared.token.TokenKind.TheVariants.{Number, Name}
@@ -13,7 +14,7 @@ use Rattle.redcode_text.specs.declared.expression.evaluation.Pending.{Pending}
 use Rattle.redcode_text.specs.declared.expression.evaluation.Pending.TheVariants.{Value, Open}
 use Rattle.redcode_text.specs.declared.expression.shape.ShapeState.{ShapeState}
 use Rattle.redcode_text.specs.declared.expression.evaluation.Evaluation.{Evaluation}
-use Rattle.redcode_text.specs.Expression.{◌>>=◌, precedence, binary, kinds, known, next_state, before_sign, after_sign}
+use Rattle.redcode_text.specs.Expression.{precedence, binary, kinds, known, next_state, before_sign, after_sign}
 use Rattle.redcode_text.specs.Code.Climbing.{signed, AreInside}
 use Rattle.redcode_text.specs.Code.Positions.{reduced_on, popped, taken, opened_on, before_on, after_on, advance, StaysBelow, IsOrdered, Stands}
 use Rattle.redcode_text.proofs.Trees.{precedence-≤5}

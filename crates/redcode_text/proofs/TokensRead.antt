@@ -10,13 +10,14 @@ use Rattle.std.proofs.lemmas.Bool.Decides.{nat_tests}
 use Rattle.std.proofs.lemmas.Fmt.{decimal_nonempty, digits_decimal, digits_value-decimal}
 use Rattle.std.proofs.lemmas.Str.Parse.{IsNumeralModel, numerals_by_value}
 use Rattle.std.proofs.lemmas.List.{length-map, map-append}
+use Rattle.redcode_text.specs.Results.{◌>>=◌}
 use Rattle.redcode_text.specs.declared.fault.TextProblem.{TextProblem}
 use Rattle.redcode_text.specs.declared.fault.TextProblem.TheVariants.{BadToken, NotAscii}
 use Rattle.redcode_text.specs.declared.token.Token.{Token}
 use Rattle.redcode_text.specs.declared.token.TokenKind.{TokenKind}
 use Rattle.redcode_text.specs.declared.token.TokenKind.TheVariants.{Number, Name}
 use Rattle.redcode_text.specs.Expression.{kinds}
-use Rattle.redcode_text.specs.Tokens.{◌>>=◌, Found, Scanned, begins_name, begins_word, is_blank, is_word_byte, name_found, name_index, number_found, number_kind, plain_word_found, scan_from, sign_token, token_at, with_name, with_room, with_token, word_found, word_len, word_token}
+use Rattle.redcode_text.specs.Tokens.{Found, Scanned, begins_name, begins_word, is_blank, is_word_byte, name_found, name_index, number_found, number_kind, plain_word_found, scan_from, sign_token, token_at, with_name, with_room, with_token, word_found, word_len, word_token}
 use Rattle.redcode_text.proofs.Joins.{joined-none}
 use Rattle.redcode_text.proofs.Scans.{room-some}
 use Rattle.redcode_text.proofs.WordSteps.{word_len-none}

@@ -1,9 +1,10 @@
 -- What the text of a source means, apart from how it is read.
 use Rattle.std.proofs.Common.{◌≡◌, ◌∙◌, refl, ℕ, suc, zero, ◌+◌, List, [], ◌∷◌, ◌++◌, Bool, true, false, ◌||◌, Option, Result, Ok, Err, IfOk, ap, sym, arith}
 use Rattle.std.specs.List.{list_any}
+use Rattle.redcode_text.specs.Results.{◌>>=◌}
 use Rattle.redcode_text.specs.declared.fault.TextFault.{TextFault}
 use Rattle.redcode_text.specs.declared.fault.TextProblem.{TextProblem}
-use Rattle.redcode_text.specs.Tokens.{◌>>>◌, at_line}
+use Rattle.redcode_text.specs.Tokens.{at_line}
 use Rattle.redcode_text.specs.Source.{Row, Items, Loop, begins_redcode, from_redcode, read_rows}
 use Rattle.redcode_text.specs.Lines.{Reading, Predefined, unless_ended}
 use Rattle.redcode_text.specs.Expansion.{Head, flat, head_line, rounds, in_round}
@@ -45,9 +46,9 @@ no-rounds-by counter zero f g st e = refl
 no-rounds-by counter (suc n) f g st e = cc
 
 in-no-round-by : (number : ℕ) (r : Result Head TextProblem) (f g next : Reading → Result Reading TextFault) → IfOk r (λ (h : Head). h.count ≡ 0)
-    → (at_line number r >>> λ h. rounds f h.counter 1 h.count h.reading >>> λ a. unless_ended a next)
-    ≡ (at_line number r >>> λ h. rounds g h.counter 1 h.count h.reading >>> λ a. unless_ended a next)
-in-no-round-by number (Ok h) f g next e = ap (λ r. r >>> λ a. unless_ended a next) (no-rounds-by h.counter h.count f g h.reading e)
+    → (at_line number r >>= λ h. rounds f h.counter 1 h.count h.reading >>= λ a. unless_ended a next)
+    ≡ (at_line number r >>= λ h. rounds g h.counter 1 h.count h.reading >>= λ a. unless_ended a next)
+in-no-round-by number (Ok h) f g next e = ap (λ r. r >>= λ a. unless_ended a next) (no-rounds-by h.counter h.count f g h.reading e)
 in-no-round-by number (Err problem) f g next e = refl
 
 pub in-no-round : (ps : Predefined) (head rof : Row) (body other rest : Items) (st : Reading)
@@ -63,19 +64,19 @@ module _ (body : Reading → Result Reading TextFault) (counter : Option (List �
   behind st read = record read { loops = st.loops }
 
   split-ended : (ended : Bool) (read : Reading) (left : Result Reading TextFault) (right : Result Reading TextFault) (next : Reading → Result Reading TextFault)
-      → read.ended ≡ ended → (ended ≡ false → left ≡ (right >>> λ a. unless_ended a next))
-      → ◌≡◌ {A = Result Reading TextFault} (elim ended [ true ↦ Ok read | false ↦ left ]) ((elim ended [ true ↦ Ok read | false ↦ right ]) >>> λ a. unless_ended a next)
+      → read.ended ≡ ended → (ended ≡ false → left ≡ (right >>= λ a. unless_ended a next))
+      → ◌≡◌ {A = Result Reading TextFault} (elim ended [ true ↦ Ok read | false ↦ left ]) ((elim ended [ true ↦ Ok read | false ↦ right ]) >>= λ a. unless_ended a next)
   split-ended true read left right next e h = rw e refl
   split-ended false read left right next e h = h refl
 
   split-round : (r : Result Reading TextFault) (st : Reading) (f g next : Reading → Result Reading TextFault)
-      → ((read : Reading) → read.ended ≡ false → f read ≡ (g read >>> λ a. unless_ended a next))
-      → (r >>> λ read. unless_ended (behind st read) f) ≡ (r >>> λ read. unless_ended (behind st read) g) >>> λ a. unless_ended a next
+      → ((read : Reading) → read.ended ≡ false → f read ≡ (g read >>= λ a. unless_ended a next))
+      → (r >>= λ read. unless_ended (behind st read) f) ≡ (r >>= λ read. unless_ended (behind st read) g) >>= λ a. unless_ended a next
   split-round (Ok read) st f g next h = split-ended read.ended (behind st read) (f (behind st read)) (g (behind st read)) next refl (h (behind st read))
   split-round (Err fault) st f g next h = refl
 
   pub rounds-split : (round n m : ℕ) (st : Reading) → st.ended ≡ false
-      → rounds body counter round (n + m) st ≡ (rounds body counter round n st >>> λ read. unless_ended read (rounds body counter (round + n) m))
+      → rounds body counter round (n + m) st ≡ (rounds body counter round n st >>= λ read. unless_ended read (rounds body counter (round + n) m))
   rounds-split round zero m st e =
       let none : 0 + m ≡ m = omega arith in
       let here : round + 0 ≡ round = omega arith in

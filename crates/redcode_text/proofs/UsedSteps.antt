@@ -1,12 +1,12 @@
 -- The lines that take the place of an EQU name, one at a time, and that they are the defined ones.
 use Rattle.std.proofs.Common.{◌≡◌, ℕ, zero, suc, ◌+◌, ◌-◌, ◌<◌, ◌≤◌, List, [], ◌∷◌, ◌++◌, length, drop, get_or, map, Bool, true, false, Option, Some, None, Ok, Result, refl, ap, sym, subst, ◌∙◌, arith}
 use Rattle.std.proofs.Math.Seq.{drop-cons}
+use Rattle.redcode_text.specs.Results.{◌>>=◌}
 use Rattle.redcode_text.specs.declared.fault.TextProblem.{TextProblem}
 use Rattle.redcode_text.specs.declared.token.Token.{Token}
 use Rattle.redcode_text.specs.Lines.{Reading, Step, before_first, behind_last, each_line, unless_ended}
 use Rattle.redcode_text.specs.Code.Problems.{Fails}
 use Rattle.redcode_text.specs.Code.Used.{before_line, lines_under, read_one, used}
-use Rattle.redcode_text.specs.Tokens.{◌>>=◌}
 use Rattle.redcode_text.proofs.Failing.{fails-bind}
 
 behind-used : (l : List Token) (ls : List (List Token)) (behind : List Token) → used [] (l ∷ ls) behind ≡ behind_last (l ∷ ls) behind

@@ -1,12 +1,13 @@
 -- EQU names, and tokens with EQU names replaced.
 use Rattle.std.specs.Prelude.{ℕ, zero, suc, ◌+◌, List, [], ◌∷◌, ◌++◌, length, true, false, Option, Some, None, Result, Ok, Err, nat_le, ◌==◌}
+use Rattle.redcode_text.specs.Results.{◌>>=◌}
 use Rattle.redcode_text.specs.declared.token.Token.{Token}
 use Rattle.redcode_text.specs.declared.token.TokenKind.{TokenKind}
 use Rattle.redcode_text.specs.declared.token.TokenKind.TheVariants.{Name}
 use Rattle.redcode_text.specs.declared.fault.TextProblem.{TextProblem}
 use Rattle.redcode_text.specs.declared.fault.TextProblem.TheVariants.{BadToken, EquDepth, TooLong}
 use Rattle.redcode_text.specs.declared.fault.TextFault.{TextFault}
-use Rattle.redcode_text.specs.Tokens.{◌>>=◌, ◌>>>◌, at_line}
+use Rattle.redcode_text.specs.Tokens.{at_line}
 
 -- what the limits on lines, tokens and replacements have in common
 abbrev pub limit : ℕ
@@ -74,8 +75,8 @@ replacing (suc depth) equates = Some (each_replaced equates (replacing depth equ
 abbrev pub each_replaced_at_line : List Equate → Replaced → List Token → Result Replaced TextFault
 each_replaced_at_line equates r [] = Ok r
 each_replaced_at_line equates r (t ∷ ts) =
-    at_line t.line (replaced_token (replacing depth_limit equates) r t (token_lines equates t.kind)) >>> λ s. each_replaced_at_line equates s ts
+    at_line t.line (replaced_token (replacing depth_limit equates) r t (token_lines equates t.kind)) >>= λ s. each_replaced_at_line equates s ts
 
 -- tokens with each EQU name replaced
 abbrev pub substitution : List Equate → List Token → Result (List Token) TextFault
-substitution equates ts = each_replaced_at_line equates (record { tokens = []; count = 0 }) ts >>> λ r. Ok r.tokens
+substitution equates ts = each_replaced_at_line equates (record { tokens = []; count = 0 }) ts >>= λ r. Ok r.tokens

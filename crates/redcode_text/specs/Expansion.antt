@@ -1,5 +1,6 @@
 -- What a source expands to.
 use Rattle.std.specs.Prelude.{ℕ, zero, suc, ◌+◌, List, [], ◌∷◌, length, Bool, true, false, not, ◌||◌, ℤ, pos, negsuc, Option, Some, None, Result, Ok, Err, nat_le, codes}
+use Rattle.redcode_text.specs.Results.{◌>>=◌}
 use Rattle.redcode_text.specs.declared.token.Token.{Token}
 use Rattle.redcode_text.specs.declared.token.TokenKind.{TokenKind}
 use Rattle.redcode_text.specs.declared.token.TokenKind.TheVariants.{Name}
@@ -8,7 +9,7 @@ use Rattle.redcode_text.specs.declared.fault.TextFault.{TextFault}
 use Rattle.redcode_text.specs.declared.fault.TextProblem.{TextProblem}
 use Rattle.redcode_text.specs.declared.fault.TextProblem.TheVariants.{UnclosedFor, RofAlone, BadCount, LabelInCount, TooLong, Expression}
 use Rattle.redcode_text.specs.Expression.{kinds, value_of}
-use Rattle.redcode_text.specs.Tokens.{◌>>=◌, ◌>>>◌, at_line, without_line}
+use Rattle.redcode_text.specs.Tokens.{at_line, without_line}
 use Rattle.redcode_text.specs.Source.{Row, Items, Plain, Loop, tree_of}
 use Rattle.redcode_text.specs.Source as source
 use Rattle.redcode_text.specs.Equates.{Equate, substitution}
@@ -85,15 +86,15 @@ in_round counter round st = record st { loops = record { counter = counter; roun
 abbrev pub rounds : (Reading → Result Reading TextFault) → Option (List ℕ) → ℕ → ℕ → Reading → Result Reading TextFault
 rounds body counter round zero st = Ok st
 rounds body counter round (suc n) st =
-    body (in_round counter round st) >>> λ a. unless_ended (record a { loops = st.loops }) (rounds body counter (round + 1) n)
+    body (in_round counter round st) >>= λ a. unless_ended (record a { loops = st.loops }) (rounds body counter (round + 1) n)
 
 abbrev pub flat : Predefined → Items → Reading → Result Reading TextFault
 flat ps source.Nothing st = Ok st
-flat ps (Plain row rest) st = at_line row.number (plain_line ps row st) >>> λ a. unless_ended a (flat ps rest)
+flat ps (Plain row rest) st = at_line row.number (plain_line ps row st) >>= λ a. unless_ended a (flat ps rest)
 flat ps (Loop head body rof rest) st =
-    at_line head.number (head_line ps head st) >>> λ h.
-    rounds (flat ps body) h.counter 1 h.count h.reading >>> λ a.
-    unless_ended a (λ b. at_line rof.number (rof_line rof b) >>> flat ps rest)
+    at_line head.number (head_line ps head st) >>= λ h.
+    rounds (flat ps body) h.counter 1 h.count h.reading >>= λ a.
+    unless_ended a (λ b. at_line rof.number (rof_line rof b) >>= flat ps rest)
 flat ps (source.UnclosedFor row rest) st = at_line row.number (unpaired_line UnclosedFor st)
 flat ps (source.LoneRof row rest) st = at_line row.number (unpaired_line RofAlone st)
 
@@ -128,4 +129,4 @@ program_of st = record { names = st.names; equates = st.equates; lines = st.line
 
 -- the program of a source, or the first fault
 unfoldable pub expansion : Predefined → List ℕ → Result ProgramValue TextFault
-expansion ps source = flat ps (tree_of source) nothing_read >>> λ st. Ok (program_of st)
+expansion ps source = flat ps (tree_of source) nothing_read >>= λ st. Ok (program_of st)

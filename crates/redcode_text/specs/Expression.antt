@@ -1,6 +1,7 @@
 -- The shape and the value of an expression.
 use Rattle.std.specs.Prelude.{ℕ, ◌+◌, ◌-◌, ◌^◌, List, [], ◌∷◌, Bool, true, false, not, ◌&&◌, ◌||◌, ℤ, pos, negsuc, ◌+ℤ◌, ◌-ℤ◌, ◌*ℤ◌, neg_ℤ, int_lt, int_div, int_rem, Option, Some, None, Result, Ok, Err, if◌then◌else◌, zero, suc, length, nat_lt, nat_le, ◌==◌, map}
 use Rattle.std.specs.Ordering.{int_eq}
+use Rattle.redcode_text.specs.Results.{◌>>=◌}
 use Rattle.redcode_text.specs.declared.token.Token.{Token}
 use Rattle.redcode_text.specs.declared.token.TokenKind.{TokenKind}
 use Rattle.redcode_text.specs.declared.token.TokenKind.TheVariants.{Number, Name}
@@ -10,12 +11,6 @@ use Rattle.redcode_text.specs.declared.token.Sign.TheVariants.{Equal, NotEqual, 
 use Rattle.redcode_text.specs.declared.fault.ExprFault.{ExprFault}
 use Rattle.redcode_text.specs.declared.fault.ExprFault.TheVariants.{Syntax, Unknown, DivideByZero, Range, Depth}
 use Rattle.redcode_text.specs.declared.expression.shape.ShapeState.{ShapeState}
-
-infixl 10 ◌>>=◌
--- the second, with what the first gives; a fault of the first is the fault
-abbrev pub ◌>>=◌ : {A B : Type 0} → Result A ExprFault → (A → Result B ExprFault) → Result B ExprFault
-(Ok x) >>= f = f x
-(Err e) >>= f = Err e
 
 -- what the tokens are, apart from where they stand
 abbrev pub kinds : List Token → List TokenKind

@@ -1,9 +1,9 @@
 -- What the text of a source means, apart from how it is read.
 use Rattle.std.specs.Prelude.{◌≡◌, ℕ, suc, ◌+◌, List, [], ◌∷◌, ◌++◌, false, true, Option, Some, Result, Ok, IfOk, codes}
 use Rattle.std.specs.List.{list_any}
+use Rattle.redcode_text.specs.Results.{◌>>=◌}
 use Rattle.redcode_text.specs.declared.token.Token.{Token}
 use Rattle.redcode_text.specs.declared.fault.TextFault.{TextFault}
-use Rattle.redcode_text.specs.Tokens.{◌>>=◌, ◌>>>◌}
 use Rattle.redcode_text.specs.Source.{Row, Items, Loop, begins_redcode, has_directive, lines_of, read_rows, tree_of, tree_of_rows}
 use Rattle.redcode_text.specs.Equates.{equate_lines}
 use Rattle.redcode_text.specs.Lines.{Reading, Predefined, Parts, line_read, tokens_counted, parts_of, ordinary_line, unless_ended}
@@ -32,7 +32,7 @@ LinesInNoRoundAreUnread = (ps : Predefined) (head rof : Row) (body other rest : 
 abbrev pub RoundsAddUp : Type 0
 RoundsAddUp = (body : Reading → Result Reading TextFault) (counter : Option (List ℕ)) (round n m : ℕ) (st : Reading)
     → st.ended ≡ false
-    → rounds body counter round (n + m) st ≡ (rounds body counter round n st >>> λ read. unless_ended read (rounds body counter (round + n) m))
+    → rounds body counter round (n + m) st ≡ (rounds body counter round n st >>= λ read. unless_ended read (rounds body counter (round + n) m))
 
 -- A line whose operation is an EQU name of one line is read as the line with that text written in its place. It is
 -- counted as a line more, its tokens as well, and EQU names may nest one less in it.

@@ -1,5 +1,6 @@
 -- What a reader of the contracts has to believe, in this order; Examples has worked examples of it.
 pub mod Bytes
+pub mod Results
 pub mod Tokens
 pub mod Expression
 pub mod Source

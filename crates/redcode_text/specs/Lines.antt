@@ -2,6 +2,7 @@
 use Rattle.std.specs.Prelude.{ℕ, zero, suc, ◌+◌, ◌-◌, List, [], ◌∷◌, ◌++◌, length, drop, take, map, filter, reverse, Bool, true, false, not, ◌&&◌, ◌||◌, ℤ, pos, Option, Some, None, Result, Ok, Err, nat_lt, nat_le, ◌==◌, codes, is_some, unwrap_or, slice_get}
 use Rattle.std.specs.List.{list_any}
 use Rattle.std.specs.Str.{bytes_eq, str_eq_ignore_ascii_case}
+use Rattle.redcode_text.specs.Results.{◌>>=◌}
 use Rattle.redcode_text.specs.declared.token.Token.{Token}
 use Rattle.redcode_text.specs.declared.token.TokenKind.{TokenKind}
 use Rattle.redcode_text.specs.declared.token.TokenKind.TheVariants.{Name}
@@ -11,7 +12,7 @@ use Rattle.redcode_text.specs.declared.fault.TextProblem.{TextProblem}
 use Rattle.redcode_text.specs.declared.fault.TextProblem.TheVariants.{BadToken, Duplicate, EquDepth, TooLong}
 use Rattle.redcode_text.specs.Bytes.{semicolon}
 use Rattle.redcode_text.specs.Expression.{kinds}
-use Rattle.redcode_text.specs.Tokens.{◌>>=◌, OpenLoop, tokens}
+use Rattle.redcode_text.specs.Tokens.{OpenLoop, tokens}
 use Rattle.redcode_text.specs.Source.{Row, LineKind, EquLine, line_kind, is_comment, has_directive_word, directive_text, directive_text_at, without_blanks}
 use Rattle.redcode_text.specs.Equates.{Equate, depth_limit, equate_lines, limit}
 

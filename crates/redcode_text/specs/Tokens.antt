@@ -4,6 +4,7 @@ use Rattle.std.specs.Char.{is_ascii, is_ascii_alphabetic, is_ascii_digit}
 use Rattle.std.specs.List.{list_all, list_any, onto_first, position_or_len}
 use Rattle.std.specs.Str.{bytes_eq}
 use Rattle.std.specs.Str.Parse.{digits_value}
+use Rattle.redcode_text.specs.Results.{◌>>=◌}
 use Rattle.redcode_text.specs.Bytes.{ampersand, line_feed}
 use Rattle.redcode_text.specs.declared.token.Token.{Token}
 use Rattle.redcode_text.specs.declared.token.TokenKind.{TokenKind}
@@ -15,21 +16,10 @@ use Rattle.redcode_text.specs.declared.fault.TextFault.{TextFault}
 use Rattle.redcode_text.specs.declared.fault.TextProblem.{TextProblem}
 use Rattle.redcode_text.specs.declared.fault.TextProblem.TheVariants.{NotAscii, BadToken, TooLong}
 
-infixl 10 ◌>>=◌
--- the second, with what the first gives; a problem of the first is the problem
-abbrev pub ◌>>=◌ : {A B : Type 0} → Result A TextProblem → (A → Result B TextProblem) → Result B TextProblem
-(Ok x) >>= f = f x
-(Err e) >>= f = Err e
-
 -- a problem is that of a line
 abbrev pub at_line : {A : Type 0} → ℕ → Result A TextProblem → Result A TextFault
 at_line n (Ok x) = Ok x
 at_line n (Err e) = Err (record { line = n; problem = e })
-
-infixl 10 ◌>>>◌
-abbrev pub ◌>>>◌ : {A B : Type 0} → Result A TextFault → (A → Result B TextFault) → Result B TextFault
-(Ok x) >>> f = f x
-(Err e) >>> f = Err e
 
 abbrev pub without_line : {A : Type 0} → Result A TextFault → Result A TextProblem
 without_line (Ok x) = Ok x

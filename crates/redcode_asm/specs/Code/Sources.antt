@@ -1,11 +1,12 @@
 -- Lines, operands and cells as the code holds them.
 use Rattle.std.specs.Prelude.{◌++◌, ℕ, List, Result, Ok, filter, option_map}
+use Rattle.redcode_text.specs.Results.{◌>>=◌}
 use Rattle.mars_cell.specs.declared.instruction.Cell.{Cell}
 use Rattle.mars_cell.specs.Warriors.{WarriorValue}
 use Rattle.redcode_text.specs.Expansion.{ProgramValue}
 use Rattle.redcode_text.specs.Lines.{Line, Predefined, is_instruction}
 use Rattle.redcode_text.specs.Views.{line_of}
-use Rattle.redcode_asm.specs.Assembly.{◌>>=◌, Operands, Placed, cells_of, placed_from}
+use Rattle.redcode_asm.specs.Assembly.{Operands, Placed, cells_of, placed_from}
 use Rattle.redcode_asm.specs.declared.fault.AsmFault.{AsmFault}
 use Rattle.redcode_asm.specs.declared.operands.Operands.{Operands as OperandSlices}
 use Rattle.redcode_asm.specs.declared.places.Place.{Place}

@@ -1,5 +1,6 @@
 -- How an expression that has the shape of one is evaluated from the left, with what waits on a stack.
 use Rattle.std.specs.Prelude.{◌≡◌, ℕ, List, [], ◌∷◌, ◌++◌, ◌-◌, ◌<◌, ◌≤◌, map, slice_range, Bool, true, false, ℤ, Option, Result, Ok, Err, if◌then◌else◌, nat_le}
+use Rattle.redcode_text.specs.Results.{◌>>=◌}
 use Rattle.redcode_text.specs.declared.token.TokenKind.{TokenKind}
 use Rattle.redcode_text.specs.declared.token.TokenKind.TheVariants.{Number, Name}
 use Rattle.redcode_text.specs.declared.token.TokenKind.TheVariants as token
@@ -12,7 +13,7 @@ use Rattle.redcode_text.specs.declared.expression.evaluation.Pending.{Pending}
 use Rattle.redcode_text.specs.declared.expression.evaluation.Pending.TheVariants.{Value, Open}
 use Rattle.redcode_text.specs.declared.expression.shape.ShapeState.{ShapeState}
 use Rattle.redcode_text.specs.declared.expression.evaluation.Evaluation as code
-use Rattle.redcode_text.specs.Expression.{◌>>=◌, precedence, unary, binary, known, kinds}
+use Rattle.redcode_text.specs.Expression.{precedence, unary, binary, known, kinds}
 
 -- a value with an operator that waits for its right side, or a parenthesis with the unary signs before it
 pub data Waiting : Type 0 where

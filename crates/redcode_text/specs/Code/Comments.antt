@@ -2,13 +2,13 @@
 use Rattle.std.specs.Prelude.{ℕ, ◌+◌, ◌++◌, ◌&&◌, List, [], ◌∷◌, Option, Some, None, Result, Ok, codes, drop, length, map, nat_eq, reverse, take, if◌then◌else◌}
 use Rattle.std.specs.List.{starts_with}
 use Rattle.std.specs.Str.{str_to_ascii_lowercase}
+use Rattle.redcode_text.specs.Results.{◌>>=◌}
 use Rattle.redcode_text.specs.Bytes.{semicolon}
 use Rattle.redcode_text.specs.declared.fault.TextProblem.{TextProblem}
 use Rattle.redcode_text.specs.declared.source.directives.Comment.{Comment}
 use Rattle.redcode_text.specs.declared.source.directives.Comment.TheVariants.{Name, Author, Assert, Other}
 use Rattle.redcode_text.specs.Lines.{Reading, printable, row_tokens, unless_empty}
 use Rattle.redcode_text.specs.Source.{Row, blank_len, ends_word, without_blanks}
-use Rattle.redcode_text.specs.Tokens.{◌>>=◌}
 
 -- a text without the blanks at both ends
 abbrev pub trimmed : List ℕ → List ℕ

@@ -1,5 +1,6 @@
 -- The items of a source, one after another.
 use Rattle.std.specs.Prelude.{◌≡◌, ℕ, ◌+◌, ◌<◌, ◌≤◌, ◌^◌, List, length, get_or, Result, Ok, Err}
+use Rattle.redcode_text.specs.Results.{◌>>=◌}
 use Rattle.redcode_text.specs.declared.fault.TextFault.{TextFault}
 use Rattle.redcode_text.specs.declared.source.row.Row as code
 use Rattle.redcode_text.specs.Expansion.{flat, head_line, rof_line, rounds}
@@ -8,13 +9,13 @@ use Rattle.redcode_text.specs.Outcomes.{FailsAt}
 use Rattle.redcode_text.specs.Code.Rows.{row_of}
 use Rattle.redcode_text.specs.Code.Pairs.{here_from}
 use Rattle.redcode_text.specs.Source.{Items, Plain, Row, ForLine, line_kind}
-use Rattle.redcode_text.specs.Tokens.{◌>>>◌, at_line}
+use Rattle.redcode_text.specs.Tokens.{at_line}
 
 -- one loop, apart from what follows it
 abbrev pub one_loop : Predefined → Row → Items → Row → Reading → Result Reading TextFault
 one_loop ps head body rof st =
-    at_line head.number (head_line ps head st) >>> λ h.
-    rounds (flat ps body) h.counter 1 h.count h.reading >>> λ a.
+    at_line head.number (head_line ps head st) >>= λ h.
+    rounds (flat ps body) h.counter 1 h.count h.reading >>= λ a.
     unless_ended a (λ b. at_line rof.number (rof_line rof b))
 
 -- each row lies within a source

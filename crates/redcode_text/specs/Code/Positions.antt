@@ -1,5 +1,6 @@
 -- The same as Climbing, over what the code itself holds.
 use Rattle.std.specs.Prelude.{◌≡◌, ℕ, List, [], ◌∷◌, ◌+◌, ◌-◌, ◌<◌, ◌≤◌, slice_range, true, false, ℤ, Option, Result, Ok, Err, if◌then◌else◌, nat_le}
+use Rattle.redcode_text.specs.Results.{◌>>=◌}
 use Rattle.redcode_text.specs.declared.token.Token.{Token}
 use Rattle.redcode_text.specs.declared.token.TokenKind.{TokenKind}
 use Rattle.redcode_text.specs.declared.token.TokenKind.TheVariants.{Number, Name}
@@ -12,7 +13,7 @@ use Rattle.redcode_text.specs.declared.expression.evaluation.Pending.{Pending}
 use Rattle.redcode_text.specs.declared.expression.evaluation.Pending.TheVariants.{Value, Open}
 use Rattle.redcode_text.specs.declared.expression.shape.ShapeState.{ShapeState}
 use Rattle.redcode_text.specs.declared.expression.evaluation.Evaluation as code
-use Rattle.redcode_text.specs.Expression.{◌>>=◌, precedence, binary, kinds, known}
+use Rattle.redcode_text.specs.Expression.{precedence, binary, kinds, known}
 use Rattle.redcode_text.specs.Code.Climbing.{signed, AreInside}
 
 abbrev pub reduced_on : ℕ → List Pending → ℤ → Result (ℤ × List Pending) ExprFault

@@ -1,8 +1,9 @@
 -- What the code finds in a text, one token at a time.
 use Rattle.std.specs.Prelude.{ℕ, List, [], Result, Ok, Err}
+use Rattle.redcode_text.specs.Results.{◌>>=◌}
 use Rattle.redcode_text.specs.declared.fault.TextProblem.{TextProblem}
 use Rattle.redcode_text.specs.declared.token.Spelled.{Spelled}
-use Rattle.redcode_text.specs.Tokens.{◌>>=◌, Found, OpenLoop, Scanned, token_at, with_room}
+use Rattle.redcode_text.specs.Tokens.{Found, OpenLoop, Scanned, token_at, with_room}
 
 -- what the code finds at the front of a text, with the names that it leaves
 abbrev pub with_names : List (List ℕ) → Spelled → Found

@@ -1,8 +1,8 @@
 -- The lines that take the place of an EQU name, as the code makes them.
 use Rattle.std.specs.Prelude.{ℕ, zero, suc, List, [], ◌∷◌, ◌++◌, Option, unwrap_or}
+use Rattle.redcode_text.specs.Results.{◌>>=◌}
 use Rattle.redcode_text.specs.declared.token.Token.{Token}
 use Rattle.redcode_text.specs.Lines.{Reading, Step, line_read, operation_lines, tokens_counted}
-use Rattle.redcode_text.specs.Tokens.{◌>>=◌}
 
 -- these tokens before the first line, and those behind the last
 abbrev pub used : List Token → List (List Token) → List Token → List (List Token)

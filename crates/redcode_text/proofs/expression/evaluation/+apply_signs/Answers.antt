@@ -1,10 +1,11 @@
 use Rattle.std.proofs.Common.{◌≡◌, ◌∙◌, sym, ap, arith, rules, ◌≤◌, ◌-◌, length, take, drop, get_or, List, [], ◌∷◌, Ok, ℤ, w64, take_all}
 use Rattle.std.proofs.lemmas.Int.{to_z-of_z}
 use mir.Val.{SFits}
+use Rattle.redcode_text.specs.Results.{◌>>=◌}
 use Rattle.redcode_text.specs.declared.token.Token.{Token}
 use Rattle.redcode_text.specs.declared.token.TokenKind.TheVariants as token
 use Rattle.redcode_text.specs.declared.token.Sign.{Sign}
-use Rattle.redcode_text.specs.Expression.{kinds, unary, ◌>>=◌}
+use Rattle.redcode_text.specs.Expression.{kinds, unary}
 use Rattle.redcode_text.specs.Code.Climbing.{signed}
 use Rattle.redcode_text.proofs.expression.evaluation.+apply_signs.Goals as goal
 

@@ -1,9 +1,10 @@
 use Rattle.std.proofs.Common.{◌∙◌, ◌++◌, ◌≤◌, List, ℕ, length, drop, take, ap, subst, sym}
 use Rattle.std.proofs.lemmas.Result.{err_from_is_err_and}
 use Rattle.std.proofs.lemmas.List.{take_rest}
+use Rattle.redcode_text.specs.Results.{◌>>=◌}
 use Rattle.redcode_text.specs.Code.Problems.{Fails, Gives}
 use Rattle.redcode_text.specs.Code.Scanning.{with_names}
-use Rattle.redcode_text.specs.Tokens.{◌>>=◌, joined, round_of, word_found}
+use Rattle.redcode_text.specs.Tokens.{joined, round_of, word_found}
 use Rattle.redcode_text.proofs.Failing.{fails-bind}
 use Rattle.redcode_text.proofs.Joins.{behind, joined-behind, joined-none, part_len}
 use Rattle.redcode_text.proofs.lexer.words.read_word.Goals as goal
