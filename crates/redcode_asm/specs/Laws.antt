@@ -120,7 +120,7 @@ CellIsAssembled = (ps : Predefined) (m : ℕ) (c : Cell) (source : ProgramValue)
     → Name opcode ∷ kinds p.line.rest ≡ cell_kinds m c opcode suffix → cell_of ps m source p ≡ Ok c
 
 -- The load file of a warrior is a source of that warrior, where its names are what `;name` and `;author` give of them: not empty, and without a
--- blank at either end. Each cell is at most ten tokens and the start two, so 6,553 cells are the most that stay within 65,536 tokens.
+-- blank at either end. Each cell is at most ten tokens and the start two, so 6,553 cells are the most that stay within 65,536 tokens whatever they are.
 abbrev pub LoadFileIsSource : Type 0
 LoadFileIsSource = (p : Parameters) (rounds warriors : ℕ) (w : WarriorValue) → AreInRange p → IsWarrior w → length w.cells ≤ p.max_length → length w.cells ≤ 6553
     → All (FitsCore p.core_size) w.cells → w.name ≢ [] → directive_value w.name ≡ w.name → w.author ≢ [] → directive_value w.author ≡ w.author
