@@ -1,4 +1,4 @@
--- The laws of names, of load files and of score formulas.
+-- The laws of names, of an instruction in front, of load files and of score formulas.
 use Rattle.std.specs.Prelude.{◌≡◌, ◌≢◌, ⊤, ℕ, ◌-◌, ◌/◌, ◌^◌, ◌<◌, ◌≤◌, nat_le, if◌then◌else◌, ℤ, pos, List, [], ◌∷◌, ◌++◌, length, map, All, true, Some, Ok, IfErr, codes}
 use Rattle.std.specs.Str.{str_eq_ignore_ascii_case}
 use Rattle.mars_cell.specs.declared.instruction.Cell.{Cell}
