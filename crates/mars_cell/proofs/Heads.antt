@@ -1,8 +1,9 @@
 -- The head of a load file, line after line.
-use Rattle.std.proofs.Common.{◌≡◌, refl, ℕ, zero, suc, ◌<◌, Bool, true, false, ◌&&◌, List, [], ◌∷◌, drop, Some, Result, Ok, Err, ap, arith}
+use Rattle.std.proofs.Common.{◌≡◌, refl, ℕ, zero, suc, ◌<◌, true, List, [], ◌∷◌, drop, Some, Result, Ok, Err, ap, arith}
 use Rattle.std.specs.Prelude.{codes, option_and_then, option_map, slice_get, IsUtf8, IsAscii, MatchResult}
 use Rattle.std.specs.List.{list_all}
 use Rattle.std.specs.Result.{result_ok}
+use Rattle.std.proofs.lemmas.Bool.{and_parts}
 use Rattle.std.proofs.lemmas.Str.{IsUtf8-from_ascii}
 use denote.Ref.{Bor}
 use Rattle.mars_cell.specs.Header.{header_of, name_in, size_in}
@@ -11,15 +12,10 @@ use Rattle.mars_cell.specs.ParameterFaults.{is_within}
 printed_is_ascii : (b : ℕ) → is_within 32 126 b ≡ true → b < 128
 printed_is_ascii b e = grind arith
 
-both : (a b : Bool) → (a && b) ≡ true → (a ≡ true) × (b ≡ true)
-both true true e = (refl, refl)
-both true false e = cc
-both false b e = cc
-
 ascii : (text : List ℕ) → list_all (is_within 32 126) text ≡ true → IsAscii text
 ascii [] all i = omega arith
-ascii (b ∷ bs) all zero = printed_is_ascii b (both (is_within 32 126 b) (list_all (is_within 32 126) bs) all).0
-ascii (b ∷ bs) all (suc i) = ascii bs (both (is_within 32 126 b) (list_all (is_within 32 126) bs) all).1 i
+ascii (b ∷ bs) all zero = printed_is_ascii b (and_parts (is_within 32 126 b) (list_all (is_within 32 126) bs) all).0
+ascii (b ∷ bs) all (suc i) = ascii bs (and_parts (is_within 32 126 b) (list_all (is_within 32 126) bs) all).1 i
 
 -- printed bytes are the UTF-8 of a text, so that a reader of UTF-8 gives them
 pub printed_text : {E : Type 0} (text : List ℕ) (r : Result (Bor (List ℕ)) E) (P : E → Type 0) → list_all (is_within 32 126) text ≡ true

@@ -1,5 +1,5 @@
 -- The text of a cell is read again as the cell, by value.
-use Rattle.std.proofs.Common.{◌≡◌, refl, ℕ, ℤ, pos, ◌-◌, ◌/◌, ◌^◌, ◌<◌, ◌≤◌, Bool, true, false, ◌&&◌, List, [], ◌∷◌, ◌++◌, Some, length, sym, ap, ◌∙◌, nat_eq, nat_le, rules, arith, decimal, append_assoc, append-nil}
+use Rattle.std.proofs.Common.{◌≡◌, refl, ℕ, ℤ, pos, ◌-◌, ◌/◌, ◌^◌, ◌<◌, ◌≤◌, Bool, true, false, List, [], ◌∷◌, ◌++◌, Some, length, sym, ap, ◌∙◌, nat_eq, nat_le, rules, arith, decimal, append_assoc, append-nil}
 use Rattle.std.specs.List.{list_all}
 use Rattle.std.proofs.lemmas.Fmt.{decimal_nonempty, digits_decimal, digits_value-decimal, length-decimal-le}
 use Rattle.std.proofs.lemmas.Int.{ints}
@@ -8,7 +8,7 @@ use Rattle.std.specs.Char.{is_ascii_alphanumeric, is_ascii_digit}
 use Rattle.std.specs.Str.Parse.{digits_value}
 use Rattle.std.specs.Prelude.{codes}
 use Rattle.mars_cell.specs.Parts.{begins_word, is_blank, joins, onto_first, parts}
-use Rattle.std.proofs.lemmas.Bool.{lt-ltb, le-leb}
+use Rattle.std.proofs.lemmas.Bool.{and_parts, lt-ltb, le-leb}
 use Rattle.mars_cell.specs.declared.instruction.Op.{Op}
 use Rattle.mars_cell.specs.declared.instruction.Op.TheVariants as op
 use Rattle.mars_cell.specs.declared.instruction.Modifier.{Modifier}
@@ -24,11 +24,6 @@ use Rattle.mars_cell.specs.Text.{cell_text}
 use Rattle.mars_cell.specs.Grammar.{cell_of, comma_at, mode_at, modifier_at, number_at, op_at, operand_at, suffix_at}
 use Rattle.mars_cell.specs.Text.{number_text}
 use Rattle.mars_cell.proofs.Values.{by_value-residue, residue-less, residue-plain}
-
-and_both : (a b : Bool) → (a && b) ≡ true → (a ≡ true) × (b ≡ true)
-and_both true true e = (refl, refl)
-and_both true false e = cc
-and_both false b e = cc
 
 -- ---- digits
 
@@ -48,7 +43,7 @@ pub parts_digits : (ds : List ℕ) (b : ℕ) (rest : List ℕ) → joins b ≡ t
 unfolding parts begins_word
 parts_digits [] b rest joining shows all ends = rw (shows, joining, ends) refl
 parts_digits (d ∷ ds) b rest joining shows all ends =
-    let both = and_both (is_ascii_digit d) (list_all is_ascii_digit ds) all in
+    let both = and_parts (is_ascii_digit d) (list_all is_ascii_digit ds) all in
     rw (shows, joining, digit_is_word d both.0) (ap (onto_first b) (parts_digits ds d rest (digit_joins d both.0) (digit_shows d both.0) both.1 ends))
 
 -- digits and their value
@@ -74,7 +69,7 @@ split_sign-digits : (ds : List ℕ) → list_all is_ascii_digit ds ≡ true → 
 unfolding split_sign
 split_sign-digits [] all = refl
 split_sign-digits (b ∷ bs) all =
-    let both = and_both (is_ascii_digit b) (list_all is_ascii_digit bs) all in
+    let both = and_parts (is_ascii_digit b) (list_all is_ascii_digit bs) all in
     rw (no_minus b both.0, no_plus b both.0) refl
 
 parse_number_digits : (minus : Bool) (p ds : List ℕ) → split_sign p ≡ (minus, ds) → 0 < length ds → length ds ≤ 18 → list_all is_ascii_digit ds ≡ true → parse_number p ≡ Some (signed minus (digits_value 10 ds))
@@ -114,7 +109,7 @@ number_read m n below small =
 pub digits_part : (xs rest : List ℕ) → 0 < length xs → list_all is_ascii_digit xs ≡ true → begins_word rest ≡ false → parts (xs ++ rest) ≡ xs ∷ parts rest
 digits_part [] rest some all ends = absurd (omega arith)
 digits_part (d ∷ ds) rest some all ends =
-    let both = and_both (is_ascii_digit d) (list_all is_ascii_digit ds) all in
+    let both = and_parts (is_ascii_digit d) (list_all is_ascii_digit ds) all in
     parts_digits ds d rest (digit_joins d both.0) (digit_shows d both.0) both.1 ends
 
 minus_joins : joins 45 ≡ true

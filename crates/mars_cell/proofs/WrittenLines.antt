@@ -6,7 +6,7 @@ use Rattle.std.specs.Char.{is_ascii_digit}
 use Rattle.std.specs.Str.{str_eq_ignore_ascii_case}
 use Rattle.std.proofs.lemmas.List.{length-map}
 use Rattle.std.proofs.lemmas.List.Folds.{list_all-append}
-use Rattle.std.proofs.lemmas.Bool.{le-leb, le-ltb, lt-ltb}
+use Rattle.std.proofs.lemmas.Bool.{and_parts, le-leb, le-ltb, lt-ltb}
 use Rattle.std.proofs.lemmas.Fmt.{decimal_nonempty, first_decimal, length-decimal-le}
 use Rattle.mars_cell.specs.Limits.{largest_core}
 use Rattle.mars_cell.specs.declared.instruction.Op.{Op}
@@ -47,11 +47,6 @@ is_plain b = not (nat_eq b 10) && not (nat_eq b 59)
 pub record IsPlain (line : List ℕ) : Type 0 where
   pub each : list_all is_plain line ≡ true
 
-both : (a b : Bool) → (a && b) ≡ true → (a ≡ true) × (b ≡ true)
-both true true e = (refl, refl)
-both true false e = cc
-both false b e = cc
-
 no_newline : (b : ℕ) → goes_on b ≡ true → nat_eq b 10 ≡ false
 no_newline b e = grind arith
 
@@ -63,7 +58,7 @@ plain_goes_on b e = grind arith
 
 each_goes_on : (line : List ℕ) → list_all is_plain line ≡ true → list_all goes_on line ≡ true
 each_goes_on [] h = refl
-each_goes_on (b ∷ line) h = let h' = both (is_plain b) (list_all is_plain line) h in rw (plain_goes_on b h'.0, each_goes_on line h'.1) refl
+each_goes_on (b ∷ line) h = let h' = and_parts (is_plain b) (list_all is_plain line) h in rw (plain_goes_on b h'.0, each_goes_on line h'.1) refl
 
 pub plain_line : {line : List ℕ} → IsPlain line → IsLine line
 plain_line {line} h = record { each = each_goes_on line h.each }
@@ -71,7 +66,7 @@ plain_line {line} h = record { each = each_goes_on line h.each }
 lines_of-line : (line bs : List ℕ) → list_all goes_on line ≡ true → lines_of (line ++ 10 ∷ bs) ≡ line ∷ lines_of bs
 unfolding lines_of
 lines_of-line [] bs h = refl
-lines_of-line (b ∷ line) bs h = let h' = both (goes_on b) (list_all goes_on line) h in rw (no_newline b h'.0, lines_of-line line bs h'.1) refl
+lines_of-line (b ∷ line) bs h = let h' = and_parts (goes_on b) (list_all goes_on line) h in rw (no_newline b h'.0, lines_of-line line bs h'.1) refl
 
 -- lines that are ended by LF, and hold none, are parted again
 lines_of-with_newline : (ls : List (List ℕ)) → AllByRecursion IsLine ls → lines_of (flat_map with_newline ls) ≡ ls
@@ -81,7 +76,7 @@ lines_of-with_newline (l ∷ ls) h = rw (append_assoc l (10 ∷ []) (flat_map wi
 
 before_comment-plain : (line : List ℕ) → list_all is_plain line ≡ true → before_comment line ≡ line
 before_comment-plain [] h = refl
-before_comment-plain (b ∷ line) h = let h' = both (is_plain b) (list_all is_plain line) h in rw (no_comment b h'.0, one-add) (ap (λ l. b ∷ l) (before_comment-plain line h'.1))
+before_comment-plain (b ∷ line) h = let h' = and_parts (is_plain b) (list_all is_plain line) h in rw (no_comment b h'.0, one-add) (ap (λ l. b ∷ l) (before_comment-plain line h'.1))
 
 -- ---- what is written is plain
 
@@ -90,7 +85,7 @@ digit_is_plain b e = grind arith
 
 digits_are_plain : (ds : List ℕ) → list_all is_ascii_digit ds ≡ true → list_all is_plain ds ≡ true
 digits_are_plain [] h = refl
-digits_are_plain (d ∷ ds) h = let h' = both (is_ascii_digit d) (list_all is_ascii_digit ds) h in rw (digit_is_plain d h'.0, digits_are_plain ds h'.1) refl
+digits_are_plain (d ∷ ds) h = let h' = and_parts (is_ascii_digit d) (list_all is_ascii_digit ds) h in rw (digit_is_plain d h'.0, digits_are_plain ds h'.1) refl
 
 decimal_is_plain : (n : ℕ) → n < 2 ^ 64 → list_all is_plain (decimal n) ≡ true
 decimal_is_plain n h = digits_are_plain (decimal n) (numeral n h).digits
@@ -272,7 +267,7 @@ printed_is_line b e = grind arith
 
 name_is_line : (bs : List ℕ) → list_all (is_within 32 126) bs ≡ true → list_all goes_on bs ≡ true
 name_is_line [] h = refl
-name_is_line (b ∷ bs) h = let h' = both (is_within 32 126 b) (list_all (is_within 32 126) bs) h in rw (printed_is_line b h'.0, name_is_line bs h'.1) refl
+name_is_line (b ∷ bs) h = let h' = and_parts (is_within 32 126 b) (list_all (is_within 32 126) bs) h in rw (printed_is_line b h'.0, name_is_line bs h'.1) refl
 
 behind_is_line : (word bs : List ℕ) → list_all goes_on word ≡ true → list_all goes_on bs ≡ true → IsLine (word ++ bs)
 behind_is_line word bs e h = record { each = rw (list_all-append goes_on word bs, e, h) refl }

@@ -11,6 +11,7 @@ pub mod Words
 pub mod ReadBack
 pub mod FreeNames
 pub mod Unplaced
+pub mod InFront
 pub mod PrintedTokens
 pub mod PrintedCells
 pub mod PrintedLines

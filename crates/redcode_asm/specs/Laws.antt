@@ -1,5 +1,5 @@
--- The laws of names, of load files and of score formulas.
-use Rattle.std.specs.Prelude.{◌≡◌, ◌≢◌, ⊤, ℕ, ◌-◌, ◌/◌, ◌^◌, ◌<◌, ◌≤◌, nat_le, if◌then◌else◌, ℤ, pos, List, [], ◌∷◌, ◌++◌, length, map, All, Some, Ok, IfErr, codes}
+-- The laws of names, of an instruction in front, of load files and of score formulas.
+use Rattle.std.specs.Prelude.{◌≡◌, ◌≢◌, ⊤, ℕ, ◌-◌, ◌/◌, ◌^◌, ◌<◌, ◌≤◌, nat_le, if◌then◌else◌, ℤ, pos, List, [], ◌∷◌, ◌++◌, length, map, All, true, Some, Ok, IfErr, codes}
 use Rattle.std.specs.Str.{str_eq_ignore_ascii_case}
 use Rattle.mars_cell.specs.declared.instruction.Cell.{Cell}
 use Rattle.mars_cell.specs.declared.instruction.Mode.{Mode}
@@ -23,8 +23,8 @@ use Rattle.redcode_text.specs.declared.token.TokenKind.TheVariants as token
 use Rattle.redcode_text.specs.Equates.{Equate}
 use Rattle.redcode_text.specs.Expression.{kinds}
 use Rattle.redcode_text.specs.Expansion.{ProgramValue, expansion}
-use Rattle.redcode_text.specs.Lines.{Assert, Line, Predefined, directive_value, name_at, predefined_value, with_current_line}
-use Rattle.redcode_asm.specs.Assembly.{Placed, assembly, cell_of, predefined, warrior_of}
+use Rattle.redcode_text.specs.Lines.{Assert, Line, Predefined, directive_value, is_instruction, name_at, predefined_value, with_current_line}
+use Rattle.redcode_asm.specs.Assembly.{◌>>=◌, Placed, assembly, at_line, cell_of, cells_of, instructions, predefined, warrior_of}
 use Rattle.redcode_asm.specs.Formula.{formula_of, score_of}
 
 -- a fault that an expression has by its values alone
@@ -81,6 +81,19 @@ NamesOfSourcesAreFree = (p : Parameters) (rounds warriors : ℕ) (one other : Li
     → unplaced_program t ≡ record (unplaced_program s) { names = t.names }
     → ((n : ℕ) → SaysTheSame (predefined p rounds warriors) (name_at s.names n) (name_at t.names n))
     → assembly p rounds warriors one ≡ assembly p rounds warriors other
+
+-- a program with one more line, in front of its lines
+abbrev pub with_line_in_front : Line → ProgramValue → ProgramValue
+with_line_in_front l source = record source { lines = l ∷ source.lines }
+
+-- An instruction in front moves nothing: where it has no label, and no name of the program is CURLINE, the cells are its own and then those of the others as
+-- they were without it. A fault of its own comes first, and one of the others is the same.
+abbrev pub InstructionsInFrontMoveNothing : Type 0
+InstructionsInFrontMoveNothing = (ps : Predefined) (m : ℕ) (source : ProgramValue) (l : Line) → is_instruction source.names l.operation l.rest ≡ true → l.labels ≡ []
+    → ((n : ℕ) → name_at source.names n ≢ codes "CURLINE") →
+    let front = with_line_in_front l source in
+    cells_of ps m front (instructions front)
+    ≡ (at_line l.number (cell_of ps m front (record { index = 0; line = l })) >>= λ c. cells_of ps m source (instructions source) >>= λ cs. Ok (c ∷ cs))
 
 -- the sign of a mode
 abbrev pub sign_of : Mode → Sign

@@ -1,5 +1,5 @@
 //! Laws of the definitions. The functions do nothing; their contracts are the laws.
-ghost use Rattle.redcode_asm.specs.Laws.{AssembledLoadIsRead, CellIsAssembled, CellIsScanned, LoadFileIsSource, NamesAreFree, NamesOfSourcesAreFree, ScoresHaveValues};
+ghost use Rattle.redcode_asm.specs.Laws.{AssembledLoadIsRead, CellIsAssembled, CellIsScanned, InstructionsInFrontMoveNothing, LoadFileIsSource, NamesAreFree, NamesOfSourcesAreFree, ScoresHaveValues};
 
 /// `Formula::score` of a formula that `Formula::new` read is refused by DivideByZero and Range alone.
 pub fn scores_have_values()
@@ -20,6 +20,13 @@ pub fn names_are_free()
 /// the same warrior, or have the same fault.
 pub fn names_of_sources_are_free()
     ensures { NamesOfSourcesAreFree }
+{}
+
+/// An instruction in front moves nothing: where it has no label, and no name of the program is CURLINE, the cells are its
+/// own and then those of the others as they were without it. A fault of its own comes first, and one of the others is the
+/// same.
+pub fn instructions_in_front_move_nothing()
+    ensures { InstructionsInFrontMoveNothing }
 {}
 
 /// The text of a cell, as a line outside loops, is scanned as its tokens: the opcode, `.`, the modifier, and for each

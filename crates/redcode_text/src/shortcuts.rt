@@ -21,6 +21,7 @@
 //! - `source/row`: what is found out by going over the bytes of a row, as its kind, is kept in it.
 //! - `names/equates`: where an EQU name stands is noted (`guess`), so that it isn't hashed at each use.
 //! - `reader/repeat`: a loop with nothing in it makes no rounds (`read_rounds`).
+//! - `names`: `NameTable::word` gives no name of 256 bytes and more (`specs/ShortNames`), so that none is put together.
 //! - `token`, `names`, `program`: `are_alike`, `key_of` and `has_equate` tell the shortcuts here, and those of the assembler,
 //!   which tokens were met before, and which stand for more than is written.
 
