@@ -1,8 +1,8 @@
 -- There are as many cells as instructions.
 use Rattle.std.proofs.Common.{◌≡◌, ◌∙◌, ℕ, suc, List, [], ◌∷◌, length, Result, Ok, Err, Vec, vec_len, ap, sym, refl, arith}
 use Rattle.std.specs.Prelude.{IfOk}
-use Rattle.redcode_text.specs.Results.{◌>>=◌}
 use Rattle.mars_cell.specs.declared.instruction.Cell.{Cell}
+use Rattle.redcode_text.specs.Results.{◌>>=◌}
 use Rattle.redcode_text.specs.Expansion.{ProgramValue}
 use Rattle.redcode_text.specs.Lines.{Predefined}
 use Rattle.redcode_asm.specs.declared.fault.AsmFault.{AsmFault}

@@ -1,11 +1,11 @@
 -- What is the same wherever a line stands.
 use Rattle.std.proofs.Common.{◌≡◌, ◌∙◌, Bor, ◌+◌, append_assoc, cond, drop, filter, map, ℕ, ℤ, pos, ◌-ℤ◌, ◌<◌, ◌≤◌, ◌⊎◌, inl, inr, arith, length, length-append, get_or, Bool, true, false, List, [], ◌∷◌, ◌++◌, Option, Some, None, option_map, Result, Ok, Err, codes, refl, ap, sym, subst}
 use Rattle.std.specs.Str.{bytes_eq}
-use Rattle.redcode_text.specs.Results.{◌>>=◌}
 use Rattle.mars_cell.specs.Numbers.{residue}
 use Rattle.mars_cell.specs.declared.instruction.Cell.{Cell}
 use Rattle.mars_cell.specs.declared.instruction.Modifier.{Modifier}
 use Rattle.mars_cell.specs.declared.instruction.Op.{Op}
+use Rattle.redcode_text.specs.Results.{◌>>=◌}
 use Rattle.redcode_text.specs.declared.fault.ExprFault.{ExprFault}
 use Rattle.redcode_text.specs.declared.token.Token.{Token}
 use Rattle.redcode_text.specs.Expansion.{ProgramValue}

@@ -1,9 +1,9 @@
 -- Names are free: a program with its names spelled otherwise gives the same warrior.
 use Rattle.std.proofs.Common.{◌≡◌, refl, ◌∙◌, ap, ℕ, ◌+◌, pos, ◌&&◌, ◌||◌, true, false, List, [], ◌∷◌, length, nat_lt, is_some, Option, Some, None, Result, Ok}
 use Rattle.std.specs.Prelude.{not, filter, option_map, ◌-ℤ◌}
-use Rattle.redcode_text.specs.Results.{◌>>=◌}
 use Rattle.mars_cell.specs.declared.instruction.Modifier.{Modifier}
 use Rattle.mars_cell.specs.Parameters.{Parameters}
+use Rattle.redcode_text.specs.Results.{◌>>=◌}
 use Rattle.redcode_text.specs.declared.token.Token.{Token}
 use Rattle.redcode_text.specs.declared.token.TokenKind.{TokenKind}
 use Rattle.redcode_text.specs.declared.token.TokenKind.TheVariants.{Number, Name}

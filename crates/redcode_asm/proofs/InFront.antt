@@ -5,9 +5,10 @@ use Rattle.std.specs.List.{list_any}
 use Rattle.std.specs.Str.{bytes_eq}
 use Rattle.std.proofs.lemmas.Int.{ints}
 use Rattle.std.proofs.lemmas.Slice.Eq.{bytes_eq-Decides}
+use Rattle.redcode_text.specs.Results.{◌>>=◌}
 use Rattle.redcode_text.specs.Expansion.{ProgramValue}
 use Rattle.redcode_text.specs.Lines.{Line, Predefined, name_at, is_instruction, predefined_value}
-use Rattle.redcode_asm.specs.Assembly.{◌>>=◌, Placed, at_line, cell_from, cell_of, cells_of, index_after, instructions, known_value, label_among, name_value, opcode_of, placed, placed_from, replaced, split_modifier, value_or}
+use Rattle.redcode_asm.specs.Assembly.{Placed, at_line, cell_from, cell_of, cells_of, index_after, instructions, known_value, label_among, name_value, opcode_of, placed, placed_from, replaced, split_modifier, value_or}
 use Rattle.redcode_asm.specs.Laws.{with_line_in_front}
 
 -- a line, and an index, with one more instruction before it

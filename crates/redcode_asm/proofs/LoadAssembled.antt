@@ -4,7 +4,6 @@ use Rattle.std.proofs.lemmas.Bool.{lt-ltb}
 use Rattle.std.proofs.lemmas.List.{drop_all, length-map}
 use Rattle.std.specs.List.{AllByRecursion, last_or}
 use Rattle.std.specs.Str.{str_eq_ignore_ascii_case}
-use Rattle.redcode_text.specs.Results.{◌>>=◌}
 use Rattle.mars_cell.specs.declared.instruction.Cell.{Cell}
 use Rattle.mars_cell.specs.declared.instruction.Op.{Op}
 use Rattle.mars_cell.specs.Cells.{FitsCore}
@@ -13,6 +12,7 @@ use Rattle.mars_cell.specs.Warriors.{WarriorValue, IsWarrior}
 use Rattle.mars_cell.specs.Words.{op_name, op_of, modifier_of}
 use Rattle.mars_cell.specs.Written.{load_text}
 use Rattle.mars_cell.proofs.CallerLemmas.{by_recursion, modifier_read, op_read}
+use Rattle.redcode_text.specs.Results.{◌>>=◌}
 use Rattle.redcode_text.specs.declared.token.Token.{Token}
 use Rattle.redcode_text.specs.declared.token.TokenKind.TheVariants.{Number}
 use Rattle.redcode_text.specs.Expansion.{ProgramValue}

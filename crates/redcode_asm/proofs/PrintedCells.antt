@@ -5,7 +5,6 @@ use Rattle.std.proofs.lemmas.Bool.Decides.{nat_tests}
 use Rattle.std.proofs.lemmas.Int.{ints}
 use Rattle.std.proofs.lemmas.List.{length-map}
 use Rattle.std.specs.List.{onto_first}
-use Rattle.redcode_text.specs.Results.{◌>>=◌}
 use Rattle.mars_cell.specs.declared.instruction.Cell.{Cell}
 use Rattle.mars_cell.specs.declared.instruction.Mode.{Mode}
 use Rattle.mars_cell.specs.declared.instruction.Mode.TheVariants as mode
@@ -14,6 +13,7 @@ use Rattle.mars_cell.specs.Cells.{FitsCore}
 use Rattle.mars_cell.specs.Numbers.{residue}
 use Rattle.mars_cell.specs.Words.{op_of, modifier_of}
 use Rattle.mars_cell.proofs.CallerLemmas.{residue-less, residue-plain}
+use Rattle.redcode_text.specs.Results.{◌>>=◌}
 use Rattle.redcode_text.specs.declared.fault.ExprFault.{ExprFault}
 use Rattle.redcode_text.specs.declared.fault.ExprFault.TheVariants.{Range}
 use Rattle.redcode_text.specs.declared.fault.TextProblem.{TextProblem}

@@ -11,6 +11,7 @@ use Rattle.mars_cell.specs.Warriors.{WarriorValue, IsWarrior}
 use Rattle.mars_cell.specs.Text.{cell_text}
 use Rattle.mars_cell.specs.Words.{op_name, op_of, modifier_name, modifier_of}
 use Rattle.mars_cell.specs.Written.{load_text}
+use Rattle.redcode_text.specs.Results.{◌>>=◌}
 use Rattle.redcode_text.specs.declared.fault.ExprFault.{ExprFault}
 use Rattle.redcode_text.specs.declared.fault.ExprFault.TheVariants.{DivideByZero, Range}
 use Rattle.redcode_text.specs.Tokens.{Scanned, name_index, tokens, with_name}
@@ -24,7 +25,7 @@ use Rattle.redcode_text.specs.Equates.{Equate}
 use Rattle.redcode_text.specs.Expression.{kinds}
 use Rattle.redcode_text.specs.Expansion.{ProgramValue, expansion}
 use Rattle.redcode_text.specs.Lines.{Assert, Line, Predefined, directive_value, is_instruction, name_at, predefined_value, with_current_line}
-use Rattle.redcode_asm.specs.Assembly.{◌>>=◌, Placed, assembly, at_line, cell_of, cells_of, instructions, predefined, warrior_of}
+use Rattle.redcode_asm.specs.Assembly.{Placed, assembly, at_line, cell_of, cells_of, instructions, predefined, warrior_of}
 use Rattle.redcode_asm.specs.Formula.{formula_of, score_of}
 
 -- a fault that an expression has by its values alone

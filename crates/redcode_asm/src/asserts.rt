@@ -29,7 +29,9 @@ impl<'a> Source<'a> {
     fn assert_value(&self, index: u32, tokens: &[Token]) -> Result<(i64, bool), ExprFault>
         ensures value { let defined = value_of (known_value (predefined_of self.now.predefined.now) self.now.program.now index) (kinds tokens.now) in
             MatchResult result (λ found. defined ≡ Ok found.0) (λ fault. defined ≡ Err fault) }
-        ensures fixed { IfOk result (λ found. found.1 ≡ true → value_of (fixed_value (predefined_of self.now.predefined.now) self.now.program.now) (kinds tokens.now) ≡ Ok found.0) }
+        ensures fixed { IfOk result (λ found. found.1 ≡ true
+            → value_of (fixed_value (predefined_of self.now.predefined.now) self.now.program.now) (kinds tokens.now)
+            ≡ Ok found.0) }
     {
         if let Some(value) = self.fixed_assert(tokens) {
             return Ok((value, true));
@@ -46,8 +48,10 @@ impl<'a> Source<'a> {
 
     /// Judges an assert, and tells whether it is known to hold wherever it stands.
     pub fn check_assert(&self, alloc: Global, assert: &Assert) -> Result<bool, AsmProblem>
-        ensures value { Gives (λ _. tt) result (assert_holds (predefined_of self.now.predefined.now) self.now.program.now (assert_of assert.now)) }
-        ensures held { IfOk result (λ held. held ≡ true → IsHeld (predefined_of self.now.predefined.now) self.now.program.now assert.now.tokens.items) }
+        ensures value { Gives (λ _. tt) result
+            (assert_holds (predefined_of self.now.predefined.now) self.now.program.now (assert_of assert.now)) }
+        ensures held { IfOk result (λ held. held ≡ true
+            → IsHeld (predefined_of self.now.predefined.now) self.now.program.now assert.now.tokens.items) }
     {
         let tokens = self.replace(alloc, &assert.tokens)?;
         match self.assert_value(assert.current_line, &tokens) {
@@ -68,7 +72,8 @@ impl<'a> Source<'a> {
     ) -> Result<(), AsmFault>
         requires { AreHeld (predefined_of self.now.predefined.now) self.now.program.now held.old.asserts.items }
         ensures held { AreHeld (predefined_of self.now.predefined.now) self.now.program.now held.new.asserts.items }
-        ensures value { let a = assert_of assert.entry.now in Answers (λ done. done) result (at_line a.number (assert_holds (predefined_of self.now.predefined.now) self.now.program.now a)) }
+        ensures value { let a = assert_of assert.entry.now in Answers (λ done. done) result
+            (at_line a.number (assert_holds (predefined_of self.now.predefined.now) self.now.program.now a)) }
     {
         match self.check_among(alloc, assert, held) {
             Ok(()) => Ok(()),
@@ -84,7 +89,8 @@ impl<'a> Source<'a> {
         held: &mut HeldAsserts<'l>,
     ) -> Result<(), AsmFault>
         requires { AreHeld (predefined_of self.now.predefined.now) self.now.program.now held.old.asserts.items }
-        ensures { Answers (λ done. done) result (asserts_hold (predefined_of self.now.predefined.now) self.now.program.now (map assert_of asserts.entry.now)) }
+        ensures { Answers (λ done. done) result
+            (asserts_hold (predefined_of self.now.predefined.now) self.now.program.now (map assert_of asserts.entry.now)) }
     {
         for assert in asserts {
             self.check_assert_at(alloc, assert, held)?;
@@ -94,7 +100,8 @@ impl<'a> Source<'a> {
 
     /// Whether all asserts hold, in their order.
     pub fn check_asserts(&self, alloc: Global) -> Result<(), AsmFault>
-        ensures { Answers (λ done. done) result (asserts_hold (predefined_of self.now.predefined.now) self.now.program.now self.now.program.now.asserts) }
+        ensures { Answers (λ done. done) result
+            (asserts_hold (predefined_of self.now.predefined.now) self.now.program.now self.now.program.now.asserts) }
     {
         let mut held = HeldAsserts::new(alloc);
         self.check_each(alloc, self.program.asserts(), &mut held)

@@ -39,7 +39,9 @@ impl<'a> Source<'a> {
         requires { 0 < core_size }
         ensures value { let defined = cell_from core_size (name_value (predefined_of self.now.predefined.now) self.now.program.now place.entry.index place.entry.index) op modifier operands.now in
             MatchResult result (λ made. defined ≡ Ok made.0) (λ problem. defined ≡ Err problem) }
-        ensures fixed { IfOk result (λ made. made.1 ≡ true → cell_from core_size (fixed_value (predefined_of self.now.predefined.now) self.now.program.now) op modifier operands.now ≡ Ok made.0) }
+        ensures fixed { IfOk result (λ made. made.1 ≡ true
+            → cell_from core_size
+            (fixed_value (predefined_of self.now.predefined.now) self.now.program.now) op modifier operands.now ≡ Ok made.0) }
         ensures fits { IfOk result (λ made. FitsCore core_size made.0) }
     {
         if let Some(cell) = self.fixed_cell(core_size, place.line, op, modifier, operands) {
@@ -60,8 +62,11 @@ impl<'a> Source<'a> {
         place: Place<'_>,
     ) -> Result<(Cell, bool), AsmProblem>
         requires { 0 < core_size }
-        ensures value { Gives (λ made. made.0) result (cell_of (predefined_of self.now.predefined.now) core_size self.now.program.now (placed_of place.entry)) }
-        ensures fixed { IfOk result (λ made. made.1 ≡ true → IsFixed (predefined_of self.now.predefined.now) core_size self.now.program.now place.entry.line.now.operation place.entry.line.now.rest.items made.0) }
+        ensures value { Gives (λ made. made.0) result
+            (cell_of (predefined_of self.now.predefined.now) core_size self.now.program.now (placed_of place.entry)) }
+        ensures fixed { IfOk result (λ made. made.1 ≡ true
+            → IsFixed (predefined_of self.now.predefined.now) core_size self.now.program.now place.entry.line.now.operation
+            place.entry.line.now.rest.items made.0) }
         ensures fits { IfOk result (λ made. FitsCore core_size made.0) }
     {
         let names = self.program.names();
@@ -85,7 +90,8 @@ impl<'a> Source<'a> {
         requires core { 0 < core_size }
         requires known { AreFixed (predefined_of self.now.predefined.now) core_size self.now.program.now known.old.cells.items }
         ensures known { AreFixed (predefined_of self.now.predefined.now) core_size self.now.program.now known.new.cells.items }
-        ensures value { let placed = placed_of place.entry in Answers (λ cell. cell) result (at_line placed.line.number (cell_of (predefined_of self.now.predefined.now) core_size self.now.program.now placed)) }
+        ensures value { let placed = placed_of place.entry in Answers (λ cell. cell) result
+            (at_line placed.line.number (cell_of (predefined_of self.now.predefined.now) core_size self.now.program.now placed)) }
         ensures fits { IfOk result (FitsCore core_size) }
     {
         match self.cell_among(alloc, core_size, place, known) {
@@ -105,7 +111,8 @@ impl<'a> Source<'a> {
         requires core { 0 < core_size }
         requires few { length lines.now ≤ limit }
         requires known { AreFixed (predefined_of self.now.predefined.now) core_size self.now.program.now known.old.cells.items }
-        ensures value { Answers (λ cells. cells.items) result (cells_among (predefined_of self.now.predefined.now) core_size self.now.program.now 0 (map line_of lines.entry.now)) }
+        ensures value { Answers (λ cells. cells.items) result
+            (cells_among (predefined_of self.now.predefined.now) core_size self.now.program.now 0 (map line_of lines.entry.now)) }
         ensures fits { IfOk result (λ cells. All (FitsCore core_size) cells.items) }
         ensures few { IfOk result (λ cells. vec_len cells ≤ limit) }
     {
@@ -126,7 +133,9 @@ impl<'a> Source<'a> {
     /// The cells of all instructions, or the first fault.
     pub fn cells(&self, alloc: Global, core_size: u32) -> Result<Vec<Cell>, AsmFault>
         requires { 0 < core_size }
-        ensures value { Answers (λ cells. cells.items) result (cells_of (predefined_of self.now.predefined.now) core_size self.now.program.now (instructions self.now.program.now)) }
+        ensures value { Answers (λ cells. cells.items) result
+            (cells_of (predefined_of self.now.predefined.now) core_size self.now.program.now
+            (instructions self.now.program.now)) }
         ensures fits { IfOk result (λ cells. All (FitsCore core_size) cells.items) }
         ensures few { IfOk result (λ cells. vec_len cells ≤ limit) }
         ensures each { IfOk result (λ cells. vec_len cells ≡ length (instructions self.now.program.now)) }

@@ -56,7 +56,8 @@ fn is_comma(token: Token) -> bool
 
 /// What stands before the first comma, and what behind it.
 fn split_comma(tokens: &[Token]) -> Option<(&[Token], &[Token])>
-    ensures { MatchOption result (parts_at_commas tokens.now ≡ tokens.now ∷ []) (λ p. parts_at_commas tokens.now ≡ p.0.now ∷ parts_at_commas p.1.now) }
+    ensures { MatchOption result (parts_at_commas tokens.now ≡ tokens.now ∷ [])
+        (λ p. parts_at_commas tokens.now ≡ p.0.now ∷ parts_at_commas p.1.now) }
 {
     for at in 0..tokens.len() {
         if is_comma(tokens[at]) {

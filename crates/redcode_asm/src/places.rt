@@ -37,7 +37,8 @@ pub fn index_after(names: &NameTable, index: u32, line: &Line) -> u32
 /// The last line whose operation is this word, in either case.
 pub fn last_line<'a>(names: &NameTable, lines: &'a [Line], word: &[u8]) -> Option<Place<'a>>
     requires { length lines.now ≤ limit }
-    ensures { option_map placed_of result ≡ last_where (λ l. is_spelled names.now word.now l.operation) (placed_from names.now 0 (map line_of lines.now)) }
+    ensures { option_map placed_of result
+        ≡ last_where (λ l. is_spelled names.now word.now l.operation) (placed_from names.now 0 (map line_of lines.now)) }
 {
     let mut found = None;
     let mut index = 0;
@@ -53,7 +54,8 @@ pub fn last_line<'a>(names: &NameTable, lines: &'a [Line], word: &[u8]) -> Optio
 /// TooLong at the first instruction past the longest warrior, if there is one.
 pub fn check_length(names: &NameTable, lines: &[Line], longest: u32) -> Result<(), AsmFault>
     requires { length lines.now ≤ limit }
-    ensures { result ≡ none_past (drop longest (filter (λ p. is_instruction names.now p.line.operation p.line.rest) (placed_from names.now 0 (map line_of lines.now)))) }
+    ensures { result ≡ none_past (drop longest
+        (filter (λ p. is_instruction names.now p.line.operation p.line.rest) (placed_from names.now 0 (map line_of lines.now)))) }
 {
     let mut index = 0;
     for line in lines {

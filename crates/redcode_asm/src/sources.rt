@@ -125,7 +125,8 @@ impl<'a> Source<'a> {
 
     /// The last line whose operation is this word, in either case.
     pub fn last_line(&self, word: &[u8]) -> Option<Place<'a>>
-        ensures { option_map placed_of result ≡ last_where (λ l. is_spelled self.now.program.now.names word.now l.operation) (placed self.now.program.now) }
+        ensures { option_map placed_of result
+            ≡ last_where (λ l. is_spelled self.now.program.now.names word.now l.operation) (placed self.now.program.now) }
     {
         last_line(self.program.names(), self.program.lines(), word)
     }

@@ -27,7 +27,8 @@ fn as_start(value: i64, count: u32) -> Result<u32, AsmProblem>
 impl<'a> Source<'a> {
     /// The start that an expression gives, where there are so many instructions.
     fn start_at(&self, count: u32, place: Place<'_>, tokens: &[Token]) -> Result<u32, AsmProblem>
-        ensures value { result ≡ start_at (predefined_of self.now.predefined.now) self.now.program.now count (placed_of place.entry) tokens.now }
+        ensures value { result ≡ start_at (predefined_of self.now.predefined.now) self.now.program.now count
+            (placed_of place.entry) tokens.now }
         ensures below { IfOk result (λ start. start < count) }
     {
         let line_names = self.start_names(place.index);
@@ -39,7 +40,8 @@ impl<'a> Source<'a> {
 
     /// The start of an ORG.
     fn org_start(&self, alloc: Global, count: u32, place: Place<'_>) -> Result<u32, AsmProblem>
-        ensures value { Gives (λ start. start) result (org_start (predefined_of self.now.predefined.now) self.now.program.now count (placed_of place.entry)) }
+        ensures value { Gives (λ start. start) result
+            (org_start (predefined_of self.now.predefined.now) self.now.program.now count (placed_of place.entry)) }
         ensures below { IfOk result (λ start. start < count) }
     {
         let tokens = self.replace(alloc, &place.line.rest)?;
@@ -48,7 +50,8 @@ impl<'a> Source<'a> {
 
     /// The start of an END, which is 0 without an operand.
     fn end_start(&self, alloc: Global, count: u32, place: Place<'_>) -> Result<u32, AsmProblem>
-        ensures value { Gives (λ start. start) result (end_start (predefined_of self.now.predefined.now) self.now.program.now count (placed_of place.entry)) }
+        ensures value { Gives (λ start. start) result
+            (end_start (predefined_of self.now.predefined.now) self.now.program.now count (placed_of place.entry)) }
         ensures below { 0 < count → IfOk result (λ start. start < count) }
     {
         let tokens = self.replace(alloc, &place.line.rest)?;
@@ -61,7 +64,8 @@ impl<'a> Source<'a> {
     /// The start of an ORG, with the line of a fault.
     fn org_start_at(&self, alloc: Global, count: u32, place: Place<'_>) -> Result<u32, AsmFault>
         ensures below { IfOk result (λ start. start < count) }
-        ensures value { let placed = placed_of place.entry in Answers (λ start. start) result (at_line placed.line.number (org_start (predefined_of self.now.predefined.now) self.now.program.now count placed)) }
+        ensures value { let placed = placed_of place.entry in Answers (λ start. start) result
+            (at_line placed.line.number (org_start (predefined_of self.now.predefined.now) self.now.program.now count placed)) }
     {
         match self.org_start(alloc, count, place) {
             Ok(start) => Ok(start),
@@ -72,7 +76,8 @@ impl<'a> Source<'a> {
     /// The start of an END, with the line of a fault.
     fn end_start_at(&self, alloc: Global, count: u32, place: Place<'_>) -> Result<u32, AsmFault>
         ensures below { 0 < count → IfOk result (λ start. start < count) }
-        ensures value { let placed = placed_of place.entry in Answers (λ start. start) result (at_line placed.line.number (end_start (predefined_of self.now.predefined.now) self.now.program.now count placed)) }
+        ensures value { let placed = placed_of place.entry in Answers (λ start. start) result
+            (at_line placed.line.number (end_start (predefined_of self.now.predefined.now) self.now.program.now count placed)) }
     {
         match self.end_start(alloc, count, place) {
             Ok(start) => Ok(start),

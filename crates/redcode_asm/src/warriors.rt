@@ -53,7 +53,8 @@ impl<'a> Source<'a> {
 
     /// The warrior of the source, or its first fault.
     fn warrior(&self, alloc: Global, params: &Params) -> Result<Warrior, AsmFault>
-        ensures value { Answers (λ warrior. warrior) result (warrior_of (predefined_of self.now.predefined.now) params.now self.now.program.now) }
+        ensures value { Answers (λ warrior. warrior) result
+            (warrior_of (predefined_of self.now.predefined.now) params.now self.now.program.now) }
         ensures fits { IfOk result (λ warrior. All (FitsCore params.now.core_size) warrior.cells) }
     {
         let cells = self.cells(alloc, params.core_size())?;

@@ -54,7 +54,8 @@ fn read_from_rows(
     names: &PredefinedNames,
 ) -> Result<Reading, TextFault>
     requires { RowsFit rows.now }
-    ensures { Answers (λ reading. reading_of reading) result (flat (predefined_of names.now) (tree_of_rows (map row_of rows.now)) nothing_read) }
+    ensures { Answers (λ reading. reading_of reading) result
+        (flat (predefined_of names.now) (tree_of_rows (map row_of rows.now)) nothing_read) }
 {
     let Ok(mut reading) = Reading::new(alloc, source) else {
         return Err(TextProblem::OutOfMemory.at_line(0));

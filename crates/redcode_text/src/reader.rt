@@ -149,7 +149,8 @@ impl Reading {
     ) -> Result<Vec<Token>, TextProblem>
         requires within { at ≤ length row.bytes.now }
         requires fits { row.at + length row.bytes.now < 2 ^ 64 }
-        ensures value { Gives (λ tokens. (tokens.items, reading_of self.new)) result (row_tokens (row_of row.entry) at (reading_of self.old)) }
+        ensures value { Gives (λ tokens. (tokens.items, reading_of self.new)) result
+            (row_tokens (row_of row.entry) at (reading_of self.old)) }
         ensures lines { vec_len self.new.lines ≡ vec_len self.old.lines }
         ensures lines_read { self.new.lines_read ≡ self.old.lines_read }
     {

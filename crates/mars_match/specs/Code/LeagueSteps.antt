@@ -1,8 +1,8 @@
 -- How the code adds the matches of a league up as they end: it serves the proof alone.
 use Rattle.std.specs.Prelude.{ℕ, zero, suc, ◌+◌, ◌+ℤ◌, List, [], ◌∷◌, Option, Result, Ok}
-use Rattle.redcode_text.specs.Results.{◌>>=◌}
 use Rattle.mars_cell.specs.Parameters.{Parameters}
 use Rattle.mars_cell.specs.Warriors.{WarriorValue}
+use Rattle.redcode_text.specs.Results.{◌>>=◌}
 use Rattle.redcode_text.specs.Tokens.{Scanned}
 use Rattle.mars_match.specs.Rounds.{table_of}
 use Rattle.mars_match.specs.Tables.{RowValue}

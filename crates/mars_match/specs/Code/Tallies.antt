@@ -1,10 +1,10 @@
 -- How the code adds the rounds up as they end: it serves the proof alone.
 use Rattle.std.specs.Prelude.{ℕ, zero, suc, ◌+◌, ◌*◌, ◌≤◌, ◌^◌, ℤ, pos, ◌+ℤ◌, ◌≤ℤ◌, neg_ℤ, Bool, not, ◌&&◌, ◌==◌, if◌then◌else◌, List, [], ◌∷◌, length, Option, Result, Ok}
-use Rattle.redcode_text.specs.Results.{◌>>=◌}
 use Rattle.mars_cell.specs.Parameters.{Parameters}
 use Rattle.mars_cell.specs.Warriors.{WarriorValue}
 use Rattle.mars_core.specs.State.{State}
 use Rattle.mars_match.specs.Battles.{in_load_order}
+use Rattle.redcode_text.specs.Results.{◌>>=◌}
 use Rattle.redcode_text.specs.Tokens.{Scanned}
 use Rattle.mars_match.specs.Rounds.{Outcome, placed_for, ended, has_lived, how_many}
 use Rattle.mars_match.specs.Tables.{RowValue}

@@ -1,8 +1,8 @@
 -- Lines, operands and cells as the code holds them.
 use Rattle.std.specs.Prelude.{◌++◌, ℕ, List, Result, Ok, filter, option_map}
-use Rattle.redcode_text.specs.Results.{◌>>=◌}
 use Rattle.mars_cell.specs.declared.instruction.Cell.{Cell}
 use Rattle.mars_cell.specs.Warriors.{WarriorValue}
+use Rattle.redcode_text.specs.Results.{◌>>=◌}
 use Rattle.redcode_text.specs.Expansion.{ProgramValue}
 use Rattle.redcode_text.specs.Lines.{Line, Predefined, is_instruction}
 use Rattle.redcode_text.specs.Views.{line_of}

@@ -78,7 +78,8 @@ impl<'a> Source<'a> {
     /// The cell of an instruction that was met before.
     fn known_cell(&self, core_size: u32, known: &FixedCells<'_>, line: &Line) -> Option<Cell>
         requires { AreFixed (predefined_of self.now.predefined.now) core_size self.now.program.now known.now.cells.items }
-        ensures { IfSome result (IsFixed (predefined_of self.now.predefined.now) core_size self.now.program.now line.now.operation line.now.rest.items) }
+        ensures { IfSome result (IsFixed
+            (predefined_of self.now.predefined.now) core_size self.now.program.now line.now.operation line.now.rest.items) }
     {
         let place = known.guess(self.program.names(), line)?;
         if place >= known.cells.len() {
@@ -102,7 +103,8 @@ impl<'a> Source<'a> {
         operands: &[Token],
     ) -> Option<Cell>
         requires { 0 < core_size }
-        ensures value { IfSome result (λ cell. cell_from core_size (fixed_value (predefined_of self.now.predefined.now) self.now.program.now) op modifier operands.now ≡ Ok cell) }
+        ensures value { IfSome result (λ cell. cell_from core_size
+            (fixed_value (predefined_of self.now.predefined.now) self.now.program.now) op modifier operands.now ≡ Ok cell) }
         ensures fits { IfSome result (FitsCore core_size) }
     {
         if !self.program.has_equate(&line.rest) {
@@ -124,7 +126,8 @@ impl<'a> Source<'a> {
     ) -> Result<Cell, AsmProblem>
         requires core { 0 < core_size }
         requires known { AreFixed (predefined_of self.now.predefined.now) core_size self.now.program.now known.old.cells.items }
-        ensures value { Gives (λ cell. cell) result (cell_of (predefined_of self.now.predefined.now) core_size self.now.program.now (placed_of place.entry)) }
+        ensures value { Gives (λ cell. cell) result
+            (cell_of (predefined_of self.now.predefined.now) core_size self.now.program.now (placed_of place.entry)) }
         ensures known { AreFixed (predefined_of self.now.predefined.now) core_size self.now.program.now known.new.cells.items }
         ensures fits { IfOk result (FitsCore core_size) }
     {

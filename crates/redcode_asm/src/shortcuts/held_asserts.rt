@@ -69,7 +69,8 @@ impl<'a> Source<'a> {
 
     /// The value of the expression of an assert, where it is the same wherever the assert stands.
     pub fn fixed_assert(&self, tokens: &[Token]) -> Option<i64>
-        ensures { IfSome result (λ value. value_of (fixed_value (predefined_of self.now.predefined.now) self.now.program.now) (kinds tokens.now) ≡ Ok value) }
+        ensures { IfSome result (λ value. value_of (fixed_value (predefined_of self.now.predefined.now) self.now.program.now)
+            (kinds tokens.now) ≡ Ok value) }
     {
         match eval(tokens, &self.fixed_names()) {
             Ok(value) => Some(value),
@@ -85,7 +86,8 @@ impl<'a> Source<'a> {
         held: &mut HeldAsserts<'l>,
     ) -> Result<(), AsmProblem>
         requires { AreHeld (predefined_of self.now.predefined.now) self.now.program.now held.old.asserts.items }
-        ensures value { Gives (λ done. done) result (assert_holds (predefined_of self.now.predefined.now) self.now.program.now (assert_of assert.entry.now)) }
+        ensures value { Gives (λ done. done) result
+            (assert_holds (predefined_of self.now.predefined.now) self.now.program.now (assert_of assert.entry.now)) }
         ensures held { AreHeld (predefined_of self.now.predefined.now) self.now.program.now held.new.asserts.items }
     {
         if self.is_held(held, assert) {

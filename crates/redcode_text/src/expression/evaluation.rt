@@ -168,9 +168,11 @@ impl Evaluation {
         requires within { at < length tokens.now }
         requires inside { AreInside at self.old.stack }
         requires room { length self.old.stack < MAX_WAITING }
-        requires room_after { (k : ℕ) (w : ℤ) (stack : List Pending) → reduced_on k self.old.stack self.old.value ≡ Ok (w, stack) → length stack < MAX_WAITING }
+        requires room_after { (k : ℕ) (w : ℤ) (stack : List Pending) → reduced_on k self.old.stack self.old.value ≡ Ok (w, stack)
+            → length stack < MAX_WAITING }
 
-        ensures gives { IfSome (slice_get tokens.now at) (λ t. GivesState self.new result (advance (E.value_of env.now) tokens.now at self.old t.kind)) }
+        ensures gives { IfSome (slice_get tokens.now at)
+            (λ t. GivesState self.new result (advance (E.value_of env.now) tokens.now at self.old t.kind)) }
     {
         match tokens[at].kind {
             TokenKind::Number(value) => self.take_operand(tokens, at, value),
@@ -197,7 +199,8 @@ impl Evaluation {
     /// Takes an operator after an operand.
     fn operate(&mut self, at: usize, sign: Sign) -> Result<(), ExprFault>
         requires fits { at < usize.MAX }
-        requires room { (w : ℤ) (stack : List Pending) → reduced_on (precedence sign) self.old.stack self.old.value ≡ Ok (w, stack) → length stack < MAX_WAITING }
+        requires room { (w : ℤ) (stack : List Pending)
+            → reduced_on (precedence sign) self.old.stack self.old.value ≡ Ok (w, stack) → length stack < MAX_WAITING }
 
         ensures gives { GivesState self.new result (operated at sign self.old) }
     {

@@ -84,7 +84,8 @@ fn joined_word(
 ) -> Result<Spelled, TextProblem>
     requires ascii { IsAscii word.bytes.now }
     requires front { IsKnownStart word.known word.bytes.now }
-    ensures value { let bytes = word.entry.bytes.now in Gives (with_names names.new) result (word_found names.old len bytes (round_of loops.now bytes)) }
+    ensures value { let bytes = word.entry.bytes.now in Gives (with_names names.new) result
+        (word_found names.old len bytes (round_of loops.now bytes)) }
     ensures len { IfOk result (λ s. s.len ≡ len) }
 {
     match loops.round_of(word.bytes) {
@@ -157,7 +158,8 @@ fn parted_word(
 ) -> Result<Spelled, TextProblem>
     requires front { IsAscii front.bytes.now }
     requires end { IsAscii end.now }
-    ensures value { let bytes = front.entry.bytes.now ++ end.now in Gives (with_names names.new) result (word_found names.old len bytes (round_of loops.now bytes)) }
+    ensures value { let bytes = front.entry.bytes.now
+        ++ end.now in Gives (with_names names.new) result (word_found names.old len bytes (round_of loops.now bytes)) }
     ensures len { IfOk result (λ s. s.len ≡ len) }
 {
     if is_long_name(front.bytes, end) {

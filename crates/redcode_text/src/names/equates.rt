@@ -143,7 +143,8 @@ impl Replaced {
 
 /// The one line of an EQU name.
 fn only_line(lines: &[Vec<Token>]) -> Result<&[Token], TextProblem>
-    ensures { let defined = one_line (map (λ line. line.items) lines.now) in MatchResult result (λ line. defined ≡ Ok line.now) (λ problem. defined ≡ Err problem) }
+    ensures { let defined = one_line (map (λ line. line.items) lines.now) in MatchResult result (λ line. defined ≡ Ok line.now)
+        (λ problem. defined ≡ Err problem) }
 {
     match lines {
         [] => Ok(&[]),
@@ -161,7 +162,8 @@ impl Equates {
         lines: &[Vec<Token>],
         replaced: &mut Replaced,
     ) -> Result<(), TextProblem>
-        ensures { Gives (λ _. replaced.new) result (replaced_name (replacing depth self.now) replaced.old (map (λ line. line.items) lines.now)) }
+        ensures { Gives (λ _. replaced.new) result
+            (replaced_name (replacing depth self.now) replaced.old (map (λ line. line.items) lines.now)) }
     {
         if depth == 0 {
             return Err(TextProblem::EquDepth);
@@ -174,7 +176,8 @@ impl Equates {
     /// Puts a token, or what it stands for, behind the tokens that stand.
     #[cycle(replacing)]
     fn put(&self, depth: usize, token: Token, replaced: &mut Replaced) -> Result<(), TextProblem>
-        ensures { Gives (λ _. replaced.new) result (replaced_token (replacing depth self.now) replaced.old token (token_lines self.now token.kind)) }
+        ensures { Gives (λ _. replaced.new) result
+            (replaced_token (replacing depth self.now) replaced.old token (token_lines self.now token.kind)) }
     {
         let TokenKind::Name(name) = token.kind else {
             return replaced.keep(token);
@@ -205,7 +208,9 @@ impl Equates {
 impl Equates {
     /// Puts a token of a source, or what it stands for, behind the tokens that stand; a fault has its line.
     fn place_at_line(&self, token: Token, replaced: &mut Replaced) -> Result<(), TextFault>
-        ensures { Answers (λ _. replaced.new) result (at_line token.line (replaced_token (replacing depth_limit self.now) replaced.old token (token_lines self.now token.kind))) }
+        ensures { Answers (λ _. replaced.new) result
+            (at_line token.line (replaced_token (replacing depth_limit self.now) replaced.old token
+            (token_lines self.now token.kind))) }
     {
         match self.put(MAX_NESTING, token, replaced) {
             Ok(()) => Ok(()),

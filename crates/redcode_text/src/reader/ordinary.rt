@@ -132,7 +132,10 @@ impl Reading {
     fn add_line(&mut self, line: Line) -> Result<(), TextProblem>
         requires { vec_len self.old.lines < self.old.lines_read }
         ensures equates { self.new.equates ≡ self.old.equates }
-        ensures value { Gives (λ _. reading_of self.new) result (Ok (line_added line.number (record { labels = line.labels.items; label_tokens = []; operation = line.operation; rest = line.rest.items }) (reading_of self.old))) }
+        ensures value { Gives (λ _. reading_of self.new) result
+            (Ok (line_added line.number
+            (record { labels = line.labels.items; label_tokens = []; operation = line.operation; rest = line.rest.items })
+            (reading_of self.old))) }
     {
         let counts = is_instruction(&self.names, line.operation, &line.rest);
         let ends = is_end(&self.names, line.operation);
@@ -232,7 +235,8 @@ impl Reading {
         tokens: &[Token],
     ) -> Result<(), TextProblem>
         requires { vec_len self.old.lines < self.old.lines_read }
-        ensures value { Gives (λ _. reading_of self.new) result (ordinary_line (predefined_of names.now) number depth tokens.now (reading_of self.old)) }
+        ensures value { Gives (λ _. reading_of self.new) result
+            (ordinary_line (predefined_of names.now) number depth tokens.now (reading_of self.old)) }
         ensures equates { self.new.equates ≡ self.old.equates }
     {
         let parts = match self.parts_of(alloc, names, tokens) {

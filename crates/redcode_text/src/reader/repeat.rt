@@ -75,7 +75,8 @@ fn read_for_row(
     requires word { ForLine word_at ≡ line_kind row.bytes.now }
     ensures loops { OnOk result (reading.new.loops ≡ reading.old.loops) }
     ensures depth { OnOk result (length reading.old.loops < MAX_LOOPS) }
-    ensures gives { Answers (head_of (reading_of reading.new)) result (at_line row.entry.number (head_line (predefined_of names.now) (row_of row.entry) (reading_of reading.old))) }
+    ensures gives { Answers (head_of (reading_of reading.new)) result
+        (at_line row.entry.number (head_line (predefined_of names.now) (row_of row.entry) (reading_of reading.old))) }
 {
     match reading.read_head(alloc, names, row, word_at) {
         Ok(head) => Ok(head),
@@ -87,7 +88,8 @@ fn read_for_row(
 fn read_rof_row(alloc: Global, row: Row<'_>, reading: &mut Reading) -> Result<(), TextFault>
     requires { row.at + length row.bytes.now < 2 ^ 64 }
     ensures loops { OnOk result (reading.new.loops ≡ reading.old.loops) }
-    ensures gives { Answers (λ _. reading_of reading.new) result (at_line row.entry.number (rof_line (row_of row.entry) (reading_of reading.old))) }
+    ensures gives { Answers (λ _. reading_of reading.new) result
+        (at_line row.entry.number (rof_line (row_of row.entry) (reading_of reading.old))) }
 {
     match reading.read_rof(alloc, row) {
         Ok(()) => Ok(()),
@@ -131,7 +133,8 @@ fn read_items(
     requires ends { AreEnds source.rows.now source.ends.now }
     requires within { first ≤ length source.rows.now }
     requires depth { length reading.old.loops ≤ MAX_LOOPS }
-    ensures gives { Answers (λ _. reading_of reading.new) result (flat (predefined_of names.now) (here_from source.entry.rows.now first) (reading_of reading.old)) }
+    ensures gives { Answers (λ _. reading_of reading.new) result
+        (flat (predefined_of names.now) (here_from source.entry.rows.now first) (reading_of reading.old)) }
     ensures loops { OnOk result (reading.new.loops ≡ reading.old.loops) }
 {
     let PairedRows { rows, ends } = source;
@@ -228,7 +231,8 @@ pub fn read_all(
     requires fits { RowsFit rows.now }
     requires depth { length reading.old.loops ≤ MAX_LOOPS }
     requires going { reading.old.ended ≡ false }
-    ensures { Answers (λ _. reading_of reading.new) result (flat (predefined_of names.now) (tree_of_rows (map row_of rows.now)) (reading_of reading.old)) }
+    ensures { Answers (λ _. reading_of reading.new) result
+        (flat (predefined_of names.now) (tree_of_rows (map row_of rows.now)) (reading_of reading.old)) }
 {
     let Ok(ends) = ends_of(alloc, rows) else {
         return Err(TextProblem::OutOfMemory.at_line(0));

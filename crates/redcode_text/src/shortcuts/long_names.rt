@@ -79,7 +79,8 @@ fn index_among(
     requires made { AllParts texts.now names.old.keys }
     requires parts { AreParts texts.now parts }
     ensures index { IfOk result (λ n. n ≡ name_index (map (name_of texts.now) names.old.keys) (name_of texts.now parts)) }
-    ensures names { OnOk result (map (name_of texts.now) names.new.keys ≡ with_name (map (name_of texts.now) names.old.keys) (name_of texts.now parts)) }
+    ensures names { OnOk result (map (name_of texts.now) names.new.keys
+        ≡ with_name (map (name_of texts.now) names.old.keys) (name_of texts.now parts)) }
     ensures made { AllParts texts.now names.new.keys }
 {
     match names.insert_full(parts) {

@@ -28,7 +28,8 @@ fn reach_of(text: Text<'_>, cursor: Cursor) -> Option<Reach>
     requires fits { text.at + length text.bytes.now < 2 ^ 64 }
     ensures on { IfSome result (λ reach. cursor.at < reach.to) }
     ensures within { IfSome result (λ reach. reach.to ≤ length text.entry.bytes.now) }
-    ensures stands { IfSome result (λ reach. (i : ℕ) → cursor.at ≤ i → i < reach.to → stands reach.kind (text.entry.at + i) (slice_index text.entry.bytes.now i) ≡ true) }
+    ensures stands { IfSome result (λ reach. (i : ℕ) → cursor.at ≤ i → i < reach.to
+        → stands reach.kind (text.entry.at + i) (slice_index text.entry.bytes.now i) ≡ true) }
 {
     let place = text.at + cursor.at;
     match text.runs.get(cursor.run) {

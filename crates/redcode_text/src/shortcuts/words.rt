@@ -125,7 +125,8 @@ pub fn long_name(
     requires digits { IsAscii digits.now }
     requires name { begins_name front.bytes.now ≡ true }
     requires parted { front_len (front.bytes.now ++ digits.now) ≡ length front.bytes.now }
-    ensures value { let bytes = front.entry.bytes.now ++ digits.now in Gives (with_names names.new) result (word_found names.old len bytes (round_of loops.now bytes)) }
+    ensures value { let bytes = front.entry.bytes.now
+        ++ digits.now in Gives (with_names names.new) result (word_found names.old len bytes (round_of loops.now bytes)) }
     ensures len { IfOk result (λ s. s.len ≡ len) }
 {
     if let Some(round) = loops.round_of_parts(front.bytes, digits) {

@@ -152,7 +152,8 @@ impl Reading {
         requires fits { row.at + length row.bytes.now < 2 ^ 64 }
         requires inside { word_at ≤ length row.bytes.now }
         requires word { ForLine word_at ≡ line_kind row.bytes.now }
-        ensures { Gives (head_of (reading_of self.new)) result (head_line (predefined_of names.now) (row_of row.entry) (reading_of self.old)) }
+        ensures { Gives (head_of (reading_of self.new)) result
+            (head_line (predefined_of names.now) (row_of row.entry) (reading_of self.old)) }
     {
         self.count_line()?;
         let mut tokens = self.row_tokens(alloc, row, 0)?;
