@@ -46,3 +46,5 @@ pub mod PlainRows
 pub mod KeptNames
 pub mod LineRead
 pub mod HeadLines
+pub mod Named
+pub mod Simulations

@@ -1,0 +1,26 @@
+-- What a relation between two readings must keep, so that a loop may be read in one and its lines, written out, in the other.
+use Rattle.std.specs.Prelude.{◌≡◌, ⊤, ℕ, List, ◌++◌, true, Option, None, IfSome, Result, Ok, codes, decimal}
+use Rattle.redcode_text.specs.Expansion.{Head, head_line, in_round, rof_line}
+use Rattle.redcode_text.specs.Lines.{Reading, Predefined, plain_line}
+use Rattle.redcode_text.specs.Source.{Row}
+use Rattle.redcode_text.specs.Tokens.{begins_name}
+
+-- a counter is a name
+abbrev pub IsCounter : Option (List ℕ) → Type 0
+IsCounter counter = IfSome counter (λ name. begins_name name ≡ true)
+
+pub record IsSimulation (ps : Predefined) (R : Reading → Reading → Type 0) : Type 0 where
+  -- the same bytes, in rows of other numbers at other places
+  pub plain : (st other a : Reading) (row like : Row) → row.bytes ≡ like.bytes → R st other → plain_line ps row st ≡ Ok a → (b : Reading) × (plain_line ps like other ≡ Ok b) × R a b
+  pub head : (st other : Reading) (row like : Row) (h : Head) → row.bytes ≡ like.bytes → R st other → head_line ps row st ≡ Ok h
+      → (k : Head) × (head_line ps like other ≡ Ok k) × (h.counter ≡ k.counter) × (h.count ≡ k.count) × IsCounter h.counter × R h.reading k.reading
+  pub rof : (st other a : Reading) (row like : Row) → row.bytes ≡ like.bytes → R st other → rof_line row st ≡ Ok a → (b : Reading) × (rof_line like other ≡ Ok b) × R a b
+  -- lines that stand in the first alone
+  pub lone_head : (st other : Reading) (row : Row) (n : ℕ) (h : Head) → row.bytes ≡ codes "FOR " ++ decimal n → R st other → head_line ps row st ≡ Ok h
+      → (h.counter ≡ None) × (h.count ≡ n) × R h.reading other
+  pub lone_rof : (st other a : Reading) (row : Row) → R st other → rof_line row st ≡ Ok a → R a other
+  pub both_open : (st other : Reading) (counter : Option (List ℕ)) (round : ℕ) → IsCounter counter → R st other → R (in_round counter round st) (in_round counter round other)
+  pub one_open : (st other : Reading) (round : ℕ) → R st other → R (in_round None round st) other
+  -- the loops that were open before
+  pub closed : (st other a b : Reading) → R st other → R a b → R (record a { loops = st.loops }) (record b { loops = other.loops })
+  pub ended : (st other : Reading) → R st other → st.ended ≡ other.ended
