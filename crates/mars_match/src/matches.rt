@@ -7,7 +7,7 @@ ghost use Rattle.mars_match.specs.Code.Lineups.{HasRoom};
 ghost use Rattle.mars_match.specs.Rounds.{placed_for, round_score, ended, fits_in_64, checked_rows, table_of};
 ghost use Rattle.mars_match.specs.declared.table.Table.{Table};
 ghost use Rattle.mars_match.specs.Tables.{RowValue};
-ghost use Rattle.mars_match.specs.Code.Tallies.{no_rounds as spec_no_rounds, outcome_by, tallied, IsOf, row_with, rows_with};
+ghost use Rattle.mars_match.specs.Code.Tallies.{no_rounds as spec_no_rounds, most_before, most_rounds, most_row, outcome_by, tallied, IsOf, row_with, rows_with};
 ghost use Rattle.std.specs.Global.{Global};
 ghost use Rattle.mars_core.specs.Limits.{most_warriors};
 ghost use Rattle.mars_match.specs.Leagues.{all_pairs, league_of};
@@ -173,7 +173,7 @@ pub fn play_rounds(
     requires fresh { All (IsOf 0) tallies.old }
     ensures sums { IsAnswer (λ _. tallies.new)
         (tallied params.now lineup.now plan.now.formula plan.now.fixed plan.now.rounds 0 first_seed tallies.old) result }
-    ensures bounds { IfOk result (λ _. All (IsOf 4294967295) tallies.new) }
+    ensures bounds { IfOk result (λ _. All (IsOf most_rounds) tallies.new) }
 {
     let Ok(mut starts) = vec![in alloc; 0u32; lineup.len()] else {
         return Err(MatchFault::OutOfMemory);
@@ -232,8 +232,8 @@ pub fn rounds(
 
 /// A tally of a league's matches before one of them, and that of this match, added.
 fn joined(tally: Tally, more: Tally) -> Tally
-    requires before { IsOf 18446744060824649730 tally }
-    requires one { IsOf 4294967295 more }
+    requires before { IsOf most_before tally }
+    requires one { IsOf most_rounds more }
     ensures { result ≡ spec_joined tally more }
 {
     Tally {
@@ -265,7 +265,7 @@ fn play_pair(
 ) -> Result<(Tally, Tally), MatchFault>
     ensures table { IsAnswer (λ (both : Tally × Tally). row_with first.now both.0 ∷ row_with second.now both.1 ∷ [])
         (table_of params.now (first.now ∷ second.now ∷ []) plan.now.formula plan.now.fixed plan.now.rounds plan.now.seed) result }
-    ensures bounds { IfOk result (λ both. IsOf 4294967295 both.0 × IsOf 4294967295 both.1) }
+    ensures bounds { IfOk result (λ both. IsOf most_rounds both.0 × IsOf most_rounds both.1) }
 {
     let Ok(lineup) = Lineup::pair(alloc, first, second) else {
         return Err(MatchFault::OutOfMemory);
@@ -289,11 +289,11 @@ fn play_others(
     requires few { length warriors.now ≤ 65536 }
     requires inside { i < length warriors.now }
     requires many { length tallies.old ≡ length warriors.now }
-    requires bounds { All (IsOf (i * 281474976645120)) tallies.old }
+    requires bounds { All (IsOf (i * most_row)) tallies.old }
     ensures sums { IsAnswer (λ _. tallies.new)
         (after_matches params.now plan.now.formula plan.now.fixed plan.now.rounds plan.now.seed
         (pairs_of_first i (drop i warriors.now)) tallies.old) result }
-    ensures bounds { IfOk result (λ _. All (IsOf ((i + 1) * 281474976645120)) tallies.new) }
+    ensures bounds { IfOk result (λ _. All (IsOf ((i + 1) * most_row)) tallies.new) }
 {
     for j in i + 1..warriors.len() {
         let (one, other) = play_pair(alloc, params, &warriors[i], &warriors[j], plan)?;

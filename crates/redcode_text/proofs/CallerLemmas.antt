@@ -24,7 +24,8 @@ pub use Rattle.redcode_text.proofs.KeptNames.{KeepNames, named-with, with-keeps}
 pub use Rattle.redcode_text.proofs.LineRead.{line_more, operation-read, operation_more}
 pub use Rattle.redcode_text.proofs.PlainRows.{IsPlain, all-read, each_row, ended, plain-tree, row-read}
 pub use Rattle.redcode_text.proofs.TokensRead.{Leads, Seen, blank-leads, decimal-is, end-leads, name-leads, number-leads, token-leads}
-pub use Rattle.redcode_text.proofs.Trees.{spelling, is_prefix, IsLevelled, rank-≤5}
+pub use Rattle.redcode_text.specs.Trees.{spelling, is_prefix, IsLevelled}
+pub use Rattle.redcode_text.proofs.Trees.{rank-≤5}
 pub use Rattle.redcode_text.proofs.Shapes.{shaped}
 pub use Rattle.redcode_text.proofs.Splits.{tree-spelled}
 pub use Rattle.redcode_text.proofs.ShortWords.{has_word_length, find-same, name-same, predefined-same, spelled-same, word-same}

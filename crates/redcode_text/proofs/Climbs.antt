@@ -9,7 +9,8 @@ use Rattle.redcode_text.specs.declared.token.Sign.TheVariants.{Plus, OpenParen, 
 use Rattle.redcode_text.specs.declared.fault.ExprFault.{ExprFault}
 use Rattle.redcode_text.specs.Expression.{precedence, unary, binary, known, value, Tree, Numeral, Named, Parens, Unary, Binary, Missing}
 use Rattle.redcode_text.specs.Code.Climbing.{Waiting, Left, Opened, State, wants, has, signed, reduced, operand, reach, placed, before_mark, run, IsLooser}
-use Rattle.redcode_text.proofs.Trees.{spelling, rank, is_prefix, IsLevelled, precedence-≤5, rank-≤5}
+use Rattle.redcode_text.specs.Trees.{spelling, rank, is_prefix, IsLevelled}
+use Rattle.redcode_text.proofs.Trees.{precedence-≤5, rank-≤5}
 use Rattle.std.proofs.lemmas.Bool.{le-leb, lt-leb}
 
 pub assoc : {A B C : Type 0} (r : Result A ExprFault) (f : A → Result B ExprFault) (g : B → Result C ExprFault) → ((r >>= f) >>= g) ≡ (r >>= λ x. f x >>= g)

@@ -5,7 +5,8 @@ use Rattle.redcode_text.specs.declared.token.TokenKind.{TokenKind}
 use Rattle.redcode_text.specs.declared.fault.ExprFault.{ExprFault}
 use Rattle.redcode_text.specs.Expression.{shape, start, value, value_of, tree_within}
 use Rattle.redcode_text.specs.Code.Climbing.{wants, run}
-use Rattle.redcode_text.proofs.Trees.{spelling, rank-≤5}
+use Rattle.redcode_text.specs.Trees.{spelling}
+use Rattle.redcode_text.proofs.Trees.{rank-≤5}
 use Rattle.redcode_text.proofs.Shapes.{shaped}
 use Rattle.redcode_text.proofs.Splits.{tree-spelled}
 use Rattle.redcode_text.proofs.Climbs.{climbs, fits, unit}

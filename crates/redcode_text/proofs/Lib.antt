@@ -6,6 +6,7 @@ pub mod Climbs
 pub mod Splits
 pub mod Shapes
 pub mod Evaluates
+pub mod ShapedTrees
 pub mod Reducing
 pub mod Standing
 pub mod Linking

@@ -12,7 +12,8 @@ use Rattle.redcode_text.specs.declared.fault.ExprFault.{ExprFault}
 use Rattle.redcode_text.specs.declared.fault.ExprFault.TheVariants.{Syntax, Depth}
 use Rattle.redcode_text.specs.declared.expression.shape.ShapeState.{ShapeState}
 use Rattle.redcode_text.specs.Expression.{precedence, Tree, Numeral, Named, Parens, Unary, Binary, shape, start, after_sign}
-use Rattle.redcode_text.proofs.Trees.{spelling, rank, is_prefix, IsLevelled, precedence-≤5, rank-≤5}
+use Rattle.redcode_text.specs.Trees.{spelling, rank, is_prefix, IsLevelled}
+use Rattle.redcode_text.proofs.Trees.{precedence-≤5, rank-≤5}
 
 -- these tokens spell a tree
 pub record IsTree (xs : List TokenKind) : Type 0 where

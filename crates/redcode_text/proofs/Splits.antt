@@ -8,7 +8,8 @@ use Rattle.redcode_text.specs.declared.token.TokenKind.TheVariants as token
 use Rattle.redcode_text.specs.declared.token.Sign.{Sign}
 use Rattle.redcode_text.specs.declared.token.Sign.TheVariants.{Plus, OpenParen, CloseParen}
 use Rattle.redcode_text.specs.Expression.{precedence, Tree, Numeral, Named, Parens, Unary, Binary, Missing, Parts, operator_at, depth_after, ends_operand, later_or, last_operator, without_last, primary, parted, at_level, tree_within}
-use Rattle.redcode_text.proofs.Trees.{spelling, rank, is_prefix, IsLevelled, rank-≤5}
+use Rattle.redcode_text.specs.Trees.{spelling, rank, is_prefix, IsLevelled}
+use Rattle.redcode_text.proofs.Trees.{rank-≤5}
 
 -- with these tokens before it
 abbrev prepended : List TokenKind → Option Parts → Option Parts

@@ -35,15 +35,22 @@ precedence And = 4
 precedence Or = 5
 precedence _ = 0
 
+-- how many signs may stand in a row before an operand, and how many parentheses may be open
+abbrev pub most_signs : ℕ
+most_signs = 64
+
+abbrev pub most_parens : ℕ
+most_parens = 64
+
 abbrev pub one_more_sign : ShapeState → Result ShapeState ExprFault
-one_more_sign p = if nat_le 64 p.signs then Err Depth else Ok (record { opened = p.opened; signs = p.signs + 1; after_operand = false })
+one_more_sign p = if nat_le most_signs p.signs then Err Depth else Ok (record { opened = p.opened; signs = p.signs + 1; after_operand = false })
 
 -- a sign where an operand is wanted
 abbrev pub before_sign : ShapeState → Sign → Result ShapeState ExprFault
 before_sign p Plus = one_more_sign p
 before_sign p Minus = one_more_sign p
 before_sign p Bang = one_more_sign p
-before_sign p OpenParen = if nat_le 64 p.opened then Err Depth else Ok (record { opened = p.opened + 1; signs = 0; after_operand = false })
+before_sign p OpenParen = if nat_le most_parens p.opened then Err Depth else Ok (record { opened = p.opened + 1; signs = 0; after_operand = false })
 before_sign p _ = Err Syntax
 
 -- a sign where an operator is wanted

@@ -1,9 +1,17 @@
 -- What the text of a source means, apart from how it is read.
-use Rattle.std.specs.Prelude.{◌≡◌, ℕ, suc, ◌+◌, List, [], ◌∷◌, ◌++◌, false, true, Option, Some, Result, Ok, IfOk, codes}
+use Rattle.std.specs.Prelude.{◌≡◌, ◌⊎◌, ⊥, ℕ, suc, ◌+◌, pos, List, [], ◌∷◌, ◌++◌, length, Bool, false, true, Option, Some, Result, Ok, Err, IfOk, codes}
 use Rattle.std.specs.List.{list_any}
 use Rattle.redcode_text.specs.Results.{◌>>=◌}
 use Rattle.redcode_text.specs.declared.token.Token.{Token}
+use Rattle.redcode_text.specs.declared.token.TokenKind.{TokenKind}
+use Rattle.redcode_text.specs.declared.token.TokenKind.TheVariants.{Number}
+use Rattle.redcode_text.specs.declared.token.TokenKind.TheVariants as token
+use Rattle.redcode_text.specs.declared.token.Sign.TheVariants.{Plus, Minus, Bang, OpenParen}
+use Rattle.redcode_text.specs.declared.fault.ExprFault.{ExprFault}
+use Rattle.redcode_text.specs.declared.fault.ExprFault.TheVariants.{Syntax, Depth}
 use Rattle.redcode_text.specs.declared.fault.TextFault.{TextFault}
+use Rattle.redcode_text.specs.Expression.{Tree, shape, start, tree_within}
+use Rattle.redcode_text.specs.Trees.{IsLevelled, IsWithin, spelling}
 use Rattle.redcode_text.specs.Source.{Row, Items, Loop, begins_redcode, has_directive, lines_of, read_rows, tree_of, tree_of_rows}
 use Rattle.redcode_text.specs.Equates.{equate_lines}
 use Rattle.redcode_text.specs.Lines.{Reading, Predefined, Parts, line_read, tokens_counted, parts_of, ordinary_line, unless_ended}
@@ -41,3 +49,46 @@ OperationsAreWrittenInPlace = (ps : Predefined) (number depth n : ℕ) (text ts 
     → parts_of ps st ts ≡ Ok p → p.operation ≡ Some n → equate_lines st.equates n ≡ Some (text ∷ [])
     → let written = (p.label_tokens ++ text) ++ p.rest in
     ordinary_line ps number (suc depth) ts st ≡ (line_read st >>= tokens_counted written >>= ordinary_line ps number depth written)
+
+-- ---- the shape of an expression
+
+-- Tokens of the right shape spell their tree: nothing is missing in it, its operators stand by their levels, and its signs and parentheses are
+-- within their limits.
+abbrev pub ShapesAreTrees : Type 0
+ShapesAreTrees = (xs : List TokenKind) → shape start xs ≡ Ok tt →
+    let tree = tree_within (length xs) 5 xs in
+    (spelling tree ≡ xs) × IsLevelled tree × IsWithin 0 0 tree
+
+-- What spells such a tree has the right shape, and that very tree.
+abbrev pub TreesHaveShapes : Type 0
+TreesHaveShapes = (tree : Tree) → IsLevelled tree → IsWithin 0 0 tree →
+    let xs = spelling tree in
+    (shape start xs ≡ Ok tt) × (tree_within (length xs) 5 xs ≡ tree)
+
+-- tokens that are an expression with some others behind them
+abbrev pub IsBegun : List TokenKind → Type 0
+IsBegun xs = (rest : List TokenKind) × (shape start (xs ++ rest) ≡ Ok tt)
+
+-- + - ! and (, which may stand before an operand
+abbrev pub leads_operand : TokenKind → Bool
+leads_operand (token.Sign Plus) = true
+leads_operand (token.Sign Minus) = true
+leads_operand (token.Sign Bang) = true
+leads_operand (token.Sign OpenParen) = true
+leads_operand _ = false
+
+-- the first token that makes no expression, whatever stands behind it: the fault is Depth where it leads an operand that might stand there, else Syntax
+pub record Misplaced (xs : List TokenKind) (fault : ExprFault) : Type 0 where
+  pub before : List TokenKind
+  pub token : TokenKind
+  pub behind : List TokenKind
+  pub parts : xs ≡ before ++ token ∷ behind
+  pub begun : IsBegun before
+  pub refused : IsBegun (before ++ token ∷ []) → ⊥
+  pub kind :
+    ((fault ≡ Depth) × (leads_operand token ≡ true) × IsBegun (before ++ Number (pos 0) ∷ []))
+    ⊎ ((fault ≡ Syntax) × (leads_operand token ≡ true → IsBegun (before ++ Number (pos 0) ∷ []) → ⊥))
+
+-- The fault of a shape is that of its first misplaced token; where none is, the expression ends too early.
+abbrev pub MisshapenAtFirst : Type 0
+MisshapenAtFirst = (xs : List TokenKind) (fault : ExprFault) → shape start xs ≡ Err fault → (IsBegun xs × (fault ≡ Syntax)) ⊎ Misplaced xs fault

@@ -3,6 +3,7 @@ pub mod Bytes
 pub mod Results
 pub mod Tokens
 pub mod Expression
+pub mod Trees
 pub mod Source
 pub mod Equates
 pub mod Lines

@@ -10,7 +10,7 @@ use Rattle.redcode_text.specs.declared.token.TokenKind.TheVariants as token
 use Rattle.redcode_text.specs.declared.token.Sign.TheVariants.{Colon}
 use Rattle.redcode_text.specs.declared.fault.TextProblem.{TextProblem}
 use Rattle.redcode_text.specs.declared.fault.TextProblem.TheVariants.{BadToken, Duplicate, EquDepth, TooLong}
-use Rattle.redcode_text.specs.Bytes.{semicolon}
+use Rattle.redcode_text.specs.Bytes.{first_printed, last_printed, question_mark, semicolon}
 use Rattle.redcode_text.specs.Expression.{kinds}
 use Rattle.redcode_text.specs.Tokens.{OpenLoop, tokens}
 use Rattle.redcode_text.specs.Source.{Row, LineKind, EquLine, line_kind, is_comment, has_directive_word, directive_text, directive_text_at, without_blanks}
@@ -249,11 +249,15 @@ ordinary_line ps number (suc depth) = ordinary_with ps number (Some (ordinary_li
 -- ---- directives
 
 abbrev pub printable : ℕ → ℕ
-printable b = elim (nat_le 32 b && nat_le b 126) [ true ↦ b | false ↦ 63 ]
+printable b = elim (nat_le first_printed b && nat_le b last_printed) [ true ↦ b | false ↦ question_mark ]
+
+-- how many bytes a name or an author may have
+abbrev pub longest_name : ℕ
+longest_name = 60
 
 -- the text of `;name` or `;author`: no blanks at both ends, `?` for what can't be printed, at most 60 bytes
 abbrev pub directive_value : List ℕ → List ℕ
-directive_value text = take 60 (map printable (reverse (without_blanks (reverse (without_blanks text)))))
+directive_value text = take longest_name (map printable (reverse (without_blanks (reverse (without_blanks text)))))
 
 abbrev pub unless_empty : List ℕ → List ℕ → List ℕ
 unless_empty [] old = old

@@ -2,7 +2,7 @@
 use Rattle.std.specs.Prelude.{ℕ, ◌+◌, List, [], ◌∷◌, length, drop, take, Bool, true, false, ◌&&◌, Option, Some, None, ◌==◌, codes, nat_eq}
 use Rattle.std.specs.List.{starts_with, list_any, onto_first, prefix_len}
 use Rattle.std.specs.Str.{str_eq_ignore_ascii_case, str_to_ascii_lowercase}
-use Rattle.redcode_text.specs.Bytes.{line_feed, semicolon}
+use Rattle.redcode_text.specs.Bytes.{colon, line_feed, semicolon}
 use Rattle.redcode_text.specs.Tokens.{is_blank, word_len}
 
 -- ---- lines
@@ -38,10 +38,10 @@ past_blanks bytes at = at + blank_len (drop at bytes)
 abbrev pub past_word : List ℕ → ℕ → ℕ
 past_word bytes at = at + word_len (drop at bytes)
 
--- one colon, 58, if it is there
+-- one colon, if it is there
 abbrev pub colon_len : List ℕ → ℕ
 colon_len [] = 0
-colon_len (b ∷ bs) = elim (b == 58) [ true ↦ 1 | false ↦ 0 ]
+colon_len (b ∷ bs) = elim (b == colon) [ true ↦ 1 | false ↦ 0 ]
 
 abbrev pub past_colon : List ℕ → ℕ → ℕ
 past_colon bytes at = at + colon_len (drop at bytes)

@@ -5,7 +5,7 @@ use Rattle.std.specs.List.{list_all, list_any, onto_first, position_or_len}
 use Rattle.std.specs.Str.{bytes_eq}
 use Rattle.std.specs.Str.Parse.{digits_value}
 use Rattle.redcode_text.specs.Results.{◌>>=◌}
-use Rattle.redcode_text.specs.Bytes.{ampersand, line_feed}
+use Rattle.redcode_text.specs.Bytes.{ampersand, line_feed, underscore}
 use Rattle.redcode_text.specs.declared.token.Token.{Token}
 use Rattle.redcode_text.specs.declared.token.TokenKind.{TokenKind}
 use Rattle.redcode_text.specs.declared.token.TokenKind.TheVariants.{Number, Name}
@@ -31,9 +31,8 @@ without_line (Err e) = Err e.problem
 abbrev pub is_blank : ℕ → Bool
 is_blank b = nat_lt b 33 && not (b == line_feed)
 
--- 95 is `_`
 abbrev pub is_letter : ℕ → Bool
-is_letter b = is_ascii_alphabetic b || b == 95
+is_letter b = is_ascii_alphabetic b || b == underscore
 
 abbrev pub is_word_byte : ℕ → Bool
 is_word_byte b = is_letter b || is_ascii_digit b

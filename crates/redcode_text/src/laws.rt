@@ -1,6 +1,6 @@
 //! Laws of the definitions: what the text of a source means, apart from how it is read. The functions do nothing; their
 //! contracts are the laws.
-ghost use Rattle.redcode_text.specs.Laws.{LinesBeforeRedcodeAreUnread, LinesBehindEndAreUnread, LinesInNoRoundAreUnread, OperationsAreWrittenInPlace, RoundsAddUp};
+ghost use Rattle.redcode_text.specs.Laws.{LinesBeforeRedcodeAreUnread, LinesBehindEndAreUnread, LinesInNoRoundAreUnread, MisshapenAtFirst, OperationsAreWrittenInPlace, RoundsAddUp, ShapesAreTrees, TreesHaveShapes};
 
 /// Lines before the first `;redcode` have no effect.
 pub fn lines_before_redcode_are_unread()
@@ -30,4 +30,22 @@ pub fn rounds_add_up()
 /// a line more, its tokens as well; EQU names may nest one less in it.
 pub fn operations_are_written_in_place()
     ensures { OperationsAreWrittenInPlace }
+{}
+
+/// Tokens of the right shape spell their tree: nothing is missing in it, its operators stand by their levels, and its
+/// signs and parentheses are within their limits.
+pub fn shapes_are_trees()
+    ensures { ShapesAreTrees }
+{}
+
+/// What spells such a tree has the right shape, and that very tree.
+pub fn trees_have_shapes()
+    ensures { TreesHaveShapes }
+{}
+
+/// The fault of a shape is that of the first token that makes no expression, whatever follows: Depth where it is a sign
+/// or a parenthesis before an operand that might stand there, else Syntax. Where no token is wrong, the tokens end too
+/// early, which is Syntax.
+pub fn misshapen_at_first()
+    ensures { MisshapenAtFirst }
 {}

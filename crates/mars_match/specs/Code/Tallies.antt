@@ -44,6 +44,18 @@ tallied p warriors formula fixed (suc n) k seed tallies =
     ended p warriors formula placed.0 k >>= λ outcome.
     tallied p warriors formula fixed n (k + 1) placed.1 (all_added outcome 0 tallies)
 
+-- the most rounds of a match
+abbrev pub most_rounds : ℕ
+most_rounds = 4294967295
+
+-- those of 65,536 matches, which no warrior of a league has more of against those that follow it
+abbrev pub most_row : ℕ
+most_row = 281474976645120
+
+-- those of as many matches as a league of 65,536 warriors may have had before one of them: 4,294,967,294
+abbrev pub most_before : ℕ
+most_before = 18446744060824649730
+
 -- a tally of at most k rounds
 pub record IsOf (k : ℕ) (t : Tally) : Type 0 where
   pub low : neg_ℤ (pos (k * 2 ^ 63)) ≤ℤ t.points

@@ -13,7 +13,7 @@ use Rattle.redcode_text.specs.declared.expression.evaluation.Pending.{Pending}
 use Rattle.redcode_text.specs.declared.expression.evaluation.Pending.TheVariants.{Value, Open}
 use Rattle.redcode_text.specs.declared.expression.shape.ShapeState.{ShapeState}
 use Rattle.redcode_text.specs.declared.expression.evaluation.Evaluation as code
-use Rattle.redcode_text.specs.Expression.{precedence, unary, binary, known, kinds}
+use Rattle.redcode_text.specs.Expression.{most_parens, precedence, unary, binary, known, kinds}
 
 -- a value with an operator that waits for its right side, or a parenthesis with the unary signs before it
 pub data Waiting : Type 0 where
@@ -130,7 +130,7 @@ IsOrdered (Opened signs ∷ stack) n = (0 < n) × IsOrdered stack (n - 1)
 -- the reading stands at this state of the shape
 pub record Stands (n : ℕ) (r : code.Evaluation) (st : State) (p : ShapeState) : Type 0 where
   pub ordered : IsOrdered st.stack p.opened
-  pub opened : p.opened ≤ 64
+  pub opened : p.opened ≤ most_parens
   pub after : st.after ≡ p.after_operand
   pub inside : AreInside n r.stack
   pub first : r.first_sign ≤ n

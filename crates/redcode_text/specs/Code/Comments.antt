@@ -7,7 +7,7 @@ use Rattle.redcode_text.specs.Bytes.{semicolon}
 use Rattle.redcode_text.specs.declared.fault.TextProblem.{TextProblem}
 use Rattle.redcode_text.specs.declared.source.directives.Comment.{Comment}
 use Rattle.redcode_text.specs.declared.source.directives.Comment.TheVariants.{Name, Author, Assert, Other}
-use Rattle.redcode_text.specs.Lines.{Reading, printable, row_tokens, unless_empty}
+use Rattle.redcode_text.specs.Lines.{Reading, longest_name, printable, row_tokens, unless_empty}
 use Rattle.redcode_text.specs.Source.{Row, blank_len, ends_word, without_blanks}
 
 -- a text without the blanks at both ends
@@ -16,7 +16,7 @@ trimmed text = reverse (without_blanks (reverse (without_blanks text)))
 
 -- the value of `;name` or `;author` with such a text
 abbrev pub printed_value : List ℕ → List ℕ
-printed_value text = take 60 (map printable text)
+printed_value text = take longest_name (map printable text)
 
 abbrev pub with_name_text : List ℕ → Reading → Reading
 with_name_text text st = record st { name = unless_empty (printed_value text) st.name }

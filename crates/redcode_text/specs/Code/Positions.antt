@@ -13,7 +13,7 @@ use Rattle.redcode_text.specs.declared.expression.evaluation.Pending.{Pending}
 use Rattle.redcode_text.specs.declared.expression.evaluation.Pending.TheVariants.{Value, Open}
 use Rattle.redcode_text.specs.declared.expression.shape.ShapeState.{ShapeState}
 use Rattle.redcode_text.specs.declared.expression.evaluation.Evaluation as code
-use Rattle.redcode_text.specs.Expression.{precedence, binary, kinds, known}
+use Rattle.redcode_text.specs.Expression.{most_parens, precedence, binary, kinds, known}
 use Rattle.redcode_text.specs.Code.Climbing.{signed, AreInside}
 
 abbrev pub reduced_on : ℕ → List Pending → ℤ → Result (ℤ × List Pending) ExprFault
@@ -83,7 +83,7 @@ IsOrdered (Open from to ∷ stack) n = (0 < n) × IsOrdered stack (n - 1)
 -- the reading before the token at n stands at this state of the shape
 pub record Stands (n : ℕ) (r : code.Evaluation) (p : ShapeState) : Type 0 where
   pub ordered : IsOrdered r.stack p.opened
-  pub opened : p.opened ≤ 64
+  pub opened : p.opened ≤ most_parens
   pub after : r.after_operand ≡ p.after_operand
   pub inside : AreInside n r.stack
   pub first : r.first_sign ≤ n

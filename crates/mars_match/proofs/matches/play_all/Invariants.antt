@@ -1,7 +1,7 @@
 use Rattle.std.proofs.Common.{◌≡◌, ◌*◌, All, drop}
 use Rattle.mars_match.specs.Leagues.{all_pairs}
 use Rattle.mars_match.specs.Code.LeagueSteps.{after_matches}
-use Rattle.mars_match.specs.Code.Tallies.{IsOf}
+use Rattle.mars_match.specs.Code.Tallies.{IsOf, most_row}
 use Rattle.mars_match.proofs.matches.play_all.Given as goal
 
 -- the matches that are left lead to the tallies of all
@@ -9,5 +9,5 @@ abbrev pub invariant-loop-i : goal.invariant-loop-i
 invariant-loop-i l = record {
   sums : after_matches l.params l.plan.formula l.plan.fixed l.plan.rounds l.plan.seed (all_pairs l.i (drop l.i l.warriors)) l.tallies
       ≡ after_matches l.params l.plan.formula l.plan.fixed l.plan.rounds l.plan.seed (all_pairs 0 l.warriors) l.initial.tallies;
-  bounds : All (IsOf (l.i * 281474976645120)) l.tallies;
+  bounds : All (IsOf (l.i * most_row)) l.tallies;
 }

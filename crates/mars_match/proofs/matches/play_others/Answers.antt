@@ -1,7 +1,7 @@
 use Rattle.std.proofs.Common.{◌∙◌, sym, ap, refl, inl, inr, ◌+◌, ◌*◌, ◌<◌, length, get_or, set, arith}
 use Rattle.std.proofs.lemmas.List.Elements.{All-get_or}
 use Rattle.std.proofs.lemmas.Result.{err_from_is_err_and}
-use Rattle.mars_match.specs.Code.Tallies.{IsOf, no_rounds}
+use Rattle.mars_match.specs.Code.Tallies.{IsOf, most_before, most_rounds, most_row, no_rounds}
 use Rattle.mars_match.specs.Code.LeagueSteps.{after_matches}
 use Rattle.mars_match.proofs.Outcomes.{fault_answer}
 use Rattle.mars_match.proofs.Pairs.{IsOf-more, all_more, set_both, other_bound, set_both_bounds, from_first, match_err, match_more}
@@ -13,33 +13,33 @@ loop-j-init c =
     let plan = c.args.plan.now in
     record {
       sums = ap (λ pairs. after_matches c.args.params.now plan.formula plan.fixed plan.rounds plan.seed pairs c.args.tallies.now) (from_first c.args.warriors.now i c.requires.inside);
-      bounds = all_more (i * 281474976645120) (i * 281474976645120 + (i + 1) * 4294967295) c.args.tallies.now (omega arith) c.requires.bounds;
+      bounds = all_more (i * most_row) (i * most_row + (i + 1) * most_rounds) c.args.tallies.now (omega arith) c.requires.bounds;
     }
 
 pub joined-requires-clause-before : goal.joined-requires-clause-before
 joined-requires-clause-before c =
     let i = c.args.i in
-    let m = i * 281474976645120 + c.loop-j.j * 4294967295 in
+    let m = i * most_row + c.loop-j.j * most_rounds in
     let xs = c.loop-j.tallies in
     let inside : i < length xs = omega arith in
-    IsOf-more m 18446744060824649730 (get_or xs i no_rounds) (omega arith) (All-get_or (IsOf m) xs i no_rounds inside c.loop-j.invariant.bounds)
+    IsOf-more m most_before (get_or xs i no_rounds) (omega arith) (All-get_or (IsOf m) xs i no_rounds inside c.loop-j.invariant.bounds)
 
 pub joined-requires-in-loop-j-clause-before : goal.joined-requires-in-loop-j-clause-before
 joined-requires-in-loop-j-clause-before c =
     let i = c.args.i in
     let j = c.loop-j.j in
-    let m = i * 281474976645120 + j * 4294967295 in
+    let m = i * most_row + j * most_rounds in
     let xs = c.loop-j.tallies in
     let before : i < j = omega arith in
     let inside : j < length xs = omega arith in
     let a = c.joined.result in
-    IsOf-more m 18446744060824649730 (get_or (set xs i a) j no_rounds) (omega arith) (other_bound xs i j c.in_ok-one.one c.in_ok-one.other a _ no_rounds before inside c.joined.ensures refl m c.loop-j.invariant.bounds)
+    IsOf-more m most_before (get_or (set xs i a) j no_rounds) (omega arith) (other_bound xs i j c.in_ok-one.one c.in_ok-one.other a _ no_rounds before inside c.joined.ensures refl m c.loop-j.invariant.bounds)
 
 pub loop-j-preserved : goal.loop-j-preserved
 loop-j-preserved c =
     let i = c.args.i in
     let j = c.loop-j.j in
-    let m = i * 281474976645120 + j * 4294967295 in
+    let m = i * most_row + j * most_rounds in
     let xs = c.loop-j.tallies in
     let ws = c.args.warriors.now in
     let plan = c.args.plan.now in
@@ -51,11 +51,11 @@ loop-j-preserved c =
     let u = c.in_ok-one.other in
     let a = c.joined.result in
     let b = c.joined-in-loop-j.result in
-    let bounds = set_both_bounds xs i j t u a b no_rounds before inside c.joined.ensures c.joined-in-loop-j.ensures m 4294967295 c.loop-j.invariant.bounds c.in_ok-one.ensures.bounds.0 c.in_ok-one.ensures.bounds.1 in
+    let bounds = set_both_bounds xs i j t u a b no_rounds before inside c.joined.ensures c.joined-in-loop-j.ensures m most_rounds c.loop-j.invariant.bounds c.in_ok-one.ensures.bounds.0 c.in_ok-one.ensures.bounds.1 in
     record {
       sums = rw (set_both xs i j t u a b no_rounds before inside c.joined.ensures c.joined-in-loop-j.ensures)
           (match_more c.args.params.now plan.formula plan.fixed plan.rounds plan.seed ws i j c.index-warriors-i.result c.index-warriors-j.result xs t u first second c.index-warriors-i.is c.index-warriors-j.is c.in_ok-one.ensures.table ∙ c.loop-j.invariant.sums);
-      bounds = all_more (m + 4294967295) (i * 281474976645120 + (j + 1) * 4294967295) (set (set xs i a) j b) (omega arith) bounds;
+      bounds = all_more (m + most_rounds) (i * most_row + (j + 1) * most_rounds) (set (set xs i a) j b) (omega arith) bounds;
     }
 
 pub returns-in_err-one-clause-sums : goal.returns-in_err-one-clause-sums

@@ -1,6 +1,6 @@
 use Rattle.std.proofs.Common.{◌≡◌, ◌+◌, ◌*◌, All, drop}
 use Rattle.mars_match.specs.Code.LeagueSteps.{pairs_of_first, after_matches}
-use Rattle.mars_match.specs.Code.Tallies.{IsOf}
+use Rattle.mars_match.specs.Code.Tallies.{IsOf, most_rounds, most_row}
 use Rattle.mars_match.proofs.Pairs.{pairs_left}
 use Rattle.mars_match.proofs.matches.play_others.Given as goal
 
@@ -9,5 +9,5 @@ abbrev pub invariant-loop-j : goal.invariant-loop-j
 invariant-loop-j l = record {
   sums : after_matches l.params l.plan.formula l.plan.fixed l.plan.rounds l.plan.seed (pairs_left l.i l.j (drop l.i l.warriors) (drop l.j l.warriors)) l.tallies
       ≡ after_matches l.params l.plan.formula l.plan.fixed l.plan.rounds l.plan.seed (pairs_of_first l.i (drop l.i l.warriors)) l.initial.tallies;
-  bounds : All (IsOf (l.i * 281474976645120 + l.j * 4294967295)) l.tallies;
+  bounds : All (IsOf (l.i * most_row + l.j * most_rounds)) l.tallies;
 }

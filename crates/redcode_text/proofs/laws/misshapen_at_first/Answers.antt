@@ -1,0 +1,5 @@
+use Rattle.redcode_text.proofs.ShapedTrees.{misshapen}
+use Rattle.redcode_text.proofs.laws.misshapen_at_first.Goals as goal
+
+pub returns : goal.returns
+returns c = misshapen
