@@ -1,5 +1,5 @@
 -- The shape of an expression is that of a tree, and its fault that of the first token that makes none.
-use Rattle.std.proofs.Common.{◌≡◌, ◌∙◌, refl, ap, sym, subst, ℕ, zero, suc, ◌+◌, ◌-◌, ◌<◌, pos, List, [], ◌∷◌, ◌++◌, length, append-nil, append_assoc, Bool, true, false, cond, eqb, leb, ◌⊎◌, inl, inr, ⊎_elim, Result, Ok, Err, arith}
+use Rattle.std.proofs.Common.{◌≡◌, ◌∙◌, refl, ap, sym, subst, ℕ, zero, suc, ◌+◌, ◌-◌, ◌<◌, pos, List, [], ◌∷◌, ◌++◌, length, append-nil, append_assoc, add-one, Bool, true, false, ◌&&◌, ◌==◌, cond, eqb, leb, ◌⊎◌, inl, inr, ⊎_elim, Result, Ok, Err, arith}
 use Rattle.std.proofs.lemmas.Bool.{eqb-false}
 use Rattle.std.proofs.lemmas.Bool.Decides.{nat_tests}
 use Rattle.redcode_text.specs.Results.{◌>>=◌}
@@ -123,7 +123,7 @@ closes (suc n) = token.Sign CloseParen ∷ closes n
 closed : (o n : ℕ) → IsOk (shape (at o n true) (closes o))
 unfolding closes
 closed zero n = refl
-closed (suc o) n = closed o 0
+closed (suc o) n = ap (λ k. shape (at k n true) (token.Sign CloseParen ∷ closes o)) (sym (add-one o)) ∙ closing o n (closes o) ∙ closed o 0
 
 -- from any state on there is an end
 begun : (p : ShapeState) → Begun p []
@@ -142,7 +142,7 @@ guard-err true e f q h = cc
 guard-err false e f q h = cc
 
 deep : (o n : ℕ) (x : TokenKind) (f : ExprFault) → f ≡ Depth → leads_operand x ≡ true → Told (at o n false) x f
-deep o n x f is leads = inl (is, leads, closes o, closed o 0)
+deep o n x f is leads = inl (is, leads, (closes o, closed o 0))
 
 -- after an operand none can stand
 no-operand : (o n : ℕ) (x : TokenKind) (f : ExprFault) → f ≡ Syntax → Told (at o n true) x f
@@ -162,7 +162,7 @@ told o n false (token.Sign Plus) f h = deep o n (token.Sign Plus) f (guard-err (
 told o n false (token.Sign Minus) f h = deep o n (token.Sign Minus) f (guard-err (leb 64 n) Depth f (at o (n + 1) false) h) refl
 told o n false (token.Sign Bang) f h = deep o n (token.Sign Bang) f (guard-err (leb 64 n) Depth f (at o (n + 1) false) h) refl
 told o n false (token.Sign OpenParen) f h = deep o n (token.Sign OpenParen) f (guard-err (leb 64 o) Depth f (at (o + 1) 0 false) h) refl
-told o n false (token.Sign _) f h = wrong o n (token.Sign _) f cc refl
+told o n false (token.Sign s) f h = wrong o n (token.Sign s) f (cc) refl
 
 -- the same as Misplaced, from any state on
 record Placed (p : ShapeState) (xs : List TokenKind) (f : ExprFault) : Type 0 where
@@ -196,17 +196,21 @@ module _ (p q : ShapeState) (x : TokenKind) (f : ExprFault) (step : next_state p
     kind = ⊎_elim (λ d. inl (d.0, d.1, back (m.before ++ Number (pos 0) ∷ []) d.2)) (λ w. inr (w.0, λ leads b. w.1 leads (on (m.before ++ Number (pos 0) ∷ []) b))) m.kind;
   })
 
-ends-err : (b : Bool) (f : ExprFault) → cond b (Ok tt) (Err Syntax) ≡ Err f → f ≡ Syntax
+abbrev ended : Bool → Result (Unit {0}) ExprFault
+ended b = cond b (Ok tt) (Err Syntax)
+
+ends-err : (b : Bool) (f : ExprFault) → ended b ≡ Err f → f ≡ Syntax
 ends-err true f h = cc
 ends-err false f h = cc
 
 first : (p : ShapeState) (xs : List TokenKind) (f : ExprFault) → shape p xs ≡ Err f → (Begun p xs × (f ≡ Syntax)) ⊎ Placed p xs f
 first p [] f h = inl (begun p, ends-err (p.after_operand && (p.opened == 0)) f h)
-first p (x ∷ xs) f h = go (next_state p x) refl h
+first p (x ∷ xs) f h = go (next_state p x) refl h (λ q. first q xs f)
   where
-    go : (r : Result ShapeState ExprFault) → next_state p x ≡ r → (r >>= λ q. shape q xs) ≡ Err f → (Begun p (x ∷ xs) × (f ≡ Syntax)) ⊎ Placed p (x ∷ xs) f
-    go (Ok q) e h = later p q x f e xs (first q xs f h)
-    go (Err g) e h =
+    go : (r : Result ShapeState ExprFault) → next_state p x ≡ r → (r >>= λ q. shape q xs) ≡ Err f
+        → ((q : ShapeState) → shape q xs ≡ Err f → (Begun q xs × (f ≡ Syntax)) ⊎ Placed q xs f) → (Begun p (x ∷ xs) × (f ≡ Syntax)) ⊎ Placed p (x ∷ xs) f
+    go (Ok q) e h on = later p q x f e xs (on q h)
+    go (Err g) e h on =
         let is : g ≡ f = cc in
         inr (record {
           before = [];

@@ -1,5 +1,5 @@
 -- What the text of a source means, apart from how it is read.
-use Rattle.std.specs.Prelude.{◌≡◌, ◌⊎◌, ⊥, ℕ, suc, ◌+◌, pos, List, [], ◌∷◌, ◌++◌, length, Bool, false, true, Option, Some, Result, Ok, Err, IfOk, codes}
+use Rattle.std.specs.Prelude.{◌≡◌, ◌⊎◌, ℕ, suc, ◌+◌, pos, List, [], ◌∷◌, ◌++◌, length, Bool, false, true, Option, Some, Result, Ok, Err, IfOk, codes}
 use Rattle.std.specs.List.{list_any}
 use Rattle.redcode_text.specs.Results.{◌>>=◌}
 use Rattle.redcode_text.specs.declared.token.Token.{Token}
