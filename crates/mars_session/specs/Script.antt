@@ -174,6 +174,12 @@ Answers old call reply new =
     × (new.state.limit ≡ old.state.limit)
     × (reply ≡ Err OutOfMemory → old.room < bound_of call old.state.history.present.state)
 
+-- calls one after another, each of which finds what the one before it left
+abbrev pub EachAnswers : SessionValue → List Call → List (Result Standing Refusal) → SessionValue → Type 0
+EachAnswers old [] [] new = new ≡ old
+EachAnswers old (call ∷ calls) (reply ∷ replies) new = (next : SessionValue) × Answers old call reply next × EachAnswers next calls replies new
+EachAnswers old _ _ new = ⊥
+
 -- calls of a session, one after another
 abbrev pub ScriptAnswers : SessionState → List Call → List (Result Standing Refusal) → SessionState → Type 0
 ScriptAnswers old calls replies new = IsScript old.memory old.limit calls old.history replies new.history new.memory × (new.limit ≡ old.limit)

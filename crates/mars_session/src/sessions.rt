@@ -2,7 +2,7 @@
 ghost use Rattle.std.specs.Prelude.{◌≡◌, ◌++◌, ◌+◌, ◌≤◌, List, OnOk, OnErr, IsOk, Result, length, vec_len, vec_capacity};
 ghost use Rattle.mars_session.specs.declared.calls.Standing.{Standing};
 ghost use Rattle.mars_session.specs.declared.calls.Refusal.{Refusal};
-ghost use Rattle.mars_session.specs.Script.{SessionValue, standing_of, ScriptAnswers, Answers};
+ghost use Rattle.mars_session.specs.Script.{SessionValue, standing_of, EachAnswers, ScriptAnswers, Answers};
 
 use crate::calls::{Call, Refusal, Reply, Standing};
 use crate::tapes::Tape;
@@ -191,10 +191,11 @@ impl<T: Tape> Session<T> {
     }
 
     /// Makes each call in order and appends its reply. Room for all replies is made first, and it fails only where that is
-    /// wanting and refused; nothing is done then.
+    /// wanting and refused; nothing is done then. A call finds memory wanting only where the tape has less room than that call
+    /// may need.
     pub fn apply_all(&mut self, calls: &[Call], out: &mut Vec<Reply>) -> Result<(), AllocError>
         ensures ok { OnOk result ((replies : List (Result Standing Refusal)) × (out.new.items ≡ out.old.items ++ replies)
-            × ScriptAnswers self.old.state calls.now replies self.new.state) }
+            × ScriptAnswers self.old.state calls.now replies self.new.state × EachAnswers self.old calls.now replies self.new) }
         ensures enough { vec_len out.old + length calls.now ≤ vec_capacity out.old → IsOk result }
         ensures err { OnErr result ((self.new ≡ self.old) × (out.new.items ≡ out.old.items)) }
     {
