@@ -48,3 +48,6 @@ pub mod LineRead
 pub mod HeadLines
 pub mod Named
 pub mod Simulations
+pub mod Agreement
+pub mod SameNames
+pub mod AlikeValues
