@@ -17,3 +17,6 @@ pub mod PrintedCells
 pub mod PrintedLines
 pub mod LoadSources
 pub mod LoadAssembled
+pub mod AlikeLines
+pub mod AlikeCells
+pub mod AlikePrograms
