@@ -48,3 +48,6 @@ pub mod LineRead
 pub mod HeadLines
 pub mod Named
 pub mod Simulations
+pub mod WrittenTrees
+pub mod WrittenReadings
+pub mod WrittenOut
