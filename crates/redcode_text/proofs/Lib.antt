@@ -48,3 +48,10 @@ pub mod LineRead
 pub mod HeadLines
 pub mod Named
 pub mod Simulations
+pub mod AlikeResults
+pub mod AlikeNames
+pub mod AlikeTokens
+pub mod AlikeReadings
+pub mod AlikeParts
+pub mod AlikeLines
+pub mod AlikeCounts
