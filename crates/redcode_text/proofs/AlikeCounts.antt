@@ -56,6 +56,14 @@ word-place here there RofLine = omega arith
 word-place here there (EquLine at) = omega arith
 word-place here there OtherLine = omega arith
 
+-- a head, from its tokens on
+abbrev pub headed : Predefined → ℕ → WithTokens → Result Head TextProblem
+headed ps at r =
+    name_in_front (kinds (tokens_before at r.0)) >>= λ counter.
+    room_for_loop r.1 >>= λ _.
+    count_of ps r.1 (tokens_after at r.0) >>= λ count.
+    Ok (record { counter = counter_name r.1 counter; count = count; reading = record (r.1) { equate_grows = false } })
+
 module _
   (substituted : (names others : List (List ℕ)) (equates likes : List Equate) (ts us vs : List Token) → AreDistinct names → AreDistinct others
       → All (IsEquateBelow (length names)) equates → All (IsEquateBelow (length others)) likes → map (spelled_equate names) equates ≡ map (spelled_equate others) likes
@@ -116,15 +124,7 @@ module _
     counter-alike (Some n) None s = absurd s
     counter-alike (Some n) (Some m) s = (ap Some s.name, r.first.begin n s.first)
 
-  -- a head, from its tokens on
-  abbrev headed : ℕ → WithTokens → Result Head TextProblem
-  headed at r =
-      name_in_front (kinds (tokens_before at r.0)) >>= λ counter.
-      room_for_loop r.1 >>= λ _.
-      count_of ps r.1 (tokens_after at r.0) >>= λ count.
-      Ok (record { counter = counter_name r.1 counter; count = count; reading = record (r.1) { equate_grows = false } })
-
-  headed-alike : (here there x y : ℕ) → x + there ≡ y + here → (v w : WithTokens) → SameRow here there v w → Together SameHead (headed x v) (headed y w)
+  headed-alike : (here there x y : ℕ) → x + there ≡ y + here → (v w : WithTokens) → SameRow here there v w → Together SameHead (headed ps x v) (headed ps y w)
   headed-alike here there x y same v w s =
       together-then (BothSome (IsSame v.1.names w.1.names)) SameHead (name_in_front (kinds (tokens_before x v.0))) (name_in_front (kinds (tokens_before y w.0)))
       (λ counter. room_for_loop v.1 >>= λ _. count_of ps v.1 (tokens_after x v.0) >>= λ count. Ok (record { counter = counter_name v.1 counter; count = count; reading = record (v.1) { equate_grows = false } }))
@@ -142,7 +142,7 @@ module _
 
   pub head-alike : (row : Row) (number place : ℕ) (st other : Reading) → ReadAlike st other → Together SameHead (head_line ps row st) (head_line ps (like_row row number place) other)
   head-alike row number place st other r =
-      together-then (SameRow row.at place) SameHead (line_read st >>= row_tokens row 0) (line_read other >>= row_tokens (like_row row number place) 0) (headed (for_word_at row)) (headed (for_word_at (like_row row number place)))
+      together-then (SameRow row.at place) SameHead (line_read st >>= row_tokens row 0) (line_read other >>= row_tokens (like_row row number place) 0) (headed ps (for_word_at row)) (headed ps (for_word_at (like_row row number place)))
       (together-then (ReadOn st other) (SameRow row.at place) (line_read st) (line_read other) (row_tokens row 0) (row_tokens (like_row row number place) 0) (line-read-alike st other r) (λ a b k. row-alike row number place 0 a b k.read))
       (λ v w s. headed-alike row.at place (for_word_at row) (for_word_at (like_row row number place)) (word-place row.at place (line_kind row.bytes)) v w s)
 

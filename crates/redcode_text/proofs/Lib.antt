@@ -55,3 +55,5 @@ pub mod AlikeReadings
 pub mod AlikeParts
 pub mod AlikeLines
 pub mod AlikeCounts
+pub mod LoneLoops
+pub mod AlikeSteps
