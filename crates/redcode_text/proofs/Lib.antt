@@ -48,6 +48,9 @@ pub mod LineRead
 pub mod HeadLines
 pub mod Named
 pub mod Simulations
+pub mod Agreement
+pub mod SameNames
+pub mod AlikeValues
 pub mod AlikeResults
 pub mod AlikeNames
 pub mod AlikeTokens
