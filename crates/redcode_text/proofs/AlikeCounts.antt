@@ -1,7 +1,6 @@
--- Heads of loops of the same bytes, and ROF lines, where two readings are alike. What is taken of EQU names and values stands as parameters.
+-- Heads of loops of the same bytes, and ROF lines, where two readings are alike.
 use Rattle.std.proofs.Common.{◌≡◌, ◌∙◌, refl, ap, sym, subst, ℕ, ℤ, ◌+◌, ◌<◌, ◌≤◌, ◌||◌, Bool, true, false, nat_le, List, [], ◌∷◌, length, map, Option, Some, None, Result, Ok, Err, not, arith}
 use Rattle.std.specs.Prelude.{⊤}
-use Rattle.std.specs.List.{All, AllZip}
 use Rattle.redcode_text.specs.Results.{◌>>=◌}
 use Rattle.redcode_text.specs.declared.fault.TextFault.{TextFault}
 use Rattle.redcode_text.specs.declared.fault.TextProblem.{TextProblem}
@@ -10,20 +9,20 @@ use Rattle.redcode_text.specs.declared.token.Token.{Token}
 use Rattle.redcode_text.specs.declared.token.TokenKind.{TokenKind}
 use Rattle.redcode_text.specs.declared.token.TokenKind.TheVariants.{Number, Name}
 use Rattle.redcode_text.specs.declared.token.TokenKind.TheVariants as token
-use Rattle.redcode_text.specs.Alike.{spelled, spelled_equate}
-use Rattle.redcode_text.specs.Equates.{Equate, substitution}
+use Rattle.redcode_text.specs.Equates.{substitution}
 use Rattle.redcode_text.specs.Expansion.{Head, as_count, count_of, counter_name, for_word_at, has_label, head_line, loop_limit, rof_line, room_for_loop}
 use Rattle.redcode_text.specs.Expression.{kinds, value_of}
 use Rattle.redcode_text.specs.Lines.{Predefined, Reading, WithTokens, is_predefined, line_read, name_at, name_in_front, predefined_value, row_tokens, tokens_after, tokens_before, with_current_line}
 use Rattle.redcode_text.specs.Source.{Row, LineKind, RofLine, ForLine, EquLine, OtherLine, line_kind}
 use Rattle.redcode_text.specs.Tokens.{begins_name, without_line}
 use Rattle.redcode_text.proofs.AlikeLines.{after-alike, before-alike, front-alike, kinds-alike}
-use Rattle.redcode_text.proofs.AlikeNames.{IsSame, SameKind, SameToken, SameTokens, tokens-first, tokens-from, tokens-second, tokens-spelled}
+use Rattle.redcode_text.proofs.SameNames.{SameKind, SameName, SameTokens}
 use Rattle.redcode_text.proofs.AlikeParts.{predefined-test}
-use Rattle.redcode_text.proofs.AlikeReadings.{ReadAlike, ReadOn, SameRow, counts-alike, equates-first, equates-second, equates-spelled, le-met, like_row, line-read-alike, row-alike}
-use Rattle.redcode_text.proofs.AlikeResults.{BothSome, Together, together-limit, together-then}
+use Rattle.redcode_text.proofs.AlikeReadings.{ReadAlike, ReadOn, SameRow, counts-alike, le-met, like_row, line-read-alike, row-alike}
+use Rattle.redcode_text.proofs.AlikeResults.{Together, together-limit, together-then}
 use Rattle.redcode_text.proofs.AlikeTokens.{PlacedToken}
-use Rattle.redcode_text.proofs.Named.{AreBelow, AreDistinct, IsEquateBelow}
+use Rattle.redcode_text.proofs.Agreement.{Agree, AgreeOption, Pairwise}
+use Rattle.redcode_text.proofs.AlikeValues.{substitution-same, value-same}
 use Rattle.redcode_text.proofs.Simulations.{IsCounter}
 
 -- ---- results that are the same
@@ -64,17 +63,9 @@ headed ps at r =
     count_of ps r.1 (tokens_after at r.0) >>= λ count.
     Ok (record { counter = counter_name r.1 counter; count = count; reading = record (r.1) { equate_grows = false } })
 
-module _
-  (substituted : (names others : List (List ℕ)) (equates likes : List Equate) (ts us vs : List Token) → AreDistinct names → AreDistinct others
-      → All (IsEquateBelow (length names)) equates → All (IsEquateBelow (length others)) likes → map (spelled_equate names) equates ≡ map (spelled_equate others) likes
-      → AreBelow (length names) ts → AreBelow (length others) us → spelled names ts ≡ spelled others us → substitution equates ts ≡ Ok vs
-      → (ws : List Token) × (substitution likes us ≡ Ok ws) × AreBelow (length names) vs × AreBelow (length others) ws × (spelled names vs ≡ spelled others ws))
-  (valued : (names others : List (List ℕ)) (f g : ℕ → Option ℤ) (ts us : List Token) → AreBelow (length names) ts → AreBelow (length others) us → spelled names ts ≡ spelled others us
-      → ((n m : ℕ) → n < length names → m < length others → name_at names n ≡ name_at others m → f n ≡ g m) → value_of f (kinds ts) ≡ value_of g (kinds us))
-  (ps : Predefined)
-  where
+module _ (ps : Predefined) where
   module _ (st other : Reading) (r : ReadAlike st other) where
-    labels-same : (ks js : List TokenKind) → AllZip (SameKind st.names other.names) ks js → has_label ps st ks ≡ has_label ps other js
+    labels-same : (ks js : List TokenKind) → Pairwise (SameKind st.names other.names) ks js → has_label ps st ks ≡ has_label ps other js
     labels-same [] [] h = refl
     labels-same [] (j ∷ js) h = absurd h
     labels-same (k ∷ ks) [] h = absurd h
@@ -99,34 +90,31 @@ module _
     judged-same : (ts us : List Token) → SameTokens st.names other.names ts us → judged st ts ≡ judged other us
     judged-same ts us h =
         let label = labels-same (kinds ts) (kinds us) (kinds-alike st.names other.names ts us h) in
-        let value = valued st.names other.names (λ n. predefined_value (with_current_line ps st.instructions) (name_at st.names n)) (λ n. predefined_value (with_current_line ps other.instructions) (name_at other.names n)) ts us
-            (tokens-first st.names other.names ts us h) (tokens-second st.names other.names ts us h) (tokens-spelled st.names other.names ts us h)
-            (λ n m a b e. let c = r.instructions in λ i. predefined_value (with_current_line ps (c i)) (e i)) in
+        let value = value-same st.names other.names (λ n. predefined_value (with_current_line ps st.instructions) (name_at st.names n)) (λ n. predefined_value (with_current_line ps other.instructions) (name_at other.names n))
+            (λ n m k. let c = r.instructions in let b = k.2 in λ i. predefined_value (with_current_line ps (c i)) (b i)) ts us h in
         λ i. elim (label i) as (λ _. Result ℕ TextProblem) [ true ↦ Err LabelInCount | false ↦ as_count (value i) ]
 
     count-alike : (ts us : List Token) → SameTokens st.names other.names ts us → Together Equal (count_of ps st ts) (count_of ps other us)
-    count-alike ts us h = go (substitution st.equates ts) refl
+    count-alike ts us h =
+        go (substitution st.equates ts) (substitution other.equates us) (substitution-same st.names other.names r.first.distinct r.second.distinct st.equates other.equates r.equates ts us h)
       where
-        go : (x : Result (List Token) TextFault) → substitution st.equates ts ≡ x → Together Equal (without_line x >>= judged st) (count_of ps other us)
-        go (Ok vs) e =
-            let s = substituted st.names other.names st.equates other.equates ts us vs r.first.distinct r.second.distinct
-                (equates-first st.names other.names st.equates other.equates r.equates) (equates-second st.names other.names st.equates other.equates r.equates) (equates-spelled st.names other.names st.equates other.equates r.equates)
-                (tokens-first st.names other.names ts us h) (tokens-second st.names other.names ts us h) (tokens-spelled st.names other.names ts us h) e in
-            subst (λ y. Together Equal (judged st vs) (without_line y >>= judged other)) (sym s.1) (equal-together (judged st vs) (judged other s.0) (judged-same vs s.0 (tokens-from st.names other.names vs s.0 s.2 s.3 s.4)))
-        go (Err f) e = tt
+        go : (x y : Result (List Token) TextFault) → Agree (SameTokens st.names other.names) x y → Together Equal (without_line x >>= judged st) (without_line y >>= judged other)
+        go (Ok vs) (Ok ws) k = equal-together (judged st vs) (judged other ws) (judged-same vs ws k)
+        go (Ok vs) (Err f) k = absurd k
+        go (Err e) y k = tt
 
     room-alike : Together (λ (a b : Reading). ⊤) (room_for_loop st) (room_for_loop other)
     room-alike = together-limit (λ (a b : Reading). ⊤) (nat_le loop_limit (length st.loops)) (nat_le loop_limit (length other.loops)) TooLong st other (le-met loop_limit (length st.loops) (length other.loops) r.loops.fewer) tt
 
-    counter-alike : (o p : Option ℕ) → BothSome (IsSame st.names other.names) o p → (counter_name st o ≡ counter_name other p) × IsCounter (counter_name st o)
+    counter-alike : (o p : Option ℕ) → AgreeOption (SameName st.names other.names) o p → (counter_name st o ≡ counter_name other p) × IsCounter (counter_name st o)
     counter-alike None None s = (refl, tt)
     counter-alike None (Some m) s = absurd s
     counter-alike (Some n) None s = absurd s
-    counter-alike (Some n) (Some m) s = (ap Some s.name, r.first.begin n s.first)
+    counter-alike (Some n) (Some m) s = (ap Some s.2, r.first.begin n s.0)
 
   headed-alike : (here there x y : ℕ) → x + there ≡ y + here → (v w : WithTokens) → SameRow here there v w → Together SameHead (headed ps x v) (headed ps y w)
   headed-alike here there x y same v w s =
-      together-then (BothSome (IsSame v.1.names w.1.names)) SameHead (name_in_front (kinds (tokens_before x v.0))) (name_in_front (kinds (tokens_before y w.0)))
+      together-then (AgreeOption (SameName v.1.names w.1.names)) SameHead (name_in_front (kinds (tokens_before x v.0))) (name_in_front (kinds (tokens_before y w.0)))
       (λ counter. room_for_loop v.1 >>= λ _. count_of ps v.1 (tokens_after x v.0) >>= λ count. Ok (record { counter = counter_name v.1 counter; count = count; reading = record (v.1) { equate_grows = false } }))
       (λ counter. room_for_loop w.1 >>= λ _. count_of ps w.1 (tokens_after y w.0) >>= λ count. Ok (record { counter = counter_name w.1 counter; count = count; reading = record (w.1) { equate_grows = false } }))
       (front-alike v.1.names w.1.names (kinds (tokens_before x v.0)) (kinds (tokens_before y w.0)) (before-alike v.1.names w.1.names here there x y same v.0 w.0 s.tokens))

@@ -2,7 +2,6 @@
 use Rattle.std.proofs.Common.{◌≡◌, ◌∙◌, refl, ap, sym, subst, true≢false, ℕ, zero, suc, ◌+◌, ◌<◌, ◌≤◌, ◌||◌, Bool, true, false, nat_lt, List, [], ◌∷◌, ◌++◌, length, map, filter, codes, Option, Some, None, Result, Ok, Err, arith}
 use Rattle.std.proofs.lemmas.Bool.Decides.{nat_tests}
 use Rattle.std.specs.Prelude.{⊤}
-use Rattle.std.specs.List.{AllZip}
 use Rattle.redcode_text.specs.Results.{◌>>=◌}
 use Rattle.redcode_text.specs.declared.fault.TextProblem.{TextProblem}
 use Rattle.redcode_text.specs.declared.fault.TextProblem.TheVariants.{BadToken, Duplicate}
@@ -16,10 +15,11 @@ use Rattle.redcode_text.specs.Equates.{Equate, depth_limit}
 use Rattle.redcode_text.specs.Expression.{kinds}
 use Rattle.redcode_text.specs.Lines.{Assert, Parts, Predefined, Reading, Step, WithTokens, assert_line, before_first, behind_last, comment_line, directive_value, each_line, equ_line, equated, is_end, is_equate, is_instruction, is_label, is_predefined, line_added, line_read, name_in_front, on_line, operation_lines, ordinary_line, ordinary_with, parts_of, parts_read, plain_line, row_tokens, token_on_line, tokens_after, tokens_before, tokens_counted, tokens_line, unless_empty, unless_ended, with_line}
 use Rattle.redcode_text.specs.Source.{Row, LineKind, RofLine, ForLine, EquLine, OtherLine, directive_text, directive_text_at, has_directive_word, is_comment, line_kind}
-use Rattle.redcode_text.proofs.AlikeNames.{IsSame, SameKind, SameToken, SameTokens}
+use Rattle.redcode_text.proofs.SameNames.{SameAssert, SameEquate, SameKind, SameLine, SameName, SameToken, SameTokens}
 use Rattle.redcode_text.proofs.AlikeParts.{SameParts, end-test, equate-test, instruction-test, label-test, operation-lines-alike, parts-alike, predefined-test, used-alike}
-use Rattle.redcode_text.proofs.AlikeReadings.{ReadAlike, ReadOn, SameAssert, SameEquate, SameLine, SameLines, SameRow, counted-alike, like_row, line-read-alike, row-alike}
-use Rattle.redcode_text.proofs.AlikeResults.{BothSome, Together, together-then, together-weaker, zip-append, zip-both, zip-filter, zip-weaker}
+use Rattle.redcode_text.proofs.AlikeReadings.{ReadAlike, ReadOn, SameLines, SameRow, counted-alike, like_row, line-read-alike, row-alike}
+use Rattle.redcode_text.proofs.AlikeResults.{Together, pairwise-both, pairwise-weaker, together-then, together-weaker}
+use Rattle.redcode_text.proofs.Agreement.{AgreeOption, Pairwise, pairwise-append, pairwise-filter}
 use Rattle.redcode_text.proofs.AlikeTokens.{PlacedToken}
 
 -- ---- tokens on each side of a word
@@ -30,25 +30,25 @@ before-test a b here there x y p q = grind (arith, nat_tests)
 after-test : (a b here there x y : ℕ) → a + there ≡ b + here → x + there ≡ y + here → nat_lt x a ≡ nat_lt y b
 after-test a b here there x y p q = grind (arith, nat_tests)
 
-pub unplaced-tokens : (names others : List (List ℕ)) (here there : ℕ) (ts us : List Token) → AllZip (PlacedToken names others here there) ts us → SameTokens names others ts us
-unplaced-tokens names others here there ts us h = zip-weaker (PlacedToken names others here there) (SameToken names others) (λ t u k. k.0) ts us h
+pub unplaced-tokens : (names others : List (List ℕ)) (here there : ℕ) (ts us : List Token) → Pairwise (PlacedToken names others here there) ts us → SameTokens names others ts us
+unplaced-tokens names others here there ts us h = pairwise-weaker (PlacedToken names others here there) (SameToken names others) (λ t u k. k.0) ts us h
 
-pub kinds-alike : (names others : List (List ℕ)) (ts us : List Token) → SameTokens names others ts us → AllZip (SameKind names others) (kinds ts) (kinds us)
-kinds-alike names others ts us h = zip-both (SameToken names others) (SameKind names others) (λ t. t.kind) (λ u. u.kind) (λ t u k. k) ts us h
+pub kinds-alike : (names others : List (List ℕ)) (ts us : List Token) → SameTokens names others ts us → Pairwise (SameKind names others) (kinds ts) (kinds us)
+kinds-alike names others ts us h = pairwise-both (SameToken names others) (SameKind names others) (λ t. t.kind) (λ u. u.kind) (λ t u k. k) ts us h
 
-module _ (names others : List (List ℕ)) (here there x y : ℕ) (same : x + there ≡ y + here) (ts us : List Token) (h : AllZip (PlacedToken names others here there) ts us) where
-  pub before-alike : AllZip (SameKind names others) (kinds (tokens_before x ts)) (kinds (tokens_before y us))
+module _ (names others : List (List ℕ)) (here there x y : ℕ) (same : x + there ≡ y + here) (ts us : List Token) (h : Pairwise (PlacedToken names others here there) ts us) where
+  pub before-alike : Pairwise (SameKind names others) (kinds (tokens_before x ts)) (kinds (tokens_before y us))
   before-alike =
       kinds-alike names others (tokens_before x ts) (tokens_before y us) (unplaced-tokens names others here there (tokens_before x ts) (tokens_before y us)
-      (zip-filter (PlacedToken names others here there) (λ t. nat_lt t.from x) (λ u. nat_lt u.from y) (λ t u k. before-test t.from u.from here there x y k.1 same) ts us h))
+      (pairwise-filter (PlacedToken names others here there) (λ t. nat_lt t.from x) (λ u. nat_lt u.from y) (λ t u k. before-test t.from u.from here there x y k.1 same) ts us h))
 
   pub after-alike : SameTokens names others (tokens_after x ts) (tokens_after y us)
   after-alike =
       unplaced-tokens names others here there (tokens_after x ts) (tokens_after y us)
-      (zip-filter (PlacedToken names others here there) (λ t. nat_lt x t.from) (λ u. nat_lt y u.from) (λ t u k. after-test t.from u.from here there x y k.1 same) ts us h)
+      (pairwise-filter (PlacedToken names others here there) (λ t. nat_lt x t.from) (λ u. nat_lt y u.from) (λ t u k. after-test t.from u.from here there x y k.1 same) ts us h)
 
 -- a name in front of EQU or FOR
-pub front-alike : (names others : List (List ℕ)) (ks js : List TokenKind) → AllZip (SameKind names others) ks js → Together (BothSome (IsSame names others)) (name_in_front ks) (name_in_front js)
+pub front-alike : (names others : List (List ℕ)) (ks js : List TokenKind) → Pairwise (SameKind names others) ks js → Together (AgreeOption (SameName names others)) (name_in_front ks) (name_in_front js)
 front-alike names others [] [] h = tt
 front-alike names others [] (j ∷ js) h = absurd h
 front-alike names others (Number v ∷ ks) js h = tt
@@ -63,31 +63,31 @@ front-alike names others (Name n ∷ Name k ∷ ks) (Name m ∷ js) h = tt
 front-alike names others (Name n ∷ token.Sign s ∷ ks) (Name m ∷ []) h = absurd h.1
 front-alike names others (Name n ∷ token.Sign s ∷ ks) (Name m ∷ Number w ∷ js) h = absurd h.1.0
 front-alike names others (Name n ∷ token.Sign s ∷ ks) (Name m ∷ Name k ∷ js) h = absurd h.1.0
-front-alike names others (Name n ∷ token.Sign s ∷ []) (Name m ∷ token.Sign r ∷ []) h = subst (λ x. Together (BothSome (IsSame names others)) (name_in_front (Name n ∷ token.Sign s ∷ [])) (name_in_front (Name m ∷ token.Sign x ∷ []))) h.1.0 (go s)
+front-alike names others (Name n ∷ token.Sign s ∷ []) (Name m ∷ token.Sign r ∷ []) h = subst (λ x. Together (AgreeOption (SameName names others)) (name_in_front (Name n ∷ token.Sign s ∷ [])) (name_in_front (Name m ∷ token.Sign x ∷ []))) h.1.0 (go s)
   where
-    go : (s : Sign) → Together (BothSome (IsSame names others)) (name_in_front (Name n ∷ token.Sign s ∷ [])) (name_in_front (Name m ∷ token.Sign s ∷ []))
+    go : (s : Sign) → Together (AgreeOption (SameName names others)) (name_in_front (Name n ∷ token.Sign s ∷ [])) (name_in_front (Name m ∷ token.Sign s ∷ []))
     go Colon = h.0
     go _ = tt
 front-alike names others (Name n ∷ token.Sign s ∷ []) (Name m ∷ token.Sign r ∷ j ∷ js) h = absurd h.1.1
 front-alike names others (Name n ∷ token.Sign s ∷ k ∷ ks) (Name m ∷ token.Sign r ∷ js) h = go s
   where
-    go : (s : Sign) → Together (BothSome (IsSame names others)) (name_in_front (Name n ∷ token.Sign s ∷ k ∷ ks)) (name_in_front (Name m ∷ token.Sign r ∷ js))
+    go : (s : Sign) → Together (AgreeOption (SameName names others)) (name_in_front (Name n ∷ token.Sign s ∷ k ∷ ks)) (name_in_front (Name m ∷ token.Sign r ∷ js))
     go Colon = tt
     go _ = tt
 
 -- ---- EQU lines
 
-with-line-alike : (names others : List (List ℕ)) (es fs : List Equate) (ts us : List Token) → AllZip (SameEquate names others) es fs → SameTokens names others ts us → AllZip (SameEquate names others) (with_line es ts) (with_line fs us)
+with-line-alike : (names others : List (List ℕ)) (es fs : List Equate) (ts us : List Token) → Pairwise (SameEquate names others) es fs → SameTokens names others ts us → Pairwise (SameEquate names others) (with_line es ts) (with_line fs us)
 with-line-alike names others [] [] ts us h k = tt
 with-line-alike names others [] (f ∷ fs) ts us h k = absurd h
 with-line-alike names others (e ∷ es) [] ts us h k = absurd h
-with-line-alike names others (e ∷ []) (f ∷ []) ts us h k = ((h.0.0, zip-append (SameTokens names others) e.lines (ts ∷ []) f.lines (us ∷ []) h.0.1 (k, tt)), tt)
+with-line-alike names others (e ∷ []) (f ∷ []) ts us h k = ((h.0.0, pairwise-append (SameTokens names others) e.lines f.lines (ts ∷ []) (us ∷ []) h.0.1 (k, tt)), tt)
 with-line-alike names others (e ∷ []) (f ∷ g ∷ fs) ts us h k = absurd h.1
 with-line-alike names others (e ∷ d ∷ es) (f ∷ []) ts us h k = absurd h.1
 with-line-alike names others (e ∷ d ∷ es) (f ∷ g ∷ fs) ts us h k = (h.0, with-line-alike names others (d ∷ es) (g ∷ fs) ts us h.1 k)
 
 -- other EQU names
-equates-changed : (st other : Reading) → ReadAlike st other → (es fs : List Equate) → AllZip (SameEquate st.names other.names) es fs → (s t : Bool) → (s ≡ true → t ≡ true) → ReadAlike (record st { equates = es; equate_grows = s }) (record other { equates = fs; equate_grows = t })
+equates-changed : (st other : Reading) → ReadAlike st other → (es fs : List Equate) → Pairwise (SameEquate st.names other.names) es fs → (s t : Bool) → (s ≡ true → t ≡ true) → ReadAlike (record st { equates = es; equate_grows = s }) (record other { equates = fs; equate_grows = t })
 equates-changed st other r es fs h s t grows =
     record {
       loops = r.loops;
@@ -105,7 +105,7 @@ equates-changed st other r es fs h s t grows =
       ended = r.ended;
     }
 
-equated-alike : (ps : Predefined) (st other : Reading) → ReadAlike st other → (ts us : List Token) → SameTokens st.names other.names ts us → (o p : Option ℕ) → BothSome (IsSame st.names other.names) o p
+equated-alike : (ps : Predefined) (st other : Reading) → ReadAlike st other → (ts us : List Token) → SameTokens st.names other.names ts us → (o p : Option ℕ) → AgreeOption (SameName st.names other.names) o p
     → Together ReadAlike (equated ps ts o st) (equated ps us p other)
 equated-alike ps st other r ts us h None None s = go st.equate_grows other.equate_grows r.grows
   where
@@ -126,12 +126,12 @@ equated-alike ps st other r ts us h (Some n) (Some m) s =
     go true = tt
     go false =
         equates-changed st other r (st.equates ++ record { name = n; lines = ts ∷ [] } ∷ []) (other.equates ++ record { name = m; lines = us ∷ [] } ∷ [])
-        (zip-append (SameEquate st.names other.names) st.equates (record { name = n; lines = ts ∷ [] } ∷ []) other.equates (record { name = m; lines = us ∷ [] } ∷ []) r.equates ((s, (h, tt)), tt)) true true (λ e. e)
+        (pairwise-append (SameEquate st.names other.names) st.equates other.equates (record { name = n; lines = ts ∷ [] } ∷ []) (record { name = m; lines = us ∷ [] } ∷ []) r.equates ((s, (h, tt)), tt)) true true (λ e. e)
 
-equ-alike : (ps : Predefined) (st other : Reading) → ReadAlike st other → (here there x y : ℕ) → x + there ≡ y + here → (ts us : List Token) → AllZip (PlacedToken st.names other.names here there) ts us
+equ-alike : (ps : Predefined) (st other : Reading) → ReadAlike st other → (here there x y : ℕ) → x + there ≡ y + here → (ts us : List Token) → Pairwise (PlacedToken st.names other.names here there) ts us
     → Together ReadAlike (equ_line ps x ts st) (equ_line ps y us other)
 equ-alike ps st other r here there x y same ts us h =
-    together-then (BothSome (IsSame st.names other.names)) ReadAlike (name_in_front (kinds (tokens_before x ts))) (name_in_front (kinds (tokens_before y us)))
+    together-then (AgreeOption (SameName st.names other.names)) ReadAlike (name_in_front (kinds (tokens_before x ts))) (name_in_front (kinds (tokens_before y us)))
     (λ name. equated ps (tokens_after x ts) name st) (λ name. equated ps (tokens_after y us) name other)
     (front-alike st.names other.names (kinds (tokens_before x ts)) (kinds (tokens_before y us)) (before-alike st.names other.names here there x y same ts us h))
     (λ o p s. equated-alike ps st other r (tokens_after x ts) (tokens_after y us) (after-alike st.names other.names here there x y same ts us h) o p s)
@@ -139,7 +139,7 @@ equ-alike ps st other r here there x y same ts us h =
 -- ---- ordinary lines
 
 on-line-alike : (names others : List (List ℕ)) (number like : ℕ) (ts us : List Token) → SameTokens names others ts us → SameTokens names others (on_line number ts) (on_line like us)
-on-line-alike names others number like ts us h = zip-both (SameToken names others) (SameToken names others) (token_on_line number) (token_on_line like) (λ t u k. k) ts us h
+on-line-alike names others number like ts us h = pairwise-both (SameToken names others) (SameToken names others) (token_on_line number) (token_on_line like) (λ t u k. k) ts us h
 
 -- one line more
 added-alike : (number like : ℕ) (st other : Reading) → ReadAlike st other → (p q : Parts) → SameParts st.names other.names p q → ReadAlike (line_added number p st) (line_added like q other)
@@ -150,7 +150,7 @@ added-alike number like st other r p q s =
       second = r.second;
       equates = r.equates;
       grows = λ e. e;
-      lines = zip-append (SameLine st.names other.names) st.lines (record { number = number; labels = p.labels; operation = p.operation; rest = p.rest } ∷ []) other.lines (record { number = like; labels = q.labels; operation = q.operation; rest = q.rest } ∷ [])
+      lines = pairwise-append (SameLine st.names other.names) st.lines other.lines (record { number = number; labels = p.labels; operation = p.operation; rest = p.rest } ∷ []) (record { number = like; labels = q.labels; operation = q.operation; rest = q.rest } ∷ [])
           r.lines ((s.labels, s.operation, s.rest), tt);
       instructions = (let t = instruction-test st.names other.names p.operation q.operation p.rest q.rest s.operation s.rest in let n = r.instructions in λ i. elim (t i) as (λ _. ℕ) [ true ↦ n i + 1 | false ↦ n i ]);
       lines_read = r.lines_read;
@@ -200,7 +200,7 @@ DeeperAlike (Some o) None = ⊥
 DeeperAlike (Some o) (Some q) = StepsAlike o q
 
 parts-read-alike : (c d : Option (List Token → Step)) → DeeperAlike c d → (number like : ℕ) (st other : Reading) → ReadAlike st other → (p q : Parts) → SameParts st.names other.names p q → (ls ms : Option (List (List Token)))
-    → BothSome (SameLines st.names other.names) ls ms → Together (ReadOn st other) (parts_read c number p ls st) (parts_read d like q ms other)
+    → AgreeOption (SameLines st.names other.names) ls ms → Together (ReadOn st other) (parts_read c number p ls st) (parts_read d like q ms other)
 parts-read-alike c d h number like st other r p q s None None k =
     record {
       read = added-alike number like st other r (record p { rest = on_line number p.rest }) (record q { rest = on_line like q.rest })
@@ -262,7 +262,7 @@ assert-added st other r number like ts us h =
       tokens_read = r.tokens_read;
       name = r.name;
       author = r.author;
-      asserts = zip-append (SameAssert st.names other.names) st.asserts (record { number = number; current_line = st.instructions; tokens = ts } ∷ []) other.asserts (record { number = like; current_line = other.instructions; tokens = us } ∷ [])
+      asserts = pairwise-append (SameAssert st.names other.names) st.asserts other.asserts (record { number = number; current_line = st.instructions; tokens = ts } ∷ []) (record { number = like; current_line = other.instructions; tokens = us } ∷ [])
           r.asserts ((r.instructions, h), tt);
       ended = r.ended;
     }
@@ -305,7 +305,7 @@ module _ (ps : Predefined) (row : Row) (number place : ℕ) where
   ordinary-line-alike st other r ts us h =
       together-weaker (ReadOn st other) ReadAlike (ordinary_line ps row.number depth_limit ts st) (ordinary_line ps number depth_limit us other) (ordinary-alike ps row.number number depth_limit st other r ts us h) (λ a b k. k.read)
 
-  tokens-line-alike : (kind : LineKind) (st other : Reading) → ReadAlike st other → (ts us : List Token) → AllZip (PlacedToken st.names other.names row.at place) ts us
+  tokens-line-alike : (kind : LineKind) (st other : Reading) → ReadAlike st other → (ts us : List Token) → Pairwise (PlacedToken st.names other.names row.at place) ts us
       → Together ReadAlike (tokens_line ps kind row ts st) (tokens_line ps kind (like_row row number place) us other)
   tokens-line-alike kind st other r [] [] h = r
   tokens-line-alike kind st other r [] (u ∷ us) h = absurd h

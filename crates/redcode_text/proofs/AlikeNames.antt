@@ -1,22 +1,19 @@
 -- Names that two readings have in common, and tokens that are spelled alike.
 use Rattle.std.proofs.Common.{◌≡◌, ◌∙◌, refl, ap, sym, subst, true≢false, ℕ, zero, suc, ◌+◌, ◌<◌, ◌≤◌, ◌==◌, Bool, true, false, not, cond, ◌||◌, nat_lt, List, [], ◌∷◌, ◌++◌, length, map, arith, length-append, eq-eqb, eqb-true, ltb-true, ltb-false, one-add}
-use Rattle.std.specs.Prelude.{⊤}
-use Rattle.std.specs.List.{AllZip, list_any}
+use Rattle.std.specs.List.{list_any}
 use Rattle.std.specs.Str.{bytes_eq}
 use Rattle.std.proofs.lemmas.Bool.Decides.{nat_tests}
-use Rattle.std.proofs.lemmas.List.Elements.{All-cons, All-head, All-nil, All-tail}
 use Rattle.std.proofs.lemmas.Slice.Eq.{bytes_eq-Decides}
-use Rattle.std.specs.List.{All}
 use Rattle.redcode_text.specs.declared.token.Token.{Token}
 use Rattle.redcode_text.specs.declared.token.TokenKind.{TokenKind}
 use Rattle.redcode_text.specs.declared.token.TokenKind.TheVariants.{Number, Name}
 use Rattle.redcode_text.specs.declared.token.TokenKind.TheVariants as token
-use Rattle.redcode_text.specs.Alike.{spelled, spelled_kind}
 use Rattle.redcode_text.specs.Lines.{name_at}
 use Rattle.redcode_text.specs.Tokens.{begins_name, name_index, with_name}
-use Rattle.redcode_text.proofs.AlikeResults.{zip-map, zip-weaker}
+use Rattle.redcode_text.proofs.AlikeResults.{pairwise-weaker}
 use Rattle.redcode_text.proofs.KeptNames.{named-with}
-use Rattle.redcode_text.proofs.Named.{AreBelow, AreDistinct, IsBelow}
+use Rattle.redcode_text.proofs.Named.{AreDistinct}
+use Rattle.redcode_text.proofs.SameNames.{SameKind, SameName, SameToken, SameTokens}
 
 -- ---- names that grow
 
@@ -125,136 +122,24 @@ index-within names name = go (list_any (bytes_eq name) names) refl
 
 -- ---- the same name
 
--- two indices of the same name
-pub record IsSame (names others : List (List ℕ)) (n m : ℕ) : Type 0 where
-  pub first : n < length names
-  pub second : m < length others
-  pub name : name_at names n ≡ name_at others m
-
-pub same-grown : (names others more most : List (List ℕ)) → Grown names more → Grown others most → (n m : ℕ) → IsSame names others n m → IsSame more most n m
+pub same-grown : (names others more most : List (List ℕ)) → Grown names more → Grown others most → (n m : ℕ) → SameName names others n m → SameName more most n m
 same-grown names others more most g h n m s =
-    record {
-      first = (let l = g.longer in let k = s.first in omega arith);
-      second = (let l = h.longer in let k = s.second in omega arith);
-      name = g.keeps n s.first ∙ s.name ∙ sym (h.keeps m s.second);
-    }
+    let a = s.0 in
+    let b = s.1 in
+    let l = g.longer in
+    let k = h.longer in
+    (omega arith, omega arith, g.keeps n a ∙ s.2 ∙ sym (h.keeps m b))
 
-pub with-same : (names others : List (List ℕ)) (name : List ℕ) → IsSame (with_name names name) (with_name others name) (name_index names name) (name_index others name)
-with-same names others name = record { first = index-within names name; second = index-within others name; name = named-with names name ∙ sym (named-with others name) }
-
--- two indices are equal where those of the same names are
-pub same-test : (names others : List (List ℕ)) → AreDistinct names → AreDistinct others → (n m k l : ℕ) → IsSame names others n m → IsSame names others k l → (n == k) ≡ (m == l)
-same-test names others d e n m k l s t = go (n == k) (m == l) refl refl
-  where
-    go : (a b : Bool) → (n == k) ≡ a → (m == l) ≡ b → a ≡ b
-    go true true p q = refl
-    go false false p q = refl
-    go true false p q =
-        let same : m ≡ l = e m l s.second t.second (sym s.name ∙ ap (name_at names) (eqb-true n k p) ∙ t.name) in
-        sym (eq-eqb m l same) ∙ q
-    go false true p q =
-        let same : n ≡ k = d n k s.first t.first (s.name ∙ ap (name_at others) (eqb-true m l q) ∙ sym t.name) in
-        sym p ∙ eq-eqb n k same
+pub with-same : (names others : List (List ℕ)) (name : List ℕ) → SameName (with_name names name) (with_name others name) (name_index names name) (name_index others name)
+with-same names others name = (index-within names name, index-within others name, named-with names name ∙ sym (named-with others name))
 
 -- ---- tokens
 
--- the same number or sign, or the same name
-abbrev pub SameKind : List (List ℕ) → List (List ℕ) → TokenKind → TokenKind → Type 0
-SameKind names others (Name n) (Name m) = IsSame names others n m
-SameKind names others (Name n) (Number w) = ⊥
-SameKind names others (Name n) (token.Sign r) = ⊥
-SameKind names others (Number v) (Name m) = ⊥
-SameKind names others (Number v) (Number w) = v ≡ w
-SameKind names others (Number v) (token.Sign r) = ⊥
-SameKind names others (token.Sign s) (Name m) = ⊥
-SameKind names others (token.Sign s) (Number w) = ⊥
-SameKind names others (token.Sign s) (token.Sign r) = s ≡ r
-
-abbrev pub SameToken : List (List ℕ) → List (List ℕ) → Token → Token → Type 0
-SameToken names others t u = SameKind names others t.kind u.kind
-
-abbrev pub SameTokens : List (List ℕ) → List (List ℕ) → List Token → List Token → Type 0
-SameTokens names others ts us = AllZip (SameToken names others) ts us
-
 pub kind-grown : (names others more most : List (List ℕ)) → Grown names more → Grown others most → (k j : TokenKind) → SameKind names others k j → SameKind more most k j
 kind-grown names others more most g h (Name n) (Name m) s = same-grown names others more most g h n m s
-kind-grown names others more most g h (Name n) (Number w) s = absurd s
-kind-grown names others more most g h (Name n) (token.Sign r) s = absurd s
-kind-grown names others more most g h (Number v) (Name m) s = absurd s
 kind-grown names others more most g h (Number v) (Number w) s = s
-kind-grown names others more most g h (Number v) (token.Sign r) s = absurd s
-kind-grown names others more most g h (token.Sign t) (Name m) s = absurd s
-kind-grown names others more most g h (token.Sign t) (Number w) s = absurd s
 kind-grown names others more most g h (token.Sign t) (token.Sign r) s = s
+kind-grown names others more most g h _ _ s = absurd s
 
 pub tokens-grown : (names others more most : List (List ℕ)) → Grown names more → Grown others most → (ts us : List Token) → SameTokens names others ts us → SameTokens more most ts us
-tokens-grown names others more most g h ts us s = zip-weaker (SameToken names others) (SameToken more most) (λ t u k. kind-grown names others more most g h t.kind u.kind k) ts us s
-
--- ---- to and fro between tokens one by one and their spelling
-
-module _ (names others : List (List ℕ)) where
-  kind-spelled : (k j : TokenKind) → SameKind names others k j → spelled_kind names k ≡ spelled_kind others j
-  kind-spelled (Name n) (Name m) s = ap (λ (b : List ℕ). (Name 0, b)) s.name
-  kind-spelled (Name n) (Number w) s = absurd s
-  kind-spelled (Name n) (token.Sign r) s = absurd s
-  kind-spelled (Number v) (Name m) s = absurd s
-  kind-spelled (Number v) (Number w) s = λ i. (Number (s i), [])
-  kind-spelled (Number v) (token.Sign r) s = absurd s
-  kind-spelled (token.Sign t) (Name m) s = absurd s
-  kind-spelled (token.Sign t) (Number w) s = absurd s
-  kind-spelled (token.Sign t) (token.Sign r) s = λ i. (token.Sign (s i), [])
-
-  kind-first : (k j : TokenKind) → SameKind names others k j → IsBelow (length names) k
-  kind-first (Name n) (Name m) s = s.first
-  kind-first (Name n) (Number w) s = absurd s
-  kind-first (Name n) (token.Sign r) s = absurd s
-  kind-first (Number v) j s = tt
-  kind-first (token.Sign t) j s = tt
-
-  kind-second : (k j : TokenKind) → SameKind names others k j → IsBelow (length others) j
-  kind-second (Name n) (Name m) s = s.second
-  kind-second (Name n) (Number w) s = tt
-  kind-second (Name n) (token.Sign r) s = tt
-  kind-second (Number v) (Name m) s = absurd s
-  kind-second (Number v) (Number w) s = tt
-  kind-second (Number v) (token.Sign r) s = tt
-  kind-second (token.Sign t) (Name m) s = absurd s
-  kind-second (token.Sign t) (Number w) s = tt
-  kind-second (token.Sign t) (token.Sign r) s = tt
-
-  kind-from : (k j : TokenKind) → IsBelow (length names) k → IsBelow (length others) j → spelled_kind names k ≡ spelled_kind others j → SameKind names others k j
-  kind-from (Name n) (Name m) a b e = record { first = a; second = b; name = ap (λ (p : TokenKind × List ℕ). p.1) e }
-  kind-from (Name n) (Number w) a b e = let x : Name 0 ≡ Number w = ap (λ (p : TokenKind × List ℕ). p.0) e in cc
-  kind-from (Name n) (token.Sign r) a b e = let x : Name 0 ≡ token.Sign r = ap (λ (p : TokenKind × List ℕ). p.0) e in cc
-  kind-from (Number v) (Name m) a b e = let x : Number v ≡ Name 0 = ap (λ (p : TokenKind × List ℕ). p.0) e in cc
-  kind-from (Number v) (Number w) a b e = let x : Number v ≡ Number w = ap (λ (p : TokenKind × List ℕ). p.0) e in cc
-  kind-from (Number v) (token.Sign r) a b e = let x : Number v ≡ token.Sign r = ap (λ (p : TokenKind × List ℕ). p.0) e in cc
-  kind-from (token.Sign t) (Name m) a b e = let x : token.Sign t ≡ Name 0 = ap (λ (p : TokenKind × List ℕ). p.0) e in cc
-  kind-from (token.Sign t) (Number w) a b e = let x : token.Sign t ≡ Number w = ap (λ (p : TokenKind × List ℕ). p.0) e in cc
-  kind-from (token.Sign t) (token.Sign r) a b e = let x : token.Sign t ≡ token.Sign r = ap (λ (p : TokenKind × List ℕ). p.0) e in cc
-
-  pub tokens-spelled : (ts us : List Token) → SameTokens names others ts us → spelled names ts ≡ spelled others us
-  tokens-spelled ts us s = zip-map (SameToken names others) (λ t. spelled_kind names t.kind) (λ t. spelled_kind others t.kind) (λ t u k. kind-spelled t.kind u.kind k) ts us s
-
-  pub tokens-first : (ts us : List Token) → SameTokens names others ts us → AreBelow (length names) ts
-  tokens-first [] [] s = All-nil (λ (t : Token). IsBelow (length names) t.kind)
-  tokens-first [] (u ∷ us) s = absurd s
-  tokens-first (t ∷ ts) [] s = absurd s
-  tokens-first (t ∷ ts) (u ∷ us) s = All-cons (λ (t : Token). IsBelow (length names) t.kind) t ts (kind-first t.kind u.kind s.0) (tokens-first ts us s.1)
-
-  pub tokens-second : (ts us : List Token) → SameTokens names others ts us → AreBelow (length others) us
-  tokens-second [] [] s = All-nil (λ (t : Token). IsBelow (length others) t.kind)
-  tokens-second [] (u ∷ us) s = absurd s
-  tokens-second (t ∷ ts) [] s = absurd s
-  tokens-second (t ∷ ts) (u ∷ us) s = All-cons (λ (t : Token). IsBelow (length others) t.kind) u us (kind-second t.kind u.kind s.0) (tokens-second ts us s.1)
-
-  pub tokens-from : (ts us : List Token) → AreBelow (length names) ts → AreBelow (length others) us → spelled names ts ≡ spelled others us → SameTokens names others ts us
-  tokens-from [] [] a b e = tt
-  tokens-from [] (u ∷ us) a b e = cc
-  tokens-from (t ∷ ts) [] a b e = cc
-  tokens-from (t ∷ ts) (u ∷ us) a b e =
-      let first : spelled_kind names t.kind ≡ spelled_kind others u.kind = cc in
-      let rest : spelled names ts ≡ spelled others us = cc in (
-        kind-from t.kind u.kind (All-head (λ (t : Token). IsBelow (length names) t.kind) t ts a) (All-head (λ (t : Token). IsBelow (length others) t.kind) u us b) first,
-        tokens-from ts us (All-tail (λ (t : Token). IsBelow (length names) t.kind) t ts a) (All-tail (λ (t : Token). IsBelow (length others) t.kind) u us b) rest,
-      )
+tokens-grown names others more most g h ts us s = pairwise-weaker (SameToken names others) (SameToken more most) (λ t u k. kind-grown names others more most g h t.kind u.kind k) ts us s

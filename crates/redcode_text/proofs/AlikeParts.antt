@@ -1,8 +1,7 @@
 -- A line's parts, where two readings are alike: what its names are, and how its tokens are parted.
 use Rattle.std.proofs.Common.{◌≡◌, refl, ap, sym, subst, ℕ, zero, suc, ◌<◌, ◌==◌, ◌||◌, ◌&&◌, Bool, true, false, not, is_some, nat_lt, List, [], ◌∷◌, ◌++◌, length, codes, Option, Some, None, Result, Ok, Err}
-use Rattle.std.specs.List.{AllZip, list_any}
+use Rattle.std.specs.List.{list_any}
 use Rattle.std.specs.Str.{str_eq_ignore_ascii_case}
-use Rattle.std.proofs.lemmas.List.Elements.{length_all_zip}
 use Rattle.redcode_text.specs.declared.fault.TextProblem.{TextProblem}
 use Rattle.redcode_text.specs.declared.fault.TextProblem.TheVariants.{Duplicate}
 use Rattle.redcode_text.specs.declared.token.Sign.{Sign}
@@ -13,17 +12,18 @@ use Rattle.redcode_text.specs.declared.token.TokenKind.TheVariants.{Number, Name
 use Rattle.redcode_text.specs.declared.token.TokenKind.TheVariants as token
 use Rattle.redcode_text.specs.Equates.{Equate, equate_lines}
 use Rattle.redcode_text.specs.Lines.{Parts, Predefined, Reading, before_first, behind_last, is_end, is_equate, is_instruction, is_label, is_operation, is_org, is_predefined, is_spelled, may_label, name_at, operation_lines, operations, parts_of, parts_within, predefined_value, split_colon, with_current_line}
-use Rattle.redcode_text.proofs.AlikeNames.{IsSame, SameKind, SameToken, SameTokens, same-test}
-use Rattle.redcode_text.proofs.AlikeReadings.{ReadAlike, SameEquate, SameLine, SameLines}
-use Rattle.redcode_text.proofs.AlikeResults.{BothSome, Together, both-if, both-is_some, together-if, zip-any, zip-append}
+use Rattle.redcode_text.proofs.SameNames.{SameEquate, SameKind, SameLine, SameName, SameToken, SameTokens, index-same}
+use Rattle.redcode_text.proofs.AlikeReadings.{ReadAlike, SameLines}
+use Rattle.redcode_text.proofs.AlikeResults.{Together, both-if, both-is_some, together-if, pairwise-any}
+use Rattle.redcode_text.proofs.Agreement.{AgreeOption, Pairwise, pairwise-append, pairwise-length}
 
 -- ---- what a name is
 
 module _ (st other : Reading) (r : ReadAlike st other) where
-  names-test : (n m k l : ℕ) → IsSame st.names other.names n m → IsSame st.names other.names k l → (n == k) ≡ (m == l)
-  names-test = same-test st.names other.names r.first.distinct r.second.distinct
+  names-test : (n m k l : ℕ) → SameName st.names other.names n m → SameName st.names other.names k l → (n == k) ≡ (m == l)
+  names-test n m k l s t = index-same st.names other.names r.first.distinct r.second.distinct n k m l s t
 
-  among-alike : (es fs : List Equate) → AllZip (SameEquate st.names other.names) es fs → (n m : ℕ) → IsSame st.names other.names n m → BothSome (SameLines st.names other.names) (equate_lines es n) (equate_lines fs m)
+  among-alike : (es fs : List Equate) → Pairwise (SameEquate st.names other.names) es fs → (n m : ℕ) → SameName st.names other.names n m → AgreeOption (SameLines st.names other.names) (equate_lines es n) (equate_lines fs m)
   among-alike [] [] h n m s = tt
   among-alike [] (f ∷ fs) h n m s = absurd h
   among-alike (e ∷ es) [] h n m s = absurd h
@@ -31,26 +31,26 @@ module _ (st other : Reading) (r : ReadAlike st other) where
       both-if (SameLines st.names other.names) (n == e.name) (m == f.name) (Some e.lines) (equate_lines es n) (Some f.lines) (equate_lines fs m)
       (names-test n m e.name f.name s h.0.0) h.0.1 (among-alike es fs h.1 n m s)
 
-  pub equates-alike : (n m : ℕ) → IsSame st.names other.names n m → BothSome (SameLines st.names other.names) (equate_lines st.equates n) (equate_lines other.equates m)
+  pub equates-alike : (n m : ℕ) → SameName st.names other.names n m → AgreeOption (SameLines st.names other.names) (equate_lines st.equates n) (equate_lines other.equates m)
   equates-alike n m s = among-alike st.equates other.equates r.equates n m s
 
-  pub equate-test : (n m : ℕ) → IsSame st.names other.names n m → is_equate st n ≡ is_equate other m
+  pub equate-test : (n m : ℕ) → SameName st.names other.names n m → is_equate st n ≡ is_equate other m
   equate-test n m s = both-is_some (SameLines st.names other.names) (equate_lines st.equates n) (equate_lines other.equates m) (equates-alike n m s)
 
-  any-test : (labels marks : List ℕ) → AllZip (IsSame st.names other.names) labels marks → (n m : ℕ) → IsSame st.names other.names n m → list_any (λ i. i == n) labels ≡ list_any (λ j. j == m) marks
-  any-test labels marks h n m s = zip-any (IsSame st.names other.names) (λ i. i == n) (λ j. j == m) (λ i j t. names-test i j n m t s) labels marks h
+  any-test : (labels marks : List ℕ) → Pairwise (SameName st.names other.names) labels marks → (n m : ℕ) → SameName st.names other.names n m → list_any (λ i. i == n) labels ≡ list_any (λ j. j == m) marks
+  any-test labels marks h n m s = pairwise-any (SameName st.names other.names) (λ i. i == n) (λ j. j == m) (λ i j t. names-test i j n m t s) labels marks h
 
-  pub label-test : (n m : ℕ) → IsSame st.names other.names n m → is_label st n ≡ is_label other m
+  pub label-test : (n m : ℕ) → SameName st.names other.names n m → is_label st n ≡ is_label other m
   label-test n m s =
-      zip-any (SameLine st.names other.names) (λ l. list_any (λ i. i == n) l.labels) (λ l. list_any (λ j. j == m) l.labels) (λ l k h. any-test l.labels k.labels h.0 n m s) st.lines other.lines r.lines
+      pairwise-any (SameLine st.names other.names) (λ l. list_any (λ i. i == n) l.labels) (λ l. list_any (λ j. j == m) l.labels) (λ l k h. any-test l.labels k.labels h.0 n m s) st.lines other.lines r.lines
 
-  pub predefined-test : (ps : Predefined) (n m : ℕ) → IsSame st.names other.names n m → is_predefined ps st n ≡ is_predefined ps other m
-  predefined-test ps n m s = ap (λ b. is_some (predefined_value (with_current_line ps 0) b)) s.name
+  pub predefined-test : (ps : Predefined) (n m : ℕ) → SameName st.names other.names n m → is_predefined ps st n ≡ is_predefined ps other m
+  predefined-test ps n m s = ap (λ b. is_some (predefined_value (with_current_line ps 0) b)) s.2
 
-  operation-test : (n m : ℕ) → IsSame st.names other.names n m → is_operation st n ≡ is_operation other m
-  operation-test n m s = let e = equate-test n m s in let b = s.name in λ i. e i || list_any (str_eq_ignore_ascii_case (b i)) operations
+  operation-test : (n m : ℕ) → SameName st.names other.names n m → is_operation st n ≡ is_operation other m
+  operation-test n m s = let e = equate-test n m s in let b = s.2 in λ i. e i || list_any (str_eq_ignore_ascii_case (b i)) operations
 
-  may-test : (ps : Predefined) (labels marks : List ℕ) → AllZip (IsSame st.names other.names) labels marks → (n m : ℕ) → IsSame st.names other.names n m → may_label ps st labels n ≡ may_label ps other marks m
+  may-test : (ps : Predefined) (labels marks : List ℕ) → Pairwise (SameName st.names other.names) labels marks → (n m : ℕ) → SameName st.names other.names n m → may_label ps st labels n ≡ may_label ps other marks m
   may-test ps labels marks h n m s =
       let a = label-test n m s in
       let b = predefined-test ps n m s in
@@ -60,9 +60,9 @@ module _ (st other : Reading) (r : ReadAlike st other) where
 -- ---- parts
 
 pub record SameParts (names others : List (List ℕ)) (p q : Parts) : Type 0 where
-  pub labels : AllZip (IsSame names others) p.labels q.labels
+  pub labels : Pairwise (SameName names others) p.labels q.labels
   pub tokens : SameTokens names others p.label_tokens q.label_tokens
-  pub operation : BothSome (IsSame names others) p.operation q.operation
+  pub operation : AgreeOption (SameName names others) p.operation q.operation
   pub rest : SameTokens names others p.rest q.rest
 
 module _ (names others : List (List ℕ)) where
@@ -101,13 +101,13 @@ module _ (names others : List (List ℕ)) where
   before-alike ts us [] [] h k = (h, tt)
   before-alike ts us [] (m ∷ ms) h k = absurd k
   before-alike ts us (l ∷ ls) [] h k = absurd k
-  before-alike ts us (l ∷ ls) (m ∷ ms) h k = (zip-append (SameToken names others) ts l us m h k.0, k.1)
+  before-alike ts us (l ∷ ls) (m ∷ ms) h k = (pairwise-append (SameToken names others) ts us l m h k.0, k.1)
 
   behind-alike : (ls ms : List (List Token)) (ts us : List Token) → SameLines names others ls ms → SameTokens names others ts us → SameLines names others (behind_last ls ts) (behind_last ms us)
   behind-alike [] [] ts us k h = (h, tt)
   behind-alike [] (m ∷ ms) ts us k h = absurd k
   behind-alike (l ∷ ls) [] ts us k h = absurd k
-  behind-alike (l ∷ []) (m ∷ []) ts us k h = (zip-append (SameToken names others) l ts m us k.0 h, tt)
+  behind-alike (l ∷ []) (m ∷ []) ts us k h = (pairwise-append (SameToken names others) l m ts us k.0 h, tt)
   behind-alike (l ∷ []) (m ∷ n ∷ ms) ts us k h = absurd k.1
   behind-alike (l ∷ n ∷ ls) (m ∷ []) ts us k h = absurd k.1
   behind-alike (l ∷ n ∷ ls) (m ∷ o ∷ ms) ts us k h = (k.0, behind-alike (n ∷ ls) (o ∷ ms) ts us k.1 h)
@@ -117,19 +117,19 @@ module _ (names others : List (List ℕ)) where
       → SameLines names others (behind_last (before_first ts ls) vs) (behind_last (before_first us ms) ws)
   used-alike ts us vs ws ls ms h k j = behind-alike (before_first ts ls) (before_first us ms) vs ws (before-alike ts us ls ms h k) j
 
-  spelled-test : (word : List ℕ) (o p : Option ℕ) → BothSome (IsSame names others) o p → is_spelled names word o ≡ is_spelled others word p
+  spelled-test : (word : List ℕ) (o p : Option ℕ) → AgreeOption (SameName names others) o p → is_spelled names word o ≡ is_spelled others word p
   spelled-test word None None h = refl
   spelled-test word None (Some m) h = absurd h
   spelled-test word (Some n) None h = absurd h
-  spelled-test word (Some n) (Some m) h = ap (λ b. str_eq_ignore_ascii_case b word) h.name
+  spelled-test word (Some n) (Some m) h = ap (λ b. str_eq_ignore_ascii_case b word) h.2
 
-  pub end-test : (o p : Option ℕ) → BothSome (IsSame names others) o p → is_end names o ≡ is_end others p
+  pub end-test : (o p : Option ℕ) → AgreeOption (SameName names others) o p → is_end names o ≡ is_end others p
   end-test o p h = spelled-test (codes "end") o p h
 
-  pub instruction-test : (o p : Option ℕ) (ts us : List Token) → BothSome (IsSame names others) o p → SameTokens names others ts us → is_instruction names o ts ≡ is_instruction others p us
+  pub instruction-test : (o p : Option ℕ) (ts us : List Token) → AgreeOption (SameName names others) o p → SameTokens names others ts us → is_instruction names o ts ≡ is_instruction others p us
   instruction-test o p ts us h k =
-      let some = both-is_some (IsSame names others) o p h in
-      let len : length ts ≡ length us = length_all_zip (SameToken names others) ts us k in
+      let some = both-is_some (SameName names others) o p h in
+      let len : length ts ≡ length us = pairwise-length (SameToken names others) ts us k in
       let org : is_org names o ≡ is_org others p = spelled-test (codes "org") o p h in
       let end = end-test o p h in
       λ i. (some i || nat_lt 0 (len i)) && not (org i || end i)
@@ -148,7 +148,7 @@ module _ (ps : Predefined) (st other : Reading) (r : ReadAlike st other) where
         | _ ↦ Ok (record { labels = labels; label_tokens = before; operation = None; rest = t ∷ ts })
       ]
 
-  within-alike : (k : ℕ) (labels marks : List ℕ) (before fore ts us : List Token) → AllZip (IsSame st.names other.names) labels marks → SameTokens st.names other.names before fore → SameTokens st.names other.names ts us
+  within-alike : (k : ℕ) (labels marks : List ℕ) (before fore ts us : List Token) → Pairwise (SameName st.names other.names) labels marks → SameTokens st.names other.names before fore → SameTokens st.names other.names ts us
       → Together (SameParts st.names other.names) (parts_within ps st k labels before ts) (parts_within ps other k marks fore us)
   within-alike zero labels marks before fore ts us a b c = record { labels = a; tokens = b; operation = tt; rest = c }
   within-alike (suc k) labels marks before fore [] [] a b c = record { labels = a; tokens = b; operation = tt; rest = tt }
@@ -157,7 +157,7 @@ module _ (ps : Predefined) (st other : Reading) (r : ReadAlike st other) where
   within-alike (suc k) labels marks before fore (t ∷ ts) (u ∷ us) a b c = go t.kind u.kind c.0 c.0 (λ labels marks before fore ts us a b c. within-alike k labels marks before fore ts us a b c)
     where
       go : (l j : TokenKind) → SameKind st.names other.names l j → SameKind st.names other.names t.kind u.kind
-          → ((labels marks : List ℕ) (before fore ts us : List Token) → AllZip (IsSame st.names other.names) labels marks → SameTokens st.names other.names before fore → SameTokens st.names other.names ts us
+          → ((labels marks : List ℕ) (before fore ts us : List Token) → Pairwise (SameName st.names other.names) labels marks → SameTokens st.names other.names before fore → SameTokens st.names other.names ts us
           → Together (SameParts st.names other.names) (parts_within ps st k labels before ts) (parts_within ps other k marks fore us))
           → Together (SameParts st.names other.names) (part_of st (λ l b t. parts_within ps st k l b t) labels before t ts l) (part_of other (λ l b t. parts_within ps other k l b t) marks fore u us j)
       go (Name n) (Name m) s first on =
@@ -174,8 +174,8 @@ module _ (ps : Predefined) (st other : Reading) (r : ReadAlike st other) where
           (may-test st other r ps labels marks a n m s)
           (let colon = colon-alike st.names other.names ts us c.1 in
           on (labels ++ n ∷ []) (marks ++ m ∷ []) (before ++ t ∷ (split_colon ts).0) (fore ++ u ∷ (split_colon us).0) (split_colon ts).1 (split_colon us).1
-          (zip-append (IsSame st.names other.names) labels (n ∷ []) marks (m ∷ []) a (s, tt))
-          (zip-append (SameToken st.names other.names) before (t ∷ (split_colon ts).0) fore (u ∷ (split_colon us).0) b (first, colon.0))
+          (pairwise-append (SameName st.names other.names) labels marks (n ∷ []) (m ∷ []) a (s, tt))
+          (pairwise-append (SameToken st.names other.names) before fore (t ∷ (split_colon ts).0) (u ∷ (split_colon us).0) b (first, colon.0))
           colon.1)
           tt)
       go (Name n) (Number w) s first on = absurd s
@@ -189,10 +189,10 @@ module _ (ps : Predefined) (st other : Reading) (r : ReadAlike st other) where
 
   pub parts-alike : (ts us : List Token) → SameTokens st.names other.names ts us → Together (SameParts st.names other.names) (parts_of ps st ts) (parts_of ps other us)
   parts-alike ts us h =
-      let len : length ts ≡ length us = length_all_zip (SameToken st.names other.names) ts us h in
+      let len : length ts ≡ length us = pairwise-length (SameToken st.names other.names) ts us h in
       subst (λ n. Together (SameParts st.names other.names) (parts_of ps st ts) (parts_within ps other n [] [] us)) len (within-alike (length ts) [] [] [] [] ts us tt tt h)
 
-  pub operation-lines-alike : (o p : Option ℕ) → BothSome (IsSame st.names other.names) o p → BothSome (SameLines st.names other.names) (operation_lines st o) (operation_lines other p)
+  pub operation-lines-alike : (o p : Option ℕ) → AgreeOption (SameName st.names other.names) o p → AgreeOption (SameLines st.names other.names) (operation_lines st o) (operation_lines other p)
   operation-lines-alike None None h = tt
   operation-lines-alike None (Some m) h = absurd h
   operation-lines-alike (Some n) None h = absurd h

@@ -2,8 +2,8 @@
 use Rattle.std.proofs.Common.{◌≡◌, ◌∙◌, refl, ap, sym, subst, ℕ, ◌+◌, ◌-◌, ◌<◌, ◌≤◌, Bool, true, false, nat_le, nat_lt, List, [], ◌∷◌, length, map, drop, Option, Some, None, Result, Ok, Err, arith}
 use Rattle.std.proofs.lemmas.Bool.Decides.{nat_tests}
 use Rattle.std.specs.Prelude.{⊤, option_map, IfSome}
-use Rattle.std.specs.List.{All, AllZip}
-use Rattle.std.proofs.lemmas.List.Elements.{All-cons, All-nil, length_all_zip}
+use Rattle.std.specs.List.{All}
+use Rattle.std.proofs.lemmas.List.Elements.{All-cons, All-nil}
 use Rattle.redcode_text.specs.Results.{◌>>=◌}
 use Rattle.redcode_text.specs.declared.fault.TextProblem.{TextProblem}
 use Rattle.redcode_text.specs.declared.fault.TextProblem.TheVariants.{TooLong}
@@ -15,10 +15,12 @@ use Rattle.redcode_text.specs.Expansion.{in_round, nothing_read, program_of}
 use Rattle.redcode_text.specs.Lines.{Assert, Line, Reading, WithTokens, before_comment, line_read, name_at, row_tokens, tokens_counted}
 use Rattle.redcode_text.specs.Source.{Row}
 use Rattle.redcode_text.specs.Tokens.{OpenLoop, Scanned, begins_name, is_counter, round_of, tokens}
-use Rattle.redcode_text.proofs.AlikeNames.{AreNames, Grown, IsSame, SameToken, SameTokens, grown-itself, same-grown, tokens-first, tokens-grown, tokens-second, tokens-spelled}
-use Rattle.redcode_text.proofs.AlikeResults.{BothSome, Together, both-weaker, together-limit, together-then, zip-map, zip-weaker}
+use Rattle.redcode_text.proofs.Agreement.{AgreeOption, Pairwise, pairwise-length}
+use Rattle.redcode_text.proofs.AlikeNames.{AreNames, Grown, grown-itself, same-grown, tokens-grown}
+use Rattle.redcode_text.proofs.AlikeResults.{Together, both-weaker, together-limit, together-then, pairwise-map, pairwise-weaker}
 use Rattle.redcode_text.proofs.AlikeTokens.{PlacedToken, SameScanned, scan-alike}
 use Rattle.redcode_text.proofs.Named.{AreBelow, AreDistinct, IsEquateBelow, IsLineBelow, IsNamed}
+use Rattle.redcode_text.proofs.SameNames.{SameAssert, SameEquate, SameLine, SameName, SameToken, SameTokens, tokens-spelled}
 use Rattle.redcode_text.proofs.Simulations.{IsCounter}
 
 -- ---- open loops
@@ -62,51 +64,42 @@ one-opened loops ls round h = record { same = h.same; fewer = (let l = h.fewer i
 -- ---- what was read
 
 abbrev pub SameLines : List (List ℕ) → List (List ℕ) → List (List Token) → List (List Token) → Type 0
-SameLines names others ls ms = AllZip (SameTokens names others) ls ms
-
-abbrev pub SameEquate : List (List ℕ) → List (List ℕ) → Equate → Equate → Type 0
-SameEquate names others e f = IsSame names others e.name f.name × SameLines names others e.lines f.lines
-
-abbrev pub SameLine : List (List ℕ) → List (List ℕ) → Line → Line → Type 0
-SameLine names others l k = AllZip (IsSame names others) l.labels k.labels × BothSome (IsSame names others) l.operation k.operation × SameTokens names others l.rest k.rest
-
-abbrev pub SameAssert : List (List ℕ) → List (List ℕ) → Assert → Assert → Type 0
-SameAssert names others a b = (a.current_line ≡ b.current_line) × SameTokens names others a.tokens b.tokens
+SameLines names others ls ms = Pairwise (SameTokens names others) ls ms
 
 pub record ReadAlike (st other : Reading) : Type 0 where
   pub loops : LoopsAlike st.loops other.loops
   pub first : AreNames st.names
   pub second : AreNames other.names
-  pub equates : AllZip (SameEquate st.names other.names) st.equates other.equates
+  pub equates : Pairwise (SameEquate st.names other.names) st.equates other.equates
   -- FOR and ROF alone make it false
   pub grows : st.equate_grows ≡ true → other.equate_grows ≡ true
-  pub lines : AllZip (SameLine st.names other.names) st.lines other.lines
+  pub lines : Pairwise (SameLine st.names other.names) st.lines other.lines
   pub instructions : st.instructions ≡ other.instructions
   pub lines_read : other.lines_read ≤ st.lines_read
   pub tokens_read : other.tokens_read ≤ st.tokens_read
   pub name : st.name ≡ other.name
   pub author : st.author ≡ other.author
-  pub asserts : AllZip (SameAssert st.names other.names) st.asserts other.asserts
+  pub asserts : Pairwise (SameAssert st.names other.names) st.asserts other.asserts
   pub ended : st.ended ≡ other.ended
 
 -- ---- names that grow
 
 module _ (names others more most : List (List ℕ)) (g : Grown names more) (h : Grown others most) where
   lines-grown : (ls ms : List (List Token)) → SameLines names others ls ms → SameLines more most ls ms
-  lines-grown ls ms s = zip-weaker (SameTokens names others) (SameTokens more most) (λ ts us k. tokens-grown names others more most g h ts us k) ls ms s
+  lines-grown ls ms s = pairwise-weaker (SameTokens names others) (SameTokens more most) (λ ts us k. tokens-grown names others more most g h ts us k) ls ms s
 
-  equates-grown : (es fs : List Equate) → AllZip (SameEquate names others) es fs → AllZip (SameEquate more most) es fs
-  equates-grown es fs s = zip-weaker (SameEquate names others) (SameEquate more most) (λ e f k. (same-grown names others more most g h e.name f.name k.0, lines-grown e.lines f.lines k.1)) es fs s
+  equates-grown : (es fs : List Equate) → Pairwise (SameEquate names others) es fs → Pairwise (SameEquate more most) es fs
+  equates-grown es fs s = pairwise-weaker (SameEquate names others) (SameEquate more most) (λ e f k. (same-grown names others more most g h e.name f.name k.0, lines-grown e.lines f.lines k.1)) es fs s
 
-  read-lines-grown : (ls ms : List Line) → AllZip (SameLine names others) ls ms → AllZip (SameLine more most) ls ms
+  read-lines-grown : (ls ms : List Line) → Pairwise (SameLine names others) ls ms → Pairwise (SameLine more most) ls ms
   read-lines-grown ls ms s =
-      zip-weaker (SameLine names others) (SameLine more most)
-      (λ l m k. (zip-weaker (IsSame names others) (IsSame more most) (same-grown names others more most g h) l.labels m.labels k.0,
-      both-weaker (IsSame names others) (IsSame more most) (same-grown names others more most g h) l.operation m.operation k.1,
+      pairwise-weaker (SameLine names others) (SameLine more most)
+      (λ l m k. (pairwise-weaker (SameName names others) (SameName more most) (same-grown names others more most g h) l.labels m.labels k.0,
+      both-weaker (SameName names others) (SameName more most) (same-grown names others more most g h) l.operation m.operation k.1,
       tokens-grown names others more most g h l.rest m.rest k.2)) ls ms s
 
-  asserts-grown : (ls ms : List Assert) → AllZip (SameAssert names others) ls ms → AllZip (SameAssert more most) ls ms
-  asserts-grown ls ms s = zip-weaker (SameAssert names others) (SameAssert more most) (λ l m k. (k.0, tokens-grown names others more most g h l.tokens m.tokens k.1)) ls ms s
+  asserts-grown : (ls ms : List Assert) → Pairwise (SameAssert names others) ls ms → Pairwise (SameAssert more most) ls ms
+  asserts-grown ls ms s = pairwise-weaker (SameAssert names others) (SameAssert more most) (λ l m k. (k.0, tokens-grown names others more most g h l.tokens m.tokens k.1)) ls ms s
 
 -- further names and tokens
 pub reading-grown : (st other : Reading) → ReadAlike st other → (more most : List (List ℕ)) → Grown st.names more → Grown other.names most → (k l : ℕ) → l ≤ k
@@ -175,7 +168,7 @@ module _ (st other : Reading) (r : ReadAlike st other) where
 
   pub counted-alike : (ts us : List Token) → SameTokens st.names other.names ts us → Together (ReadOn st other) (tokens_counted ts st) (tokens_counted us other)
   counted-alike ts us s =
-      let len : length ts ≡ length us = length_all_zip (SameToken st.names other.names) ts us s in
+      let len : length ts ≡ length us = pairwise-length (SameToken st.names other.names) ts us s in
       let few : other.tokens_read + length us ≤ st.tokens_read + length ts = (let k = r.tokens_read in omega (arith, len)) in
       together-limit (ReadOn st other) (nat_lt limit (st.tokens_read + length ts)) (nat_lt limit (other.tokens_read + length us)) TooLong
       (record st { tokens_read = st.tokens_read + length ts }) (record other { tokens_read = other.tokens_read + length us })
@@ -191,7 +184,7 @@ module _ (st other : Reading) (r : ReadAlike st other) where
 -- two readings with the same tokens behind them, as far from these two places
 pub record SameRow (here there : ℕ) (x y : WithTokens) : Type 0 where
   pub read : ReadAlike x.1 y.1
-  pub tokens : AllZip (PlacedToken x.1.names y.1.names here there) x.0 y.0
+  pub tokens : Pairwise (PlacedToken x.1.names y.1.names here there) x.0 y.0
 
 -- a row of the same bytes
 abbrev pub like_row : Row → ℕ → ℕ → Row
@@ -210,7 +203,7 @@ row-alike row number place at st other r =
     (record { tokens = tt; first = grown-itself st.names r.first; second = grown-itself other.names r.second }))
     (λ s t q. record {
       read = reading-grown st other r s.names t.names q.first q.second (st.tokens_read + length s.tokens) (other.tokens_read + length t.tokens)
-          (let k = r.tokens_read in let len : length s.tokens ≡ length t.tokens = length_all_zip (PlacedToken s.names t.names row.at place) s.tokens t.tokens q.tokens in omega arith);
+          (let k = r.tokens_read in let len : length s.tokens ≡ length t.tokens = pairwise-length (PlacedToken s.names t.names row.at place) s.tokens t.tokens q.tokens in omega arith);
       tokens = q.tokens;
     })
 
@@ -236,29 +229,29 @@ start =
 
 module _ (names others : List (List ℕ)) where
   lines-spelled : (ls ms : List (List Token)) → SameLines names others ls ms → map (spelled names) ls ≡ map (spelled others) ms
-  lines-spelled ls ms s = zip-map (SameTokens names others) (spelled names) (spelled others) (tokens-spelled names others) ls ms s
+  lines-spelled ls ms s = pairwise-map (SameTokens names others) (spelled names) (spelled others) (λ ts us k. (tokens-spelled names others ts us k).2) ls ms s
 
   equate-spelled : (e f : Equate) → SameEquate names others e f → spelled_equate names e ≡ spelled_equate others f
-  equate-spelled e f s = let a = s.0.name in let b = lines-spelled e.lines f.lines s.1 in λ i. (a i, b i)
+  equate-spelled e f s = let a = s.0.2 in let b = lines-spelled e.lines f.lines s.1 in λ i. (a i, b i)
 
-  pub equates-spelled : (es fs : List Equate) → AllZip (SameEquate names others) es fs → map (spelled_equate names) es ≡ map (spelled_equate others) fs
-  equates-spelled es fs s = zip-map (SameEquate names others) (spelled_equate names) (spelled_equate others) equate-spelled es fs s
+  pub equates-spelled : (es fs : List Equate) → Pairwise (SameEquate names others) es fs → map (spelled_equate names) es ≡ map (spelled_equate others) fs
+  equates-spelled es fs s = pairwise-map (SameEquate names others) (spelled_equate names) (spelled_equate others) equate-spelled es fs s
 
-  option-spelled : (o p : Option ℕ) → BothSome (IsSame names others) o p → option_map (name_at names) o ≡ option_map (name_at others) p
+  option-spelled : (o p : Option ℕ) → AgreeOption (SameName names others) o p → option_map (name_at names) o ≡ option_map (name_at others) p
   option-spelled None None s = refl
   option-spelled None (Some m) s = absurd s
   option-spelled (Some n) None s = absurd s
-  option-spelled (Some n) (Some m) s = ap Some s.name
+  option-spelled (Some n) (Some m) s = ap Some s.2
 
   line-spelled : (l m : Line) → SameLine names others l m → spelled_line names l ≡ spelled_line others m
   line-spelled l m s =
-      let a = zip-map (IsSame names others) (name_at names) (name_at others) (λ i j k. k.name) l.labels m.labels s.0 in
+      let a = pairwise-map (SameName names others) (name_at names) (name_at others) (λ i j k. k.2) l.labels m.labels s.0 in
       let b = option-spelled l.operation m.operation s.1 in
-      let c = tokens-spelled names others l.rest m.rest s.2 in
+      let c = (tokens-spelled names others l.rest m.rest s.2).2 in
       λ i. (a i, b i, c i)
 
   assert-spelled : (a b : Assert) → SameAssert names others a b → spelled_assert names a ≡ spelled_assert others b
-  assert-spelled a b s = let p = s.0 in let q = tokens-spelled names others a.tokens b.tokens s.1 in λ i. (p i, q i)
+  assert-spelled a b s = let p = s.0 in let q = (tokens-spelled names others a.tokens b.tokens s.1).2 in λ i. (p i, q i)
 
 pub alike : (a b : Reading) → ReadAlike a b → AreAlike (program_of a) (program_of b)
 alike a b r =
@@ -266,51 +259,51 @@ alike a b r =
       name = r.name;
       author = r.author;
       equates = equates-spelled a.names b.names a.equates b.equates r.equates;
-      lines = zip-map (SameLine a.names b.names) (spelled_line a.names) (spelled_line b.names) (line-spelled a.names b.names) a.lines b.lines r.lines;
-      asserts = zip-map (SameAssert a.names b.names) (spelled_assert a.names) (spelled_assert b.names) (assert-spelled a.names b.names) a.asserts b.asserts r.asserts;
+      lines = pairwise-map (SameLine a.names b.names) (spelled_line a.names) (spelled_line b.names) (line-spelled a.names b.names) a.lines b.lines r.lines;
+      asserts = pairwise-map (SameAssert a.names b.names) (spelled_assert a.names) (spelled_assert b.names) (assert-spelled a.names b.names) a.asserts b.asserts r.asserts;
     }
 
 -- what holds of each first and of each second of a pair
-all-first : {A B : Type 0} (R : A → B → Type 0) (P : A → Type 0) → ((x : A) (y : B) → R x y → P x) → (xs : List A) (ys : List B) → AllZip R xs ys → All P xs
+all-first : {A B : Type 0} (R : A → B → Type 0) (P : A → Type 0) → ((x : A) (y : B) → R x y → P x) → (xs : List A) (ys : List B) → Pairwise R xs ys → All P xs
 all-first R P k [] [] h = All-nil P
 all-first R P k [] (y ∷ ys) h = absurd h
 all-first R P k (x ∷ xs) [] h = absurd h
 all-first R P k (x ∷ xs) (y ∷ ys) h = All-cons P x xs (k x y h.0) (all-first R P k xs ys h.1)
 
-all-second : {A B : Type 0} (R : A → B → Type 0) (P : B → Type 0) → ((x : A) (y : B) → R x y → P y) → (xs : List A) (ys : List B) → AllZip R xs ys → All P ys
+all-second : {A B : Type 0} (R : A → B → Type 0) (P : B → Type 0) → ((x : A) (y : B) → R x y → P y) → (xs : List A) (ys : List B) → Pairwise R xs ys → All P ys
 all-second R P k [] [] h = All-nil P
 all-second R P k [] (y ∷ ys) h = absurd h
 all-second R P k (x ∷ xs) [] h = absurd h
 all-second R P k (x ∷ xs) (y ∷ ys) h = All-cons P y ys (k x y h.0) (all-second R P k xs ys h.1)
 
 module _ (names others : List (List ℕ)) where
-  operation-first : (o p : Option ℕ) → BothSome (IsSame names others) o p → IfSome o (λ i. i < length names)
+  operation-first : (o p : Option ℕ) → AgreeOption (SameName names others) o p → IfSome o (λ i. i < length names)
   operation-first None p s = tt
   operation-first (Some n) None s = absurd s
-  operation-first (Some n) (Some m) s = s.first
+  operation-first (Some n) (Some m) s = s.0
 
-  operation-second : (o p : Option ℕ) → BothSome (IsSame names others) o p → IfSome p (λ i. i < length others)
+  operation-second : (o p : Option ℕ) → AgreeOption (SameName names others) o p → IfSome p (λ i. i < length others)
   operation-second o None s = tt
   operation-second None (Some m) s = absurd s
-  operation-second (Some n) (Some m) s = s.second
+  operation-second (Some n) (Some m) s = s.1
 
-  pub equates-first : (es fs : List Equate) → AllZip (SameEquate names others) es fs → All (IsEquateBelow (length names)) es
+  pub equates-first : (es fs : List Equate) → Pairwise (SameEquate names others) es fs → All (IsEquateBelow (length names)) es
   equates-first es fs s =
-      all-first (SameEquate names others) (IsEquateBelow (length names)) (λ e f k. (k.0.first, all-first (SameTokens names others) (AreBelow (length names)) (tokens-first names others) e.lines f.lines k.1)) es fs s
+      all-first (SameEquate names others) (IsEquateBelow (length names)) (λ e f k. (k.0.0, all-first (SameTokens names others) (AreBelow (length names)) (λ ts us k. (tokens-spelled names others ts us k).0) e.lines f.lines k.1)) es fs s
 
-  pub equates-second : (es fs : List Equate) → AllZip (SameEquate names others) es fs → All (IsEquateBelow (length others)) fs
+  pub equates-second : (es fs : List Equate) → Pairwise (SameEquate names others) es fs → All (IsEquateBelow (length others)) fs
   equates-second es fs s =
-      all-second (SameEquate names others) (IsEquateBelow (length others)) (λ e f k. (k.0.second, all-second (SameTokens names others) (AreBelow (length others)) (tokens-second names others) e.lines f.lines k.1)) es fs s
+      all-second (SameEquate names others) (IsEquateBelow (length others)) (λ e f k. (k.0.1, all-second (SameTokens names others) (AreBelow (length others)) (λ ts us k. (tokens-spelled names others ts us k).1) e.lines f.lines k.1)) es fs s
 
-  lines-first : (ls ms : List Line) → AllZip (SameLine names others) ls ms → All (IsLineBelow (length names)) ls
+  lines-first : (ls ms : List Line) → Pairwise (SameLine names others) ls ms → All (IsLineBelow (length names)) ls
   lines-first ls ms s =
-      all-first (SameLine names others) (IsLineBelow (length names)) (λ l m k. (all-first (IsSame names others) (λ i. i < length names) (λ i j t. t.first) l.labels m.labels k.0,
-      operation-first l.operation m.operation k.1, tokens-first names others l.rest m.rest k.2)) ls ms s
+      all-first (SameLine names others) (IsLineBelow (length names)) (λ l m k. (all-first (SameName names others) (λ i. i < length names) (λ i j t. t.0) l.labels m.labels k.0,
+      operation-first l.operation m.operation k.1, (tokens-spelled names others l.rest m.rest k.2).0)) ls ms s
 
-  lines-second : (ls ms : List Line) → AllZip (SameLine names others) ls ms → All (IsLineBelow (length others)) ms
+  lines-second : (ls ms : List Line) → Pairwise (SameLine names others) ls ms → All (IsLineBelow (length others)) ms
   lines-second ls ms s =
-      all-second (SameLine names others) (IsLineBelow (length others)) (λ l m k. (all-second (IsSame names others) (λ i. i < length others) (λ i j t. t.second) l.labels m.labels k.0,
-      operation-second l.operation m.operation k.1, tokens-second names others l.rest m.rest k.2)) ls ms s
+      all-second (SameLine names others) (IsLineBelow (length others)) (λ l m k. (all-second (SameName names others) (λ i. i < length others) (λ i j t. t.1) l.labels m.labels k.0,
+      operation-second l.operation m.operation k.1, (tokens-spelled names others l.rest m.rest k.2).1)) ls ms s
 
 pub named : (a b : Reading) → ReadAlike a b → IsNamed (program_of a) × IsNamed (program_of b)
 named a b r = (
@@ -318,12 +311,12 @@ named a b r = (
     distinct = r.first.distinct;
     equates = equates-first a.names b.names a.equates b.equates r.equates;
     lines = lines-first a.names b.names a.lines b.lines r.lines;
-    asserts = all-first (SameAssert a.names b.names) (λ (x : Assert). AreBelow (length a.names) x.tokens) (λ x y k. tokens-first a.names b.names x.tokens y.tokens k.1) a.asserts b.asserts r.asserts;
+    asserts = all-first (SameAssert a.names b.names) (λ (x : Assert). AreBelow (length a.names) x.tokens) (λ x y k. (tokens-spelled a.names b.names x.tokens y.tokens k.1).0) a.asserts b.asserts r.asserts;
   },
   record {
     distinct = r.second.distinct;
     equates = equates-second a.names b.names a.equates b.equates r.equates;
     lines = lines-second a.names b.names a.lines b.lines r.lines;
-    asserts = all-second (SameAssert a.names b.names) (λ (x : Assert). AreBelow (length b.names) x.tokens) (λ x y k. tokens-second a.names b.names x.tokens y.tokens k.1) a.asserts b.asserts r.asserts;
+    asserts = all-second (SameAssert a.names b.names) (λ (x : Assert). AreBelow (length b.names) x.tokens) (λ x y k. (tokens-spelled a.names b.names x.tokens y.tokens k.1).1) a.asserts b.asserts r.asserts;
   },
 )

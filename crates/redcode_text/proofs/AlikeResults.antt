@@ -1,8 +1,9 @@
 -- Two results, and two lists, side by side.
 use Rattle.std.proofs.Common.{◌≡◌, refl, ap, sym, subst, true≢false, ℕ, Bool, true, false, cond, ◌||◌, List, [], ◌∷◌, ◌++◌, map, filter, Option, Some, None, is_some, Result, Ok, Err}
 use Rattle.std.specs.Prelude.{⊤}
-use Rattle.std.specs.List.{AllZip, list_any}
+use Rattle.std.specs.List.{list_any}
 use Rattle.redcode_text.specs.Results.{◌>>=◌}
+use Rattle.redcode_text.proofs.Agreement.{AgreeOption, Pairwise}
 
 -- ---- results
 
@@ -51,26 +52,20 @@ together-made R a (Ok x) (Err f) h e = absurd h
 
 -- ---- options
 
-abbrev pub BothSome : {A B : Type 0} → (A → B → Type 0) → Option A → Option B → Type 0
-BothSome R None None = ⊤
-BothSome R None (Some y) = ⊥
-BothSome R (Some x) None = ⊥
-BothSome R (Some x) (Some y) = R x y
-
-pub both-if : {A B : Type 0} (R : A → B → Type 0) (c d : Bool) (x y : Option A) (z w : Option B) → c ≡ d → BothSome R x z → BothSome R y w
-    → BothSome R (elim c as (λ _. Option A) [ true ↦ x | false ↦ y ]) (elim d as (λ _. Option B) [ true ↦ z | false ↦ w ])
+pub both-if : {A B : Type 0} (R : A → B → Type 0) (c d : Bool) (x y : Option A) (z w : Option B) → c ≡ d → AgreeOption R x z → AgreeOption R y w
+    → AgreeOption R (elim c as (λ _. Option A) [ true ↦ x | false ↦ y ]) (elim d as (λ _. Option B) [ true ↦ z | false ↦ w ])
 both-if R true true x y z w e h k = h
 both-if R false false x y z w e h k = k
 both-if R true false x y z w e h k = absurd (true≢false e)
 both-if R false true x y z w e h k = absurd (true≢false (sym e))
 
-pub both-is_some : {A B : Type 0} (R : A → B → Type 0) (o : Option A) (p : Option B) → BothSome R o p → is_some o ≡ is_some p
+pub both-is_some : {A B : Type 0} (R : A → B → Type 0) (o : Option A) (p : Option B) → AgreeOption R o p → is_some o ≡ is_some p
 both-is_some R None None h = refl
 both-is_some R None (Some y) h = absurd h
 both-is_some R (Some x) None h = absurd h
 both-is_some R (Some x) (Some y) h = refl
 
-pub both-weaker : {A B : Type 0} (R S : A → B → Type 0) → ((x : A) (y : B) → R x y → S x y) → (o : Option A) (p : Option B) → BothSome R o p → BothSome S o p
+pub both-weaker : {A B : Type 0} (R S : A → B → Type 0) → ((x : A) (y : B) → R x y → S x y) → (o : Option A) (p : Option B) → AgreeOption R o p → AgreeOption S o p
 both-weaker R S k None None h = tt
 both-weaker R S k None (Some y) h = absurd h
 both-weaker R S k (Some x) None h = absurd h
@@ -78,46 +73,27 @@ both-weaker R S k (Some x) (Some y) h = k x y h
 
 -- ---- lists
 
-pub zip-append : {A B : Type 0} (R : A → B → Type 0) (xs us : List A) (ys vs : List B) → AllZip R xs ys → AllZip R us vs → AllZip R (xs ++ us) (ys ++ vs)
-zip-append R [] us [] vs h k = k
-zip-append R [] us (y ∷ ys) vs h k = absurd h
-zip-append R (x ∷ xs) us [] vs h k = absurd h
-zip-append R (x ∷ xs) us (y ∷ ys) vs h k = (h.0, zip-append R xs us ys vs h.1 k)
+pub pairwise-weaker : {A B : Type 0} (R S : A → B → Type 0) → ((x : A) (y : B) → R x y → S x y) → (xs : List A) (ys : List B) → Pairwise R xs ys → Pairwise S xs ys
+pairwise-weaker R S k [] [] h = tt
+pairwise-weaker R S k [] (y ∷ ys) h = absurd h
+pairwise-weaker R S k (x ∷ xs) [] h = absurd h
+pairwise-weaker R S k (x ∷ xs) (y ∷ ys) h = (k x y h.0, pairwise-weaker R S k xs ys h.1)
 
-pub zip-weaker : {A B : Type 0} (R S : A → B → Type 0) → ((x : A) (y : B) → R x y → S x y) → (xs : List A) (ys : List B) → AllZip R xs ys → AllZip S xs ys
-zip-weaker R S k [] [] h = tt
-zip-weaker R S k [] (y ∷ ys) h = absurd h
-zip-weaker R S k (x ∷ xs) [] h = absurd h
-zip-weaker R S k (x ∷ xs) (y ∷ ys) h = (k x y h.0, zip-weaker R S k xs ys h.1)
+pub pairwise-any : {A B : Type 0} (R : A → B → Type 0) (f : A → Bool) (g : B → Bool) → ((x : A) (y : B) → R x y → f x ≡ g y) → (xs : List A) (ys : List B) → Pairwise R xs ys → list_any f xs ≡ list_any g ys
+pairwise-any R f g k [] [] h = refl
+pairwise-any R f g k [] (y ∷ ys) h = absurd h
+pairwise-any R f g k (x ∷ xs) [] h = absurd h
+pairwise-any R f g k (x ∷ xs) (y ∷ ys) h = let a = k x y h.0 in let b = pairwise-any R f g k xs ys h.1 in λ i. a i || b i
 
-pub zip-any : {A B : Type 0} (R : A → B → Type 0) (f : A → Bool) (g : B → Bool) → ((x : A) (y : B) → R x y → f x ≡ g y) → (xs : List A) (ys : List B) → AllZip R xs ys → list_any f xs ≡ list_any g ys
-zip-any R f g k [] [] h = refl
-zip-any R f g k [] (y ∷ ys) h = absurd h
-zip-any R f g k (x ∷ xs) [] h = absurd h
-zip-any R f g k (x ∷ xs) (y ∷ ys) h = let a = k x y h.0 in let b = zip-any R f g k xs ys h.1 in λ i. a i || b i
+pub pairwise-map : {A B C : Type 0} (R : A → B → Type 0) (f : A → C) (g : B → C) → ((x : A) (y : B) → R x y → f x ≡ g y) → (xs : List A) (ys : List B) → Pairwise R xs ys → map f xs ≡ map g ys
+pairwise-map R f g k [] [] h = refl
+pairwise-map R f g k [] (y ∷ ys) h = absurd h
+pairwise-map R f g k (x ∷ xs) [] h = absurd h
+pairwise-map R f g k (x ∷ xs) (y ∷ ys) h = let a = k x y h.0 in let b = pairwise-map R f g k xs ys h.1 in λ i. a i ∷ b i
 
-pub zip-map : {A B C : Type 0} (R : A → B → Type 0) (f : A → C) (g : B → C) → ((x : A) (y : B) → R x y → f x ≡ g y) → (xs : List A) (ys : List B) → AllZip R xs ys → map f xs ≡ map g ys
-zip-map R f g k [] [] h = refl
-zip-map R f g k [] (y ∷ ys) h = absurd h
-zip-map R f g k (x ∷ xs) [] h = absurd h
-zip-map R f g k (x ∷ xs) (y ∷ ys) h = let a = k x y h.0 in let b = zip-map R f g k xs ys h.1 in λ i. a i ∷ b i
-
-pub zip-both : {A B C D : Type 0} (R : A → B → Type 0) (S : C → D → Type 0) (f : A → C) (g : B → D) → ((x : A) (y : B) → R x y → S (f x) (g y)) → (xs : List A) (ys : List B)
-    → AllZip R xs ys → AllZip S (map f xs) (map g ys)
-zip-both R S f g k [] [] h = tt
-zip-both R S f g k [] (y ∷ ys) h = absurd h
-zip-both R S f g k (x ∷ xs) [] h = absurd h
-zip-both R S f g k (x ∷ xs) (y ∷ ys) h = (k x y h.0, zip-both R S f g k xs ys h.1)
-
-pub zip-filter : {A B : Type 0} (R : A → B → Type 0) (f : A → Bool) (g : B → Bool) → ((x : A) (y : B) → R x y → f x ≡ g y) → (xs : List A) (ys : List B)
-    → AllZip R xs ys → AllZip R (filter f xs) (filter g ys)
-zip-filter R f g k [] [] h = tt
-zip-filter R f g k [] (y ∷ ys) h = absurd h
-zip-filter R f g k (x ∷ xs) [] h = absurd h
-zip-filter {A} {B} R f g k (x ∷ xs) (y ∷ ys) h = go (f x) (g y) (k x y h.0) (zip-filter R f g k xs ys h.1)
-  where
-    go : (c d : Bool) → c ≡ d → AllZip R (filter f xs) (filter g ys) → AllZip R (cond c (x ∷ filter f xs) (filter f xs)) (cond d (y ∷ filter g ys) (filter g ys))
-    go true true e r = (h.0, r)
-    go false false e r = r
-    go true false e r = absurd (true≢false e)
-    go false true e r = absurd (true≢false (sym e))
+pub pairwise-both : {A B C D : Type 0} (R : A → B → Type 0) (S : C → D → Type 0) (f : A → C) (g : B → D) → ((x : A) (y : B) → R x y → S (f x) (g y)) → (xs : List A) (ys : List B)
+    → Pairwise R xs ys → Pairwise S (map f xs) (map g ys)
+pairwise-both R S f g k [] [] h = tt
+pairwise-both R S f g k [] (y ∷ ys) h = absurd h
+pairwise-both R S f g k (x ∷ xs) [] h = absurd h
+pairwise-both R S f g k (x ∷ xs) (y ∷ ys) h = (k x y h.0, pairwise-both R S f g k xs ys h.1)

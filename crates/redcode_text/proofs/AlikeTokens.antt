@@ -1,9 +1,8 @@
 -- The tokens of the same bytes, read under the same counters at two places of two sources.
 use Rattle.std.proofs.Common.{◌≡◌, ◌∙◌, refl, ap, sym, subst, ℕ, zero, suc, ◌+◌, ◌-◌, ◌^◌, ◌<◌, ◌≤◌, pos, Bool, true, false, cond, not, nat_lt, List, [], ◌∷◌, ◌++◌, length, take, Option, Some, None, Result, Ok, Err, arith, ltb-true, lt-ltb}
 use Rattle.std.specs.Char.{is_ascii, is_ascii_digit}
-use Rattle.std.specs.List.{AllZip, list_all}
+use Rattle.std.specs.List.{list_all}
 use Rattle.std.specs.Str.Parse.{digits_value}
-use Rattle.std.proofs.lemmas.List.Elements.{length_all_zip}
 use Rattle.redcode_text.specs.Results.{◌>>=◌}
 use Rattle.redcode_text.specs.declared.fault.TextProblem.{TextProblem}
 use Rattle.redcode_text.specs.declared.fault.TextProblem.TheVariants.{BadToken, NotAscii, TooLong}
@@ -12,8 +11,10 @@ use Rattle.redcode_text.specs.declared.token.Token.{Token}
 use Rattle.redcode_text.specs.declared.token.TokenKind.{TokenKind}
 use Rattle.redcode_text.specs.declared.token.TokenKind.TheVariants.{Number, Name}
 use Rattle.redcode_text.specs.Tokens.{Found, OpenLoop, Scanned, begins_name, begins_word, is_blank, join_counters, join_parts, joined, look_up, name_found, name_index, number_found, number_kind, one_byte_signs, parts_at_joins, plain_word_found, round_digits, round_of, round_or_bad, scan_from, sign_found, sign_token, token_at, two_byte_signs, with_name, with_room, with_token, word_found, word_len, word_token}
-use Rattle.redcode_text.proofs.AlikeResults.{Together, together-room, together-then, zip-append, zip-weaker}
-use Rattle.redcode_text.proofs.AlikeNames.{AreNames, Grown, SameKind, grown-itself, grown-on, kind-grown, with-grown, with-same}
+use Rattle.redcode_text.proofs.Agreement.{Pairwise, pairwise-append, pairwise-length}
+use Rattle.redcode_text.proofs.AlikeResults.{Together, together-room, together-then, pairwise-weaker}
+use Rattle.redcode_text.proofs.AlikeNames.{AreNames, Grown, grown-itself, grown-on, kind-grown, with-grown, with-same}
+use Rattle.redcode_text.proofs.SameNames.{SameKind}
 
 -- ---- a token
 
@@ -92,7 +93,7 @@ PlacedToken names others here there t u = SameKind names others t.kind u.kind ×
 
 -- the same tokens, and the names with theirs
 pub record SameScanned (names others : List (List ℕ)) (here there : ℕ) (s t : Scanned) : Type 0 where
-  pub tokens : AllZip (PlacedToken s.names t.names here there) s.tokens t.tokens
+  pub tokens : Pairwise (PlacedToken s.names t.names here there) s.tokens t.tokens
   pub first : Grown names s.names
   pub second : Grown others t.names
 
@@ -104,12 +105,12 @@ module _ (loops ls : List OpenLoop) (rounds : (name : List ℕ) → round_of loo
   room-alike : (at to : ℕ) → at + there ≡ to + here → (s t : Scanned) (f g : Found) → SameScanned names others here there s t → SameFound s.names t.names f g
       → Together (SameScanned names others here there) (with_room room s line at f) (with_room space t row to g)
   room-alike at to same s t f g q h =
-      let len : length s.tokens ≡ length t.tokens = length_all_zip (PlacedToken s.names t.names here there) s.tokens t.tokens q.tokens in
+      let len : length s.tokens ≡ length t.tokens = pairwise-length (PlacedToken s.names t.names here there) s.tokens t.tokens q.tokens in
       together-room (SameScanned names others here there) (nat_lt (length s.tokens) room) (nat_lt (length t.tokens) space) TooLong (with_token s line at f) (with_token t row to g)
       (λ e. let a = ltb-true (length s.tokens) room e in lt-ltb (length t.tokens) space (omega arith))
       (record {
-        tokens = zip-append (PlacedToken f.names g.names here there) s.tokens (record { kind = f.kind; line = line; from = at; to = at + f.len } ∷ []) t.tokens (record { kind = g.kind; line = row; from = to; to = to + g.len } ∷ [])
-            (zip-weaker (PlacedToken s.names t.names here there) (PlacedToken f.names g.names here there) (λ x y k. (kind-grown s.names t.names f.names g.names h.first h.second x.kind y.kind k.0, k.1)) s.tokens t.tokens q.tokens)
+        tokens = pairwise-append (PlacedToken f.names g.names here there) s.tokens t.tokens (record { kind = f.kind; line = line; from = at; to = at + f.len } ∷ []) (record { kind = g.kind; line = row; from = to; to = to + g.len } ∷ [])
+            (pairwise-weaker (PlacedToken s.names t.names here there) (PlacedToken f.names g.names here there) (λ x y k. (kind-grown s.names t.names f.names g.names h.first h.second x.kind y.kind k.0, k.1)) s.tokens t.tokens q.tokens)
             ((h.kind, same), tt);
         first = grown-on names s.names f.names q.first h.first;
         second = grown-on others t.names g.names q.second h.second;
