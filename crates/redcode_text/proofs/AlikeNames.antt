@@ -48,13 +48,16 @@ neither : (a b : Bool) → (a || b) ≡ false → (a ≡ false) × (b ≡ false)
 neither true b e = absurd (true≢false e)
 neither false b e = (refl, e)
 
-new-differs : (names : List (List ℕ)) (name : List ℕ) (n : ℕ) → list_any (bytes_eq name) names ≡ false → n < length names → name_at names n ≡ name → ⊥
+new-differs : (names : List (List ℕ)) (name : List ℕ) (n : ℕ) → list_any (bytes_eq name) names ≡ false → n < length names
+    → name_at names n ≡ name → ⊥
 new-differs [] name n e h is = omega arith
 new-differs (x ∷ names) name zero e h is =
     let l = neither (bytes_eq name x) (list_any (bytes_eq name) names) e in true≢false (sym ((bytes_eq-Decides name x).1 (sym is)) ∙ l.0)
-new-differs (x ∷ names) name (suc n) e h is = let l = neither (bytes_eq name x) (list_any (bytes_eq name) names) e in new-differs names name n l.1 (omega arith) is
+new-differs (x ∷ names) name (suc n) e h is =
+    let l = neither (bytes_eq name x) (list_any (bytes_eq name) names) e in new-differs names name n l.1 (omega arith) is
 
-new-distinct : (names : List (List ℕ)) (name : List ℕ) → list_any (bytes_eq name) names ≡ false → AreDistinct names → AreDistinct (names ++ name ∷ [])
+new-distinct : (names : List (List ℕ)) (name : List ℕ) → list_any (bytes_eq name) names ≡ false → AreDistinct names
+    → AreDistinct (names ++ name ∷ [])
 new-distinct names name e d n m h k is = go (nat_lt n (length names)) (nat_lt m (length names)) refl refl
   where
     len : length (names ++ name ∷ []) ≡ length names + 1
@@ -70,13 +73,16 @@ new-distinct names name e d n m h k is = go (nat_lt n (length names)) (nat_lt m 
         d n m a b (sym (front-kept names (name ∷ []) n a) ∙ is ∙ front-kept names (name ∷ []) m b)
     go true false p q =
         let a = ltb-true n (length names) p in
-        absurd (new-differs names name n e a (sym (front-kept names (name ∷ []) n a) ∙ is ∙ ap (name_at (names ++ name ∷ [])) (last m k q) ∙ end-named names name))
+        absurd (new-differs names name n e a (sym (front-kept names (name ∷ []) n a) ∙ is ∙ ap (name_at (names ++ name ∷ [])) (last m k q)
+        ∙ end-named names name))
     go false true p q =
         let b = ltb-true m (length names) q in
-        absurd (new-differs names name m e b (sym (front-kept names (name ∷ []) m b) ∙ sym is ∙ ap (name_at (names ++ name ∷ [])) (last n h p) ∙ end-named names name))
+        absurd (new-differs names name m e b (sym (front-kept names (name ∷ []) m b) ∙ sym is ∙ ap (name_at (names ++ name ∷ []))
+        (last n h p) ∙ end-named names name))
     go false false p q = last n h p ∙ sym (last m k q)
 
-new-begin : (names : List (List ℕ)) (name : List ℕ) → begins_name name ≡ true → AreNames names → (n : ℕ) → n < length (names ++ name ∷ []) → begins_name (name_at (names ++ name ∷ []) n) ≡ true
+new-begin : (names : List (List ℕ)) (name : List ℕ) → begins_name name ≡ true → AreNames names → (n : ℕ) → n < length (names ++ name ∷ [])
+    → begins_name (name_at (names ++ name ∷ []) n) ≡ true
 new-begin names name b d n h = go (nat_lt n (length names)) refl
   where
     len : length (names ++ name ∷ []) ≡ length names + 1
@@ -101,7 +107,9 @@ index-there : (names : List (List ℕ)) (name : List ℕ) → list_any (bytes_eq
 index-there [] name e = absurd (true≢false (sym e))
 index-there (x ∷ names) name e = go (bytes_eq name x) e (index-there names name)
   where
-    go : (t : Bool) → (t || list_any (bytes_eq name) names) ≡ true → (list_any (bytes_eq name) names ≡ true → name_index names name < length names) → cond (not t) (1 + name_index names name) 0 < length (x ∷ names)
+    go : (t : Bool) → (t || list_any (bytes_eq name) names) ≡ true
+        → (list_any (bytes_eq name) names ≡ true → name_index names name < length names)
+        → cond (not t) (1 + name_index names name) 0 < length (x ∷ names)
     go true some on = omega arith
     go false some on = let l = on some in omega arith
 
@@ -109,7 +117,9 @@ index-new : (names : List (List ℕ)) (name : List ℕ) → list_any (bytes_eq n
 index-new [] name e = refl
 index-new (x ∷ names) name e = go (bytes_eq name x) e (index-new names name)
   where
-    go : (t : Bool) → (t || list_any (bytes_eq name) names) ≡ false → (list_any (bytes_eq name) names ≡ false → name_index names name ≡ length names) → cond (not t) (1 + name_index names name) 0 ≡ length (x ∷ names)
+    go : (t : Bool) → (t || list_any (bytes_eq name) names) ≡ false
+        → (list_any (bytes_eq name) names ≡ false → name_index names name ≡ length names)
+        → cond (not t) (1 + name_index names name) 0 ≡ length (x ∷ names)
     go true none on = absurd (true≢false none)
     go false none on = let l = on none in omega arith
 
@@ -122,7 +132,8 @@ index-within names name = go (list_any (bytes_eq name) names) refl
 
 -- ---- the same name
 
-pub same-grown : (names others more most : List (List ℕ)) → Grown names more → Grown others most → (n m : ℕ) → SameName names others n m → SameName more most n m
+pub same-grown : (names others more most : List (List ℕ)) → Grown names more → Grown others most → (n m : ℕ) → SameName names others n m
+    → SameName more most n m
 same-grown names others more most g h n m s =
     let a = s.0 in
     let b = s.1 in
@@ -130,16 +141,20 @@ same-grown names others more most g h n m s =
     let k = h.longer in
     (omega arith, omega arith, g.keeps n a ∙ s.2 ∙ sym (h.keeps m b))
 
-pub with-same : (names others : List (List ℕ)) (name : List ℕ) → SameName (with_name names name) (with_name others name) (name_index names name) (name_index others name)
+pub with-same : (names others : List (List ℕ)) (name : List ℕ)
+    → SameName (with_name names name) (with_name others name) (name_index names name) (name_index others name)
 with-same names others name = (index-within names name, index-within others name, named-with names name ∙ sym (named-with others name))
 
 -- ---- tokens
 
-pub kind-grown : (names others more most : List (List ℕ)) → Grown names more → Grown others most → (k j : TokenKind) → SameKind names others k j → SameKind more most k j
+pub kind-grown : (names others more most : List (List ℕ)) → Grown names more → Grown others most → (k j : TokenKind)
+    → SameKind names others k j → SameKind more most k j
 kind-grown names others more most g h (Name n) (Name m) s = same-grown names others more most g h n m s
 kind-grown names others more most g h (Number v) (Number w) s = s
 kind-grown names others more most g h (token.Sign t) (token.Sign r) s = s
 kind-grown names others more most g h _ _ s = absurd s
 
-pub tokens-grown : (names others more most : List (List ℕ)) → Grown names more → Grown others most → (ts us : List Token) → SameTokens names others ts us → SameTokens more most ts us
-tokens-grown names others more most g h ts us s = pairwise-weaker (SameToken names others) (SameToken more most) (λ t u k. kind-grown names others more most g h t.kind u.kind k) ts us s
+pub tokens-grown : (names others more most : List (List ℕ)) → Grown names more → Grown others most → (ts us : List Token)
+    → SameTokens names others ts us → SameTokens more most ts us
+tokens-grown names others more most g h ts us s =
+    pairwise-weaker (SameToken names others) (SameToken more most) (λ t u k. kind-grown names others more most g h t.kind u.kind k) ts us s

@@ -28,13 +28,15 @@ use Rattle.redcode_text.proofs.Simulations.{IsCounter}
 -- the loops that have a counter
 abbrev pub counted : List OpenLoop → List OpenLoop
 counted [] = []
-counted (l ∷ ls) = elim l.counter as (λ _. List OpenLoop) [ None ↦ counted ls | Some c ↦ record { counter = Some c; round = l.round } ∷ counted ls ]
+counted (l ∷ ls) =
+    elim l.counter as (λ _. List OpenLoop) [ None ↦ counted ls | Some c ↦ record { counter = Some c; round = l.round } ∷ counted ls ]
 
 round-counted : (ls : List OpenLoop) (name : List ℕ) → round_of ls name ≡ round_of (counted ls) name
 round-counted [] name = refl
 round-counted (l ∷ ls) name = go l.counter (round-counted ls name)
   where
-    go : (o : Option (List ℕ)) → round_of ls name ≡ round_of (counted ls) name → elim (is_counter name o) as (λ _. Option ℕ) [ true ↦ Some l.round | false ↦ round_of ls name ]
+    go : (o : Option (List ℕ)) → round_of ls name ≡ round_of (counted ls) name
+        → elim (is_counter name o) as (λ _. Option ℕ) [ true ↦ Some l.round | false ↦ round_of ls name ]
         ≡ round_of (elim o as (λ _. List OpenLoop) [ None ↦ counted ls | Some c ↦ record { counter = Some c; round = l.round } ∷ counted ls ]) name
     go None same = same
     go (Some c) same = ap (λ o. elim (is_counter name (Some c)) as (λ _. Option ℕ) [ true ↦ Some l.round | false ↦ o ]) same
@@ -58,7 +60,8 @@ pub both-opened : (loops ls : List OpenLoop) (counter : Option (List ℕ)) (roun
 both-opened loops ls None round is h = record { same = h.same; fewer = (let l = h.fewer in omega arith); counters = (is, h.counters) }
 both-opened loops ls (Some c) round is h = record { same = ap (λ l. record { counter = Some c; round = round } ∷ l) h.same; fewer = (let l = h.fewer in omega arith); counters = (is, h.counters) }
 
-pub one-opened : (loops ls : List OpenLoop) (round : ℕ) → LoopsAlike loops ls → LoopsAlike (record { counter = None; round = round } ∷ loops) ls
+pub one-opened : (loops ls : List OpenLoop) (round : ℕ) → LoopsAlike loops ls
+    → LoopsAlike (record { counter = None; round = round } ∷ loops) ls
 one-opened loops ls round h = record { same = h.same; fewer = (let l = h.fewer in omega arith); counters = (tt, h.counters) }
 
 -- ---- what was read
@@ -86,23 +89,31 @@ pub record ReadAlike (st other : Reading) : Type 0 where
 
 module _ (names others more most : List (List ℕ)) (g : Grown names more) (h : Grown others most) where
   lines-grown : (ls ms : List (List Token)) → SameLines names others ls ms → SameLines more most ls ms
-  lines-grown ls ms s = pairwise-weaker (SameTokens names others) (SameTokens more most) (λ ts us k. tokens-grown names others more most g h ts us k) ls ms s
+  lines-grown ls ms s =
+      pairwise-weaker (SameTokens names others) (SameTokens more most) (λ ts us k. tokens-grown names others more most g h ts us k) ls ms s
 
   equates-grown : (es fs : List Equate) → Pairwise (SameEquate names others) es fs → Pairwise (SameEquate more most) es fs
-  equates-grown es fs s = pairwise-weaker (SameEquate names others) (SameEquate more most) (λ e f k. (same-grown names others more most g h e.name f.name k.0, lines-grown e.lines f.lines k.1)) es fs s
+  equates-grown es fs s =
+      pairwise-weaker (SameEquate names others) (SameEquate more most)
+      (λ e f k. (same-grown names others more most g h e.name f.name k.0, lines-grown e.lines f.lines k.1)) es fs s
 
   read-lines-grown : (ls ms : List Line) → Pairwise (SameLine names others) ls ms → Pairwise (SameLine more most) ls ms
   read-lines-grown ls ms s =
       pairwise-weaker (SameLine names others) (SameLine more most)
-      (λ l m k. (pairwise-weaker (SameName names others) (SameName more most) (same-grown names others more most g h) l.labels m.labels k.0,
-      both-weaker (SameName names others) (SameName more most) (same-grown names others more most g h) l.operation m.operation k.1,
-      tokens-grown names others more most g h l.rest m.rest k.2)) ls ms s
+      (λ l m k. (
+        pairwise-weaker (SameName names others) (SameName more most) (same-grown names others more most g h) l.labels m.labels k.0,
+        both-weaker (SameName names others) (SameName more most) (same-grown names others more most g h) l.operation m.operation k.1,
+        tokens-grown names others more most g h l.rest m.rest k.2,
+      )) ls ms s
 
   asserts-grown : (ls ms : List Assert) → Pairwise (SameAssert names others) ls ms → Pairwise (SameAssert more most) ls ms
-  asserts-grown ls ms s = pairwise-weaker (SameAssert names others) (SameAssert more most) (λ l m k. (k.0, tokens-grown names others more most g h l.tokens m.tokens k.1)) ls ms s
+  asserts-grown ls ms s =
+      pairwise-weaker (SameAssert names others) (SameAssert more most)
+      (λ l m k. (k.0, tokens-grown names others more most g h l.tokens m.tokens k.1)) ls ms s
 
 -- further names and tokens
-pub reading-grown : (st other : Reading) → ReadAlike st other → (more most : List (List ℕ)) → Grown st.names more → Grown other.names most → (k l : ℕ) → l ≤ k
+pub reading-grown : (st other : Reading) → ReadAlike st other → (more most : List (List ℕ)) → Grown st.names more → Grown other.names most
+    → (k l : ℕ) → l ≤ k
     → ReadAlike (record st { names = more; tokens_read = k }) (record other { names = most; tokens_read = l })
 reading-grown st other r more most g h k l few =
     record {
@@ -122,8 +133,10 @@ reading-grown st other r more most g h k l few =
     }
 
 -- other counts, other open loops, and EQU lines that may add less or as much
-pub counts-alike : (st other : Reading) → ReadAlike st other → (loops ls : List OpenLoop) → LoopsAlike loops ls → (s t : Bool) → (s ≡ true → t ≡ true) → (i j k l : ℕ) → j ≤ i → l ≤ k
-    → ReadAlike (record st { loops = loops; equate_grows = s; lines_read = i; tokens_read = k }) (record other { loops = ls; equate_grows = t; lines_read = j; tokens_read = l })
+pub counts-alike : (st other : Reading) → ReadAlike st other → (loops ls : List OpenLoop) → LoopsAlike loops ls → (s t : Bool)
+    → (s ≡ true → t ≡ true) → (i j k l : ℕ) → j ≤ i → l ≤ k
+    → ReadAlike (record st { loops = loops; equate_grows = s; lines_read = i; tokens_read = k })
+    (record other { loops = ls; equate_grows = t; lines_read = j; tokens_read = l })
 counts-alike st other r loops ls o s t grows i j k l few less =
     record {
       loops = o;
@@ -158,15 +171,19 @@ lt-met n a b few e = grind (arith, nat_tests)
 module _ (st other : Reading) (r : ReadAlike st other) where
   pub line-read-alike : Together (ReadOn st other) (line_read st) (line_read other)
   line-read-alike =
-      together-limit (ReadOn st other) (nat_le limit st.lines_read) (nat_le limit other.lines_read) TooLong (record st { lines_read = st.lines_read + 1 }) (record other { lines_read = other.lines_read + 1 })
+      together-limit (ReadOn st other) (nat_le limit st.lines_read) (nat_le limit other.lines_read) TooLong
+      (record st { lines_read = st.lines_read + 1 }) (record other { lines_read = other.lines_read + 1 })
       (le-met limit st.lines_read other.lines_read r.lines_read)
       (record {
-        read = counts-alike st other r st.loops other.loops r.loops st.equate_grows other.equate_grows r.grows (st.lines_read + 1) (other.lines_read + 1) st.tokens_read other.tokens_read (let k = r.lines_read in omega arith) r.tokens_read;
+        read =
+            counts-alike st other r st.loops other.loops r.loops st.equate_grows other.equate_grows r.grows (st.lines_read + 1)
+            (other.lines_read + 1) st.tokens_read other.tokens_read (let k = r.lines_read in omega arith) r.tokens_read;
         first = refl;
         second = refl;
       })
 
-  pub counted-alike : (ts us : List Token) → SameTokens st.names other.names ts us → Together (ReadOn st other) (tokens_counted ts st) (tokens_counted us other)
+  pub counted-alike : (ts us : List Token) → SameTokens st.names other.names ts us
+      → Together (ReadOn st other) (tokens_counted ts st) (tokens_counted us other)
   counted-alike ts us s =
       let len : length ts ≡ length us = pairwise-length (SameToken st.names other.names) ts us s in
       let few : other.tokens_read + length us ≤ st.tokens_read + length ts = (let k = r.tokens_read in omega (arith, len)) in
@@ -174,7 +191,9 @@ module _ (st other : Reading) (r : ReadAlike st other) where
       (record st { tokens_read = st.tokens_read + length ts }) (record other { tokens_read = other.tokens_read + length us })
       (lt-met limit (st.tokens_read + length ts) (other.tokens_read + length us) few)
       (record {
-        read = counts-alike st other r st.loops other.loops r.loops st.equate_grows other.equate_grows r.grows st.lines_read other.lines_read (st.tokens_read + length ts) (other.tokens_read + length us) r.lines_read few;
+        read =
+            counts-alike st other r st.loops other.loops r.loops st.equate_grows other.equate_grows r.grows st.lines_read other.lines_read
+            (st.tokens_read + length ts) (other.tokens_read + length us) r.lines_read few;
         first = refl;
         second = refl;
       })
@@ -190,7 +209,8 @@ pub record SameRow (here there : ℕ) (x y : WithTokens) : Type 0 where
 abbrev pub like_row : Row → ℕ → ℕ → Row
 like_row row number place = record { number = number; at = place; bytes = row.bytes }
 
-pub row-alike : (row : Row) (number place at : ℕ) (st other : Reading) → ReadAlike st other → Together (SameRow row.at place) (row_tokens row at st) (row_tokens (like_row row number place) at other)
+pub row-alike : (row : Row) (number place at : ℕ) (st other : Reading) → ReadAlike st other
+    → Together (SameRow row.at place) (row_tokens row at st) (row_tokens (like_row row number place) at other)
 row-alike row number place at st other r =
     let text = before_comment (drop at row.bytes) in
     together-then (SameScanned st.names other.names row.at place) (SameRow row.at place)
@@ -198,12 +218,16 @@ row-alike row number place at st other r =
     (tokens other.loops number (place + at) (limit - other.tokens_read) other.names text)
     (λ s. Ok (s.tokens, record st { names = s.names; tokens_read = st.tokens_read + length s.tokens }))
     (λ t. Ok (t.tokens, record other { names = t.names; tokens_read = other.tokens_read + length t.tokens }))
-    (scan-alike st.loops other.loops (rounds-same st.loops other.loops r.loops) st.names other.names row.at place row.number number (limit - st.tokens_read) (limit - other.tokens_read)
-    (let k = r.tokens_read in omega arith) text (row.at + at) (place + at) 0 (omega arith) (record { tokens = []; names = st.names }) (record { tokens = []; names = other.names })
+    (scan-alike st.loops other.loops (rounds-same st.loops other.loops r.loops) st.names other.names row.at place row.number number
+    (limit - st.tokens_read) (limit - other.tokens_read)
+    (let k = r.tokens_read in omega arith) text (row.at + at) (place + at) 0 (omega arith) (record { tokens = []; names = st.names })
+    (record { tokens = []; names = other.names })
     (record { tokens = tt; first = grown-itself st.names r.first; second = grown-itself other.names r.second }))
     (λ s t q. record {
-      read = reading-grown st other r s.names t.names q.first q.second (st.tokens_read + length s.tokens) (other.tokens_read + length t.tokens)
-          (let k = r.tokens_read in let len : length s.tokens ≡ length t.tokens = pairwise-length (PlacedToken s.names t.names row.at place) s.tokens t.tokens q.tokens in omega arith);
+      read =
+          reading-grown st other r s.names t.names q.first q.second (st.tokens_read + length s.tokens) (other.tokens_read + length t.tokens)
+          (let k = r.tokens_read in let len : length s.tokens ≡ length t.tokens = pairwise-length
+          (PlacedToken s.names t.names row.at place) s.tokens t.tokens q.tokens in omega arith);
       tokens = q.tokens;
     })
 
@@ -229,12 +253,14 @@ start =
 
 module _ (names others : List (List ℕ)) where
   lines-spelled : (ls ms : List (List Token)) → SameLines names others ls ms → map (spelled names) ls ≡ map (spelled others) ms
-  lines-spelled ls ms s = pairwise-map (SameTokens names others) (spelled names) (spelled others) (λ ts us k. (tokens-spelled names others ts us k).2) ls ms s
+  lines-spelled ls ms s =
+      pairwise-map (SameTokens names others) (spelled names) (spelled others) (λ ts us k. (tokens-spelled names others ts us k).2) ls ms s
 
   equate-spelled : (e f : Equate) → SameEquate names others e f → spelled_equate names e ≡ spelled_equate others f
   equate-spelled e f s = let a = s.0.2 in let b = lines-spelled e.lines f.lines s.1 in λ i. (a i, b i)
 
-  pub equates-spelled : (es fs : List Equate) → Pairwise (SameEquate names others) es fs → map (spelled_equate names) es ≡ map (spelled_equate others) fs
+  pub equates-spelled : (es fs : List Equate) → Pairwise (SameEquate names others) es fs
+      → map (spelled_equate names) es ≡ map (spelled_equate others) fs
   equates-spelled es fs s = pairwise-map (SameEquate names others) (spelled_equate names) (spelled_equate others) equate-spelled es fs s
 
   option-spelled : (o p : Option ℕ) → AgreeOption (SameName names others) o p → option_map (name_at names) o ≡ option_map (name_at others) p
@@ -259,18 +285,24 @@ alike a b r =
       name = r.name;
       author = r.author;
       equates = equates-spelled a.names b.names a.equates b.equates r.equates;
-      lines = pairwise-map (SameLine a.names b.names) (spelled_line a.names) (spelled_line b.names) (line-spelled a.names b.names) a.lines b.lines r.lines;
-      asserts = pairwise-map (SameAssert a.names b.names) (spelled_assert a.names) (spelled_assert b.names) (assert-spelled a.names b.names) a.asserts b.asserts r.asserts;
+      lines =
+          pairwise-map (SameLine a.names b.names) (spelled_line a.names) (spelled_line b.names) (line-spelled a.names b.names) a.lines
+          b.lines r.lines;
+      asserts =
+          pairwise-map (SameAssert a.names b.names) (spelled_assert a.names) (spelled_assert b.names) (assert-spelled a.names b.names)
+          a.asserts b.asserts r.asserts;
     }
 
 -- what holds of each first and of each second of a pair
-all-first : {A B : Type 0} (R : A → B → Type 0) (P : A → Type 0) → ((x : A) (y : B) → R x y → P x) → (xs : List A) (ys : List B) → Pairwise R xs ys → All P xs
+all-first : {A B : Type 0} (R : A → B → Type 0) (P : A → Type 0) → ((x : A) (y : B) → R x y → P x) → (xs : List A) (ys : List B)
+    → Pairwise R xs ys → All P xs
 all-first R P k [] [] h = All-nil P
 all-first R P k [] (y ∷ ys) h = absurd h
 all-first R P k (x ∷ xs) [] h = absurd h
 all-first R P k (x ∷ xs) (y ∷ ys) h = All-cons P x xs (k x y h.0) (all-first R P k xs ys h.1)
 
-all-second : {A B : Type 0} (R : A → B → Type 0) (P : B → Type 0) → ((x : A) (y : B) → R x y → P y) → (xs : List A) (ys : List B) → Pairwise R xs ys → All P ys
+all-second : {A B : Type 0} (R : A → B → Type 0) (P : B → Type 0) → ((x : A) (y : B) → R x y → P y) → (xs : List A) (ys : List B)
+    → Pairwise R xs ys → All P ys
 all-second R P k [] [] h = All-nil P
 all-second R P k [] (y ∷ ys) h = absurd h
 all-second R P k (x ∷ xs) [] h = absurd h
@@ -289,21 +321,37 @@ module _ (names others : List (List ℕ)) where
 
   pub equates-first : (es fs : List Equate) → Pairwise (SameEquate names others) es fs → All (IsEquateBelow (length names)) es
   equates-first es fs s =
-      all-first (SameEquate names others) (IsEquateBelow (length names)) (λ e f k. (k.0.0, all-first (SameTokens names others) (AreBelow (length names)) (λ ts us k. (tokens-spelled names others ts us k).0) e.lines f.lines k.1)) es fs s
+      all-first (SameEquate names others) (IsEquateBelow (length names))
+      (λ e f k. (
+        k.0.0,
+        all-first (SameTokens names others) (AreBelow (length names)) (λ ts us k. (tokens-spelled names others ts us k).0)
+            e.lines f.lines k.1,
+      )) es fs s
 
   pub equates-second : (es fs : List Equate) → Pairwise (SameEquate names others) es fs → All (IsEquateBelow (length others)) fs
   equates-second es fs s =
-      all-second (SameEquate names others) (IsEquateBelow (length others)) (λ e f k. (k.0.1, all-second (SameTokens names others) (AreBelow (length others)) (λ ts us k. (tokens-spelled names others ts us k).1) e.lines f.lines k.1)) es fs s
+      all-second (SameEquate names others) (IsEquateBelow (length others))
+      (λ e f k. (
+        k.0.1,
+        all-second (SameTokens names others) (AreBelow (length others))
+            (λ ts us k. (tokens-spelled names others ts us k).1) e.lines f.lines k.1,
+      )) es fs s
 
   lines-first : (ls ms : List Line) → Pairwise (SameLine names others) ls ms → All (IsLineBelow (length names)) ls
   lines-first ls ms s =
-      all-first (SameLine names others) (IsLineBelow (length names)) (λ l m k. (all-first (SameName names others) (λ i. i < length names) (λ i j t. t.0) l.labels m.labels k.0,
-      operation-first l.operation m.operation k.1, (tokens-spelled names others l.rest m.rest k.2).0)) ls ms s
+      all-first (SameLine names others) (IsLineBelow (length names)) (λ l m k. (
+        all-first (SameName names others) (λ i. i < length names) (λ i j t. t.0) l.labels m.labels k.0,
+        operation-first l.operation m.operation k.1,
+        (tokens-spelled names others l.rest m.rest k.2).0,
+      )) ls ms s
 
   lines-second : (ls ms : List Line) → Pairwise (SameLine names others) ls ms → All (IsLineBelow (length others)) ms
   lines-second ls ms s =
-      all-second (SameLine names others) (IsLineBelow (length others)) (λ l m k. (all-second (SameName names others) (λ i. i < length others) (λ i j t. t.1) l.labels m.labels k.0,
-      operation-second l.operation m.operation k.1, (tokens-spelled names others l.rest m.rest k.2).1)) ls ms s
+      all-second (SameLine names others) (IsLineBelow (length others)) (λ l m k. (
+        all-second (SameName names others) (λ i. i < length others) (λ i j t. t.1) l.labels m.labels k.0,
+        operation-second l.operation m.operation k.1,
+        (tokens-spelled names others l.rest m.rest k.2).1,
+      )) ls ms s
 
 pub named : (a b : Reading) → ReadAlike a b → IsNamed (program_of a) × IsNamed (program_of b)
 named a b r = (
@@ -311,12 +359,16 @@ named a b r = (
     distinct = r.first.distinct;
     equates = equates-first a.names b.names a.equates b.equates r.equates;
     lines = lines-first a.names b.names a.lines b.lines r.lines;
-    asserts = all-first (SameAssert a.names b.names) (λ (x : Assert). AreBelow (length a.names) x.tokens) (λ x y k. (tokens-spelled a.names b.names x.tokens y.tokens k.1).0) a.asserts b.asserts r.asserts;
+    asserts =
+        all-first (SameAssert a.names b.names) (λ (x : Assert). AreBelow (length a.names) x.tokens)
+        (λ x y k. (tokens-spelled a.names b.names x.tokens y.tokens k.1).0) a.asserts b.asserts r.asserts;
   },
   record {
     distinct = r.second.distinct;
     equates = equates-second a.names b.names a.equates b.equates r.equates;
     lines = lines-second a.names b.names a.lines b.lines r.lines;
-    asserts = all-second (SameAssert a.names b.names) (λ (x : Assert). AreBelow (length b.names) x.tokens) (λ x y k. (tokens-spelled a.names b.names x.tokens y.tokens k.1).1) a.asserts b.asserts r.asserts;
+    asserts =
+        all-second (SameAssert a.names b.names) (λ (x : Assert). AreBelow (length b.names) x.tokens)
+        (λ x y k. (tokens-spelled a.names b.names x.tokens y.tokens k.1).1) a.asserts b.asserts r.asserts;
   },
 )
