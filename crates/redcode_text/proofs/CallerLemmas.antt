@@ -27,6 +27,10 @@ pub use Rattle.redcode_text.proofs.TokensRead.{Leads, Seen, blank-leads, decimal
 pub use Rattle.redcode_text.proofs.Trees.{spelling, is_prefix, IsLevelled, rank-≤5}
 pub use Rattle.redcode_text.proofs.Shapes.{shaped}
 pub use Rattle.redcode_text.proofs.Splits.{tree-spelled}
+pub use Rattle.redcode_text.proofs.Agreement.{Agree, AgreeOption, Pairwise, Same, agree-after, agree-bind, agree-same, agree-value, pairwise-filter, pairwise-last, pairwise-length}
+pub use Rattle.redcode_text.proofs.AlikeValues.{substitution-same, value-same}
+pub use Rattle.redcode_text.proofs.Named.{AreDistinct, IsNamed}
+pub use Rattle.redcode_text.proofs.SameNames.{SameAssert, SameEquate, SameKind, SameLine, SameName, SameToken, SameTokens, asserts-same, equates-same, index-same, lines-same}
 pub use Rattle.redcode_text.proofs.ShortWords.{has_word_length, find-same, name-same, predefined-same, spelled-same, word-same}
 
 -- where the first is a value, the second is it

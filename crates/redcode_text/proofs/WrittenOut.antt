@@ -1,5 +1,5 @@
 -- A loop without a counter, written out by hand, gives the same program, by any relation of readings that the lines keep.
-use Rattle.std.proofs.Common.{◌≡◌, refl, ap, subst, ℕ, List, ◌++◌, All, Result, Ok, Err}
+use Rattle.std.proofs.Common.{◌≡◌, refl, ap, subst, ℕ, ◌^◌, ◌<◌, List, ◌++◌, All, Result, Ok, Err}
 use Rattle.std.proofs.lemmas.List.Elements.{recursion_from_All}
 use Rattle.redcode_text.specs.Results.{◌>>=◌}
 use Rattle.redcode_text.specs.declared.fault.TextFault.{TextFault}
@@ -28,12 +28,12 @@ module _ (ps : Predefined) (R : Reading → Reading → Type 0) (sim : IsSimulat
       let b = trees-read ps R sim (tree_of one) (tree_of other) trees nothing_read nothing_read refl start a.0 a.1 in
       (a.0, b.0, b.2, a.2, ap (λ r. r >>= λ st. Ok (program_of st)) b.1)
 
-  pub written-out : ((a b : Reading) → R a b → AreAlike (program_of a) (program_of b)) → (n : ℕ) (before body after : List (List ℕ)) (s : ProgramValue)
+  pub written-out : ((a b : Reading) → R a b → AreAlike (program_of a) (program_of b)) → (n : ℕ) (before body after : List (List ℕ)) (s : ProgramValue) → n < 2 ^ 63
       → All IsLine before → All IsLine body → All IsLine after → All IsBodyLine body
       → expansion ps (text_of_lines (before ++ (loop_lines n body ++ after))) ≡ Ok s
       → (t : ProgramValue) × (expansion ps (text_of_lines (before ++ (copies n body ++ after))) ≡ Ok t) × AreAlike s t
-  written-out alike n before body after s first inside last all is =
-      let trees = written-trees n before body after (recursion_from_All IsLine before first) (recursion_from_All IsLine body inside) (recursion_from_All IsLine after last) (recursion_from_All IsBodyLine body all) in
+  written-out alike n before body after s small first inside last all is =
+      let trees = written-trees n before body after small (recursion_from_All IsLine before first) (recursion_from_All IsLine body inside) (recursion_from_All IsLine after last) (recursion_from_All IsBodyLine body all) in
       let r = sources-read (text_of_lines (before ++ (loop_lines n body ++ after))) (text_of_lines (before ++ (copies n body ++ after))) s trees is in
       (program_of r.1, r.4, subst (λ x. AreAlike x (program_of r.1)) r.3 (alike r.0 r.1 r.2))
 

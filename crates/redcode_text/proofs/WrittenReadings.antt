@@ -1,5 +1,5 @@
 -- Trees that are alike, where a loop may be written out in the second, are read to readings that are alike.
-use Rattle.std.proofs.Common.{◌≡◌, ◌∙◌, refl, ap, sym, subst, ℕ, zero, suc, ◌+◌, Bool, true, false, List, [], ◌∷◌, ◌++◌, length, drop, ◌-◌, inl, inr, Option, None, Result, Ok, Err}
+use Rattle.std.proofs.Common.{◌≡◌, ◌∙◌, refl, ap, sym, subst, ℕ, zero, suc, ◌+◌, ◌^◌, ◌<◌, Bool, true, false, List, [], ◌∷◌, ◌++◌, length, drop, ◌-◌, inl, inr, Option, None, Result, Ok, Err}
 use Rattle.std.specs.Prelude.{⊤, codes, decimal}
 use Rattle.redcode_text.specs.Results.{◌>>=◌}
 use Rattle.redcode_text.specs.declared.fault.TextFault.{TextFault}
@@ -246,14 +246,14 @@ module _ (ps : Predefined) (R : Reading → Reading → Type 0) (sim : IsSimulat
           (rounds-both (flat ps body) (flat ps inside) body-same h.counter heads.2 h.count 1 h.reading k.reading going heads.3)
           (λ a b is related. both-unless a b (behind rof rest) (behind end others) related (λ goes. behind-both a b goes related)))
 
-  loop-written : (head rof : Row) (rows : List Row) (n : ℕ) (rest others items : Items) → head.bytes ≡ codes "FOR " ++ decimal n → AreCopies n rows others items → AreReadAlike rest others
+  loop-written : (head rof : Row) (rows : List Row) (n : ℕ) (rest others items : Items) → n < 2 ^ 63 → head.bytes ≡ codes "FOR " ++ decimal n → AreCopies n rows others items → AreReadAlike rest others
       → AreReadAlike (Loop head (onto rows Nothing) rof rest) items
-  loop-written head rof rows n rest others items head-is are-copies rest-same st other on r =
+  loop-written head rof rows n rest others items small head-is are-copies rest-same st other on r =
       one-then (at_line head.number (head_line ps head st)) (flat ps items other)
       (λ h. rounds (flat ps (onto rows Nothing)) h.counter 1 h.count h.reading >>= λ a. unless_ended a (behind rof rest))
       (λ h is.
       let read = without-number head.number (head_line ps head st) h is in
-      let lone = sim.lone_head st other head n h head-is r read in
+      let lone = sim.lone_head st other head n h small head-is r read in
       inside-written h lone.0 lone.1 (head-ended ps head st h read ∙ on) lone.2)
     where
       behind-written : (a b : Reading) → a.ended ≡ false → R a b → Follows (behind rof rest a) (flat ps others b)
@@ -280,6 +280,6 @@ module _ (ps : Predefined) (R : Reading → Reading → Type 0) (sim : IsSimulat
       (loop-both head rof s.like s.end body s.body rest s.rest s.head_same s.rof_same (trees-read body s.body s.body_same) (trees-read rest s.rest s.rest_same) st like on r)
   trees-read (Loop head body rof rest) other (inr w) st like on r =
       subst (λ x. Follows (flat ps (Loop head x rof rest) st) (flat ps other like)) (sym w.body_is)
-      (loop-written head rof w.rows w.count rest w.rest other w.head_is w.are_copies (trees-read rest w.rest w.rest_same) st like on r)
+      (loop-written head rof w.rows w.count rest w.rest other w.small w.head_is w.are_copies (trees-read rest w.rest w.rest_same) st like on r)
   trees-read (source.UnclosedFor row rest) other t st like on r = λ a is. absurd (unpaired-refused row.number UnclosedFor st a is)
   trees-read (LoneRof row rest) other t st like on r = λ a is. absurd (unpaired-refused row.number RofAlone st a is)

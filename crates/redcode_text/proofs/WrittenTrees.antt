@@ -1,5 +1,5 @@
 -- Trees that are the same row for row, but that a loop without a counter may be written out in the second; and the texts that have such trees.
-use Rattle.std.proofs.Common.{◌≡◌, ◌∙◌, refl, ap, sym, subst, ℕ, zero, suc, ◌+◌, Bool, true, false, ◌||◌, ◌==◌, List, [], ◌∷◌, ◌++◌, length, ◌⊎◌, inl, inr, append_assoc, arith}
+use Rattle.std.proofs.Common.{◌≡◌, ◌∙◌, refl, ap, sym, subst, ℕ, zero, suc, ◌+◌, ◌^◌, ◌<◌, Bool, true, false, ◌||◌, ◌==◌, List, [], ◌∷◌, ◌++◌, length, ◌⊎◌, inl, inr, append_assoc, arith}
 use Rattle.std.proofs.lemmas.Bool.{true≢false}
 use Rattle.std.proofs.lemmas.Bool.Decides.{nat_tests}
 use Rattle.std.specs.Fmt.{digit_glyph, digits, digits_onto, decimal}
@@ -46,6 +46,7 @@ pub record IsWrittenOut (head : Row) (body : Items) (behind : Items → Type 0) 
   pub count : ℕ
   pub rows : List Row
   pub rest : Items
+  pub small : count < 2 ^ 63
   pub head_is : head.bytes ≡ codes "FOR " ++ decimal count
   pub body_is : body ≡ onto rows Nothing
   pub are_copies : AreCopies count rows rest other
@@ -99,6 +100,7 @@ lone-alike rof other (Loop head body end rest) two (inr w) =
       count = w.count;
       rows = w.rows;
       rest = then_lone other w.rest;
+      small = w.small;
       head_is = w.head_is;
       body_is = w.body_is;
       are_copies = copies-lone other w.count w.rows w.rest two w.are_copies;
@@ -220,14 +222,14 @@ module _ (body after : List (List ℕ)) (all : AllByRecursion IsBodyLine body) w
       let inside : paired (rows_from k b ((body ++ codes "ROF" ∷ []) ++ after)) ≡ here = ap (λ l. paired (rows_from k b l)) (append_assoc body (codes "ROF" ∷ []) after) ∙ r.2 in
       (k, b, i, j, rof, ap (paired_with (line_kind (codes "FOR " ++ decimal n)) head) inside ∙ ap (λ kind. paired_with kind head here) (for-kind (decimal n)))
 
-  loop-alike : (n : ℕ) → LinesAlike (loop_lines n body ++ after) (copies n body ++ after)
+  loop-alike : (n : ℕ) → n < 2 ^ 63 → LinesAlike (loop_lines n body ++ after) (copies n body ++ after)
   unfolding TreesAlike
-  loop-alike n number at m a =
+  loop-alike n small number at m a =
       let l = loop-paired n number at in
       let c = copies-paired n m a l.0 l.1 in
       let same = lines-themselves after l.2 l.3 c.0 c.1 in
       let other = paired (rows_from m a (copies n body ++ after)) in
-      let here = inr (record { count = n; rows = rows_from l.0 l.1 body; rest = (paired (rows_from c.0 c.1 after)).here; head_is = refl; body_is = refl; are_copies = c.2; rest_same = same.0 }) in
+      let here = inr (record { count = n; rows = rows_from l.0 l.1 body; rest = (paired (rows_from c.0 c.1 after)).here; small = small; head_is = refl; body_is = refl; are_copies = c.2; rest_same = same.0 }) in
       subst (λ p. PairsAlike p other) (sym l.5) (here, subst (λ w. WaitingAlike (paired (rows_from l.2 l.3 after)).waiting w) (sym c.3) same.1)
 
 -- ---- the first `;redcode`
@@ -381,10 +383,10 @@ none-redcode : (lines : List (List ℕ)) → AllByRecursion IsBodyLine lines →
 none-redcode [] all = refl
 none-redcode (l ∷ lines) all = ap (λ b. b || list_any begins lines) all.0.plain ∙ none-redcode lines all.1
 
-pub written-trees : (n : ℕ) (before body after : List (List ℕ))
+pub written-trees : (n : ℕ) (before body after : List (List ℕ)) → n < 2 ^ 63
     → AllByRecursion IsLine before → AllByRecursion IsLine body → AllByRecursion IsLine after → AllByRecursion IsBodyLine body
     → TreesAlike (tree_of (text_of_lines (before ++ (loop_lines n body ++ after)))) (tree_of (text_of_lines (before ++ (copies n body ++ after))))
-written-trees n before body after first inside last all =
+written-trees n before body after small first inside last all =
     let loop-is : AllByRecursion IsLine (loop_lines n body) = (decimal-line n, all-append IsLine body (codes "ROF" ∷ []) inside (refl, tt)) in
     let one = before ++ (loop_lines n body ++ after) in
     let two = before ++ (copies n body ++ after) in
@@ -392,4 +394,4 @@ written-trees n before body after first inside last all =
     let lines-two = lines-read two (all-append IsLine before (copies n body ++ after) first (all-append IsLine (copies n body) after (all-copies IsLine n body inside) last)) in
     let loop-clean : list_any begins (loop_lines n body) ≡ false = (front-none body (codes "ROF" ∷ []) (none-redcode body all)).0 in
     let copies-clean = none-redcode (copies n body) (all-copies IsBodyLine n body all) in
-    rw (lines-one, lines-two) (rows-tree one two (cut-alike before (loop_lines n body) (copies n body) after loop-clean copies-clean (loop-alike body after all n)))
+    rw (lines-one, lines-two) (rows-tree one two (cut-alike before (loop_lines n body) (copies n body) after loop-clean copies-clean (loop-alike body after all n small)))

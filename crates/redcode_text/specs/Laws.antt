@@ -1,5 +1,5 @@
 -- What the text of a source means, apart from how it is read.
-use Rattle.std.specs.Prelude.{◌≡◌, ℕ, zero, suc, ◌+◌, List, [], ◌∷◌, ◌++◌, All, Bool, false, true, ◌==◌, Option, Some, Result, Ok, IfOk, codes, decimal}
+use Rattle.std.specs.Prelude.{◌≡◌, ℕ, zero, suc, ◌+◌, ◌^◌, ◌<◌, List, [], ◌∷◌, ◌++◌, All, Bool, false, true, ◌==◌, Option, Some, Result, Ok, IfOk, codes, decimal}
 use Rattle.std.specs.List.{flat_map, list_any}
 use Rattle.redcode_text.specs.Results.{◌>>=◌}
 use Rattle.redcode_text.specs.declared.token.Token.{Token}
@@ -75,9 +75,10 @@ copies (suc n) lines = lines ++ copies n lines
 
 -- A loop without a counter, written out by hand, gives the same program: where a source with the loop is read, so is the source with as many
 -- copies of the loop's body in its place, to a program that is the same, name for name. Before and behind it may stand any lines, so it may be
--- inside other loops. It holds one way only: written out, there are fewer lines and tokens to count, so that the limits are farther off.
+-- inside other loops. It holds one way only: written out, there are fewer lines and tokens to count, so that the limits are farther off. Every
+-- number of a source is below 2^63; of larger ones `decimal` has the last 64 digits alone.
 abbrev pub LoopsAreWrittenOut : Type 0
 LoopsAreWrittenOut = (ps : Predefined) (n : ℕ) (before body after : List (List ℕ)) (s : ProgramValue)
-    → All IsLine before → All IsLine body → All IsLine after → All IsBodyLine body
+    → n < 2 ^ 63 → All IsLine before → All IsLine body → All IsLine after → All IsBodyLine body
     → expansion ps (text_of_lines (before ++ (loop_lines n body ++ after))) ≡ Ok s
     → (t : ProgramValue) × (expansion ps (text_of_lines (before ++ (copies n body ++ after))) ≡ Ok t) × AreAlike s t
