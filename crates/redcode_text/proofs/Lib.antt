@@ -51,3 +51,16 @@ pub mod Simulations
 pub mod Agreement
 pub mod SameNames
 pub mod AlikeValues
+pub mod AlikeResults
+pub mod AlikeNames
+pub mod AlikeTokens
+pub mod AlikeReadings
+pub mod AlikeParts
+pub mod AlikeLines
+pub mod AlikeCounts
+pub mod LoneLoops
+pub mod AlikeSteps
+pub mod WrittenTrees
+pub mod WrittenReadings
+pub mod WrittenOut
+pub mod SourcePrograms
