@@ -20,3 +20,4 @@ pub mod LoadAssembled
 pub mod AlikeLines
 pub mod AlikeCells
 pub mod AlikePrograms
+pub mod AlikeSources
