@@ -17,3 +17,7 @@ pub mod PrintedCells
 pub mod PrintedLines
 pub mod LoadSources
 pub mod LoadAssembled
+pub mod AlikeLines
+pub mod AlikeCells
+pub mod AlikePrograms
+pub mod AlikeSources

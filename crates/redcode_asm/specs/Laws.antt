@@ -1,4 +1,4 @@
--- The laws of names, of an instruction in front, of load files and of score formulas.
+-- The laws of names, of sources that are alike, of an instruction in front, of load files and of score formulas.
 use Rattle.std.specs.Prelude.{◌≡◌, ◌≢◌, ⊤, ℕ, ◌-◌, ◌/◌, ◌^◌, ◌<◌, ◌≤◌, nat_le, if◌then◌else◌, ℤ, pos, List, [], ◌∷◌, ◌++◌, length, map, All, true, Some, Ok, IfErr, codes}
 use Rattle.std.specs.Str.{str_eq_ignore_ascii_case}
 use Rattle.mars_cell.specs.declared.instruction.Cell.{Cell}
@@ -23,7 +23,9 @@ use Rattle.redcode_text.specs.declared.token.TokenKind.TheVariants.{Number, Name
 use Rattle.redcode_text.specs.declared.token.TokenKind.TheVariants as token
 use Rattle.redcode_text.specs.Equates.{Equate}
 use Rattle.redcode_text.specs.Expression.{kinds}
+use Rattle.redcode_text.specs.Alike.{AreAlike}
 use Rattle.redcode_text.specs.Expansion.{ProgramValue, expansion}
+use Rattle.redcode_text.specs.Laws.{IsBodyLine, IsLine, copies, loop_lines, text_of_lines}
 use Rattle.redcode_text.specs.Lines.{Assert, Line, Predefined, directive_value, is_instruction, name_at, predefined_value, with_current_line}
 use Rattle.redcode_asm.specs.Assembly.{Placed, assembly, at_line, cell_of, cells_of, instructions, predefined, warrior_of}
 use Rattle.redcode_asm.specs.Formula.{formula_of, score_of}
@@ -82,6 +84,20 @@ NamesOfSourcesAreFree = (p : Parameters) (rounds warriors : ℕ) (one other : Li
     → unplaced_program t ≡ record (unplaced_program s) { names = t.names }
     → ((n : ℕ) → SaysTheSame (predefined p rounds warriors) (name_at s.names n) (name_at t.names n))
     → assembly p rounds warriors one ≡ assembly p rounds warriors other
+
+-- two sources whose programs are the same, name for name, are assembled to the same warrior
+abbrev pub AlikeSourcesAssembleAlike : Type 0
+AlikeSourcesAssembleAlike = (p : Parameters) (rounds warriors : ℕ) (one other : List ℕ) (s t : ProgramValue) (w : WarriorValue)
+    → expansion (predefined p rounds warriors) one ≡ Ok s → expansion (predefined p rounds warriors) other ≡ Ok t → AreAlike s t
+    → assembly p rounds warriors one ≡ Ok w → assembly p rounds warriors other ≡ Ok w
+
+-- A loop without a counter, written out by hand, gives the same warrior: where a source with the loop is assembled, so is the source with as many
+-- copies of the loop's body in its place. It holds one way only: written out, there are fewer lines and tokens to count.
+abbrev pub LoopsAreWrittenOut : Type 0
+LoopsAreWrittenOut = (p : Parameters) (rounds warriors n : ℕ) (before body after : List (List ℕ)) (w : WarriorValue)
+    → n < 2 ^ 63 → All IsLine before → All IsLine body → All IsLine after → All IsBodyLine body
+    → assembly p rounds warriors (text_of_lines (before ++ (loop_lines n body ++ after))) ≡ Ok w
+    → assembly p rounds warriors (text_of_lines (before ++ (copies n body ++ after))) ≡ Ok w
 
 -- a program with one more line, in front of its lines
 abbrev pub with_line_in_front : Line → ProgramValue → ProgramValue

@@ -1,5 +1,5 @@
 //! Laws of the definitions. The functions do nothing; their contracts are the laws.
-ghost use Rattle.redcode_asm.specs.Laws.{AssembledLoadIsRead, CellIsAssembled, CellIsScanned, InstructionsInFrontMoveNothing, LoadFileIsSource, NamesAreFree, NamesOfSourcesAreFree, ScoresHaveValues};
+ghost use Rattle.redcode_asm.specs.Laws.{AlikeSourcesAssembleAlike, AssembledLoadIsRead, CellIsAssembled, CellIsScanned, InstructionsInFrontMoveNothing, LoadFileIsSource, LoopsAreWrittenOut, NamesAreFree, NamesOfSourcesAreFree, ScoresHaveValues};
 
 /// `Formula::score` of a formula that `Formula::new` read is refused by DivideByZero and Range alone.
 pub fn scores_have_values()
@@ -20,6 +20,19 @@ pub fn names_are_free()
 /// the same warrior, or have the same fault.
 pub fn names_of_sources_are_free()
     ensures { NamesOfSourcesAreFree }
+{}
+
+/// Two sources whose programs are the same, name for name, are assembled to the same warrior: in which order names are met,
+/// on which lines things stand and where in the text makes no difference.
+pub fn alike_sources_assemble_alike()
+    ensures { AlikeSourcesAssembleAlike }
+{}
+
+/// A loop without a counter, written out by hand, gives the same warrior: where a source with `FOR n`, some lines and `ROF`
+/// is assembled, so is the source with those lines n times in its place. None of the lines is a FOR or a ROF or begins
+/// `;redcode`; what stands before and behind the loop may be anything, so it may be inside other loops.
+pub fn loops_are_written_out()
+    ensures { LoopsAreWrittenOut }
 {}
 
 /// An instruction in front moves nothing: where it has no label, and no name of the program is CURLINE, the cells are its

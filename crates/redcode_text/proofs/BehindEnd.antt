@@ -37,7 +37,7 @@ lines-append (b ∷ bs) after = go (b == 10) (lines-append bs after)
         let l = some-line bs in
         ap (onto_first b) (same ∙ ap (λ l. l ++ lines_of after) l.2) ∙ ap (λ l. onto_first b l ++ lines_of after) (sym l.2)
 
-any-rows : (number at : ℕ) (lines : List (List ℕ)) → list_any begins_redcode (rows_from number at lines) ≡ list_any (has_directive (codes "redcode")) lines
+pub any-rows : (number at : ℕ) (lines : List (List ℕ)) → list_any begins_redcode (rows_from number at lines) ≡ list_any (has_directive (codes "redcode")) lines
 any-rows number at [] = refl
 any-rows number at (l ∷ lines) = ap (λ b. has_directive (codes "redcode") l || b) (any-rows (number + 1) (at + length l + 1) lines)
 
@@ -142,7 +142,7 @@ begins-tree here more (w ∷ waiting) others e = rw (e.3, ← e.0) (begins-itsel
 
 -- ---- reading
 
-unpaired-refused : (n : ℕ) (problem : TextProblem) (st read : Reading) → at_line n (unpaired_line problem st) ≡ Ok read → ⊥
+pub unpaired-refused : (n : ℕ) (problem : TextProblem) (st read : Reading) → at_line n (unpaired_line problem st) ≡ Ok read → ⊥
 unpaired-refused n problem st read = go (line_read st)
   where
     go : (r : Result Reading TextProblem) → at_line n (r >>= λ (a : Reading). Err problem) ≡ Ok read → ⊥

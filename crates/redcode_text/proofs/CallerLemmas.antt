@@ -1,5 +1,5 @@
--- What the crates above may cite of values, replacements, the spelling of trees, the words that a name may be, and lines that are read one after
--- another, whose definitions they don't see into.
+-- What the crates above may cite of values, replacements, the spelling of trees, the words that a name may be, lines that are read one after
+-- another, and programs that are the same, name for name, whose definitions they don't see into.
 use Rattle.std.specs.Bool.{⊤}
 use Rattle.std.proofs.lemmas.List.{length-map, map-append}
 use Rattle.std.proofs.Common.{◌≡◌, ◌∙◌, ℕ, zero, suc, ◌+◌, ℤ, pos, List, [], ◌∷◌, ◌++◌, length, Bool, true, false, nat_le, Option, Some, None, Result, Ok, Err, refl, ap, sym, subst, arith}
@@ -28,6 +28,11 @@ pub use Rattle.redcode_text.specs.Trees.{spelling, is_prefix, IsLevelled}
 pub use Rattle.redcode_text.proofs.Trees.{rank-≤5}
 pub use Rattle.redcode_text.proofs.Shapes.{shaped}
 pub use Rattle.redcode_text.proofs.Splits.{tree-spelled}
+pub use Rattle.redcode_text.proofs.Agreement.{Agree, AgreeOption, Pairwise, Same, agree-after, agree-bind, agree-same, agree-value, pairwise-filter, pairwise-last, pairwise-length}
+pub use Rattle.redcode_text.proofs.AlikeValues.{substitution-same, value-same}
+pub use Rattle.redcode_text.proofs.Named.{AreDistinct, IsNamed}
+pub use Rattle.redcode_text.proofs.SameNames.{SameAssert, SameEquate, SameKind, SameLine, SameName, SameToken, SameTokens, asserts-same, equates-same, index-same, lines-same}
+pub use Rattle.redcode_text.proofs.SourcePrograms.{loops-written-out, source-named}
 pub use Rattle.redcode_text.proofs.ShortWords.{has_word_length, find-same, name-same, predefined-same, spelled-same, word-same}
 
 -- where the first is a value, the second is it

@@ -39,7 +39,7 @@ kept-row f st row at g same h = go (tokens st.loops row.number (row.at + at) (li
     go (Ok s) = kept-at f (f st) _ (g (s.tokens, record st { names = s.names; tokens_read = st.tokens_read + length s.tokens })) (same s.names (st.tokens_read + length s.tokens)) (h (s.tokens, record st { names = s.names; tokens_read = st.tokens_read + length s.tokens }))
     go (Err e) = tt
 
-line-kept : {X : Type 0} (f : Reading → X) (st : Reading) → (f (record st { lines_read = st.lines_read + 1 }) ≡ f st) → Kept f (f st) (line_read st)
+pub line-kept : {X : Type 0} (f : Reading → X) (st : Reading) → (f (record st { lines_read = st.lines_read + 1 }) ≡ f st) → Kept f (f st) (line_read st)
 line-kept f st same = go (nat_le limit st.lines_read)
   where
     go : (c : Bool) → Kept f (f st) (elim c as (λ _. Result Reading TextProblem) [ true ↦ Err TooLong | false ↦ Ok (record st { lines_read = st.lines_read + 1 }) ])

@@ -1,5 +1,5 @@
 -- What a relation between two readings must keep, so that a loop may be read in one and its lines, written out, in the other.
-use Rattle.std.specs.Prelude.{◌≡◌, ⊤, ℕ, List, ◌++◌, true, Option, None, IfSome, Result, Ok, codes, decimal}
+use Rattle.std.specs.Prelude.{◌≡◌, ◌<◌, ◌^◌, ⊤, ℕ, List, ◌++◌, true, Option, None, IfSome, Result, Ok, codes, decimal}
 use Rattle.redcode_text.specs.Expansion.{Head, head_line, in_round, rof_line}
 use Rattle.redcode_text.specs.Lines.{Reading, Predefined, plain_line}
 use Rattle.redcode_text.specs.Source.{Row}
@@ -15,8 +15,8 @@ pub record IsSimulation (ps : Predefined) (R : Reading → Reading → Type 0) :
   pub head : (st other : Reading) (row like : Row) (h : Head) → row.bytes ≡ like.bytes → R st other → head_line ps row st ≡ Ok h
       → (k : Head) × (head_line ps like other ≡ Ok k) × (h.counter ≡ k.counter) × (h.count ≡ k.count) × IsCounter h.counter × R h.reading k.reading
   pub rof : (st other a : Reading) (row like : Row) → row.bytes ≡ like.bytes → R st other → rof_line row st ≡ Ok a → (b : Reading) × (rof_line like other ≡ Ok b) × R a b
-  -- lines that stand in the first alone
-  pub lone_head : (st other : Reading) (row : Row) (n : ℕ) (h : Head) → row.bytes ≡ codes "FOR " ++ decimal n → R st other → head_line ps row st ≡ Ok h
+  -- lines that stand in the first alone; `decimal` has the last 64 digits of a number, so that of a large one it says another
+  pub lone_head : (st other : Reading) (row : Row) (n : ℕ) (h : Head) → n < 2 ^ 63 → row.bytes ≡ codes "FOR " ++ decimal n → R st other → head_line ps row st ≡ Ok h
       → (h.counter ≡ None) × (h.count ≡ n) × R h.reading other
   pub lone_rof : (st other a : Reading) (row : Row) → R st other → rof_line row st ≡ Ok a → R a other
   pub both_open : (st other : Reading) (counter : Option (List ℕ)) (round : ℕ) → IsCounter counter → R st other → R (in_round counter round st) (in_round counter round other)

@@ -28,23 +28,23 @@ either : (a b : Bool) → a ≡ true → (a || b) ≡ true
 either true b e = refl
 either false b e = cc
 
-begins : (b : ℕ) (bs : List ℕ) → is_word_byte b ≡ true → begins_word (b ∷ bs) ≡ true
+pub begins : (b : ℕ) (bs : List ℕ) → is_word_byte b ≡ true → begins_word (b ∷ bs) ≡ true
 begins b bs e = either (is_word_byte b) ((b == 38) && begins_name bs) e
 
 no-join : (b : ℕ) → is_word_byte b ≡ true → (b == 38) ≡ false
 no-join b e = grind (arith, nat_tests)
 
-no-joins : (word : List ℕ) → list_all is_word_byte word ≡ true → list_any (λ b. b == 38) word ≡ false
+pub no-joins : (word : List ℕ) → list_all is_word_byte word ≡ true → list_any (λ b. b == 38) word ≡ false
 no-joins [] e = refl
 no-joins (b ∷ bs) e = let l = and_parts (is_word_byte b) (list_all is_word_byte bs) e in rw (no-join b l.0) (no-joins bs l.1)
 
-ascii-byte : (b : ℕ) → is_word_byte b ≡ true → is_ascii b ≡ true
+pub ascii-byte : (b : ℕ) → is_word_byte b ≡ true → is_ascii b ≡ true
 ascii-byte b e = grind (arith, nat_tests)
 
-not-blank : (b : ℕ) → is_word_byte b ≡ true → is_blank b ≡ false
+pub not-blank : (b : ℕ) → is_word_byte b ≡ true → is_blank b ≡ false
 not-blank b e = grind (arith, nat_tests)
 
-whole-word : (word rest : List ℕ) → list_all is_word_byte word ≡ true → begins_word rest ≡ false → word_len (word ++ rest) ≡ length word
+pub whole-word : (word rest : List ℕ) → list_all is_word_byte word ≡ true → begins_word rest ≡ false → word_len (word ++ rest) ≡ length word
 whole-word [] rest e ends = word_len-none rest ends
 whole-word (b ∷ bs) rest e ends =
     let l = and_parts (is_word_byte b) (list_all is_word_byte bs) e in
@@ -122,14 +122,14 @@ module _ (line room : ℕ) (last : List TokenKind) (end : List (List ℕ)) where
 
 -- ---- numbers
 
-digits-are-word : (ds : List ℕ) → list_all is_ascii_digit ds ≡ true → list_all is_word_byte ds ≡ true
+pub digits-are-word : (ds : List ℕ) → list_all is_ascii_digit ds ≡ true → list_all is_word_byte ds ≡ true
 digits-are-word [] e = refl
 digits-are-word (d ∷ ds) e =
     let l = and_parts (is_ascii_digit d) (list_all is_ascii_digit ds) e in
     let one : is_word_byte d ≡ true = grind (arith, nat_tests, l) in
     rw one (digits-are-word ds l.1)
 
-are_digits : IsNumeralModel (λ ds. list_all is_ascii_digit ds ≡ true) (digits_value 10)
+pub are_digits : IsNumeralModel (λ ds. list_all is_ascii_digit ds ≡ true) (digits_value 10)
 are_digits = numerals_by_value _ (search rules)
 
 -- the digits of a number, of which there is one

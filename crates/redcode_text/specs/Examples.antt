@@ -3,3 +3,4 @@ pub mod Tokens
 pub mod Expressions
 pub mod Lines
 pub mod Expansion
+pub mod Laws

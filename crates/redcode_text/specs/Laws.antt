@@ -1,6 +1,6 @@
 -- What the text of a source means, apart from how it is read.
-use Rattle.std.specs.Prelude.{◌≡◌, ◌⊎◌, ℕ, suc, ◌+◌, pos, List, [], ◌∷◌, ◌++◌, length, Bool, false, true, Option, Some, Result, Ok, Err, IfOk, codes}
-use Rattle.std.specs.List.{list_any}
+use Rattle.std.specs.Prelude.{◌≡◌, ◌⊎◌, ℕ, zero, suc, ◌+◌, ◌^◌, ◌<◌, pos, List, [], ◌∷◌, ◌++◌, length, All, Bool, false, true, ◌==◌, Option, Some, Result, Ok, Err, IfOk, codes, decimal}
+use Rattle.std.specs.List.{flat_map, list_any}
 use Rattle.redcode_text.specs.Results.{◌>>=◌}
 use Rattle.redcode_text.specs.declared.token.Token.{Token}
 use Rattle.redcode_text.specs.declared.token.TokenKind.{TokenKind}
@@ -10,12 +10,14 @@ use Rattle.redcode_text.specs.declared.token.Sign.TheVariants.{Plus, Minus, Bang
 use Rattle.redcode_text.specs.declared.fault.ExprFault.{ExprFault}
 use Rattle.redcode_text.specs.declared.fault.ExprFault.TheVariants.{Syntax, Depth}
 use Rattle.redcode_text.specs.declared.fault.TextFault.{TextFault}
+use Rattle.redcode_text.specs.Alike.{AreAlike}
+use Rattle.redcode_text.specs.Bytes.{line_feed}
 use Rattle.redcode_text.specs.Expression.{Tree, shape, start, tree_within}
 use Rattle.redcode_text.specs.Trees.{IsLevelled, IsWithin, spelling}
-use Rattle.redcode_text.specs.Source.{Row, Items, Loop, begins_redcode, has_directive, lines_of, read_rows, tree_of, tree_of_rows}
+use Rattle.redcode_text.specs.Source.{Row, Items, Loop, LineKind, RofLine, ForLine, begins_redcode, has_directive, line_kind, lines_of, read_rows, tree_of, tree_of_rows}
 use Rattle.redcode_text.specs.Equates.{equate_lines}
 use Rattle.redcode_text.specs.Lines.{Reading, Predefined, Parts, line_read, tokens_counted, parts_of, ordinary_line, unless_ended}
-use Rattle.redcode_text.specs.Expansion.{Head, expansion, flat, head_line, nothing_read, rounds}
+use Rattle.redcode_text.specs.Expansion.{Head, ProgramValue, expansion, flat, head_line, nothing_read, rounds}
 
 -- lines before the first `;redcode` have no effect
 abbrev pub LinesBeforeRedcodeAreUnread : Type 0
@@ -49,6 +51,45 @@ OperationsAreWrittenInPlace = (ps : Predefined) (number depth n : ℕ) (text ts 
     → parts_of ps st ts ≡ Ok p → p.operation ≡ Some n → equate_lines st.equates n ≡ Some (text ∷ [])
     → let written = (p.label_tokens ++ text) ++ p.rest in
     ordinary_line ps number (suc depth) ts st ≡ (line_read st >>= tokens_counted written >>= ordinary_line ps number depth written)
+
+-- ---- loops written out
+
+-- each line, then a line feed
+abbrev pub text_of_lines : List (List ℕ) → List ℕ
+text_of_lines lines = flat_map (λ line. line ++ line_feed ∷ []) lines
+
+-- no line feed is in it
+abbrev pub IsLine : List ℕ → Type 0
+IsLine line = list_any (λ b. b == line_feed) line ≡ false
+
+abbrev pub is_loop_kind : LineKind → Bool
+is_loop_kind RofLine = true
+is_loop_kind (ForLine at) = true
+is_loop_kind _ = false
+
+-- a line that is neither FOR nor ROF, and doesn't begin `;redcode`
+pub record IsBodyLine (line : List ℕ) : Type 0 where
+  pub kind : is_loop_kind (line_kind line) ≡ false
+  pub plain : has_directive (codes "redcode") line ≡ false
+
+-- the lines of a loop of n rounds without a counter
+abbrev pub loop_lines : ℕ → List (List ℕ) → List (List ℕ)
+loop_lines n body = (codes "FOR " ++ decimal n) ∷ (body ++ codes "ROF" ∷ [])
+
+-- these lines n times, one after another
+abbrev pub copies : ℕ → List (List ℕ) → List (List ℕ)
+copies zero lines = []
+copies (suc n) lines = lines ++ copies n lines
+
+-- A loop without a counter, written out by hand, gives the same program: where a source with the loop is read, so is the source with as many
+-- copies of the loop's body in its place, to a program that is the same, name for name. Before and behind it may stand any lines, so it may be
+-- inside other loops. It holds one way only: written out, there are fewer lines and tokens to count, so that the limits are farther off. Every
+-- number of a source is below 2^63; of larger ones `decimal` has the last 64 digits alone.
+abbrev pub LoopsAreWrittenOut : Type 0
+LoopsAreWrittenOut = (ps : Predefined) (n : ℕ) (before body after : List (List ℕ)) (s : ProgramValue)
+    → n < 2 ^ 63 → All IsLine before → All IsLine body → All IsLine after → All IsBodyLine body
+    → expansion ps (text_of_lines (before ++ (loop_lines n body ++ after))) ≡ Ok s
+    → (t : ProgramValue) × (expansion ps (text_of_lines (before ++ (copies n body ++ after))) ≡ Ok t) × AreAlike s t
 
 -- ---- the shape of an expression
 

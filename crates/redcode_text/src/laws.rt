@@ -1,6 +1,6 @@
 //! Laws of the definitions: what the text of a source means, apart from how it is read. The functions do nothing; their
 //! contracts are the laws.
-ghost use Rattle.redcode_text.specs.Laws.{LinesBeforeRedcodeAreUnread, LinesBehindEndAreUnread, LinesInNoRoundAreUnread, MisshapenAtFirst, OperationsAreWrittenInPlace, RoundsAddUp, ShapesAreTrees, TreesHaveShapes};
+ghost use Rattle.redcode_text.specs.Laws.{LinesBeforeRedcodeAreUnread, LinesBehindEndAreUnread, LinesInNoRoundAreUnread, LoopsAreWrittenOut, MisshapenAtFirst, OperationsAreWrittenInPlace, RoundsAddUp, ShapesAreTrees, TreesHaveShapes};
 
 /// Lines before the first `;redcode` have no effect.
 pub fn lines_before_redcode_are_unread()
@@ -24,6 +24,14 @@ pub fn lines_in_no_round_are_unread()
 /// round reads of its lines and its counter is in the definition alone.
 pub fn rounds_add_up()
     ensures { RoundsAddUp }
+{}
+
+/// A loop without a counter, written out by hand, gives the same program: where a source with `FOR n`, some lines and
+/// `ROF` is read, so is the source with those lines n times in its place, to a program that is the same, name for name.
+/// None of the lines is a FOR or a ROF or begins `;redcode`; what stands before and behind the loop may be anything, so it
+/// may be inside other loops.
+pub fn loops_are_written_out()
+    ensures { LoopsAreWrittenOut }
 {}
 
 /// A line whose operation is an EQU name of one line is read as the line with that text in place of the name, counted as
