@@ -1,8 +1,9 @@
 -- Worked examples: a loop, and the lines that are written in its place.
-use Rattle.std.specs.Prelude.{◌≡◌, ℕ, List, [], ◌∷◌, ◌++◌, map, true, Result, Ok, Err, codes, refl}
+use Rattle.std.specs.Prelude.{◌≡◌, ℕ, pos, List, [], ◌∷◌, ◌++◌, map, true, Result, Ok, Err, codes, refl}
 use Rattle.std.specs.Fmt.{digits}
 use Rattle.redcode_text.specs.declared.fault.TextFault.{TextFault}
-use Rattle.redcode_text.specs.Alike.{spelled_line}
+use Rattle.redcode_text.specs.declared.token.TokenKind.TheVariants.{Number, Name}
+use Rattle.redcode_text.specs.Alike.{spelled_kind, spelled_line}
 use Rattle.redcode_text.specs.Expansion.{ProgramValue, expansion}
 use Rattle.redcode_text.specs.Expression.{tree_within, value_of}
 use Rattle.redcode_text.specs.Laws.{IsBodyLine, copies, is_loop_kind, loop_lines, text_of_lines}
@@ -23,6 +24,10 @@ row_body = (record { kind = refl; plain = refl }, record { kind = refl; plain = 
 
 pub row_loop_kinds : (is_loop_kind (line_kind (codes " i for 3")) ≡ true) × (is_loop_kind (line_kind (codes "Rof x")) ≡ true)
 row_loop_kinds = (refl, refl)
+
+-- a name is told by its bytes, wherever it stands among the names
+pub row_spelled : (spelled_kind (codes "a" ∷ codes "b" ∷ []) (Name 1) ≡ (Name 0, codes "b")) × (spelled_kind (codes "a" ∷ []) (Number (pos 2)) ≡ (Number (pos 2), []))
+row_spelled = (refl, refl)
 
 abbrev spelled_lines : Result ProgramValue TextFault → List (List (List ℕ))
 spelled_lines (Ok s) = map (λ l. (spelled_line s.names l).0) s.lines
