@@ -1,6 +1,5 @@
 -- The shape of an expression is that of a tree, and its fault that of the first token that makes none.
 use Rattle.std.proofs.Common.{◌≡◌, ◌∙◌, refl, ap, sym, subst, ℕ, zero, suc, ◌+◌, ◌-◌, ◌<◌, pos, List, [], ◌∷◌, ◌++◌, length, append-nil, append_assoc, add-one, Bool, true, false, ◌&&◌, ◌==◌, cond, eqb, leb, ◌⊎◌, inl, inr, ⊎_elim, Result, Ok, Err, arith}
-use Rattle.std.proofs.lemmas.Bool.{eqb-false}
 use Rattle.std.proofs.lemmas.Bool.Decides.{nat_tests}
 use Rattle.redcode_text.specs.Results.{◌>>=◌}
 use Rattle.redcode_text.specs.declared.token.TokenKind.{TokenKind}
@@ -11,7 +10,7 @@ use Rattle.redcode_text.specs.declared.token.Sign.TheVariants.{Plus, Minus, Bang
 use Rattle.redcode_text.specs.declared.fault.ExprFault.{ExprFault}
 use Rattle.redcode_text.specs.declared.fault.ExprFault.TheVariants.{Syntax, Depth}
 use Rattle.redcode_text.specs.declared.expression.shape.ShapeState.{ShapeState}
-use Rattle.redcode_text.specs.Expression.{precedence, Tree, Numeral, Named, Parens, Unary, Binary, Missing, after_sign, next_state, shape, start, tree_within}
+use Rattle.redcode_text.specs.Expression.{precedence, Tree, Numeral, Named, Parens, Unary, Binary, Missing, next_state, shape, start, tree_within}
 use Rattle.redcode_text.specs.Laws.{Misplaced, leads_operand}
 use Rattle.redcode_text.specs.Trees.{spelling, is_prefix, IsLevelled, IsWithin}
 use Rattle.redcode_text.proofs.Trees.{rank-≤5}

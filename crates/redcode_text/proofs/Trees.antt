@@ -1,5 +1,5 @@
 -- Operators have at most five levels.
-use Rattle.std.proofs.Common.{ℕ, ◌≤◌, arith}
+use Rattle.std.proofs.Common.{◌≤◌, arith}
 use Rattle.redcode_text.specs.declared.token.Sign.{Sign}
 use Rattle.redcode_text.specs.declared.token.Sign.TheVariants.{Star}
 use Rattle.redcode_text.specs.Expression.{precedence, Tree, Binary}
