@@ -8,6 +8,10 @@ use Rattle.mars_match.specs.Rounds.{table_of, checked_rows}
 use Rattle.mars_match.specs.Tables.{RowValue}
 use Rattle.mars_match.specs.declared.fault.MatchFault.{MatchFault}
 
+-- the most warriors of a league
+abbrev pub most_of_league : ℕ
+most_of_league = 65536
+
 -- two warriors that meet, and where each stands in load order
 pub record Pair : Type 0 where
   pub first : ℕ

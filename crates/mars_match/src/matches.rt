@@ -10,7 +10,7 @@ ghost use Rattle.mars_match.specs.Tables.{RowValue};
 ghost use Rattle.mars_match.specs.Code.Tallies.{no_rounds as spec_no_rounds, most_before, most_rounds, most_row, outcome_by, tallied, IsOf, row_with, rows_with};
 ghost use Rattle.std.specs.Global.{Global};
 ghost use Rattle.mars_core.specs.Limits.{most_warriors};
-ghost use Rattle.mars_match.specs.Leagues.{all_pairs, league_of};
+ghost use Rattle.mars_match.specs.Leagues.{all_pairs, league_of, most_of_league};
 ghost use Rattle.mars_match.specs.Code.LeagueSteps.{joined as spec_joined, pairs_of_first, after_matches};
 ghost use Rattle.mars_match.specs.declared.table.Tally.{Tally};
 
@@ -286,7 +286,7 @@ fn play_others(
     plan: &Plan,
     tallies: &mut [Tally],
 ) -> Result<(), MatchFault>
-    requires few { length warriors.now ≤ 65536 }
+    requires few { length warriors.now ≤ most_of_league }
     requires inside { i < length warriors.now }
     requires many { length tallies.old ≡ length warriors.now }
     requires bounds { All (IsOf (i * most_row)) tallies.old }
@@ -311,7 +311,7 @@ fn play_all(
     plan: &Plan,
     tallies: &mut [Tally],
 ) -> Result<(), MatchFault>
-    requires few { length warriors.now ≤ 65536 }
+    requires few { length warriors.now ≤ most_of_league }
     requires many { length tallies.old ≡ length warriors.now }
     requires bounds { All (IsOf 0) tallies.old }
     ensures { IsAnswer (λ _. tallies.new)
@@ -327,15 +327,15 @@ fn play_all(
 /// The table of a league: every pair of warriors plays a match of the plan's rounds, in load order of the first, then of
 /// the second, and each match begins with the plan's seed. The warrior earlier in load order is the first of the pair.
 /// Where a match can't be held, or a warrior's points don't fit 64 bits at its end or at that of the league, it answers the
-/// first fault. Fewer than two warriors play nothing; a plan with a fixed position asks for two, whose match is the league.
-/// It takes memory for one match at a time, a tally for each warrior and the table.
+/// first fault. There are at most 65,536 warriors. Fewer than two play nothing; a plan with a fixed position asks for two,
+/// whose match is the league. It takes memory for one match at a time, a tally for each warrior and the table.
 pub fn league(
     alloc: Global,
     params: &Params,
     warriors: &[Warrior],
     plan: &Plan,
 ) -> Result<Table, MatchFault>
-    requires few { length warriors.now ≤ 65536 }
+    requires few { length warriors.now ≤ most_of_league }
     requires fixed { IfSome plan.now.fixed
         (λ position. (length warriors.now ≡ 2) × (params.now.distance ≤ position)
         × (position ≤ params.now.core_size - params.now.distance)) }

@@ -48,7 +48,7 @@ tallied p warriors formula fixed (suc n) k seed tallies =
 abbrev pub most_rounds : ℕ
 most_rounds = 4294967295
 
--- those of 65,536 matches, which no warrior of a league has more of against those that follow it
+-- the rounds of 65,536 matches, which no warrior of a league has more of against those that follow it
 abbrev pub most_row : ℕ
 most_row = 281474976645120
 
