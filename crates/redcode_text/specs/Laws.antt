@@ -127,8 +127,8 @@ pub record Misplaced (xs : List TokenKind) (fault : ExprFault) : Type 0 where
   pub begun : IsBegun before
   pub refused : IsBegun (before ++ token ∷ []) → ⊥
   pub kind :
-    ((fault ≡ Depth) × (leads_operand token ≡ true) × IsBegun (before ++ Number (pos 0) ∷ []))
-    ⊎ ((fault ≡ Syntax) × (leads_operand token ≡ true → IsBegun (before ++ Number (pos 0) ∷ []) → ⊥))
+      ((fault ≡ Depth) × (leads_operand token ≡ true) × IsBegun (before ++ Number (pos 0) ∷ []))
+      ⊎ ((fault ≡ Syntax) × (leads_operand token ≡ true → IsBegun (before ++ Number (pos 0) ∷ []) → ⊥))
 
 -- The fault of a shape is that of its first misplaced token; where none is, the expression ends too early.
 abbrev pub MisshapenAtFirst : Type 0
