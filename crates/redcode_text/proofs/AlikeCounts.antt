@@ -1,5 +1,5 @@
 -- Heads of loops of the same bytes, and ROF lines, where two readings are alike.
-use Rattle.std.proofs.Common.{◌≡◌, ◌∙◌, refl, ap, sym, subst, ℕ, ℤ, ◌+◌, ◌<◌, ◌≤◌, ◌||◌, Bool, true, false, nat_le, List, [], ◌∷◌, length, map, Option, Some, None, Result, Ok, Err, not, arith}
+use Rattle.std.proofs.Common.{◌≡◌, refl, ap, subst, ℕ, ◌+◌, ◌||◌, Bool, true, false, nat_le, List, [], ◌∷◌, length, Option, Some, None, Result, Ok, Err, not, arith}
 use Rattle.std.specs.Prelude.{⊤}
 use Rattle.redcode_text.specs.Results.{◌>>=◌}
 use Rattle.redcode_text.specs.declared.fault.TextFault.{TextFault}
@@ -12,15 +12,14 @@ use Rattle.redcode_text.specs.declared.token.TokenKind.TheVariants as token
 use Rattle.redcode_text.specs.Equates.{substitution}
 use Rattle.redcode_text.specs.Expansion.{Head, as_count, count_of, counter_name, for_word_at, has_label, head_line, loop_limit, rof_line, room_for_loop}
 use Rattle.redcode_text.specs.Expression.{kinds, value_of}
-use Rattle.redcode_text.specs.Lines.{Predefined, Reading, WithTokens, is_predefined, line_read, name_at, name_in_front, predefined_value, row_tokens, tokens_after, tokens_before, with_current_line}
+use Rattle.redcode_text.specs.Lines.{Predefined, Reading, WithTokens, line_read, name_at, name_in_front, predefined_value, row_tokens, tokens_after, tokens_before, with_current_line}
 use Rattle.redcode_text.specs.Source.{Row, LineKind, RofLine, ForLine, EquLine, OtherLine, line_kind}
-use Rattle.redcode_text.specs.Tokens.{begins_name, without_line}
+use Rattle.redcode_text.specs.Tokens.{without_line}
 use Rattle.redcode_text.proofs.AlikeLines.{after-alike, before-alike, front-alike, kinds-alike}
 use Rattle.redcode_text.proofs.SameNames.{SameKind, SameName, SameTokens}
 use Rattle.redcode_text.proofs.AlikeParts.{predefined-test}
 use Rattle.redcode_text.proofs.AlikeReadings.{ReadAlike, ReadOn, SameRow, counts-alike, le-met, like_row, line-read-alike, row-alike}
 use Rattle.redcode_text.proofs.AlikeResults.{Together, together-limit, together-then}
-use Rattle.redcode_text.proofs.AlikeTokens.{PlacedToken}
 use Rattle.redcode_text.proofs.Agreement.{Agree, AgreeOption, Pairwise}
 use Rattle.redcode_text.proofs.AlikeValues.{substitution-same, value-same}
 use Rattle.redcode_text.proofs.Simulations.{IsCounter}

@@ -1,5 +1,5 @@
 -- Lines of the same bytes that are neither FOR nor ROF lead alike readings to alike readings.
-use Rattle.std.proofs.Common.{◌≡◌, ◌∙◌, refl, ap, sym, subst, true≢false, ℕ, zero, suc, ◌+◌, ◌<◌, ◌≤◌, ◌||◌, Bool, true, false, nat_lt, List, [], ◌∷◌, ◌++◌, length, map, filter, codes, Option, Some, None, Result, Ok, Err, arith}
+use Rattle.std.proofs.Common.{◌≡◌, ◌∙◌, refl, ap, sym, subst, true≢false, ℕ, zero, suc, ◌+◌, ◌||◌, Bool, true, false, nat_lt, List, [], ◌∷◌, ◌++◌, codes, Option, Some, None, Result, Ok, Err, arith}
 use Rattle.std.proofs.lemmas.Bool.Decides.{nat_tests}
 use Rattle.std.specs.Prelude.{⊤}
 use Rattle.redcode_text.specs.Results.{◌>>=◌}
@@ -13,7 +13,7 @@ use Rattle.redcode_text.specs.declared.token.TokenKind.TheVariants.{Number, Name
 use Rattle.redcode_text.specs.declared.token.TokenKind.TheVariants as token
 use Rattle.redcode_text.specs.Equates.{Equate, depth_limit}
 use Rattle.redcode_text.specs.Expression.{kinds}
-use Rattle.redcode_text.specs.Lines.{Assert, Parts, Predefined, Reading, Step, WithTokens, assert_line, before_first, behind_last, comment_line, directive_value, each_line, equ_line, equated, is_end, is_equate, is_instruction, is_label, is_predefined, line_added, line_read, name_in_front, on_line, operation_lines, ordinary_line, ordinary_with, parts_of, parts_read, plain_line, row_tokens, token_on_line, tokens_after, tokens_before, tokens_counted, tokens_line, unless_empty, unless_ended, with_line}
+use Rattle.redcode_text.specs.Lines.{Parts, Predefined, Reading, Step, assert_line, before_first, behind_last, comment_line, directive_value, each_line, equ_line, equated, is_equate, is_label, is_predefined, line_added, line_read, name_in_front, on_line, operation_lines, ordinary_line, ordinary_with, parts_of, parts_read, plain_line, row_tokens, token_on_line, tokens_after, tokens_before, tokens_counted, tokens_line, unless_empty, unless_ended, with_line}
 use Rattle.redcode_text.specs.Source.{Row, LineKind, RofLine, ForLine, EquLine, OtherLine, directive_text, directive_text_at, has_directive_word, is_comment, line_kind}
 use Rattle.redcode_text.proofs.SameNames.{SameAssert, SameEquate, SameKind, SameLine, SameName, SameToken, SameTokens}
 use Rattle.redcode_text.proofs.AlikeParts.{SameParts, end-test, equate-test, instruction-test, label-test, operation-lines-alike, parts-alike, predefined-test, used-alike}

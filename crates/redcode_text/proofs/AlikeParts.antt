@@ -1,5 +1,5 @@
 -- A line's parts, where two readings are alike: what its names are, and how its tokens are parted.
-use Rattle.std.proofs.Common.{◌≡◌, refl, ap, sym, subst, ℕ, zero, suc, ◌<◌, ◌==◌, ◌||◌, ◌&&◌, Bool, true, false, not, is_some, nat_lt, List, [], ◌∷◌, ◌++◌, length, codes, Option, Some, None, Result, Ok, Err}
+use Rattle.std.proofs.Common.{◌≡◌, refl, ap, subst, ℕ, zero, suc, ◌==◌, ◌||◌, ◌&&◌, true, false, not, is_some, nat_lt, List, [], ◌∷◌, ◌++◌, length, codes, Option, Some, None, Result, Ok, Err}
 use Rattle.std.specs.List.{list_any}
 use Rattle.std.specs.Str.{str_eq_ignore_ascii_case}
 use Rattle.redcode_text.specs.declared.fault.TextProblem.{TextProblem}
@@ -11,7 +11,7 @@ use Rattle.redcode_text.specs.declared.token.TokenKind.{TokenKind}
 use Rattle.redcode_text.specs.declared.token.TokenKind.TheVariants.{Number, Name}
 use Rattle.redcode_text.specs.declared.token.TokenKind.TheVariants as token
 use Rattle.redcode_text.specs.Equates.{Equate, equate_lines}
-use Rattle.redcode_text.specs.Lines.{Parts, Predefined, Reading, before_first, behind_last, is_end, is_equate, is_instruction, is_label, is_operation, is_org, is_predefined, is_spelled, may_label, name_at, operation_lines, operations, parts_of, parts_within, predefined_value, split_colon, with_current_line}
+use Rattle.redcode_text.specs.Lines.{Parts, Predefined, Reading, before_first, behind_last, is_end, is_equate, is_instruction, is_label, is_operation, is_org, is_predefined, is_spelled, may_label, operation_lines, operations, parts_of, parts_within, predefined_value, split_colon, with_current_line}
 use Rattle.redcode_text.proofs.SameNames.{SameEquate, SameKind, SameLine, SameName, SameToken, SameTokens, index-same}
 use Rattle.redcode_text.proofs.AlikeReadings.{ReadAlike, SameLines}
 use Rattle.redcode_text.proofs.AlikeResults.{Together, both-if, both-is_some, together-if, pairwise-any}

@@ -1,25 +1,22 @@
 -- Two readings that are alike: the first may have open loops without a counter, and more lines and tokens behind it.
-use Rattle.std.proofs.Common.{◌≡◌, ◌∙◌, refl, ap, sym, subst, ℕ, ◌+◌, ◌-◌, ◌<◌, ◌≤◌, Bool, true, false, nat_le, nat_lt, List, [], ◌∷◌, length, map, drop, Option, Some, None, Result, Ok, Err, arith}
+use Rattle.std.proofs.Common.{◌≡◌, ◌∙◌, refl, ap, sym, ℕ, ◌+◌, ◌-◌, ◌<◌, ◌≤◌, Bool, true, false, nat_le, nat_lt, List, [], ◌∷◌, length, map, drop, Option, Some, None, Ok, arith}
 use Rattle.std.proofs.lemmas.Bool.Decides.{nat_tests}
 use Rattle.std.specs.Prelude.{⊤, option_map, IfSome}
 use Rattle.std.specs.List.{All}
 use Rattle.std.proofs.lemmas.List.Elements.{All-cons, All-nil}
-use Rattle.redcode_text.specs.Results.{◌>>=◌}
-use Rattle.redcode_text.specs.declared.fault.TextProblem.{TextProblem}
 use Rattle.redcode_text.specs.declared.fault.TextProblem.TheVariants.{TooLong}
 use Rattle.redcode_text.specs.declared.token.Token.{Token}
-use Rattle.redcode_text.specs.declared.token.TokenKind.{TokenKind}
 use Rattle.redcode_text.specs.Alike.{AreAlike, spelled, spelled_assert, spelled_equate, spelled_line}
 use Rattle.redcode_text.specs.Equates.{Equate, limit}
-use Rattle.redcode_text.specs.Expansion.{in_round, nothing_read, program_of}
+use Rattle.redcode_text.specs.Expansion.{nothing_read, program_of}
 use Rattle.redcode_text.specs.Lines.{Assert, Line, Reading, WithTokens, before_comment, line_read, name_at, row_tokens, tokens_counted}
 use Rattle.redcode_text.specs.Source.{Row}
-use Rattle.redcode_text.specs.Tokens.{OpenLoop, Scanned, begins_name, is_counter, round_of, tokens}
+use Rattle.redcode_text.specs.Tokens.{OpenLoop, is_counter, round_of, tokens}
 use Rattle.redcode_text.proofs.Agreement.{AgreeOption, Pairwise, pairwise-length}
 use Rattle.redcode_text.proofs.AlikeNames.{AreNames, Grown, grown-itself, same-grown, tokens-grown}
 use Rattle.redcode_text.proofs.AlikeResults.{Together, both-weaker, together-limit, together-then, pairwise-map, pairwise-weaker}
 use Rattle.redcode_text.proofs.AlikeTokens.{PlacedToken, SameScanned, scan-alike}
-use Rattle.redcode_text.proofs.Named.{AreBelow, AreDistinct, IsEquateBelow, IsLineBelow, IsNamed}
+use Rattle.redcode_text.proofs.Named.{AreBelow, IsEquateBelow, IsLineBelow, IsNamed}
 use Rattle.redcode_text.proofs.SameNames.{SameAssert, SameEquate, SameLine, SameName, SameToken, SameTokens, tokens-spelled}
 use Rattle.redcode_text.proofs.Simulations.{IsCounter}
 

@@ -1,8 +1,7 @@
 -- Alike readings stay alike: one loop without a counter may be read in the first alone.
-use Rattle.std.proofs.Common.{◌≡◌, refl, subst, ℕ, ℤ, ◌<◌, List, ◌∷◌, length, map, Option, None, Ok}
-use Rattle.redcode_text.specs.Expansion.{Head, head_line, in_round, rof_line}
+use Rattle.std.proofs.Common.{◌≡◌, subst, List, ◌∷◌, None}
+use Rattle.redcode_text.specs.Expansion.{Head, head_line, rof_line}
 use Rattle.redcode_text.specs.Lines.{Predefined, Reading, plain_line}
-use Rattle.redcode_text.specs.Source.{Row}
 use Rattle.redcode_text.specs.Tokens.{OpenLoop}
 use Rattle.redcode_text.proofs.AlikeCounts.{SameHead, head-alike, rof-alike}
 use Rattle.redcode_text.proofs.AlikeLines.{plain-alike}

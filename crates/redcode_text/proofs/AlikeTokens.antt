@@ -1,5 +1,5 @@
 -- The tokens of the same bytes, read under the same counters at two places of two sources.
-use Rattle.std.proofs.Common.{◌≡◌, ◌∙◌, refl, ap, sym, subst, ℕ, zero, suc, ◌+◌, ◌-◌, ◌^◌, ◌<◌, ◌≤◌, pos, Bool, true, false, cond, not, nat_lt, List, [], ◌∷◌, ◌++◌, length, take, Option, Some, None, Result, Ok, Err, arith, ltb-true, lt-ltb}
+use Rattle.std.proofs.Common.{◌≡◌, refl, subst, ℕ, zero, suc, ◌+◌, ◌-◌, ◌^◌, ◌≤◌, pos, Bool, true, false, cond, not, nat_lt, List, [], ◌∷◌, ◌++◌, length, take, Option, Some, None, Result, Ok, Err, arith, ltb-true, lt-ltb}
 use Rattle.std.specs.Char.{is_ascii, is_ascii_digit}
 use Rattle.std.specs.List.{list_all}
 use Rattle.std.specs.Str.Parse.{digits_value}
@@ -8,9 +8,8 @@ use Rattle.redcode_text.specs.declared.fault.TextProblem.{TextProblem}
 use Rattle.redcode_text.specs.declared.fault.TextProblem.TheVariants.{BadToken, NotAscii, TooLong}
 use Rattle.redcode_text.specs.declared.token.Sign.{Sign}
 use Rattle.redcode_text.specs.declared.token.Token.{Token}
-use Rattle.redcode_text.specs.declared.token.TokenKind.{TokenKind}
 use Rattle.redcode_text.specs.declared.token.TokenKind.TheVariants.{Number, Name}
-use Rattle.redcode_text.specs.Tokens.{Found, OpenLoop, Scanned, begins_name, begins_word, is_blank, join_counters, join_parts, joined, look_up, name_found, name_index, number_found, number_kind, one_byte_signs, parts_at_joins, plain_word_found, round_digits, round_of, round_or_bad, scan_from, sign_found, sign_token, token_at, two_byte_signs, with_name, with_room, with_token, word_found, word_len, word_token}
+use Rattle.redcode_text.specs.Tokens.{Found, OpenLoop, Scanned, begins_name, begins_word, is_blank, join_counters, join_parts, joined, look_up, name_found, name_index, number_found, one_byte_signs, parts_at_joins, round_digits, round_of, round_or_bad, scan_from, sign_found, sign_token, token_at, two_byte_signs, with_name, with_room, with_token, word_found, word_len, word_token}
 use Rattle.redcode_text.proofs.Agreement.{Pairwise, pairwise-append, pairwise-length}
 use Rattle.redcode_text.proofs.AlikeResults.{Together, together-room, together-then, pairwise-weaker}
 use Rattle.redcode_text.proofs.AlikeNames.{AreNames, Grown, grown-itself, grown-on, kind-grown, with-grown, with-same}

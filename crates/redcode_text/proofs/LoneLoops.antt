@@ -1,5 +1,5 @@
 -- The lines FOR and ROF of a loop without a counter, where they stand in one of two alike readings alone.
-use Rattle.std.proofs.Common.{◌≡◌, ◌∙◌, refl, ap, sym, subst, true≢false, ℕ, zero, suc, ◌+◌, ◌-◌, ◌^◌, ◌<◌, ◌≤◌, pos, Bool, true, false, cond, nat_le, nat_lt, List, [], ◌∷◌, ◌++◌, length, take, drop, codes, decimal, Option, Some, None, Result, Ok, Err, arith, lt-ltb, not, ◌&&◌, append-nil}
+use Rattle.std.proofs.Common.{◌≡◌, ◌∙◌, refl, ap, sym, subst, true≢false, ℕ, ◌+◌, ◌-◌, ◌^◌, ◌<◌, pos, Bool, true, false, cond, nat_le, nat_lt, List, [], ◌∷◌, ◌++◌, length, take, drop, codes, decimal, Option, Some, None, Result, Ok, Err, arith, lt-ltb, not, ◌&&◌, append-nil}
 use Rattle.std.proofs.lemmas.Bool.Decides.{nat_tests}
 use Rattle.std.proofs.lemmas.Bool.{and_parts}
 use Rattle.std.proofs.lemmas.List.{take_all}
@@ -15,13 +15,13 @@ use Rattle.redcode_text.specs.declared.fault.TextProblem.{TextProblem}
 use Rattle.redcode_text.specs.declared.fault.TextProblem.TheVariants.{BadCount, BadToken, NotAscii, TooLong}
 use Rattle.redcode_text.specs.declared.token.Token.{Token}
 use Rattle.redcode_text.specs.declared.token.TokenKind.{TokenKind}
-use Rattle.redcode_text.specs.declared.token.TokenKind.TheVariants.{Number, Name}
+use Rattle.redcode_text.specs.declared.token.TokenKind.TheVariants.{Number}
 use Rattle.redcode_text.specs.Equates.{limit}
 use Rattle.redcode_text.specs.Expansion.{Head, as_count, count_limit, count_of, counter_name, for_word_at, head_line, rof_line, room_for_loop, loop_limit}
 use Rattle.redcode_text.specs.Expression.{kinds, tree_within, value_of}
 use Rattle.redcode_text.specs.Lines.{Predefined, Reading, WithTokens, before_comment, line_read, name_in_front, row_tokens, tokens_after, tokens_before}
-use Rattle.redcode_text.specs.Source.{Row, LineKind, ForLine, line_kind}
-use Rattle.redcode_text.specs.Tokens.{Found, OpenLoop, Scanned, begins_name, begins_word, is_counter, is_letter, is_word_byte, name_found, number_found, number_kind, plain_word_found, round_of, scan_from, sign_token, token_at, tokens, with_room, with_token, word_found, word_len, word_token}
+use Rattle.redcode_text.specs.Source.{Row, ForLine, line_kind}
+use Rattle.redcode_text.specs.Tokens.{Found, OpenLoop, Scanned, begins_name, begins_word, is_counter, is_letter, is_word_byte, name_found, number_found, number_kind, round_of, scan_from, sign_token, token_at, tokens, with_room, with_token, word_found, word_len, word_token}
 use Rattle.redcode_text.proofs.AlikeCounts.{grows-no-more, headed}
 use Rattle.redcode_text.proofs.AlikeNames.{Grown, grown-itself}
 use Rattle.redcode_text.proofs.AlikeReadings.{AreCounters, ReadAlike, counts-alike, reading-grown}

@@ -1,5 +1,5 @@
 -- What a relation between two readings must keep, so that a loop may be read in one and its lines, written out, in the other.
-use Rattle.std.specs.Prelude.{◌≡◌, ◌<◌, ◌^◌, ⊤, ℕ, List, ◌++◌, true, Option, None, IfSome, Result, Ok, codes, decimal}
+use Rattle.std.specs.Prelude.{◌≡◌, ◌<◌, ◌^◌, ℕ, List, ◌++◌, true, Option, None, IfSome, Ok, codes, decimal}
 use Rattle.redcode_text.specs.Expansion.{Head, head_line, in_round, rof_line}
 use Rattle.redcode_text.specs.Lines.{Reading, Predefined, plain_line}
 use Rattle.redcode_text.specs.Source.{Row}

@@ -1,4 +1,4 @@
--- Trees that are the same row for row, but that a loop without a counter may be written out in the second; and the texts that have such trees.
+-- Trees that are the same row for row, but that a loop without a counter may be written out in the second; texts with such trees.
 use Rattle.std.proofs.Common.{◌≡◌, ◌∙◌, refl, ap, sym, subst, ℕ, zero, suc, ◌+◌, ◌^◌, ◌<◌, Bool, true, false, ◌||◌, ◌==◌, List, [], ◌∷◌, ◌++◌, length, ◌⊎◌, inl, inr, append_assoc, arith}
 use Rattle.std.proofs.lemmas.Bool.{true≢false}
 use Rattle.std.proofs.lemmas.Bool.Decides.{nat_tests}
@@ -27,7 +27,8 @@ onto (row ∷ rows) rest = Plain row (onto rows rest)
 -- the items are these rows n times, one after another, and then the rest
 abbrev pub AreCopies : ℕ → List Row → Items → Items → Type 0
 AreCopies zero rows rest items = items ≡ rest
-AreCopies (suc n) rows rest items = (likes : List Row) × (others : Items) × RowsAlike rows likes × (items ≡ onto likes others) × AreCopies n rows rest others
+AreCopies (suc n) rows rest items =
+    (likes : List Row) × (others : Items) × RowsAlike rows likes × (items ≡ onto likes others) × AreCopies n rows rest others
 
 -- a loop stands beside a loop
 pub record IsSameLoop (head rof : Row) (inside behind : Items → Type 0) (other : Items) : Type 0 where
@@ -55,8 +56,10 @@ pub record IsWrittenOut (head : Row) (body : Items) (behind : Items → Type 0) 
 -- what stands behind a FOR or a ROF alone isn't read
 unfoldable pub TreesAlike : Items → Items → Type 0
 TreesAlike Nothing other = other ≡ Nothing
-TreesAlike (Plain row rest) other = (like : Row) × (others : Items) × (other ≡ Plain like others) × (row.bytes ≡ like.bytes) × TreesAlike rest others
-TreesAlike (Loop head body rof rest) other = IsSameLoop head rof (λ x. TreesAlike body x) (λ x. TreesAlike rest x) other ⊎ IsWrittenOut head body (λ x. TreesAlike rest x) other
+TreesAlike (Plain row rest) other =
+    (like : Row) × (others : Items) × (other ≡ Plain like others) × (row.bytes ≡ like.bytes) × TreesAlike rest others
+TreesAlike (Loop head body rof rest) other =
+    IsSameLoop head rof (λ x. TreesAlike body x) (λ x. TreesAlike rest x) other ⊎ IsWrittenOut head body (λ x. TreesAlike rest x) other
 TreesAlike (source.UnclosedFor row rest) other = ⊤
 TreesAlike (LoneRof row rest) other = ⊤
 
@@ -65,7 +68,17 @@ unfolding TreesAlike
 tree-itself Nothing = refl
 tree-itself (Plain row rest) = (row, rest, refl, refl, tree-itself rest)
 tree-itself (Loop head body rof rest) =
-    inl (record { like = head; end = rof; body = body; rest = rest; is = refl; head_same = refl; rof_same = refl; body_same = tree-itself body; rest_same = tree-itself rest })
+    inl (record {
+      like = head;
+      end = rof;
+      body = body;
+      rest = rest;
+      is = refl;
+      head_same = refl;
+      rof_same = refl;
+      body_same = tree-itself body;
+      rest_same = tree-itself rest;
+    })
 tree-itself (source.UnclosedFor row rest) = tt
 tree-itself (LoneRof row rest) = tt
 
@@ -75,9 +88,11 @@ onto-lone : (rof : Row) (rows : List Row) (rest : Items) → then_lone rof (onto
 onto-lone rof [] rest = refl
 onto-lone rof (row ∷ rows) rest = ap (Plain row) (onto-lone rof rows rest)
 
-copies-lone : (rof : Row) (n : ℕ) (rows : List Row) (rest items : Items) → AreCopies n rows rest items → AreCopies n rows (then_lone rof rest) (then_lone rof items)
+copies-lone : (rof : Row) (n : ℕ) (rows : List Row) (rest items : Items) → AreCopies n rows rest items
+    → AreCopies n rows (then_lone rof rest) (then_lone rof items)
 copies-lone rof zero rows rest items c = ap (then_lone rof) c
-copies-lone rof (suc n) rows rest items c = (c.0, then_lone rof c.1, c.2, ap (then_lone rof) c.3 ∙ onto-lone rof c.0 c.1, copies-lone rof n rows rest c.1 c.4)
+copies-lone rof (suc n) rows rest items c =
+    (c.0, then_lone rof c.1, c.2, ap (then_lone rof) c.3 ∙ onto-lone rof c.0 c.1, copies-lone rof n rows rest c.1 c.4)
 
 lone-alike : (rof other : Row) (one two : Items) → TreesAlike one two → TreesAlike (then_lone rof one) (then_lone other two)
 unfolding TreesAlike
@@ -121,22 +136,27 @@ WaitingAlike (w ∷ ws) (v ∷ vs) = (w.0.bytes ≡ v.0.bytes) × TreesAlike w.1
 abbrev PairsAlike : Pairing → Pairing → Type 0
 PairsAlike p q = TreesAlike p.here q.here × WaitingAlike p.waiting q.waiting
 
-opened-alike : (row like : Row) → row.bytes ≡ like.bytes → (here more : Items) (ws vs : List (Row × Items)) → TreesAlike here more → WaitingAlike ws vs → PairsAlike (opened row here ws) (opened like more vs)
+opened-alike : (row like : Row) → row.bytes ≡ like.bytes → (here more : Items) (ws vs : List (Row × Items)) → TreesAlike here more
+    → WaitingAlike ws vs → PairsAlike (opened row here ws) (opened like more vs)
 unfolding TreesAlike
 opened-alike row like same here more [] [] t w = (tt, tt)
 opened-alike row like same here more [] (v ∷ vs) t w = absurd w
 opened-alike row like same here more (u ∷ ws) [] t w = absurd w
 opened-alike row like same here more (u ∷ ws) (v ∷ vs) t w =
-    (inl (record { like = like; end = v.0; body = more; rest = v.1; is = refl; head_same = same; rof_same = w.0; body_same = t; rest_same = w.1 }), w.2)
+    let loop : IsSameLoop row u.0 (λ x. TreesAlike here x) (λ x. TreesAlike u.1 x) (Loop like more v.0 v.1) =
+    record { like = like; end = v.0; body = more; rest = v.1; is = refl; head_same = same; rof_same = w.0; body_same = t; rest_same = w.1 } in
+    (inl loop, w.2)
 
-row-alike : (kind : LineKind) (row like : Row) → row.bytes ≡ like.bytes → (p q : Pairing) → PairsAlike p q → PairsAlike (paired_with kind row p) (paired_with kind like q)
+row-alike : (kind : LineKind) (row like : Row) → row.bytes ≡ like.bytes → (p q : Pairing) → PairsAlike p q
+    → PairsAlike (paired_with kind row p) (paired_with kind like q)
 unfolding TreesAlike
 row-alike (ForLine at) row like same p q a = opened-alike row like same p.here q.here p.waiting q.waiting a.0 a.1
 row-alike RofLine row like same p q a = (refl, (same, a.0, a.1))
 row-alike (EquLine at) row like same p q a = ((like, q.here, refl, same, a.0), a.1)
 row-alike OtherLine row like same p q a = ((like, q.here, refl, same, a.0), a.1)
 
-pair-tree : (here more : Items) (ws vs : List (Row × Items)) → TreesAlike here more → WaitingAlike ws vs → TreesAlike (with_lone here ws) (with_lone more vs)
+pair-tree : (here more : Items) (ws vs : List (Row × Items)) → TreesAlike here more → WaitingAlike ws vs
+    → TreesAlike (with_lone here ws) (with_lone more vs)
 pair-tree here more [] [] t w = t
 pair-tree here more [] (v ∷ vs) t w = absurd w
 pair-tree here more (u ∷ ws) [] t w = absurd w
@@ -180,7 +200,8 @@ plain-paired (EquLine at) e row p = refl
 plain-paired OtherLine e row p = refl
 
 body-paired : (body rest : List (List ℕ)) → AllByRecursion IsBodyLine body → (number at : ℕ)
-    → (n : ℕ) × (a : ℕ) × (paired (rows_from number at (body ++ rest)) ≡ behind_rows (rows_from number at body) (paired (rows_from n a rest)))
+    → (n : ℕ) × (a : ℕ)
+    × (paired (rows_from number at (body ++ rest)) ≡ behind_rows (rows_from number at body) (paired (rows_from n a rest)))
 body-paired [] rest all number at = (number, at, refl)
 body-paired (l ∷ body) rest all number at =
     let row : Row = record { number = number; at = at; bytes = l } in
@@ -190,7 +211,8 @@ body-paired (l ∷ body) rest all number at =
 
 module _ (body after : List (List ℕ)) (all : AllByRecursion IsBodyLine body) where
   copies-paired : (n number at k b : ℕ)
-      → (i : ℕ) × (j : ℕ) × AreCopies n (rows_from k b body) (paired (rows_from i j after)).here (paired (rows_from number at (copies n body ++ after))).here
+      → (i : ℕ) × (j : ℕ)
+      × AreCopies n (rows_from k b body) (paired (rows_from i j after)).here (paired (rows_from number at (copies n body ++ after))).here
       × ((paired (rows_from number at (copies n body ++ after))).waiting ≡ (paired (rows_from i j after)).waiting)
   copies-paired zero number at k b = (number, at, refl, refl)
   copies-paired (suc n) number at k b =
@@ -198,19 +220,25 @@ module _ (body after : List (List ℕ)) (all : AllByRecursion IsBodyLine body) w
       let r = body-paired body rest all number at in
       let more = copies-paired n r.0 r.1 k b in
       let is = ap (λ l. paired (rows_from number at l)) (append_assoc body (copies n body) after) ∙ r.2 in
-      (more.0, more.1, (rows_from number at body, (paired (rows_from r.0 r.1 rest)).here, rows-themselves body k b number at, ap (λ p. p.here) is, more.2), ap (λ p. p.waiting) is ∙ more.3)
+      let one : AreCopies (suc n) (rows_from k b body) (paired (rows_from more.0 more.1 after)).here
+      (paired (rows_from number at (copies (suc n) body ++ after))).here =
+      (rows_from number at body, (paired (rows_from r.0 r.1 rest)).here, rows-themselves body k b number at, ap (λ p. p.here) is, more.2) in
+      (more.0, more.1, one, ap (λ p. p.waiting) is ∙ more.3)
 
   for-kind : (digits : List ℕ) → line_kind (codes "FOR " ++ digits) ≡ ForLine 0
   for-kind digits = refl
 
+  abbrev head_row : ℕ → ℕ → ℕ → Row
+  head_row n number at = record { number = number; at = at; bytes = codes "FOR " ++ decimal n }
+
   -- the loop's lines, paired
   loop-paired : (n number at : ℕ) → (k : ℕ) × (b : ℕ) × (i : ℕ) × (j : ℕ) × (rof : Row) ×
       (paired (rows_from number at (loop_lines n body ++ after)) ≡ record {
-        here = Loop (record { number = number; at = at; bytes = codes "FOR " ++ decimal n }) (onto (rows_from k b body) Nothing) rof (paired (rows_from i j after)).here;
+        here = Loop (head_row n number at) (onto (rows_from k b body) Nothing) rof (paired (rows_from i j after)).here;
         waiting = (paired (rows_from i j after)).waiting;
       })
   loop-paired n number at =
-      let head : Row = record { number = number; at = at; bytes = codes "FOR " ++ decimal n } in
+      let head = head_row n number at in
       let k = number + 1 in
       let b = at + length (codes "FOR " ++ decimal n) + 1 in
       let r = body-paired body (codes "ROF" ∷ after) all k b in
@@ -219,8 +247,16 @@ module _ (body after : List (List ℕ)) (all : AllByRecursion IsBodyLine body) w
       let j = r.1 + length (codes "ROF") + 1 in
       let behind = paired (rows_from i j after) in
       let here : Pairing = record { here = onto (rows_from k b body) Nothing; waiting = (rof, behind.here) ∷ behind.waiting } in
-      let inside : paired (rows_from k b ((body ++ codes "ROF" ∷ []) ++ after)) ≡ here = ap (λ l. paired (rows_from k b l)) (append_assoc body (codes "ROF" ∷ []) after) ∙ r.2 in
-      (k, b, i, j, rof, ap (paired_with (line_kind (codes "FOR " ++ decimal n)) head) inside ∙ ap (λ kind. paired_with kind head here) (for-kind (decimal n)))
+      let inside : paired (rows_from k b ((body ++ codes "ROF" ∷ []) ++ after)) ≡ here =
+      ap (λ l. paired (rows_from k b l)) (append_assoc body (codes "ROF" ∷ []) after) ∙ r.2 in (
+        k,
+        b,
+        i,
+        j,
+        rof,
+        ap (paired_with (line_kind (codes "FOR " ++ decimal n)) head) inside
+            ∙ ap (λ kind. paired_with kind head here) (for-kind (decimal n)),
+      )
 
   loop-alike : (n : ℕ) → n < 2 ^ 63 → LinesAlike (loop_lines n body ++ after) (copies n body ++ after)
   unfolding TreesAlike
@@ -229,8 +265,18 @@ module _ (body after : List (List ℕ)) (all : AllByRecursion IsBodyLine body) w
       let c = copies-paired n m a l.0 l.1 in
       let same = lines-themselves after l.2 l.3 c.0 c.1 in
       let other = paired (rows_from m a (copies n body ++ after)) in
-      let here = inr (record { count = n; rows = rows_from l.0 l.1 body; rest = (paired (rows_from c.0 c.1 after)).here; small = small; head_is = refl; body_is = refl; are_copies = c.2; rest_same = same.0 }) in
-      subst (λ p. PairsAlike p other) (sym l.5) (here, subst (λ w. WaitingAlike (paired (rows_from l.2 l.3 after)).waiting w) (sym c.3) same.1)
+      let here = inr (record {
+        count = n;
+        rows = rows_from l.0 l.1 body;
+        rest = (paired (rows_from c.0 c.1 after)).here;
+        small = small;
+        head_is = refl;
+        body_is = refl;
+        are_copies = c.2;
+        rest_same = same.0;
+      }) in
+      subst (λ p. PairsAlike p other) (sym l.5)
+      (here, subst (λ w. WaitingAlike (paired (rows_from l.2 l.3 after)).waiting w) (sym c.3) same.1)
 
 -- ---- the first `;redcode`
 
@@ -246,7 +292,8 @@ from_lines (l ∷ lines) = elim (begins l) [ true ↦ l ∷ lines | false ↦ fr
 abbrev read_lines : List (List ℕ) → List (List ℕ)
 read_lines lines = elim (list_any begins lines) [ true ↦ from_lines lines | false ↦ lines ]
 
-from-rows : (lines : List (List ℕ)) (number at : ℕ) → (n : ℕ) × (a : ℕ) × (from_redcode (rows_from number at lines) ≡ rows_from n a (from_lines lines))
+from-rows : (lines : List (List ℕ)) (number at : ℕ)
+    → (n : ℕ) × (a : ℕ) × (from_redcode (rows_from number at lines) ≡ rows_from n a (from_lines lines))
 from-rows [] number at = (number, at, refl)
 from-rows (l ∷ lines) number at = go (begins l) (from-rows lines (number + 1) (at + length l + 1))
   where
@@ -257,11 +304,13 @@ from-rows (l ∷ lines) number at = go (begins l) (from-rows lines (number + 1) 
     row = record { number = number; at = at; bytes = l }
 
     go : (t : Bool) → ((n : ℕ) × (a : ℕ) × (from_redcode rows ≡ rows_from n a (from_lines lines)))
-        → (n : ℕ) × (a : ℕ) × ((elim t as (λ _. List Row) [ true ↦ row ∷ rows | false ↦ from_redcode rows ]) ≡ rows_from n a (elim t as (λ _. List (List ℕ)) [ true ↦ l ∷ lines | false ↦ from_lines lines ]))
+        → (n : ℕ) × (a : ℕ)
+        × ((elim t as (λ _. List Row) [ true ↦ row ∷ rows | false ↦ from_redcode rows ]) ≡ rows_from n a (elim t as (λ _. List (List ℕ)) [ true ↦ l ∷ lines | false ↦ from_lines lines ]))
     go true r = (number, at, refl)
     go false r = r
 
-read-rows-from : (lines : List (List ℕ)) (number at : ℕ) → (n : ℕ) × (a : ℕ) × (read_rows (rows_from number at lines) ≡ rows_from n a (read_lines lines))
+read-rows-from : (lines : List (List ℕ)) (number at : ℕ)
+    → (n : ℕ) × (a : ℕ) × (read_rows (rows_from number at lines) ≡ rows_from n a (read_lines lines))
 read-rows-from lines number at =
     let r = go (list_any begins lines) in
     (r.0, r.1, ap (λ t. elim t as (λ _. List Row) [ true ↦ from_redcode rows | false ↦ rows ]) (any-rows number at lines) ∙ r.2)
@@ -269,7 +318,9 @@ read-rows-from lines number at =
     rows : List Row
     rows = rows_from number at lines
 
-    go : (t : Bool) → (n : ℕ) × (a : ℕ) × ((elim t as (λ _. List Row) [ true ↦ from_redcode rows | false ↦ rows ]) ≡ rows_from n a (elim t as (λ _. List (List ℕ)) [ true ↦ from_lines lines | false ↦ lines ]))
+    go : (t : Bool)
+        → (n : ℕ) × (a : ℕ)
+        × ((elim t as (λ _. List Row) [ true ↦ from_redcode rows | false ↦ rows ]) ≡ rows_from n a (elim t as (λ _. List (List ℕ)) [ true ↦ from_lines lines | false ↦ lines ]))
     go true = from-rows lines number at
     go false = (number, at, refl)
 
@@ -280,51 +331,64 @@ read-none : (lines : List (List ℕ)) → list_any begins lines ≡ false → re
 read-none lines e = ap (λ t. elim t as (λ _. List (List ℕ)) [ true ↦ from_lines lines | false ↦ lines ]) e
 
 -- where the first lines have a `;redcode`, they alone are cut
-front-some : (before rest : List (List ℕ)) → list_any begins before ≡ true → (list_any begins (before ++ rest) ≡ true) × (from_lines (before ++ rest) ≡ from_lines before ++ rest)
+front-some : (before rest : List (List ℕ)) → list_any begins before ≡ true
+    → (list_any begins (before ++ rest) ≡ true) × (from_lines (before ++ rest) ≡ from_lines before ++ rest)
 front-some [] rest e = absurd (true≢false (sym e))
 front-some (l ∷ before) rest e = go (begins l) e (front-some before rest)
   where
     go : (t : Bool) → (t || list_any begins before) ≡ true
-        → (list_any begins before ≡ true → (list_any begins (before ++ rest) ≡ true) × (from_lines (before ++ rest) ≡ from_lines before ++ rest))
+        → (list_any begins before ≡ true
+        → (list_any begins (before ++ rest) ≡ true) × (from_lines (before ++ rest) ≡ from_lines before ++ rest))
         → ((t || list_any begins (before ++ rest)) ≡ true)
         × ((elim t as (λ _. List (List ℕ)) [ true ↦ l ∷ (before ++ rest) | false ↦ from_lines (before ++ rest) ]) ≡ (elim t as (λ _. List (List ℕ)) [ true ↦ l ∷ before | false ↦ from_lines before ]) ++ rest)
     go true e h = (refl, refl)
     go false e h = h e
 
 -- where they have none, the others are cut as they are alone
-front-none : (before rest : List (List ℕ)) → list_any begins before ≡ false → (list_any begins (before ++ rest) ≡ list_any begins rest) × (from_lines (before ++ rest) ≡ from_lines rest)
+front-none : (before rest : List (List ℕ)) → list_any begins before ≡ false
+    → (list_any begins (before ++ rest) ≡ list_any begins rest) × (from_lines (before ++ rest) ≡ from_lines rest)
 front-none [] rest e = (refl, refl)
 front-none (l ∷ before) rest e = go (begins l) e (front-none before rest)
   where
     go : (t : Bool) → (t || list_any begins before) ≡ false
-        → (list_any begins before ≡ false → (list_any begins (before ++ rest) ≡ list_any begins rest) × (from_lines (before ++ rest) ≡ from_lines rest))
-        → ((t || list_any begins (before ++ rest)) ≡ list_any begins rest) × ((elim t as (λ _. List (List ℕ)) [ true ↦ l ∷ (before ++ rest) | false ↦ from_lines (before ++ rest) ]) ≡ from_lines rest)
+        → (list_any begins before ≡ false
+        → (list_any begins (before ++ rest) ≡ list_any begins rest) × (from_lines (before ++ rest) ≡ from_lines rest))
+        → ((t || list_any begins (before ++ rest)) ≡ list_any begins rest)
+        × ((elim t as (λ _. List (List ℕ)) [ true ↦ l ∷ (before ++ rest) | false ↦ from_lines (before ++ rest) ]) ≡ from_lines rest)
     go true e h = absurd (true≢false e)
     go false e h = h e
 
 -- lines between others, in which no `;redcode` stands
-cut-alike : (before one two after : List (List ℕ)) → list_any begins one ≡ false → list_any begins two ≡ false → LinesAlike (one ++ after) (two ++ after)
+cut-alike : (before one two after : List (List ℕ)) → list_any begins one ≡ false → list_any begins two ≡ false
+    → LinesAlike (one ++ after) (two ++ after)
     → LinesAlike (read_lines (before ++ (one ++ after))) (read_lines (before ++ (two ++ after)))
 cut-alike before one two after first second alike = go (list_any begins before) (list_any begins after) refl refl
   where
     in-front : list_any begins before ≡ true → (rest : List (List ℕ)) → read_lines (before ++ rest) ≡ from_lines before ++ rest
     in-front e rest = let f = front-some before rest e in read-some (before ++ rest) f.0 ∙ f.1
 
-    behind : list_any begins before ≡ false → list_any begins after ≡ true → (middle : List (List ℕ)) → list_any begins middle ≡ false → read_lines (before ++ (middle ++ after)) ≡ from_lines after
+    behind : list_any begins before ≡ false → list_any begins after ≡ true → (middle : List (List ℕ)) → list_any begins middle ≡ false
+        → read_lines (before ++ (middle ++ after)) ≡ from_lines after
     behind e some middle clean =
         let f = front-none before (middle ++ after) e in
         let g = front-none middle after clean in
         read-some (before ++ (middle ++ after)) (f.0 ∙ g.0 ∙ some) ∙ f.1 ∙ g.1
 
-    nowhere : list_any begins before ≡ false → list_any begins after ≡ false → (middle : List (List ℕ)) → list_any begins middle ≡ false → read_lines (before ++ (middle ++ after)) ≡ before ++ (middle ++ after)
-    nowhere e none middle clean = read-none (before ++ (middle ++ after)) ((front-none before (middle ++ after) e).0 ∙ (front-none middle after clean).0 ∙ none)
+    nowhere : list_any begins before ≡ false → list_any begins after ≡ false → (middle : List (List ℕ)) → list_any begins middle ≡ false
+        → read_lines (before ++ (middle ++ after)) ≡ before ++ (middle ++ after)
+    nowhere e none middle clean =
+        read-none (before ++ (middle ++ after)) ((front-none before (middle ++ after) e).0 ∙ (front-none middle after clean).0 ∙ none)
 
-    go : (s t : Bool) → list_any begins before ≡ s → list_any begins after ≡ t → LinesAlike (read_lines (before ++ (one ++ after))) (read_lines (before ++ (two ++ after)))
-    go true t e some = rw (in-front e (one ++ after), in-front e (two ++ after)) (front-alike (from_lines before) (one ++ after) (two ++ after) alike)
+    go : (s t : Bool) → list_any begins before ≡ s → list_any begins after ≡ t
+        → LinesAlike (read_lines (before ++ (one ++ after))) (read_lines (before ++ (two ++ after)))
+    go true t e some =
+        rw (in-front e (one ++ after), in-front e (two ++ after)) (front-alike (from_lines before) (one ++ after) (two ++ after) alike)
     go false true e some = rw (behind e some one first, behind e some two second) (lines-themselves (from_lines after))
-    go false false e some = rw (nowhere e some one first, nowhere e some two second) (front-alike before (one ++ after) (two ++ after) alike)
+    go false false e some =
+        rw (nowhere e some one first, nowhere e some two second) (front-alike before (one ++ after) (two ++ after) alike)
 
-rows-tree : (one two : List (List ℕ)) → LinesAlike (read_lines one) (read_lines two) → TreesAlike (tree_of_rows (read_rows (rows_from 1 0 one))) (tree_of_rows (read_rows (rows_from 1 0 two)))
+rows-tree : (one two : List (List ℕ)) → LinesAlike (read_lines one) (read_lines two)
+    → TreesAlike (tree_of_rows (read_rows (rows_from 1 0 one))) (tree_of_rows (read_rows (rows_from 1 0 two)))
 rows-tree one two alike =
     let r = read-rows-from one 1 0 in
     let s = read-rows-from two 1 0 in
@@ -347,7 +411,8 @@ line-first (b ∷ line) bs e = go (b == 10) e (line-first line bs)
 lines-read : (lines : List (List ℕ)) → AllByRecursion IsLine lines → lines_of (text_of_lines lines) ≡ lines
 lines-read [] all = refl
 lines-read (l ∷ lines) all =
-    ap lines_of (append_assoc l (10 ∷ []) (text_of_lines lines)) ∙ line-first l (text_of_lines lines) all.0 ∙ ap (λ ls. l ∷ ls) (lines-read lines all.1)
+    ap lines_of (append_assoc l (10 ∷ []) (text_of_lines lines)) ∙ line-first l (text_of_lines lines) all.0
+    ∙ ap (λ ls. l ∷ ls) (lines-read lines all.1)
 
 all-append : (P : List ℕ → Type 0) (xs ys : List (List ℕ)) → AllByRecursion P xs → AllByRecursion P ys → AllByRecursion P (xs ++ ys)
 all-append P [] ys a b = b
@@ -387,11 +452,16 @@ pub written-trees : (n : ℕ) (before body after : List (List ℕ)) → n < 2 ^ 
     → AllByRecursion IsLine before → AllByRecursion IsLine body → AllByRecursion IsLine after → AllByRecursion IsBodyLine body
     → TreesAlike (tree_of (text_of_lines (before ++ (loop_lines n body ++ after)))) (tree_of (text_of_lines (before ++ (copies n body ++ after))))
 written-trees n before body after small first inside last all =
-    let loop-is : AllByRecursion IsLine (loop_lines n body) = (decimal-line n, all-append IsLine body (codes "ROF" ∷ []) inside (refl, tt)) in
+    let loop-is : AllByRecursion IsLine (loop_lines n body) =
+    (decimal-line n, all-append IsLine body (codes "ROF" ∷ []) inside (refl, tt)) in
     let one = before ++ (loop_lines n body ++ after) in
     let two = before ++ (copies n body ++ after) in
-    let lines-one = lines-read one (all-append IsLine before (loop_lines n body ++ after) first (all-append IsLine (loop_lines n body) after loop-is last)) in
-    let lines-two = lines-read two (all-append IsLine before (copies n body ++ after) first (all-append IsLine (copies n body) after (all-copies IsLine n body inside) last)) in
+    let lines-one = lines-read one
+    (all-append IsLine before (loop_lines n body ++ after) first (all-append IsLine (loop_lines n body) after loop-is last)) in
+    let lines-two = lines-read two
+    (all-append IsLine before (copies n body ++ after) first
+    (all-append IsLine (copies n body) after (all-copies IsLine n body inside) last)) in
     let loop-clean : list_any begins (loop_lines n body) ≡ false = (front-none body (codes "ROF" ∷ []) (none-redcode body all)).0 in
     let copies-clean = none-redcode (copies n body) (all-copies IsBodyLine n body all) in
-    rw (lines-one, lines-two) (rows-tree one two (cut-alike before (loop_lines n body) (copies n body) after loop-clean copies-clean (loop-alike body after all n small)))
+    rw (lines-one, lines-two) (rows-tree one two
+    (cut-alike before (loop_lines n body) (copies n body) after loop-clean copies-clean (loop-alike body after all n small)))

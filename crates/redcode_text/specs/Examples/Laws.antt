@@ -32,7 +32,8 @@ spelled_lines (Err e) = []
 pub row_written_out :
     let before : List (List ℕ) = codes "i FOR 2" ∷ codes "x&i NOP" ∷ [] in
     let after : List (List ℕ) = codes "y&i NOP" ∷ codes "ROF" ∷ [] in
-    let labels : List (List ℕ) → List (List (List ℕ)) = λ lines. spelled_lines (expansion predefined (text_of_lines (before ++ (lines ++ after)))) in
+    let labels : List (List ℕ) → List (List (List ℕ)) =
+    λ lines. spelled_lines (expansion predefined (text_of_lines (before ++ (lines ++ after)))) in
     (labels (loop_lines 2 (codes "NOP i" ∷ [])) ≡ labels (copies 2 (codes "NOP i" ∷ [])))
     × (labels (copies 2 (codes "NOP i" ∷ [])) ≡ (codes "x01" ∷ []) ∷ [] ∷ [] ∷ (codes "y01" ∷ []) ∷ (codes "x02" ∷ []) ∷ [] ∷ [] ∷ (codes "y02" ∷ []) ∷ [])
 unfolding expansion value_of tree_within digits
