@@ -15,23 +15,23 @@ use Rattle.redcode_text.specs.declared.token.Token.{Token}
 use Rattle.redcode_text.specs.declared.token.TokenKind.{TokenKind}
 use Rattle.redcode_text.specs.declared.token.TokenKind.TheVariants.{Number, Name}
 use Rattle.redcode_text.specs.declared.token.TokenKind.TheVariants as token
-use Rattle.redcode_text.specs.Lines.{name_at}
 use Rattle.redcode_text.specs.Tokens.{without_line}
 use Rattle.redcode_text.proofs.CallerLemmas.{Agree, AgreeOption, Pairwise, Same, SameKind, SameName, SameToken, SameTokens, agree-after, agree-bind, agree-same, pairwise-length, value-same}
 use Rattle.redcode_asm.specs.Assembly.{Operands, at_line, cell_from, cell_with, expressed, full_operands, given_operands, is_comma, is_dot, mode_of, mode_sign, modifier_first, modifier_in, no_operand, ok_or, one_operand, opcode_of, operand_value, operands_of, parts_at_commas, split_mode, split_modifier, texted}
-use Rattle.redcode_asm.specs.declared.fault.AsmFault.{AsmFault}
 use Rattle.redcode_asm.specs.declared.fault.AsmProblem.{AsmProblem}
 use Rattle.redcode_asm.specs.declared.fault.AsmProblem.TheVariants.{Operand, Operation}
 
 -- ---- faults
 
-pub texted-agree : {A B : Type 0} (R : A → B → Type 0) (r : Result A TextFault) (q : Result B TextFault) → Agree R r q → Agree R (texted (without_line r)) (texted (without_line q))
+pub texted-agree : {A B : Type 0} (R : A → B → Type 0) (r : Result A TextFault) (q : Result B TextFault) → Agree R r q
+    → Agree R (texted (without_line r)) (texted (without_line q))
 texted-agree R (Ok x) (Ok y) h = h
 texted-agree R (Ok x) (Err e) h = absurd h
 texted-agree R (Err d) (Ok y) h = absurd h
 texted-agree R (Err d) (Err e) h = tt
 
-pub at-line-agree : {A B : Type 0} (R : A → B → Type 0) (n m : ℕ) (r : Result A AsmProblem) (q : Result B AsmProblem) → Agree R r q → Agree R (at_line n r) (at_line m q)
+pub at-line-agree : {A B : Type 0} (R : A → B → Type 0) (n m : ℕ) (r : Result A AsmProblem) (q : Result B AsmProblem) → Agree R r q
+    → Agree R (at_line n r) (at_line m q)
 at-line-agree R n m (Ok x) (Ok y) h = h
 at-line-agree R n m (Ok x) (Err e) h = absurd h
 at-line-agree R n m (Err d) (Ok y) h = absurd h
@@ -67,16 +67,21 @@ module _ (names others : List (List ℕ)) where
   onto-same t u (p ∷ ps) [] h k = absurd k
   onto-same t u (p ∷ ps) (q ∷ qs) h k = ((h, k.0), k.1)
 
-  parts-same : (ts us : List Token) → SameTokens names others ts us → Pairwise (SameTokens names others) (parts_at_commas ts) (parts_at_commas us)
+  parts-same : (ts us : List Token) → SameTokens names others ts us
+      → Pairwise (SameTokens names others) (parts_at_commas ts) (parts_at_commas us)
   parts-same [] [] h = (tt, tt)
   parts-same [] (u ∷ us) h = absurd h
   parts-same (t ∷ ts) [] h = absurd h
   parts-same (t ∷ ts) (u ∷ us) h =
-      subst (λ b. Pairwise (SameTokens names others) (parts_at_commas (t ∷ ts)) (elim b as (λ _. List (List Token)) [ true ↦ [] ∷ parts_at_commas us | false ↦ onto_first u (parts_at_commas us) ]))
+      subst (λ b. Pairwise (SameTokens names others) (parts_at_commas (t ∷ ts))
+      (elim b as (λ _. List (List Token)) [ true ↦ [] ∷ parts_at_commas us | false ↦ onto_first u (parts_at_commas us) ]))
       (comma-same t.kind u.kind h.0) (go (is_comma t.kind) (parts-same ts us h.1))
     where
       go : (b : Bool) → Pairwise (SameTokens names others) (parts_at_commas ts) (parts_at_commas us)
-          → Pairwise (SameTokens names others) (elim b as (λ _. List (List Token)) [ true ↦ [] ∷ parts_at_commas ts | false ↦ onto_first t (parts_at_commas ts) ])
+          → Pairwise (SameTokens names others) (elim b as (λ _. List (List Token)) [
+            | true ↦ [] ∷ parts_at_commas ts
+            | false ↦ onto_first t (parts_at_commas ts)
+          ])
           (elim b as (λ _. List (List Token)) [ true ↦ [] ∷ parts_at_commas us | false ↦ onto_first u (parts_at_commas us) ])
       go true k = (tt, k)
       go false k = onto-same t u (parts_at_commas ts) (parts_at_commas us) h.0 k
@@ -93,7 +98,8 @@ module _ (names others : List (List ℕ)) where
   one-same op.Dat x y h = (tt, h)
   one-same _ x y h = (h, tt)
 
-  operands-same : (o : Op) (ps qs : List (List Token)) → Pairwise (SameTokens names others) ps qs → Agree SameOperands (operands_of o ps) (operands_of o qs)
+  operands-same : (o : Op) (ps qs : List (List Token)) → Pairwise (SameTokens names others) ps qs
+      → Agree SameOperands (operands_of o ps) (operands_of o qs)
   operands-same o [] [] h = no-same o
   operands-same o [] (q ∷ qs) h = absurd h
   operands-same o (p ∷ ps) [] h = absurd h
@@ -105,7 +111,8 @@ module _ (names others : List (List ℕ)) where
   operands-same o (p ∷ r ∷ t ∷ ps) (q ∷ s ∷ []) h = absurd h.1.1
   operands-same o (p ∷ r ∷ t ∷ ps) (q ∷ s ∷ u ∷ qs) h = tt
 
-  empty-same : (ps qs : List (List Token)) → Pairwise (SameTokens names others) ps qs → list_any (λ p. length p == 0) ps ≡ list_any (λ p. length p == 0) qs
+  empty-same : (ps qs : List (List Token)) → Pairwise (SameTokens names others) ps qs
+      → list_any (λ p. length p == 0) ps ≡ list_any (λ p. length p == 0) qs
   empty-same [] [] h = refl
   empty-same [] (q ∷ qs) h = absurd h
   empty-same (p ∷ ps) [] h = absurd h
@@ -114,15 +121,18 @@ module _ (names others : List (List ℕ)) where
       let rest = empty-same ps qs h.1 in
       λ i. (n i == 0) || rest i
 
-  full-same : (o : Op) (ps qs : List (List Token)) → Pairwise (SameTokens names others) ps qs → Agree SameOperands (full_operands o ps) (full_operands o qs)
+  full-same : (o : Op) (ps qs : List (List Token)) → Pairwise (SameTokens names others) ps qs
+      → Agree SameOperands (full_operands o ps) (full_operands o qs)
   full-same o ps qs h =
-      subst (λ b. Agree SameOperands (full_operands o ps) (if b then Err Operand else operands_of o qs)) (empty-same ps qs h) (go (list_any (λ p. length p == 0) ps))
+      subst (λ b. Agree SameOperands (full_operands o ps) (if b then Err Operand else operands_of o qs)) (empty-same ps qs h)
+      (go (list_any (λ p. length p == 0) ps))
     where
       go : (b : Bool) → Agree SameOperands (if b then Err Operand else operands_of o ps) (if b then Err Operand else operands_of o qs)
       go true = tt
       go false = operands-same o ps qs h
 
-  given-same : (o : Op) (ts us : List Token) → SameTokens names others ts us → Agree SameOperands (given_operands o ts) (given_operands o us)
+  given-same : (o : Op) (ts us : List Token) → SameTokens names others ts us
+      → Agree SameOperands (given_operands o ts) (given_operands o us)
   given-same o [] [] h = no-same o
   given-same o [] (u ∷ us) h = absurd h
   given-same o (t ∷ ts) [] h = absurd h
@@ -138,10 +148,12 @@ module _ (names others : List (List ℕ)) where
   mode-same [] (u ∷ us) h = absurd h
   mode-same (t ∷ ts) [] h = absurd h
   mode-same (t ∷ ts) (u ∷ us) h =
-      subst (λ o. SameMode (split_mode (t ∷ ts)) (elim o as (λ _. Mode × List Token) [ Some m ↦ (m, us) | None ↦ (mode.Direct, u ∷ us) ])) (mode-of-same t.kind u.kind h.0) (go (mode_of t.kind))
+      subst (λ o. SameMode (split_mode (t ∷ ts)) (elim o as (λ _. Mode × List Token) [ Some m ↦ (m, us) | None ↦ (mode.Direct, u ∷ us) ]))
+      (mode-of-same t.kind u.kind h.0) (go (mode_of t.kind))
     where
       go : (o : Option Mode)
-          → SameMode (elim o as (λ _. Mode × List Token) [ Some m ↦ (m, ts) | None ↦ (mode.Direct, t ∷ ts) ]) (elim o as (λ _. Mode × List Token) [ Some m ↦ (m, us) | None ↦ (mode.Direct, u ∷ us) ])
+          → SameMode (elim o as (λ _. Mode × List Token) [ Some m ↦ (m, ts) | None ↦ (mode.Direct, t ∷ ts) ])
+          (elim o as (λ _. Mode × List Token) [ Some m ↦ (m, us) | None ↦ (mode.Direct, u ∷ us) ])
       go (Some m) = (refl, h.1)
       go None = (refl, h)
 
@@ -160,18 +172,24 @@ module _ (names others : List (List ℕ)) where
   first-same [] (u ∷ us) h = absurd h
   first-same (t ∷ ts) [] h = absurd h
   first-same (t ∷ ts) (u ∷ us) h =
-      agree-after SameRest (modifier_in names t.kind) (modifier_in others u.kind) (λ m. Ok (Some m, ts)) (λ m. Ok (Some m, us)) (modifier-same t.kind u.kind h.0) (λ m. (refl, h.1))
+      agree-after SameRest (modifier_in names t.kind) (modifier_in others u.kind) (λ m. Ok (Some m, ts)) (λ m. Ok (Some m, us))
+      (modifier-same t.kind u.kind h.0) (λ m. (refl, h.1))
 
-  pub split-same : (ts us : List Token) → SameTokens names others ts us → Agree SameRest (split_modifier names ts) (split_modifier others us)
+  pub split-same : (ts us : List Token) → SameTokens names others ts us
+      → Agree SameRest (split_modifier names ts) (split_modifier others us)
   split-same [] [] h = (refl, tt)
   split-same [] (u ∷ us) h = absurd h
   split-same (t ∷ ts) [] h = absurd h
   split-same (t ∷ ts) (u ∷ us) h =
-      subst (λ b. Agree SameRest (split_modifier names (t ∷ ts)) (elim b as (λ _. Result (Option Modifier × List Token) AsmProblem) [ true ↦ modifier_first others us | false ↦ Ok (None, u ∷ us) ]))
+      subst (λ b. Agree SameRest (split_modifier names (t ∷ ts))
+      (elim b as (λ _. Result (Option Modifier × List Token) AsmProblem) [ true ↦ modifier_first others us | false ↦ Ok (None, u ∷ us) ]))
       (dot-same t.kind u.kind h.0) (go (is_dot t.kind))
     where
       go : (b : Bool) → Agree SameRest (elim b as (λ _. Result (Option Modifier × List Token) AsmProblem) [ true ↦ modifier_first names ts | false ↦ Ok (None, t ∷ ts) ])
-          (elim b as (λ _. Result (Option Modifier × List Token) AsmProblem) [ true ↦ modifier_first others us | false ↦ Ok (None, u ∷ us) ])
+          (elim b as (λ _. Result (Option Modifier × List Token) AsmProblem) [
+            | true ↦ modifier_first others us
+            | false ↦ Ok (None, u ∷ us)
+          ])
       go true = first-same ts us h.1
       go false = (refl, h)
 
@@ -193,15 +211,18 @@ module _ (names others : List (List ℕ)) where
     operand-same None (Some us) h = absurd h
     operand-same None None h = refl
 
-    made-same : (o : Op) (given : Option Modifier) (ts us : List Token) → SameTokens names others ts us → Agree (Same {A = Cell}) (cell_from m f o given ts) (cell_from m g o given us)
+    made-same : (o : Op) (given : Option Modifier) (ts us : List Token) → SameTokens names others ts us
+        → Agree (Same {A = Cell}) (cell_from m f o given ts) (cell_from m g o given us)
     made-same o given ts us h =
         agree-bind SameOperands (Same {A = Cell}) (given_operands o ts) (given_operands o us)
         (λ x. operand_value m f x.a >>= λ a. operand_value m f x.b >>= λ b. Ok (cell_with o given a b))
         (λ x. operand_value m g x.a >>= λ a. operand_value m g x.b >>= λ b. Ok (cell_with o given a b))
         (given-same o ts us h)
-        (λ x y k. agree-same (operand_value m f x.a >>= λ a. operand_value m f x.b >>= λ b. Ok (cell_with o given a b)) (operand_value m g y.a >>= λ a. operand_value m g y.b >>= λ b. Ok (cell_with o given a b))
+        (λ x y k. agree-same (operand_value m f x.a >>= λ a. operand_value m f x.b >>= λ b. Ok (cell_with o given a b))
+        (operand_value m g y.a >>= λ a. operand_value m g y.b >>= λ b. Ok (cell_with o given a b))
         (λ i. operand-same x.a y.a k.0 i >>= λ a. operand-same x.b y.b k.1 i >>= λ b. Ok (cell_with o given a b)))
 
     pub cell-from-same : (o : Op) (one other : Option Modifier) (ts us : List Token) → one ≡ other → SameTokens names others ts us
         → Agree (Same {A = Cell}) (cell_from m f o one ts) (cell_from m g o other us)
-    cell-from-same o one other ts us given h = subst (λ x. Agree (Same {A = Cell}) (cell_from m f o one ts) (cell_from m g o x us)) given (made-same o one ts us h)
+    cell-from-same o one other ts us given h =
+        subst (λ x. Agree (Same {A = Cell}) (cell_from m f o one ts) (cell_from m g o x us)) given (made-same o one ts us h)

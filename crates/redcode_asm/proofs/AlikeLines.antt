@@ -1,11 +1,11 @@
 -- Programs that are the same, name for name, have the same instructions, and their names stand for the same.
-use Rattle.std.proofs.Common.{◌≡◌, ◌+◌, ◌==◌, ◌&&◌, ◌||◌, ℕ, pos, Bool, true, false, List, [], ◌∷◌, length, drop, filter, nat_lt, is_some, Option, Some, None, codes, refl, ap, subst, zero, suc}
+use Rattle.std.proofs.Common.{◌≡◌, ◌+◌, ◌==◌, ◌&&◌, ◌||◌, ℕ, pos, Bool, true, false, List, [], ◌∷◌, drop, filter, nat_lt, is_some, Option, Some, None, codes, refl, ap, subst, zero, suc}
 use Rattle.std.specs.Prelude.{not, option_map, ◌-ℤ◌}
 use Rattle.std.specs.List.{list_any}
 use Rattle.std.specs.Str.{str_eq_ignore_ascii_case}
 use Rattle.redcode_text.specs.Alike.{AreAlike}
 use Rattle.redcode_text.specs.Expansion.{ProgramValue}
-use Rattle.redcode_text.specs.Lines.{Line, Predefined, is_end, is_instruction, is_org, is_spelled, name_at, predefined_value, with_current_line}
+use Rattle.redcode_text.specs.Lines.{Line, Predefined, is_end, is_instruction, is_org, is_spelled, predefined_value, with_current_line}
 use Rattle.redcode_text.proofs.CallerLemmas.{Agree, AgreeOption, AreDistinct, IsNamed, Pairwise, Same, SameLine, SameName, SameToken, agree-bind, index-same, lines-same, pairwise-filter, pairwise-last, pairwise-length}
 use Rattle.redcode_asm.specs.Assembly.{Placed, index_after, instructions, known_value, label_among, last_where, length_checked, name_value, none_past, not_empty, placed, placed_from, value_or}
 
@@ -16,7 +16,8 @@ module _ (names others : List (List ℕ)) where
 
   -- ---- operations
 
-  spelled-same : (word : List ℕ) (o p : Option ℕ) → AgreeOption (SameName names others) o p → is_spelled names word o ≡ is_spelled others word p
+  spelled-same : (word : List ℕ) (o p : Option ℕ) → AgreeOption (SameName names others) o p
+      → is_spelled names word o ≡ is_spelled others word p
   spelled-same word (Some n) (Some m) h = ap (λ name. str_eq_ignore_ascii_case name word) h.2
   spelled-same word (Some n) None h = absurd h
   spelled-same word None (Some m) h = absurd h
@@ -34,26 +35,30 @@ module _ (names others : List (List ℕ)) where
   pub end-same : (l k : Line) → SameLine names others l k → is_end names l.operation ≡ is_end others k.operation
   end-same l k h = spelled-same (codes "end") l.operation k.operation h.1
 
-  instruction-same : (l k : Line) → SameLine names others l k → is_instruction names l.operation l.rest ≡ is_instruction others k.operation k.rest
+  instruction-same : (l k : Line) → SameLine names others l k
+      → is_instruction names l.operation l.rest ≡ is_instruction others k.operation k.rest
   instruction-same l k h =
       let n = pairwise-length (SameToken names others) l.rest k.rest h.2 in
       λ i. (some-same l.operation k.operation h.1 i || nat_lt 0 (n i)) && not (org-same l k h i || end-same l k h i)
 
   -- ---- lines with their indices
 
-  placed-from-same : (index : ℕ) (ls ks : List Line) → Pairwise (SameLine names others) ls ks → Pairwise SamePlaced (placed_from names index ls) (placed_from others index ks)
+  placed-from-same : (index : ℕ) (ls ks : List Line) → Pairwise (SameLine names others) ls ks
+      → Pairwise SamePlaced (placed_from names index ls) (placed_from others index ks)
   placed-from-same index [] [] h = tt
   placed-from-same index [] (k ∷ ks) h = absurd h
   placed-from-same index (l ∷ ls) [] h = absurd h
   placed-from-same index (l ∷ ls) (k ∷ ks) h = (
     (refl, h.0),
-    subst (λ b. Pairwise SamePlaced (placed_from names (index_after names index l) ls) (placed_from others (elim b as (λ _. ℕ) [ true ↦ index + 1 | false ↦ index ]) ks))
+    subst (λ b. Pairwise SamePlaced (placed_from names (index_after names index l) ls)
+        (placed_from others (elim b as (λ _. ℕ) [ true ↦ index + 1 | false ↦ index ]) ks))
         (instruction-same l k h.0) (placed-from-same (index_after names index l) ls ks h.1),
   )
 
   -- ---- too many, or none
 
-  none-same : (longest : ℕ) (is js : List Placed) → Pairwise SamePlaced is js → Agree (Same {A = Unit {0}}) (none_past (drop longest is)) (none_past (drop longest js))
+  none-same : (longest : ℕ) (is js : List Placed) → Pairwise SamePlaced is js
+      → Agree (Same {A = Unit {0}}) (none_past (drop longest is)) (none_past (drop longest js))
   none-same zero [] [] h = refl
   none-same zero (p ∷ is) (q ∷ js) h = tt
   none-same (suc n) [] [] h = refl
@@ -88,23 +93,30 @@ module _ (names others : List (List ℕ)) where
 
 module _ (ps : Predefined) (s t : ProgramValue) (first : IsNamed s) (second : IsNamed t) (alike : AreAlike s t) where
   all-same : Pairwise (SamePlaced s.names t.names) (placed s) (placed t)
-  all-same = placed-from-same s.names t.names 0 s.lines t.lines (lines-same s.names t.names s.lines t.lines first.lines second.lines alike.lines)
+  all-same =
+      placed-from-same s.names t.names 0 s.lines t.lines (lines-same s.names t.names s.lines t.lines first.lines second.lines alike.lines)
 
   pub instructions-same : Pairwise (SamePlaced s.names t.names) (instructions s) (instructions t)
   instructions-same =
-      pairwise-filter (SamePlaced s.names t.names) (λ p. is_instruction s.names p.line.operation p.line.rest) (λ p. is_instruction t.names p.line.operation p.line.rest)
+      pairwise-filter (SamePlaced s.names t.names) (λ p. is_instruction s.names p.line.operation p.line.rest)
+      (λ p. is_instruction t.names p.line.operation p.line.rest)
       (λ p q h. instruction-same s.names t.names p.line q.line h.1) (placed s) (placed t) all-same
 
-  pub last-same : (f g : Line → Bool) → ((l k : Line) → SameLine s.names t.names l k → f l ≡ g k) → AgreeOption (SamePlaced s.names t.names) (last_where f (placed s)) (last_where g (placed t))
+  pub last-same : (f g : Line → Bool) → ((l k : Line) → SameLine s.names t.names l k → f l ≡ g k)
+      → AgreeOption (SamePlaced s.names t.names) (last_where f (placed s)) (last_where g (placed t))
   last-same f g same =
       pairwise-last (SamePlaced s.names t.names) None None (filter (λ p. f p.line) (placed s)) (filter (λ p. g p.line) (placed t)) tt
-      (pairwise-filter (SamePlaced s.names t.names) (λ p. f p.line) (λ p. g p.line) (λ p q h. same p.line q.line h.1) (placed s) (placed t) all-same)
+      (pairwise-filter (SamePlaced s.names t.names) (λ p. f p.line) (λ p. g p.line) (λ p q h. same p.line q.line h.1) (placed s)
+      (placed t) all-same)
 
-  pub length-same : (longest : ℕ) → Agree (Same {A = Unit {0}}) (length_checked longest (instructions s)) (length_checked longest (instructions t))
+  pub length-same : (longest : ℕ) → Agree (Same {A = Unit {0}}) (length_checked longest (instructions s))
+      (length_checked longest (instructions t))
   length-same longest =
-      agree-bind (Same {A = Unit {0}}) (Same {A = Unit {0}}) (none_past (drop longest (instructions s))) (none_past (drop longest (instructions t)))
+      agree-bind (Same {A = Unit {0}}) (Same {A = Unit {0}}) (none_past (drop longest (instructions s)))
+      (none_past (drop longest (instructions t)))
       (λ _. not_empty (instructions s)) (λ _. not_empty (instructions t))
-      (none-same s.names t.names longest (instructions s) (instructions t) instructions-same) (λ _ _ _. empty-same s.names t.names (instructions s) (instructions t) instructions-same)
+      (none-same s.names t.names longest (instructions s) (instructions t) instructions-same)
+      (λ _ _ _. empty-same s.names t.names (instructions s) (instructions t) instructions-same)
 
   -- what is no label
   pub known-same : (a b n m : ℕ) → a ≡ b → SameName s.names t.names n m → known_value ps s a n ≡ known_value ps t b m

@@ -28,7 +28,8 @@ pairwise-length R [] (y ∷ ys) h = absurd h
 pairwise-length R (x ∷ xs) [] h = absurd h
 pairwise-length R (x ∷ xs) (y ∷ ys) h = omega (arith, pairwise-length R xs ys h.1)
 
-pub pairwise-append : {A B : Type 0} (R : A → B → Type 0) (xs : List A) (ys : List B) (zs : List A) (ws : List B) → Pairwise R xs ys → Pairwise R zs ws
+pub pairwise-append : {A B : Type 0} (R : A → B → Type 0) (xs : List A) (ys : List B) (zs : List A) (ws : List B) → Pairwise R xs ys
+    → Pairwise R zs ws
     → Pairwise R (xs ++ zs) (ys ++ ws)
 pairwise-append R [] [] zs ws h k = k
 pairwise-append R [] (y ∷ ys) zs ws h k = absurd h
@@ -36,19 +37,23 @@ pairwise-append R (x ∷ xs) [] zs ws h k = absurd h
 pairwise-append R (x ∷ xs) (y ∷ ys) zs ws h k = (h.0, pairwise-append R xs ys zs ws h.1 k)
 
 -- what two tests keep, that say the same of what agrees
-pub pairwise-filter : {A B : Type 0} (R : A → B → Type 0) (f : A → Bool) (g : B → Bool) → ((x : A) (y : B) → R x y → f x ≡ g y) → (xs : List A) (ys : List B) → Pairwise R xs ys
+pub pairwise-filter : {A B : Type 0} (R : A → B → Type 0) (f : A → Bool) (g : B → Bool) → ((x : A) (y : B) → R x y → f x ≡ g y)
+    → (xs : List A) (ys : List B) → Pairwise R xs ys
     → Pairwise R (filter f xs) (filter g ys)
 pairwise-filter R f g same [] [] h = tt
 pairwise-filter R f g same [] (y ∷ ys) h = absurd h
 pairwise-filter R f g same (x ∷ xs) [] h = absurd h
 pairwise-filter R f g same (x ∷ xs) (y ∷ ys) h =
-    subst (λ b. Pairwise R (cond (f x) (x ∷ filter f xs) (filter f xs)) (cond b (y ∷ filter g ys) (filter g ys))) (same x y h.0) (go (f x) (pairwise-filter R f g same xs ys h.1))
+    subst (λ b. Pairwise R (cond (f x) (x ∷ filter f xs) (filter f xs)) (cond b (y ∷ filter g ys) (filter g ys))) (same x y h.0)
+    (go (f x) (pairwise-filter R f g same xs ys h.1))
   where
-    go : (b : Bool) → Pairwise R (filter f xs) (filter g ys) → Pairwise R (cond b (x ∷ filter f xs) (filter f xs)) (cond b (y ∷ filter g ys) (filter g ys))
+    go : (b : Bool) → Pairwise R (filter f xs) (filter g ys)
+        → Pairwise R (cond b (x ∷ filter f xs) (filter f xs)) (cond b (y ∷ filter g ys) (filter g ys))
     go true k = (h.0, k)
     go false k = k
 
-pub pairwise-last : {A B : Type 0} (R : A → B → Type 0) (o : Option A) (p : Option B) (xs : List A) (ys : List B) → AgreeOption R o p → Pairwise R xs ys
+pub pairwise-last : {A B : Type 0} (R : A → B → Type 0) (o : Option A) (p : Option B) (xs : List A) (ys : List B) → AgreeOption R o p
+    → Pairwise R xs ys
     → AgreeOption R (last_or o xs) (last_or p ys)
 pairwise-last R o p [] [] h k = h
 pairwise-last R o p [] (y ∷ ys) h k = absurd k
@@ -68,14 +73,16 @@ Agree R (Err d) (Err e) = ⊤
 abbrev pub Same : {A : Type 0} → A → A → Type 0
 Same x y = x ≡ y
 
-pub agree-bind : {A B C D E F : Type 0} (R : A → B → Type 0) (S : C → D → Type 0) (r : Result A E) (s : Result B F) (f : A → Result C E) (g : B → Result D F)
+pub agree-bind : {A B C D E F : Type 0} (R : A → B → Type 0) (S : C → D → Type 0) (r : Result A E) (s : Result B F) (f : A → Result C E)
+    (g : B → Result D F)
     → Agree R r s → ((x : A) (y : B) → R x y → Agree S (f x) (g y)) → Agree S (r >>= f) (s >>= g)
 agree-bind R S (Ok x) (Ok y) f g h k = k x y h
 agree-bind R S (Ok x) (Err e) f g h k = absurd h
 agree-bind R S (Err d) (Ok y) f g h k = absurd h
 agree-bind R S (Err d) (Err e) f g h k = tt
 
-pub agree-after : {A C D E : Type 0} (S : C → D → Type 0) (r s : Result A E) (f : A → Result C E) (g : A → Result D E) → r ≡ s → ((x : A) → Agree S (f x) (g x))
+pub agree-after : {A C D E : Type 0} (S : C → D → Type 0) (r s : Result A E) (f : A → Result C E) (g : A → Result D E) → r ≡ s
+    → ((x : A) → Agree S (f x) (g x))
     → Agree S (r >>= f) (s >>= g)
 agree-after {A} {C} {D} {E} S r s f g same k = subst (λ (q : Result A E). Agree S (r >>= f) (q >>= g)) same (go r)
   where
@@ -91,7 +98,8 @@ agree-same {A} {E} r s same = subst (λ (q : Result A E). Agree (Same {A = A}) r
     go (Err e) = tt
 
 -- where the first is a value, the second is one that agrees
-pub agree-value : {A B E F : Type 0} (R : A → B → Type 0) (r : Result A E) (s : Result B F) (x : A) → Agree R r s → r ≡ Ok x → (y : B) × (s ≡ Ok y) × R x y
+pub agree-value : {A B E F : Type 0} (R : A → B → Type 0) (r : Result A E) (s : Result B F) (x : A) → Agree R r s → r ≡ Ok x
+    → (y : B) × (s ≡ Ok y) × R x y
 agree-value R (Ok z) (Ok y) x h e = let same : z ≡ x = cc in (y, refl, subst (λ w. R w y) same h)
 agree-value R (Ok z) (Err f) x h e = absurd h
 agree-value R (Err d) (Ok y) x h e = absurd h
