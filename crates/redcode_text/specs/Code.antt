@@ -15,3 +15,4 @@ pub mod Used
 pub mod Heads
 pub mod Loops
 pub mod Parts
+pub mod Sums

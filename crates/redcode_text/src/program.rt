@@ -2,6 +2,7 @@
 ghost use Rattle.std.specs.Prelude.{◌≡◌};
 ghost use Rattle.redcode_text.specs.Lines.{is_end, is_instruction, is_spelled};
 
+use crate::expression::Env;
 use crate::fault::TextFault;
 use crate::names::NameTable;
 use crate::names::equates::Equates;
@@ -74,8 +75,9 @@ impl Model for Program {
 }
 
 impl Program {
-    ghost use Rattle.std.specs.Prelude.{◌≡◌, ◌≤◌, IfOk, length, map, option_map, vec_len};
-    ghost use Rattle.redcode_text.specs.Code.Values.{has_equate};
+    ghost use Rattle.std.specs.Prelude.{◌≡◌, ◌≤◌, IfOk, IfSome, length, map, option_map, vec_len};
+    ghost use Rattle.redcode_text.specs.Code.Sums.{Shortened};
+    ghost use Rattle.redcode_text.specs.Code.Values.{IsValued, has_equate};
     ghost use Rattle.redcode_text.specs.Equates.{equate_lines, limit, substitution};
     ghost use Rattle.redcode_text.specs.Views.{assert_of, line_of};
     ghost use Rattle.redcode_text.specs.Outcomes.{Answers};
@@ -144,6 +146,20 @@ impl Program {
         ensures few { IfOk result (λ made. vec_len made ≤ limit) }
     {
         self.equates.substitute(alloc, tokens)
+    }
+
+    /// Tokens with each EQU name replaced, in short, where each stands for a sum or for nothing under what names stand for.
+    pub fn shortened<E: Env>(&self, alloc: Global, tokens: &[Token], env: &E) -> Option<Vec<Token>>
+        ensures { IfSome result (λ short. Shortened self.now.equates (E.value_of env.now) tokens.now short.items) }
+    {
+        self.equates.shortened(alloc, tokens, env)
+    }
+
+    /// The value of an expression whose EQU names stand for sums or for nothing, if it has one.
+    pub fn sum_value<E: Env>(&self, alloc: Global, tokens: &[Token], env: &E) -> Option<i64>
+        ensures { IfSome result (λ value. IsValued self.now.equates (E.value_of env.now) tokens.now value) }
+    {
+        self.equates.sum_value(alloc, tokens, env)
     }
 }
 

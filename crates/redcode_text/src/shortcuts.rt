@@ -30,6 +30,7 @@ mod long_names;
 mod reaches;
 mod runs;
 mod seed;
+mod sums;
 mod values;
 mod words;
 
