@@ -65,3 +65,4 @@ pub mod WrittenTrees
 pub mod WrittenReadings
 pub mod WrittenOut
 pub mod SourcePrograms
+pub mod Sums
