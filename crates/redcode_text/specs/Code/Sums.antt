@@ -110,7 +110,9 @@ tail_before a (Some b) = both_tails a b
 
 -- a sum, a sign, and another sum
 abbrev pub joined : Sum → Bool → Sum → Sum
-joined a minus b = record { first = a.first; tail = Some (tail_before (tail_after a.tail (record { walk = None; minus = minus; last = b.first })) b.tail) }
+joined a minus b =
+    let next : Tail = record { walk = None; minus = minus; last = b.first } in
+    record { first = a.first; tail = Some (tail_before (tail_after a.tail next) b.tail) }
 
 -- ---- the tokens of a sum in short
 
@@ -123,7 +125,8 @@ step_tokens place minus v = token_at place (token.Sign (sign_of minus)) ∷ toke
 -- to the highest place, to the lowest, and to the end
 abbrev pub walk_tokens : Token → Option Walk → List Token
 walk_tokens place None = []
-walk_tokens place (Some w) = step_tokens place false w.most ++ (step_tokens place true (w.most -ℤ w.least) ++ step_tokens place false (w.total -ℤ w.least))
+walk_tokens place (Some w) =
+    step_tokens place false w.most ++ (step_tokens place true (w.most -ℤ w.least) ++ step_tokens place false (w.total -ℤ w.least))
 
 abbrev pub tail_tokens : Token → Option Tail → List Token
 tail_tokens place None = []

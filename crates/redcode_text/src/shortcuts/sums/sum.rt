@@ -2,7 +2,19 @@
 ghost use Rattle.std.specs.Prelude.{◌≡◌, ◌++◌, ◌∷◌, [], ℕ, ℤ, List, Option, Some, IfSome};
 ghost use Rattle.redcode_text.specs.declared.token.TokenKind.TheVariants as token;
 ghost use Rattle.redcode_text.specs.Code.Sums.{
-    IsSum, both, both_tails, operand_of, short_tokens, sign_of, step_tokens, stepped, tail_after, tail_before, tail_tokens, walk_tokens, whole
+  IsSum,
+  both,
+  both_tails,
+  operand_of,
+  short_tokens,
+  sign_of,
+  step_tokens,
+  stepped,
+  tail_after,
+  tail_before,
+  tail_tokens,
+  walk_tokens,
+  whole,
 };
 
 use crate::token::{Sign, Token, TokenKind};
