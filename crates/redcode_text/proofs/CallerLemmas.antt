@@ -1,4 +1,4 @@
--- What the crates above may cite of values, replacements, the spelling of trees, the words that a name may be, lines that are read one after
+-- What the crates above may cite of values, replacements, sums in short, the spelling of trees, the words that a name may be, lines that are read one after
 -- another, and programs that are the same, name for name, whose definitions they don't see into.
 use Rattle.std.specs.Bool.{⊤}
 use Rattle.std.proofs.lemmas.List.{length-map, map-append}
@@ -33,6 +33,7 @@ pub use Rattle.redcode_text.proofs.AlikeValues.{substitution-same, value-same}
 pub use Rattle.redcode_text.proofs.Named.{AreDistinct, IsNamed}
 pub use Rattle.redcode_text.proofs.SameNames.{SameAssert, SameEquate, SameKind, SameLine, SameName, SameToken, SameTokens, asserts-same, equates-same, index-same, lines-same}
 pub use Rattle.redcode_text.proofs.SourcePrograms.{loops-written-out, source-named}
+pub use Rattle.redcode_text.proofs.Sums.{value-short}
 pub use Rattle.redcode_text.proofs.ShortWords.{has_word_length, find-same, name-same, predefined-same, spelled-same, word-same}
 
 -- where the first is a value, the second is it

@@ -32,6 +32,7 @@ pub mod CommentSteps
 pub mod PlainSteps
 pub mod CountSteps
 pub mod KnownValues
+pub mod Shortening
 pub mod Kept
 pub mod LoopSteps
 pub mod LoneSteps
@@ -65,3 +66,4 @@ pub mod WrittenTrees
 pub mod WrittenReadings
 pub mod WrittenOut
 pub mod SourcePrograms
+pub mod Sums

@@ -16,3 +16,4 @@ pub mod Heads
 pub mod Loops
 pub mod Parts
 pub mod Sums
+pub mod Shortening

@@ -12,9 +12,13 @@
 //!   apart, and is compared with the name that stood at its place before in place of being hashed.
 //! - `values`, `counts`: a loop in a loop, with EQU names in its count that stand for 65,536 tokens. The value of a count is kept
 //!   until the next EQU line.
+//! - `sums`: EQU names that stand for sums of 65,536 operands, in the operands and counts of a loop, beside its counter, so that
+//!   no value can be kept. The sum of such a name is put together from those of the names in its line, so that a use costs what
+//!   is written, and not what it stands for.
 //! - `seed`: names that all have the same hash. Hashes begin with the text itself.
 //!
-//! Without them `Text` has no runs, a `Word` is its bytes, `NameTable` is a set of texts, and a count is worked out each time.
+//! Without them `Text` has no runs, a `Word` is its bytes, `NameTable` is a set of texts, a count is worked out each time,
+//! and each EQU name is replaced by all that it stands for.
 //!
 //! What serves speed alone, too, but has no form apart from what it is used in, stands there:
 //!

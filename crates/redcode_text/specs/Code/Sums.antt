@@ -1,6 +1,7 @@
 -- Sums in short: fewer tokens in place of those of an EQU name, worth the same whatever stands before and behind them.
-use Rattle.std.specs.Prelude.{◌≡◌, ℕ, ℤ, ◌+◌, ◌+ℤ◌, ◌≤ℤ◌, ◌≤◌, List, [], ◌∷◌, ◌++◌, length, Bool, true, false, Option, Some, None, Result, Ok, Err}
+use Rattle.std.specs.Prelude.{◌≡◌, ℕ, ℤ, ◌+◌, ◌+ℤ◌, ◌-ℤ◌, neg_ℤ, ◌≤ℤ◌, ◌≤◌, List, [], ◌∷◌, ◌++◌, length, Bool, true, false, Option, Some, None, Result, Ok}
 use Rattle.std.specs.Bool.{⊤}
+use Rattle.std.specs.Int.{int_max, int_min}
 use Rattle.std.specs.List.{All}
 use Rattle.std.specs.Option.{IsSome}
 use Rattle.std.proofs.Common.{◌⊎◌}
@@ -20,7 +21,7 @@ use Rattle.redcode_text.specs.declared.shortcuts.sums.Short.{Short}
 use Rattle.redcode_text.specs.Equates.{Equate, Replaced, each_replaced, limit, replaced_token, replacing, substitution, token_lines}
 use Rattle.redcode_text.specs.Expression.{in_range, kinds, shape}
 use Rattle.redcode_text.specs.Tokens.{without_line}
-use Rattle.redcode_text.specs.Code.Climbing.{State, Waiting, has, reduced, run}
+use Rattle.redcode_text.specs.Code.Climbing.{Waiting, has, reduced, run}
 use Rattle.redcode_text.specs.Code.Climbing.Waiting.{Left}
 
 -- ---- sums
@@ -71,6 +72,68 @@ pub record IsSum (names : ℕ → Option ℤ) (xs : List TokenKind) (sum : Sum) 
   pub first : operand_of names head ≡ Some sum.first
   pub behind : IsBehind names others sum.tail
   pub terms : All (IsTerm names) xs
+
+-- ---- how sums are put together
+
+-- a walk of one step
+abbrev pub stepped : Bool → ℤ → Walk
+stepped true v = record { total = neg_ℤ v; most = neg_ℤ v; least = neg_ℤ v }
+stepped false v = record { total = v; most = v; least = v }
+
+-- a walk, and then another
+abbrev pub both : Walk → Walk → Walk
+both a b = record { total = a.total +ℤ b.total; most = int_max a.most (a.total +ℤ b.most); least = int_min a.least (a.total +ℤ b.least) }
+
+abbrev pub step_after : Option Walk → Walk → Walk
+step_after None b = b
+step_after (Some a) b = both a b
+
+abbrev pub step_before : Walk → Option Walk → Walk
+step_before a None = a
+step_before a (Some b) = both a b
+
+-- the walk of a tail once its last operand is added, or taken away
+abbrev pub whole : Tail → Walk
+whole t = step_after t.walk (stepped t.minus t.last)
+
+-- a tail, and then another
+abbrev pub both_tails : Tail → Tail → Tail
+both_tails a b = record { walk = Some (step_before (whole a) b.walk); minus = b.minus; last = b.last }
+
+abbrev pub tail_after : Option Tail → Tail → Tail
+tail_after None b = b
+tail_after (Some a) b = both_tails a b
+
+abbrev pub tail_before : Tail → Option Tail → Tail
+tail_before a None = a
+tail_before a (Some b) = both_tails a b
+
+-- a sum, a sign, and another sum
+abbrev pub joined : Sum → Bool → Sum → Sum
+joined a minus b =
+    let next : Tail = record { walk = None; minus = minus; last = b.first } in
+    record { first = a.first; tail = Some (tail_before (tail_after a.tail next) b.tail) }
+
+-- ---- the tokens of a sum in short
+
+abbrev pub token_at : Token → TokenKind → Token
+token_at place k = record place { kind = k }
+
+abbrev pub step_tokens : Token → Bool → ℤ → List Token
+step_tokens place minus v = token_at place (token.Sign (sign_of minus)) ∷ token_at place (Number v) ∷ []
+
+-- to the highest place, to the lowest, and to the end
+abbrev pub walk_tokens : Token → Option Walk → List Token
+walk_tokens place None = []
+walk_tokens place (Some w) =
+    step_tokens place false w.most ++ (step_tokens place true (w.most -ℤ w.least) ++ step_tokens place false (w.total -ℤ w.least))
+
+abbrev pub tail_tokens : Token → Option Tail → List Token
+tail_tokens place None = []
+tail_tokens place (Some t) = walk_tokens place t.walk ++ step_tokens place t.minus t.last
+
+abbrev pub short_tokens : Token → Sum → List Token
+short_tokens place sum = token_at place (Number sum.first) ∷ tail_tokens place sum.tail
 
 -- ---- tokens in short
 

@@ -142,7 +142,7 @@ impl Replaced {
 }
 
 /// The one line of an EQU name.
-fn only_line(lines: &[Vec<Token>]) -> Result<&[Token], TextProblem>
+pub(crate) fn only_line(lines: &[Vec<Token>]) -> Result<&[Token], TextProblem>
     ensures { let defined = one_line (map (λ line. line.items) lines.now) in MatchResult result (λ line. defined ≡ Ok line.now)
         (λ problem. defined ≡ Err problem) }
 {

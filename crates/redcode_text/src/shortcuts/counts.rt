@@ -34,6 +34,16 @@ impl Equates {
         Some(known.value)
     }
 
+    /// The value of an expression, where there is a short way to it: it was kept, or its EQU names stand for sums.
+    fn quick_value<E: Env>(&self, alloc: Global, tokens: &[Token], env: &E) -> Option<i64>
+        ensures { IfSome result (λ value. IsValued self.now (E.value_of env.now) tokens.now value) }
+    {
+        match self.known_value(tokens, env) {
+            Some(value) => Some(value),
+            None => self.sum_value(alloc, tokens, env),
+        }
+    }
+
     /// Keeps the value of an expression, which is this one once its EQU names are replaced, if it has one.
     pub fn keep_value<E: Env>(
         &mut self,
@@ -59,15 +69,18 @@ impl Equates {
 }
 
 impl Reading {
-    /// How often the body of a loop is read, where the value of its count is known.
+    /// How often the body of a loop is read, where there is a short way to the value of its count.
     pub fn known_count(
         &self,
+        alloc: Global,
         names: &PredefinedNames,
         tokens: &[Token],
     ) -> Option<Result<u32, TextProblem>>
         ensures { IfSome result (λ count. count ≡ count_of (predefined_of names.now) (reading_of self.now) tokens.now) }
     {
-        let value = self.equates.known_value(tokens, &self.count_names(names))?;
+        let value = self
+            .equates
+            .quick_value(alloc, tokens, &self.count_names(names))?;
         Some(as_count(Ok(value)))
     }
 

@@ -114,7 +114,7 @@ impl Reading {
         ensures value { Gives (λ count. count) result (count_of (predefined_of names.now) (reading_of self.old) tokens.now) }
         ensures same { reading_of self.new ≡ reading_of self.old }
     {
-        if let Some(count) = self.known_count(names, tokens) {
+        if let Some(count) = self.known_count(alloc, names, tokens) {
             return count;
         }
         let replaced = match self.equates.substitute(alloc, tokens) {

@@ -1,5 +1,21 @@
 //! A sum of many operands in short.
-ghost use Rattle.std.specs.Prelude.{◌≡◌, ◌≤◌, ℤ, pos};
+ghost use Rattle.std.specs.Prelude.{◌≡◌, ◌++◌, ◌∷◌, [], ℕ, ℤ, List, Option, Some, IfSome};
+ghost use Rattle.redcode_text.specs.declared.token.TokenKind.TheVariants as token;
+ghost use Rattle.redcode_text.specs.Code.Sums.{
+  IsSum,
+  both,
+  both_tails,
+  operand_of,
+  short_tokens,
+  sign_of,
+  step_tokens,
+  stepped,
+  tail_after,
+  tail_before,
+  tail_tokens,
+  walk_tokens,
+  whole,
+};
 
 use crate::token::{Sign, Token, TokenKind};
 
@@ -13,7 +29,9 @@ pub struct Walk {
 
 impl Walk {
     /// One step: a value is added, or taken away.
-    fn step(minus: bool, value: i64) -> Option<Walk> {
+    fn step(minus: bool, value: i64) -> Option<Walk>
+        ensures { IfSome result (λ walk. walk ≡ stepped minus value) }
+    {
         let total = if minus { value.checked_neg()? } else { value };
         Some(Walk {
             total,
@@ -23,7 +41,9 @@ impl Walk {
     }
 
     /// This walk, and then another.
-    fn then(self, next: Walk) -> Option<Walk> {
+    fn then(self, next: Walk) -> Option<Walk>
+        ensures { IfSome result (λ walk. walk ≡ both self next) }
+    {
         Some(Walk {
             total: self.total.checked_add(next.total)?,
             most: self.most.max(self.total.checked_add(next.most)?),
@@ -45,11 +65,42 @@ pub struct Tail {
 
 impl Tail {
     /// The walk once the last operand is added, or taken away.
-    fn whole_walk(self) -> Option<Walk> {
+    fn whole_walk(self) -> Option<Walk>
+        ensures { IfSome result (λ walk. walk ≡ whole self) }
+    {
         let step = Walk::step(self.minus, self.last)?;
         match self.walk {
             None => Some(step),
             Some(walk) => walk.then(step),
+        }
+    }
+
+    /// This tail, and then another.
+    fn then(self, next: Tail) -> Option<Tail>
+        ensures { IfSome result (λ tail. tail ≡ both_tails self next) }
+    {
+        let before = self.whole_walk()?;
+        let walk = match next.walk {
+            None => before,
+            Some(walk) => before.then(walk)?,
+        };
+        Some(Tail {
+            walk: Some(walk),
+            ..next
+        })
+    }
+
+    /// This tail between two others, if there are any.
+    fn between(self, before: Option<Tail>, behind: Option<Tail>) -> Option<Tail>
+        ensures { IfSome result (λ tail. tail ≡ tail_before (tail_after before self) behind) }
+    {
+        let tail = match before {
+            None => self,
+            Some(before) => before.then(self)?,
+        };
+        match behind {
+            None => Some(tail),
+            Some(behind) => tail.then(behind),
         }
     }
 }
@@ -63,7 +114,9 @@ pub struct Sum {
 
 impl Sum {
     /// One operand.
-    pub fn operand(value: i64) -> Sum {
+    pub fn operand(value: i64) -> Sum
+        ensures { (names : ℕ → Option ℤ) (x : TokenKind) → operand_of names x ≡ Some value → IsSum names (x ∷ []) result }
+    {
         Sum {
             first: value,
             tail: None,
@@ -71,29 +124,78 @@ impl Sum {
     }
 
     /// A sum, + or -, and another sum: the sign is that of its first operand alone.
-    pub fn join(self, minus: bool, other: Sum) -> Option<Sum> {
-        let walk = match self.tail {
-            None => None,
-            Some(tail) => Some(tail.whole_walk()?),
-        };
+    pub fn join(self, minus: bool, other: Sum) -> Option<Sum>
+        ensures { IfSome result (λ sum. (names : ℕ → Option ℤ) (xs ys : List TokenKind) → IsSum names xs self → IsSum names ys other
+            → IsSum names (xs ++ token.Sign (sign_of minus) ∷ ys) sum) }
+    {
         let next = Tail {
-            walk,
+            walk: None,
             minus,
             last: other.first,
         };
-        let tail = match other.tail {
-            None => next,
-            Some(behind) => Tail {
-                walk: Some(match behind.walk {
-                    None => next.whole_walk()?,
-                    Some(walk) => next.whole_walk()?.then(walk)?,
-                }),
-                ..behind
-            },
-        };
+        let tail = next.between(self.tail, other.tail)?;
         Some(Sum {
             first: self.first,
             tail: Some(tail),
         })
     }
+
+    /// Puts this sum behind tokens, in short and at another token's place, or answers None where memory or the range is wanting.
+    pub fn put(self, place: Token, tokens: &mut Vec<Token>) -> Option<()>
+        ensures { IfSome result (λ _. tokens.new.items ≡ tokens.old.items ++ short_tokens place self) }
+    {
+        let first = Token {
+            kind: TokenKind::Number(self.first),
+            ..place
+        };
+        let Ok(_) = tokens.push(first) else {
+            return None;
+        };
+        put_tail(self.tail, place, tokens)
+    }
+}
+
+fn put_step(minus: bool, value: i64, place: Token, tokens: &mut Vec<Token>) -> Option<()>
+    ensures { IfSome result (λ _. tokens.new.items ≡ tokens.old.items ++ step_tokens place minus value) }
+{
+    let sign = if minus { Sign::Minus } else { Sign::Plus };
+    let sign = Token {
+        kind: TokenKind::Sign(sign),
+        ..place
+    };
+    let number = Token {
+        kind: TokenKind::Number(value),
+        ..place
+    };
+    let Ok(_) = tokens.push(sign) else {
+        return None;
+    };
+    let Ok(_) = tokens.push(number) else {
+        return None;
+    };
+    Some(())
+}
+
+/// Goes to the highest place of a walk, to the lowest, and to its end.
+fn put_walk(walk: Option<Walk>, place: Token, tokens: &mut Vec<Token>) -> Option<()>
+    ensures { IfSome result (λ _. tokens.new.items ≡ tokens.old.items ++ walk_tokens place walk) }
+{
+    let Some(walk) = walk else {
+        return Some(());
+    };
+    let down = walk.most.checked_sub(walk.least)?;
+    let up = walk.total.checked_sub(walk.least)?;
+    put_step(false, walk.most, place, tokens)?;
+    put_step(true, down, place, tokens)?;
+    put_step(false, up, place, tokens)
+}
+
+fn put_tail(tail: Option<Tail>, place: Token, tokens: &mut Vec<Token>) -> Option<()>
+    ensures { IfSome result (λ _. tokens.new.items ≡ tokens.old.items ++ tail_tokens place tail) }
+{
+    let Some(tail) = tail else {
+        return Some(());
+    };
+    put_walk(tail.walk, place, tokens)?;
+    put_step(tail.minus, tail.last, place, tokens)
 }
