@@ -32,6 +32,7 @@ pub mod CommentSteps
 pub mod PlainSteps
 pub mod CountSteps
 pub mod KnownValues
+pub mod LaterNames
 pub mod Kept
 pub mod LoopSteps
 pub mod LoneSteps
