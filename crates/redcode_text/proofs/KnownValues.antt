@@ -1,10 +1,7 @@
 -- Values of expressions that are kept.
-use Rattle.std.proofs.Common.{◌≡◌, ◌∙◌, ℕ, ℤ, pos, List, [], ◌∷◌, ◌++◌, Bool, true, false, not, ◌||◌, ◌==◌, Option, Some, None, is_some, Result, Ok, Err, codes, refl, ap, sym, subst}
+use Rattle.std.proofs.Common.{◌≡◌, ◌∙◌, ℕ, ℤ, pos, List, [], ◌∷◌, Bool, true, false, not, ◌||◌, ◌==◌, Option, Some, None, is_some, Result, Ok, Err, codes, refl, ap, sym, subst}
 use Rattle.std.specs.Bool.{⊤}
-use Rattle.std.specs.List.{All}
-use Rattle.std.specs.Result.{OnErr, OnOk}
 use Rattle.std.specs.Str.{bytes_eq}
-use Rattle.std.proofs.lemmas.List.Elements.{All-append, All-cons, All-nil}
 use Rattle.redcode_text.specs.Results.{◌>>=◌}
 use Rattle.redcode_text.specs.declared.fault.ExprFault.{ExprFault}
 use Rattle.redcode_text.specs.declared.fault.TextProblem.{TextProblem}
@@ -54,9 +51,6 @@ known-made equates k made first second =
     go : (ts : List Token) (r : Result (List Token) TextProblem) → without_line (substitution equates ts) ≡ r → LikeTokens (Ok made) r → IsValued equates (value_among k.names.items) ts k.value
     go ts (Ok other) is like = record { made = other; replaced = is; is = ap (value_of (value_among k.names.items)) (sym like) ∙ second }
     go ts (Err p) is like = absurd like
-
-pub known-push : (equates : List Equate) (ks : List KnownValue) (k : KnownValue) → All (IsKnown equates) ks → IsKnown equates k → All (IsKnown equates) (ks ++ k ∷ [])
-known-push equates ks k all is = All-append (IsKnown equates) ks (k ∷ []) all (All-cons (IsKnown equates) k [] is (All-nil (IsKnown equates)))
 
 -- ---- each name of an expression that has a value stands for something
 
@@ -113,8 +107,3 @@ module _ (ps : Predefined) (st : Reading) where
       ap as_count (sym is.is)
       ∙ sym (ap (λ (b : Bool). elim b as (λ _. Result ℕ TextProblem) [ true ↦ Err LabelInCount | false ↦ as_count (value_of count_names (kinds is.made)) ]) (no-label (kinds is.made) (value-known count_names v (kinds is.made) is.is)))
       ∙ sym (ap (λ q. ◌>>=◌ q (judged ps st)) is.replaced)
-
--- the values, once one was to be put behind them
-pub after-add : {X : Type 0} (equates : List Equate) (r : Result (Unit {0}) X) (ks more : List KnownValue) (k : KnownValue) → OnOk r (more ≡ ks ++ k ∷ []) → OnErr r (more ≡ ks) → All (IsKnown equates) ks → IsKnown equates k → All (IsKnown equates) more
-after-add equates (Ok tt) ks more k ok err all is = subst (All (IsKnown equates)) (sym ok) (known-push equates ks k all is)
-after-add equates (Err e) ks more k ok err all is = subst (All (IsKnown equates)) (sym err) all

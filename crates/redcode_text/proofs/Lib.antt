@@ -33,6 +33,7 @@ pub mod PlainSteps
 pub mod CountSteps
 pub mod KnownValues
 pub mod Shortening
+pub mod LaterNames
 pub mod Kept
 pub mod LoopSteps
 pub mod LoneSteps

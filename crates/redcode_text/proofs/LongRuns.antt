@@ -1,11 +1,12 @@
 -- Long runs of blanks, and long words.
-use Rattle.std.proofs.Common.{cond, not, ◌≡◌, ◌∙◌, ℕ, zero, suc, ◌+◌, ◌-◌, ◌<◌, ◌≤◌, ◌⊎◌, inl, inr, List, [], ◌∷◌, ◌++◌, length, length-append, drop, take, get_or, ap, sym, refl, arith, Bool, true, false, ◌&&◌, ◌||◌, ◌==◌, ◌*◌, nat_le, length-drop}
+use Rattle.std.proofs.Common.{cond, not, ◌≡◌, ◌∙◌, ℕ, zero, suc, ◌+◌, ◌-◌, ◌<◌, ◌≤◌, ◌⊎◌, inl, inr, List, [], ◌∷◌, ◌++◌, length, length-append, drop, take, get_or, ap, sym, refl, arith, Bool, true, false, ◌&&◌, ◌||◌, ◌==◌, ◌*◌, nat_le, length-drop, Ok}
 use Rattle.std.proofs.lemmas.List.{get_or-drop, get_or-take, length-take-le, take_rest}
 use Rattle.std.proofs.lemmas.List.Sums.{prefix_len_passes}
 use Rattle.std.proofs.lemmas.Bool.{cases_lt, eqb-true}
 use Rattle.std.proofs.lemmas.Bool.Decides.{nat_tests}
 use Rattle.std.proofs.Math.ListN.{get_or-append}
 use Rattle.std.proofs.Math.Seq.{get_or-append_seam}
+use Rattle.redcode_text.specs.Results.{◌>>=◌}
 use Rattle.std.specs.Char.{digit_value, is_ascii_digit}
 use Rattle.std.specs.List.{list_all, list_any, prefix_len}
 use Rattle.std.specs.Str.Parse.{digits_value, digits_value_after}
@@ -13,7 +14,7 @@ use Rattle.redcode_text.specs.declared.shortcuts.runs.LongRun.{LongRun}
 use Rattle.redcode_text.specs.declared.shortcuts.runs.RunKind.TheVariants.{Word}
 use Rattle.redcode_text.specs.declared.shortcuts.words.KnownStart.{KnownStart}
 use Rattle.redcode_text.specs.Code.Runs.{AreRuns, ArePlain, AreZeros, IsKnownStart, stands}
-use Rattle.redcode_text.specs.Tokens.{OpenLoop, Scanned, begins_name, begins_word, is_blank, is_word_byte, scan_from, word_len}
+use Rattle.redcode_text.specs.Tokens.{OpenLoop, Scanned, begins_name, begins_word, is_blank, is_word_byte, name_found, number_found, number_kind, plain_word_found, scan_from, word_len}
 use Rattle.redcode_text.proofs.Scans.{scan-blank}
 use Rattle.redcode_text.proofs.WordSteps.{word_len-more}
 
@@ -156,6 +157,25 @@ value-behind (suc n) [] within zeros = refl
 value-behind (suc n) (b ∷ bs) within zeros =
     let z : b ≡ 48 = eqb-true b 48 (zeros 0 (omega arith)) in
     ap (λ d. digits_value_after 10 (0 * 10 + digit_value d) bs) z ∙ value-behind n bs (omega (arith, within)) (λ i less. zeros (suc i) (omega (arith, less)))
+
+-- digits behind zeros
+padded-digits : (zs ds : List ℕ) → AreZeros (length zs) zs → list_all is_ascii_digit (zs ++ ds) ≡ list_all is_ascii_digit ds
+padded-digits [] ds h = refl
+padded-digits (z ∷ zs) ds h =
+    ap (λ t. t && list_all is_ascii_digit (zs ++ ds)) (zero-digit z (h 0 (omega arith))) ∙ padded-digits zs ds (λ i less. h (suc i) (omega (arith, less)))
+
+padded-value : (zs ds : List ℕ) → AreZeros (length zs) zs → digits_value 10 (zs ++ ds) ≡ digits_value 10 ds
+padded-value [] ds h = refl
+padded-value (z ∷ zs) ds h =
+    let is : z ≡ 48 = eqb-true z 48 (h 0 (omega arith)) in
+    ap (λ d. digits_value_after 10 (0 * 10 + digit_value d) (zs ++ ds)) is ∙ padded-value zs ds (λ i less. h (suc i) (omega (arith, less)))
+
+-- they spell the number that they spell alone
+pub padded-found : (names : List (List ℕ)) (len : ℕ) (zs ds : List ℕ) → AreZeros (length zs) zs → list_all is_ascii_digit ds ≡ true
+    → plain_word_found names len (zs ++ ds) ≡ number_found names len ds
+padded-found names len zs ds h all =
+    ap (λ t. cond t (number_found names len (zs ++ ds)) (name_found names len (zs ++ ds))) (padded-digits zs ds h ∙ all)
+    ∙ ap (λ n. number_kind n >>= λ kind. Ok (record { kind = kind; len = len; names = names })) (padded-value zs ds h)
 
 -- what is known of the front of a word that is cut behind it
 pub cut-front : (front : KnownStart) (n : ℕ) (bs : List ℕ) → IsKnownStart front bs → front.plain ≤ n → n ≤ length bs → IsKnownStart front (take n bs)

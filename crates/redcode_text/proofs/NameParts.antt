@@ -1,5 +1,5 @@
 -- Names in two parts, by their indices among texts that grow.
-use Rattle.std.proofs.Common.{◌≤◌, ◌≡◌, ◌∙◌, ℕ, zero, suc, ◌+◌, ◌-◌, ◌<◌, List, [], ◌∷◌, ◌++◌, length, drop, take, get_or, map, Bool, true, false, not, ◌&&◌, ◌||◌, cond, nat_eq, nat_lt, if◌then◌else◌, Some, None, option_map, unwrap_or, refl, ap, sym, subst, append_assoc, append-nil, arith}
+use Rattle.std.proofs.Common.{◌≤◌, ◌≡◌, ◌∙◌, ℕ, zero, suc, ◌+◌, ◌-◌, ◌<◌, List, [], ◌∷◌, ◌++◌, length, drop, take, get_or, get_or-drop, length-drop, map, Bool, true, false, not, ◌&&◌, ◌||◌, cond, nat_eq, nat_lt, if◌then◌else◌, Some, None, option_map, unwrap_or, refl, ap, sym, subst, append_assoc, append-nil, arith}
 use Rattle.std.proofs.Math.Seq.{drop-length}
 use Rattle.std.proofs.lemmas.Bool.Decides.{nat_tests}
 use Rattle.std.proofs.Math.Bool.{and_assoc}
@@ -11,7 +11,7 @@ use Rattle.std.proofs.lemmas.Slice.Eq.{bytes_eq-Decides}
 use Rattle.std.specs.Char.{is_ascii_digit, to_ascii_lowercase}
 use Rattle.std.specs.List.{AllByRecursion, IsDistinct, list_all, list_any, position_or_len, slice_get, suffix_len}
 use Rattle.std.specs.Str.{bytes_eq, str_eq_ignore_ascii_case, str_to_ascii_lowercase}
-use Rattle.redcode_text.specs.Code.Parts.{AllParts, AreParts, HasParts, IsFrontOf, IsThere, front_len, name_of, parts_of}
+use Rattle.redcode_text.specs.Code.Parts.{AllParts, AreParts, HasParts, IsFrontOf, IsThere, front_len, most_digits, name_of, parts_of}
 use Rattle.redcode_text.specs.Lines.{name_at}
 use Rattle.redcode_text.specs.Tokens.{name_index, with_name}
 use Rattle.redcode_text.proofs.NameSteps.{insert-map, position-map, same-itself}
@@ -216,7 +216,7 @@ lone : (texts : List (List ℕ)) (p : ℕ × ℕ) → AreParts texts p → lengt
 lone texts p are less =
     let n = name_of texts p in
     let test : nat_lt (length n) 256 ≡ true = grind (arith, nat_tests, less) in
-    let all : front_len n ≡ length n = ap (λ b. if b then length n else length n - suffix_len is_ascii_digit n) test in
+    let all : front_len n ≡ length n = ap (λ b. if b then length n else length n - suffix_len is_ascii_digit (drop (length n - most_digits) n)) test in
     ap (λ q. name_at texts q.1) are.1
     ∙ at-index texts (drop (front_len n) n) are.0.1
     ∙ ap (λ l. drop l n) all
@@ -236,17 +236,29 @@ module _ (texts : List (List ℕ)) (names : List (ℕ × ℕ)) (i : ℕ) where
 
 -- ---- the parts of a long name
 
-pub parted : (front digits : List ℕ) → 256 ≤ length front + length digits → 0 < length front → is_ascii_digit (get_or front (length front - 1) 0) ≡ false → list_all is_ascii_digit digits ≡ true
+pub parted : (front digits : List ℕ) → 256 ≤ length front + length digits → length digits ≤ most_digits → 0 < length front
+    → is_ascii_digit (get_or front (length front - 1) 0) ≡ false → list_all is_ascii_digit digits ≡ true
     → front_len (front ++ digits) ≡ length front
-parted front digits long some last all =
+parted front digits long few some last all =
     let name = front ++ digits in
     let len = length-append front digits in
     let test : nat_lt (length name) 256 ≡ false = grind (arith, nat_tests, long, len) in
-    let behind : suffix_len is_ascii_digit name ≡ length name - length front =
-    suffix_len_is is_ascii_digit name (length front) 0 (omega (arith, len))
-    (λ k low high. ap is_ascii_digit (get_or-append_right front digits (length front) k 0 refl low) ∙ AllPass-from_list_all is_ascii_digit digits all (k - length front) 0 (omega (arith, low, high, len)))
-    (λ more. ap is_ascii_digit (get_or_append_left front digits 0 (length front - 1) (omega (arith, more))) ∙ last) in
-    ap (λ b. if b then length name else length name - suffix_len is_ascii_digit name) test ∙ omega (arith, behind, len)
+    let from = length name - most_digits in
+    let end = drop from name in
+    let end_len : length end ≡ most_digits = length-drop from name ∙ omega (arith, long, len) in
+    let behind : suffix_len is_ascii_digit end ≡ length end - (length front - from) =
+    suffix_len_is is_ascii_digit end (length front - from) 0 (omega (arith, len, end_len, few, long))
+    (λ k low high.
+    ap is_ascii_digit (get_or-drop from name k 0)
+    ∙ ap is_ascii_digit (get_or-append_right front digits (length front) (from + k) 0 refl (omega (arith, low, len, few, long)))
+    ∙ AllPass-from_list_all is_ascii_digit digits all (from + k - length front) 0 (omega (arith, low, high, len, end_len, few, long)))
+    (λ more.
+    let place : from + (length front - from - 1) ≡ length front - 1 = omega (arith, more) in
+    ap is_ascii_digit (get_or-drop from name (length front - from - 1) 0)
+    ∙ ap (λ k. is_ascii_digit (get_or name k 0)) place
+    ∙ ap is_ascii_digit (get_or_append_left front digits 0 (length front - 1) (omega (arith, some)))
+    ∙ last) in
+    ap (λ b. if b then length name else length name - suffix_len is_ascii_digit end) test ∙ omega (arith, behind, len, end_len, few, long)
 
 -- ---- a name and a word in either case
 

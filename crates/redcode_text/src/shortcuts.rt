@@ -7,11 +7,12 @@
 //! - `runs`, `reaches`: a line of thousands of blanks in a loop. Long runs of blanks, and of letters, digits and `_`, are found
 //!   once, and then passed over in one step.
 //! - `words`: a number or a name of thousands of bytes in a loop, with hundreds of joins. Its front isn't gone over again, a long
-//!   name isn't put together with what its joins stand for, and a join of the same counter as the last one isn't looked up.
-//! - `long_names`: long names that a loop makes by joins. A name of 256 bytes and more is two texts, the digits at its end
+//!   name and a number with zeros in front aren't put together with what their joins stand for, and a join of the same counter as
+//!   the last one isn't looked up.
+//! - `long_names`: long names that a loop makes by joins. A name of 256 bytes and more is two texts, the last digits at its end
 //!   apart, and is compared with the name that stood at its place before in place of being hashed.
-//! - `values`, `counts`: a loop in a loop, with EQU names in its count that stand for 65,536 tokens. The value of a count is kept
-//!   until the next EQU line.
+//! - `values`, `counts`: a loop in a loop, with EQU names in its count that stand for 65,536 tokens, and EQU lines between. The
+//!   value of a count is kept until a name becomes an EQU name that may be among those tokens, or an EQU name gets one line more.
 //! - `sums`: EQU names that stand for sums of 65,536 operands, in the operands and counts of a loop, beside its counter, so that
 //!   no value can be kept. The sum of such a name is put together from those of the names in its line, so that a use costs what
 //!   is written, and not what it stands for.

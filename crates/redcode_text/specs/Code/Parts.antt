@@ -1,13 +1,18 @@
--- Names in two parts: a long one is what stands before the digits at its end, and those digits.
+-- Names in two parts: a long one is what stands before the last digits at its end, and those digits.
 use Rattle.std.specs.Prelude.{◌≡◌, ℕ, ◌-◌, ◌<◌, List, ◌++◌, length, drop, take, nat_lt, if◌then◌else◌}
 use Rattle.std.specs.Char.{is_ascii_digit}
 use Rattle.std.specs.List.{All, suffix_len}
 use Rattle.redcode_text.specs.Lines.{name_at}
 use Rattle.redcode_text.specs.Tokens.{name_index}
 
+-- the second part of a name has so many digits at most, so that what a loop writes before those of its joins is a first part,
+-- though it ends with digits itself
+abbrev pub most_digits : ℕ
+most_digits = 192
+
 -- how many bytes of a name are its first part: all of them, where there are fewer than 256
 abbrev pub front_len : List ℕ → ℕ
-front_len name = if nat_lt (length name) 256 then length name else length name - suffix_len is_ascii_digit name
+front_len name = if nat_lt (length name) 256 then length name else length name - suffix_len is_ascii_digit (drop (length name - most_digits) name)
 
 -- the name of two parts, by their indices among the texts
 abbrev pub name_of : List (List ℕ) → ℕ × ℕ → List ℕ

@@ -1,9 +1,11 @@
 -- Values of expressions that are kept, and which tokens may be worth that.
-use Rattle.std.specs.Prelude.{◌≡◌, ℕ, ℤ, List, [], ◌∷◌, Bool, Option, Some, None, is_some, Ok, true, false, ◌==◌}
-use Rattle.std.specs.List.{list_any}
+use Rattle.std.specs.Prelude.{◌≡◌, ◌≤◌, ⊤, ℕ, ℤ, List, [], ◌∷◌, Bool, Option, Some, None, is_some, Ok, true, false, ◌==◌}
+use Rattle.std.specs.List.{All, list_any}
 use Rattle.redcode_text.specs.declared.shortcuts.values.KnownValue.{KnownValue}
 use Rattle.redcode_text.specs.declared.shortcuts.values.NameValue.{NameValue}
 use Rattle.redcode_text.specs.declared.token.Token.{Token}
+use Rattle.redcode_text.specs.declared.token.TokenKind.{TokenKind}
+use Rattle.redcode_text.specs.declared.token.TokenKind.TheVariants.{Name}
 use Rattle.redcode_text.specs.Equates.{Equate, substitution, token_lines}
 use Rattle.redcode_text.specs.Expression.{kinds, value_of}
 use Rattle.redcode_text.specs.Tokens.{without_line}
@@ -26,3 +28,33 @@ pub record IsValued (equates : List Equate) (names : ℕ → Option ℤ) (tokens
 -- all tokens of these kinds have the value that is kept of them
 pub record IsKnown (equates : List Equate) (known : KnownValue) : Type 0 where
   pub each : (tokens : List Token) → kinds tokens ≡ kinds known.tokens.items → IsValued equates (value_among known.names.items) tokens known.value
+
+-- a token that is no name of a greater index
+abbrev pub IsUpTo : ℕ → TokenKind → Type 0
+IsUpTo last (Name n) = n ≤ last
+IsUpTo last _ = ⊤
+
+-- no name of a greater index is among these tokens
+abbrev pub AreUpTo : ℕ → List Token → Type 0
+AreUpTo last [] = ⊤
+AreUpTo last (t ∷ ts) = IsUpTo last t.kind × AreUpTo last ts
+
+-- nor among these lines
+abbrev pub RowsUpTo : ℕ → List (List Token) → Type 0
+RowsUpTo last [] = ⊤
+RowsUpTo last (row ∷ rows) = AreUpTo last row × RowsUpTo last rows
+
+-- nor among those of EQU names
+abbrev pub EquatesUpTo : ℕ → List Equate → Type 0
+EquatesUpTo last [] = ⊤
+EquatesUpTo last (e ∷ es) = RowsUpTo last e.lines × EquatesUpTo last es
+
+-- nor among the tokens of values that are kept
+abbrev pub KnownUpTo : ℕ → List KnownValue → Type 0
+KnownUpTo last [] = ⊤
+KnownUpTo last (k ∷ ks) = AreUpTo last k.tokens.items × KnownUpTo last ks
+
+-- values that stay what they are where a name of a greater index becomes an EQU name; of none nothing has to be known
+abbrev pub AreKept : List Equate → ℕ → List KnownValue → Type 0
+AreKept equates last [] = ⊤
+AreKept equates last (k ∷ ks) = All (IsKnown equates) (k ∷ ks) × EquatesUpTo last equates × KnownUpTo last (k ∷ ks)

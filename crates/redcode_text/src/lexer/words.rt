@@ -1,10 +1,10 @@
 //! Words: numbers, names and counters, with their joins.
-ghost use Rattle.std.specs.Prelude.{◌≡◌, ◌++◌, ◌≤◌, ◌^◌, Some, length, true, IfOk, OnOk, IsAscii, MatchOption};
+ghost use Rattle.std.specs.Prelude.{◌≡◌, ◌++◌, ◌≤◌, ◌^◌, ℕ, List, Some, length, true, IfOk, OnOk, IsAscii, MatchOption};
 ghost use Rattle.std.specs.Char.{is_ascii_digit};
 ghost use Rattle.std.specs.List.{list_all};
 ghost use Rattle.std.specs.Str.Parse.{digits_value};
 ghost use Rattle.redcode_text.specs.Code.Problems.{Gives};
-ghost use Rattle.redcode_text.specs.Code.Runs.{IsKnownStart};
+ghost use Rattle.redcode_text.specs.Code.Runs.{AreZeros, IsKnownStart};
 ghost use Rattle.redcode_text.specs.Code.Scanning.{with_names};
 ghost use Rattle.redcode_text.specs.Tokens.{begins_name, joined, number_kind, plain_word_found, round_digits, round_of, word_found, word_token};
 
@@ -146,8 +146,33 @@ fn whole_word(alloc: Global, front: &[u8], end: &[u8]) -> Result<Vec<u8>, AllocE
     Ok(word)
 }
 
-/// A word with its joins done, of which `len` bytes are written. A long name isn't put together, so that a round of its
-/// loop costs no more than its digits.
+/// A number that is padded with zeros, of which `len` bytes are written. The zeros aren't gone over.
+fn padded_number(
+    loops: &OpenLoops,
+    zeros: &[u8],
+    digits: &[u8],
+    len: usize,
+) -> Result<Spelled, TextProblem>
+    requires zeros { AreZeros (length zeros.now) zeros.now }
+    requires digits { list_all is_ascii_digit digits.now ≡ true }
+    ensures value { (names : List (List ℕ)) → let bytes = zeros.now
+        ++ digits.now in Gives (with_names names) result (word_found names len bytes (round_of loops.now bytes)) }
+    ensures len { IfOk result (λ s. s.len ≡ len) }
+{
+    match loops.round_of_parts(zeros, digits) {
+        Some(round) => Ok(Spelled {
+            kind: TokenKind::Number(i64::from(round)),
+            len,
+        }),
+        None => {
+            let kind = number_kind(digits)?;
+            Ok(Spelled { kind, len })
+        }
+    }
+}
+
+/// A word with its joins done, of which `len` bytes are written. A long name isn't put together, and a number that is padded
+/// with zeros neither, so that a round of their loop costs no more than their digits.
 fn parted_word(
     alloc: Global,
     loops: &OpenLoops,
@@ -158,12 +183,16 @@ fn parted_word(
 ) -> Result<Spelled, TextProblem>
     requires front { IsAscii front.bytes.now }
     requires end { IsAscii end.now }
+    requires zeros { length front.bytes.now ≤ front.known.zeros → AreZeros (length front.bytes.now) front.bytes.now }
     ensures value { let bytes = front.entry.bytes.now
         ++ end.now in Gives (with_names names.new) result (word_found names.old len bytes (round_of loops.now bytes)) }
     ensures len { IfOk result (λ s. s.len ≡ len) }
 {
     if is_long_name(front.bytes, end) {
         return long_name(alloc, loops, names, front, end, len);
+    }
+    if front.known.zeros >= front.bytes.len() && are_digits(end) {
+        return padded_number(loops, front.bytes, end, len);
     }
     let Ok(bytes) = whole_word(alloc, front.bytes, end) else {
         return Err(TextProblem::OutOfMemory);

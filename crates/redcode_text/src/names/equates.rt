@@ -33,24 +33,23 @@ fn note_place(places: &mut Vec<usize>, name: usize, place: usize) -> Result<(), 
 /// The EQU names, in the order of their definitions, each with its lines.
 #[derive(Drop)]
 pub struct Equates {
-    lines: IndexMap<usize, Vec<Vec<Token>>>,
+    pub(crate) lines: IndexMap<usize, Vec<Vec<Token>>>,
     /// Where each EQU name stands among them: guesses, which are tested.
     places: Vec<usize>,
-    /// Values that were worked out since the last change of the lines.
+    /// Values that were worked out, and are the same with the lines that came since.
     pub known: KnownValues,
 }
 
 impl Model for Equates {
     ghost use Rattle.std.specs.Prelude.{List, map};
-    ghost use Rattle.std.specs.List.{All};
-    ghost use Rattle.redcode_text.specs.Code.Values.{IsKnown};
+    ghost use Rattle.redcode_text.specs.Code.Values.{AreKept};
     ghost use Rattle.redcode_text.specs.Equates.{Equate};
 
     ghost Value = { List Equate };
 
     ghost view = { λ s. map (λ e. record { name = e.0; lines = map (λ line. line.items) e.1.items }) s.lines.entries };
 
-    ghost invariant = { λ s. All (IsKnown (map (λ e. record { name = e.0; lines = map (λ line. line.items) e.1.items }) s.lines.entries)) s.known.values.items };
+    ghost invariant = { λ s. AreKept (map (λ e. record { name = e.0; lines = map (λ line. line.items) e.1.items }) s.lines.entries) s.known.last s.known.values.items };
 }
 
 impl Equates {
@@ -254,7 +253,7 @@ impl Equates {
         requires { equate_lines self.old name ≡ None }
         ensures { Gives (λ _. self.new) result (Ok (self.old ++ record { name = name; lines = line.items ∷ [] } ∷ [])) }
     {
-        self.known.clear();
+        self.known.make_way(name, &line);
         if note_place(&mut self.places, name, self.lines.len()).is_err() {
             return Err(TextProblem::OutOfMemory);
         }

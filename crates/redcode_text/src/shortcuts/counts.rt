@@ -1,4 +1,4 @@
-//! Values of counts, which are kept until the next EQU line.
+//! Values of counts, which are kept until an EQU line may change them.
 ghost use Rattle.std.specs.Prelude.{◌≡◌, Ok, IfSome};
 ghost use Rattle.redcode_text.specs.Code.Problems.{Gives};
 ghost use Rattle.redcode_text.specs.Code.Readings.{reading_of};
@@ -14,7 +14,9 @@ use crate::names::equates::Equates;
 use crate::names::predefined::PredefinedNames;
 use crate::reader::Reading;
 use crate::reader::repeat::head::{CountNames, as_count};
-use crate::shortcuts::values::{KnownValue, NameValues, stand_for, values_of};
+use crate::shortcuts::values::{
+    KnownValue, NameValues, greatest_name, last_name, stand_for, values_of,
+};
 use crate::token::{Token, are_alike};
 use std::alloc::{AllocError, Global};
 
@@ -60,11 +62,13 @@ impl Equates {
             return Ok(());
         };
         let tokens = Vec::from_slice(alloc, tokens)?;
-        self.known.add(KnownValue {
+        let last = greatest_name(&tokens, last_name(&self.lines, &self.known));
+        let known = KnownValue {
             tokens,
             names,
             value,
-        })
+        };
+        self.known.add(known, last)
     }
 }
 

@@ -1,5 +1,7 @@
 //! Names of which the long ones are kept in two parts.
 ghost use Rattle.std.specs.Prelude.{◌≡◌, ◌≤◌, ◌<◌, ◌++◌, length, map, true, [], IfOk, IfSome, OnOk, IsAscii};
+ghost use Rattle.std.specs.Char.{is_ascii_digit};
+ghost use Rattle.std.specs.List.{suffix_len};
 ghost use Rattle.std.specs.Str.{bytes_eq};
 ghost use Rattle.redcode_text.specs.Code.Parts.{AllParts, AreParts, HasParts, IsFrontOf, front_len, name_of, parts_of};
 ghost use Rattle.redcode_text.specs.Lines.{name_at};
@@ -18,19 +20,31 @@ use std::marker::Model;
 /// So many bytes are long: where a name has as many, it is kept in two parts, and a text of them is guessed by its place.
 const LONG: usize = 256;
 
-/// How many bytes of a name are its first part: a long one is parted before the digits at its end, where its joins are.
+/// The second part has so many digits at most: more than joins make, so that the others, which are written, are kept once.
+const MOST_DIGITS: usize = 192;
+
+/// How many digits stand at the end.
+fn digits_behind(bytes: &[u8]) -> usize
+    ensures value { result ≡ suffix_len is_ascii_digit bytes.now }
+    ensures within { result ≤ length bytes.now }
+{
+    let mut len = bytes.len();
+    while len > 0 && bytes[len - 1].is_ascii_digit() {
+        len -= 1;
+    }
+    bytes.len() - len
+}
+
+/// How many bytes of a name are its first part: a long one is parted before the last digits at its end, where its joins are.
 pub fn front_len(name: &[u8]) -> usize
     ensures value { result ≡ front_len name.now }
     ensures within { result ≤ length name.now }
 {
-    let mut len = name.len();
+    let len = name.len();
     if len < LONG {
         return len;
     }
-    while len > 0 && name[len - 1].is_ascii_digit() {
-        len -= 1;
-    }
-    len
+    len - digits_behind(&name[len - MOST_DIGITS..])
 }
 
 /// The two parts of a name, by their indices among the texts.
@@ -44,7 +58,10 @@ pub fn is_long_name(front: &[u8], digits: &[u8]) -> bool
     let [.., last] = front else {
         return false;
     };
-    if front.len() + digits.len() < LONG || last.is_ascii_digit() || !are_digits(digits) {
+    if front.len() + digits.len() < LONG || digits.len() > MOST_DIGITS {
+        return false;
+    }
+    if last.is_ascii_digit() || !are_digits(digits) {
         return false;
     }
     begins_name(front)

@@ -1,6 +1,7 @@
 //! Values of expressions that were worked out, so that those of the same tokens aren't worked out anew.
-ghost use Rattle.std.specs.Prelude.{◌≡◌, ◌∷◌, ◌++◌, [], ℕ, ℤ, Some, true, OnOk, OnErr};
-ghost use Rattle.redcode_text.specs.Code.Values.{value_among};
+ghost use Rattle.std.specs.Prelude.{◌≡◌, ◌∷◌, ◌++◌, ◌≤◌, [], List, ℕ, ℤ, Some, map, true, OnOk, OnErr};
+ghost use Rattle.redcode_text.specs.Code.Values.{AreKept, AreUpTo, EquatesUpTo, IsUpTo, RowsUpTo, value_among};
+ghost use Rattle.redcode_text.specs.Equates.{Equate};
 
 use crate::expression::Env;
 use crate::shortcuts::seed::Seed;
@@ -84,10 +85,72 @@ pub fn values_of<E: Env>(
     Ok(values)
 }
 
+/// The greater of an index and that of a name.
+fn greater(index: usize, kind: TokenKind) -> usize
+    ensures more { index ≤ result }
+    ensures is { IsUpTo result kind }
+{
+    match kind {
+        TokenKind::Name(name) => index.max(name),
+        TokenKind::Number(_) | TokenKind::Sign(_) => index,
+    }
+}
+
+/// The greatest of an index and those of the names among tokens.
+pub fn greatest_name(tokens: &[Token], from: usize) -> usize
+    ensures more { from ≤ result }
+    ensures are { AreUpTo result tokens.now }
+{
+    let mut greatest = from;
+    for token in tokens {
+        greatest = greater(greatest, token.kind);
+    }
+    greatest
+}
+
+/// The same for the names among lines.
+fn greatest_of_rows(rows: &[Vec<Token>], from: usize) -> usize
+    ensures more { from ≤ result }
+    ensures are { RowsUpTo result (map (λ line. line.items) rows.now) }
+{
+    let mut greatest = from;
+    for row in rows {
+        greatest = greatest_name(row, greatest);
+    }
+    greatest
+}
+
+/// The greatest index of a name among the lines of EQU names.
+fn greatest_of_lines(lines: &IndexMap<usize, Vec<Vec<Token>>>) -> usize
+    ensures { EquatesUpTo result (map (λ e. record { name = e.0; lines = map (λ line. line.items) e.1.items }) lines.now.entries) }
+{
+    let mut greatest = 0;
+    for at in 0..lines.len() {
+        if let Some((_, rows)) = lines.get_index(at) {
+            greatest = greatest_of_rows(rows, greatest);
+        }
+    }
+    greatest
+}
+
+/// An index that no name among the lines of EQU names exceeds, and none of what is kept. Only where nothing is kept the lines
+/// are gone over.
+pub fn last_name(lines: &IndexMap<usize, Vec<Vec<Token>>>, known: &KnownValues) -> usize
+    ensures { let es = map (λ e. record { name = e.0; lines = map (λ line. line.items) e.1.items }) lines.now.entries in
+        AreKept es known.now.last known.now.values.items → EquatesUpTo result es × AreKept es result known.now.values.items }
+{
+    if known.values.is_empty() {
+        return greatest_of_lines(lines);
+    }
+    known.last
+}
+
 /// Values of expressions that were worked out.
 #[derive(Drop)]
 pub struct KnownValues {
     pub values: Vec<KnownValue>,
+    /// Where a value is kept, no name among its tokens or those of EQU lines has a greater index.
+    pub last: usize,
     /// Which of them has tokens of this key: a guess, which is tested.
     places: IndexMap<u64, usize>,
     seed: Seed,
@@ -100,6 +163,7 @@ impl KnownValues {
     {
         KnownValues {
             values: Vec::new(alloc),
+            last: 0,
             places: IndexMap::new(alloc),
             seed,
         }
@@ -113,11 +177,28 @@ impl KnownValues {
         self.places.clear();
     }
 
-    /// One value more.
-    pub fn add(&mut self, known: KnownValue) -> Result<(), AllocError>
+    /// Makes way for one EQU name more, with this line: where the name came later than those that the values may stand on, they
+    /// stay what they are, and else all are forgotten.
+    pub fn make_way(&mut self, name: usize, line: &[Token])
+        ensures same { (es : List Equate) → AreKept es self.old.last self.old.values.items
+            → AreKept es self.new.last self.new.values.items }
+        ensures more { (es : List Equate) → AreKept es self.old.last self.old.values.items
+            → AreKept (es ++ record { name = name; lines = line.now ∷ [] } ∷ []) self.new.last self.new.values.items }
+    {
+        if name <= self.last {
+            self.clear();
+            return;
+        }
+        self.last = greatest_name(line, self.last);
+    }
+
+    /// One value more; `last` is no less than the index of any name of it, or of the EQU lines.
+    pub fn add(&mut self, known: KnownValue, last: usize) -> Result<(), AllocError>
         ensures ok { OnOk result (self.new.values.items ≡ self.old.values.items ++ known ∷ []) }
         ensures err { OnErr result (self.new.values.items ≡ self.old.values.items) }
+        ensures last { self.new.last ≡ last }
     {
+        self.last = last;
         self.values.reserve(1)?;
         let Ok(_) = self
             .places

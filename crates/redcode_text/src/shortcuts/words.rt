@@ -102,8 +102,8 @@ fn first_part_len(word: Word<'_>) -> usize
     word.known.plain + part_len(&word.bytes[word.known.plain..])
 }
 
-/// How many bytes of a word stay as they are whatever its joins stand for: those before the first join, but for the digits at
-/// their end where they are many.
+/// How many bytes of a word stay as they are whatever its joins stand for: those before the first join, but for the last digits
+/// at their end where they are many.
 pub fn kept_len(word: Word<'_>) -> usize
     requires { IsKnownStart word.known word.bytes.now }
     ensures within { result ≤ length word.entry.bytes.now }
