@@ -1,7 +1,6 @@
 -- Operands in short make the same cell.
-use Rattle.std.specs.Bool.{⊤}
-use Rattle.std.proofs.Common.{◌≡◌, ◌∙◌, ◌⊎◌, inl, inr, ℕ, ℤ, Bool, true, false, List, [], ◌∷◌, ◌++◌, length, Option, Some, None, Result, Ok, Err, refl, ap, sym, subst, arith}
-use Rattle.std.proofs.lemmas.List.{append-nil, append_assoc}
+use Rattle.std.proofs.Common.{◌≡◌, ◌∙◌, inl, inr, ℕ, ℤ, Bool, true, false, List, [], ◌∷◌, ◌++◌, length, Option, Some, None, Ok, refl, ap, sym, subst, arith}
+use Rattle.std.proofs.lemmas.List.{append-nil}
 use Rattle.std.proofs.lemmas.List.Elements.{All-cons, All-head, All-nil, All-tail}
 use Rattle.std.specs.List.{All, onto_first}
 use Rattle.mars_cell.specs.Numbers.{residue}
@@ -19,10 +18,9 @@ use Rattle.redcode_text.specs.declared.token.TokenKind.{TokenKind}
 use Rattle.redcode_text.specs.declared.token.TokenKind.TheVariants.{Number, Name}
 use Rattle.redcode_text.specs.declared.token.TokenKind.TheVariants as token
 use Rattle.redcode_text.specs.Expansion.{ProgramValue}
-use Rattle.redcode_text.specs.Expression.{kinds, value_of}
+use Rattle.redcode_text.specs.Expression.{kinds}
 use Rattle.redcode_text.proofs.CallerLemmas.{Pairwise, value-short}
 use Rattle.redcode_asm.specs.Assembly.{cell_from, expressed, is_comma, mode_of, operand_value, parts_at_commas, replaced, split_mode, texted}
-use Rattle.redcode_asm.specs.declared.fault.AsmProblem.{AsmProblem}
 use Rattle.redcode_asm.specs.Code.Sources.{cell_written}
 use Rattle.redcode_asm.proofs.Commas.{parts-first, parts-whole, prepend}
 use Rattle.redcode_asm.proofs.Failing.{bind-ok}
