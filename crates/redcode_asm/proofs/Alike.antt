@@ -1,14 +1,11 @@
 -- Instructions and asserts of the same kinds of tokens.
-use Rattle.std.specs.Bool.{⊤}
-use Rattle.std.proofs.Common.{◌≡◌, ◌∙◌, ℕ, ℤ, ◌==◌, ◌||◌, Bool, true, false, List, [], ◌∷◌, length, map, if◌then◌else◌, Option, Some, None, Result, Ok, Err, refl, ap, sym, subst, arith}
-use Rattle.std.specs.List.{list_any, onto_first}
+use Rattle.std.proofs.Common.{◌≡◌, ◌∙◌, ℕ, ℤ, Bool, true, false, List, [], ◌∷◌, length, map, Option, Some, None, Result, Ok, Err, refl, ap, sym, subst, arith}
+use Rattle.std.specs.List.{onto_first}
 use Rattle.mars_cell.specs.Numbers.{residue}
-use Rattle.mars_cell.specs.declared.instruction.Cell.{Cell}
 use Rattle.mars_cell.specs.declared.instruction.Mode.{Mode}
 use Rattle.mars_cell.specs.declared.instruction.Mode.TheVariants as mode
 use Rattle.mars_cell.specs.declared.instruction.Modifier.{Modifier}
 use Rattle.mars_cell.specs.declared.instruction.Op.{Op}
-use Rattle.mars_cell.specs.declared.instruction.Op.TheVariants as op
 use Rattle.redcode_text.specs.Results.{◌>>=◌}
 use Rattle.redcode_text.specs.declared.fault.TextProblem.{TextProblem}
 use Rattle.redcode_text.specs.declared.token.Token.{Token}
@@ -17,10 +14,10 @@ use Rattle.redcode_text.specs.Expansion.{ProgramValue}
 use Rattle.redcode_text.specs.Expression.{kinds, value_of}
 use Rattle.redcode_text.specs.Equates.{substitution}
 use Rattle.redcode_text.specs.Tokens.{without_line}
-use Rattle.redcode_text.proofs.CallerLemmas.{LikeTokens, length-kinds, replaced-like}
-use Rattle.redcode_asm.specs.Assembly.{Operands, cell_from, cell_with, expressed, full_operands, given_operands, is_comma, is_dot, mode_of, modifier_first, modifier_in, no_operand, one_operand, operand_value, operands_of, parts_at_commas, replaced, split_mode, split_modifier, texted}
+use Rattle.redcode_text.proofs.CallerLemmas.{LikeTokens, Pairwise, length-kinds, replaced-like}
+use Rattle.redcode_asm.specs.Assembly.{cell_from, expressed, is_comma, is_dot, mode_of, modifier_first, modifier_in, operand_value, parts_at_commas, replaced, split_mode, split_modifier, texted}
 use Rattle.redcode_asm.specs.declared.fault.AsmProblem.{AsmProblem}
-use Rattle.redcode_asm.specs.declared.fault.AsmProblem.TheVariants.{Operand}
+use Rattle.redcode_asm.proofs.Parts.{AreAsEmpty, pairwise-made}
 
 -- ---- operands
 
@@ -42,80 +39,26 @@ parts-kinds (t ∷ ts) = go (is_comma t.kind) (parts-kinds ts)
     go true h = ap (λ l. [] ∷ l) h
     go false h = onto-kinds t (parts_at_commas ts) ∙ ap (onto_first t.kind) h
 
-abbrev LikeOption : Option (List Token) → Option (List Token) → Type 0
-LikeOption (Some ts) (Some us) = kinds ts ≡ kinds us
-LikeOption (Some ts) None = ⊥
-LikeOption None (Some us) = ⊥
-LikeOption None None = ⊤
+abbrev LikeKinds : List Token → List Token → Type 0
+LikeKinds ts us = kinds ts ≡ kinds us
 
-abbrev LikeOperands : Result Operands AsmProblem → Result Operands AsmProblem → Type 0
-LikeOperands (Ok a) (Ok b) = LikeOption a.a b.a × LikeOption a.b b.b
-LikeOperands (Ok a) (Err e) = ⊥
-LikeOperands (Err e) (Ok b) = ⊥
-LikeOperands (Err e) (Err f) = e ≡ f
+kinds-empty : (ts us : List Token) → LikeKinds ts us → AreAsEmpty ts us
+kinds-empty [] [] e = tt
+kinds-empty [] (u ∷ us) e = absurd (omega (arith, length-kinds [] (u ∷ us) e))
+kinds-empty (t ∷ ts) [] e = absurd (omega (arith, length-kinds (t ∷ ts) [] e))
+kinds-empty (t ∷ ts) (u ∷ us) e = tt
 
-option-itself : (o : Option (List Token)) → LikeOption o o
-option-itself (Some ts) = refl
-option-itself None = tt
-
-operands-itself : (r : Result Operands AsmProblem) → LikeOperands r r
-operands-itself (Ok a) = (option-itself a.a, option-itself a.b)
-operands-itself (Err e) = refl
-
-one-like : (o : Op) (x y : List Token) → kinds x ≡ kinds y → LikeOperands (Ok (one_operand o x)) (Ok (one_operand o y))
-one-like op.Dat x y e = (tt, e)
-one-like op.Mov x y e = (e, tt)
-one-like op.Add x y e = (e, tt)
-one-like op.Sub x y e = (e, tt)
-one-like op.Mul x y e = (e, tt)
-one-like op.Div x y e = (e, tt)
-one-like op.Mod x y e = (e, tt)
-one-like op.Jmp x y e = (e, tt)
-one-like op.Jmz x y e = (e, tt)
-one-like op.Jmn x y e = (e, tt)
-one-like op.Djn x y e = (e, tt)
-one-like op.Seq x y e = (e, tt)
-one-like op.Sne x y e = (e, tt)
-one-like op.Slt x y e = (e, tt)
-one-like op.Spl x y e = (e, tt)
-one-like op.Nop x y e = (e, tt)
-
-any-like : (ps qs : List (List Token)) → map kinds ps ≡ map kinds qs → list_any (λ p. length p == 0) ps ≡ list_any (λ p. length p == 0) qs
-any-like [] [] e = refl
-any-like [] (q ∷ qs) e = absurd (omega (arith, ap length e))
-any-like (p ∷ ps) [] e = absurd (omega (arith, ap length e))
-any-like (p ∷ ps) (q ∷ qs) e =
+parts-like : (ps qs : List (List Token)) → map kinds ps ≡ map kinds qs → Pairwise LikeKinds ps qs
+parts-like [] [] e = tt
+parts-like [] (q ∷ qs) e = absurd (omega (arith, ap length e))
+parts-like (p ∷ ps) [] e = absurd (omega (arith, ap length e))
+parts-like (p ∷ ps) (q ∷ qs) e =
     let first : kinds p ≡ kinds q = cc in
     let rest : map kinds ps ≡ map kinds qs = cc in
-    let n = length-kinds p q first in
-    let r = any-like ps qs rest in
-    λ i. (n i == 0) || r i
+    (first, parts-like ps qs rest)
 
-parts-like : (o : Op) (ps qs : List (List Token)) → map kinds ps ≡ map kinds qs → LikeOperands (operands_of o ps) (operands_of o qs)
-parts-like o [] [] e = operands-itself (no_operand o)
-parts-like o [] (q ∷ qs) e = absurd (omega (arith, ap length e))
-parts-like o (p ∷ ps) [] e = absurd (omega (arith, ap length e))
-parts-like o (p ∷ []) (q ∷ []) e = one-like o p q cc
-parts-like o (p ∷ []) (q ∷ r ∷ qs) e = absurd (omega (arith, ap length e))
-parts-like o (p ∷ r ∷ ps) (q ∷ []) e = absurd (omega (arith, ap length e))
-parts-like o (p ∷ r ∷ []) (q ∷ s ∷ []) e = (cc, cc)
-parts-like o (p ∷ r ∷ []) (q ∷ s ∷ t ∷ qs) e = absurd (omega (arith, ap length e))
-parts-like o (p ∷ r ∷ t ∷ ps) (q ∷ s ∷ []) e = absurd (omega (arith, ap length e))
-parts-like o (p ∷ r ∷ t ∷ ps) (q ∷ s ∷ u ∷ qs) e = refl
-
-full-like : (o : Op) (ps qs : List (List Token)) → map kinds ps ≡ map kinds qs → LikeOperands (full_operands o ps) (full_operands o qs)
-full-like o ps qs e =
-    subst (λ b. LikeOperands (full_operands o ps) (if b then Err Operand else operands_of o qs)) (any-like ps qs e) (go (list_any (λ p. length p == 0) ps))
-  where
-    go : (b : Bool) → LikeOperands (if b then Err Operand else operands_of o ps) (if b then Err Operand else operands_of o qs)
-    go true = refl
-    go false = parts-like o ps qs e
-
-given-like : (o : Op) (ts us : List Token) → kinds ts ≡ kinds us → LikeOperands (given_operands o ts) (given_operands o us)
-given-like o [] [] e = operands-itself (no_operand o)
-given-like o [] (u ∷ us) e = absurd (omega (arith, length-kinds [] (u ∷ us) e))
-given-like o (t ∷ ts) [] e = absurd (omega (arith, length-kinds (t ∷ ts) [] e))
-given-like o (t ∷ ts) (u ∷ us) e = full-like o (parts_at_commas (t ∷ ts)) (parts_at_commas (u ∷ us)) (parts-kinds (t ∷ ts) ∙ ap kind_parts e ∙ sym (parts-kinds (u ∷ us)))
+given-like : (ts us : List Token) → kinds ts ≡ kinds us → Pairwise LikeKinds (parts_at_commas ts) (parts_at_commas us)
+given-like ts us e = parts-like (parts_at_commas ts) (parts_at_commas us) (parts-kinds ts ∙ ap kind_parts e ∙ sym (parts-kinds us))
 
 abbrev LikeMode : Mode × List Token → Mode × List Token → Type 0
 LikeMode x y = (x.0 ≡ y.0) × (kinds x.1 ≡ kinds y.1)
@@ -134,27 +77,15 @@ mode-like (t ∷ ts) (u ∷ us) e =
     go (Some m) h = (refl, h)
     go None h = (refl, e)
 
-operand-like : (m : ℕ) (names : ℕ → Option ℤ) (a b : Option (List Token)) → LikeOption a b → operand_value m names a ≡ operand_value m names b
-operand-like m names (Some ts) (Some us) h = let l = mode-like ts us h in λ i. expressed (value_of names (l.1 i)) >>= λ v. Ok (l.0 i, residue m v)
-operand-like m names (Some ts) None h = absurd h
-operand-like m names None (Some us) h = absurd h
-operand-like m names None None h = refl
-
-abbrev made_of : ℕ → (ℕ → Option ℤ) → Op → Option Modifier → Result Operands AsmProblem → Result Cell AsmProblem
-made_of m names o given r = r >>= λ operands. operand_value m names operands.a >>= λ a. operand_value m names operands.b >>= λ b. Ok (cell_with o given a b)
-
-operands-like : (m : ℕ) (names : ℕ → Option ℤ) (o : Op) (given : Option Modifier) (r s : Result Operands AsmProblem) → LikeOperands r s → made_of m names o given r ≡ made_of m names o given s
-operands-like m names o given (Ok a) (Ok b) h =
-    let x = operand-like m names a.a b.a h.0 in
-    let y = operand-like m names a.b b.b h.1 in
-    λ i. x i >>= λ a. y i >>= λ b. Ok (cell_with o given a b)
-operands-like m names o given (Ok a) (Err e) h = absurd h
-operands-like m names o given (Err e) (Ok b) h = absurd h
-operands-like m names o given (Err e) (Err f) h = ap Err h
+operand-like : (m : ℕ) (names : ℕ → Option ℤ) (ts us : List Token) → LikeKinds ts us
+    → operand_value m names (Some ts) ≡ operand_value m names (Some us)
+operand-like m names ts us h = let l = mode-like ts us h in λ i. expressed (value_of names (l.1 i)) >>= λ v. Ok (l.0 i, residue m v)
 
 -- operands of the same kinds of tokens make the same cell
-pub cell-like : (m : ℕ) (names : ℕ → Option ℤ) (o : Op) (given : Option Modifier) (ts us : List Token) → kinds ts ≡ kinds us → cell_from m names o given ts ≡ cell_from m names o given us
-cell-like m names o given ts us e = operands-like m names o given (given_operands o ts) (given_operands o us) (given-like o ts us e)
+pub cell-like : (m : ℕ) (names : ℕ → Option ℤ) (o : Op) (given : Option Modifier) (ts us : List Token) → kinds ts ≡ kinds us
+    → cell_from m names o given ts ≡ cell_from m names o given us
+cell-like m names o given ts us e =
+    pairwise-made m names names given LikeKinds kinds-empty (operand-like m names) o ts us (kinds-empty ts us e) (given-like ts us e)
 
 -- ---- a modifier, and replaced names
 

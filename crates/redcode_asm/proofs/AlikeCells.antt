@@ -1,6 +1,6 @@
 -- Instructions that are the same, name for name, make the same cells.
-use Rattle.std.proofs.Common.{◌≡◌, ◌==◌, ◌||◌, ℕ, ℤ, Bool, true, false, List, [], ◌∷◌, length, if◌then◌else◌, Option, Some, None, Result, Ok, Err, refl, ap, subst}
-use Rattle.std.specs.List.{list_any, onto_first}
+use Rattle.std.proofs.Common.{◌≡◌, ℕ, ℤ, Bool, true, false, List, [], ◌∷◌, Option, Some, None, Result, Ok, Err, refl, ap, subst}
+use Rattle.std.specs.List.{onto_first}
 use Rattle.mars_cell.specs.Numbers.{residue}
 use Rattle.mars_cell.specs.Words.{modifier_of, op_of}
 use Rattle.mars_cell.specs.declared.instruction.Cell.{Cell}
@@ -8,7 +8,6 @@ use Rattle.mars_cell.specs.declared.instruction.Mode.{Mode}
 use Rattle.mars_cell.specs.declared.instruction.Mode.TheVariants as mode
 use Rattle.mars_cell.specs.declared.instruction.Modifier.{Modifier}
 use Rattle.mars_cell.specs.declared.instruction.Op.{Op}
-use Rattle.mars_cell.specs.declared.instruction.Op.TheVariants as op
 use Rattle.redcode_text.specs.Results.{◌>>=◌}
 use Rattle.redcode_text.specs.declared.fault.TextFault.{TextFault}
 use Rattle.redcode_text.specs.declared.token.Token.{Token}
@@ -16,10 +15,11 @@ use Rattle.redcode_text.specs.declared.token.TokenKind.{TokenKind}
 use Rattle.redcode_text.specs.declared.token.TokenKind.TheVariants.{Number, Name}
 use Rattle.redcode_text.specs.declared.token.TokenKind.TheVariants as token
 use Rattle.redcode_text.specs.Tokens.{without_line}
-use Rattle.redcode_text.proofs.CallerLemmas.{Agree, AgreeOption, Pairwise, Same, SameKind, SameName, SameToken, SameTokens, agree-after, agree-bind, agree-same, pairwise-length, value-same}
-use Rattle.redcode_asm.specs.Assembly.{Operands, at_line, cell_from, cell_with, expressed, full_operands, given_operands, is_comma, is_dot, mode_of, mode_sign, modifier_first, modifier_in, no_operand, ok_or, one_operand, opcode_of, operand_value, operands_of, parts_at_commas, split_mode, split_modifier, texted}
+use Rattle.redcode_text.proofs.CallerLemmas.{Agree, AgreeOption, Pairwise, Same, SameKind, SameName, SameToken, SameTokens, agree-after, agree-same, value-same}
+use Rattle.redcode_asm.specs.Assembly.{at_line, cell_from, expressed, is_comma, is_dot, mode_of, mode_sign, modifier_first, modifier_in, ok_or, opcode_of, operand_value, parts_at_commas, split_mode, split_modifier, texted}
 use Rattle.redcode_asm.specs.declared.fault.AsmProblem.{AsmProblem}
-use Rattle.redcode_asm.specs.declared.fault.AsmProblem.TheVariants.{Operand, Operation}
+use Rattle.redcode_asm.specs.declared.fault.AsmProblem.TheVariants.{Operation}
+use Rattle.redcode_asm.proofs.Parts.{AreAsEmpty, pairwise-made}
 
 -- ---- faults
 
@@ -86,57 +86,11 @@ module _ (names others : List (List ℕ)) where
       go true k = (tt, k)
       go false k = onto-same t u (parts_at_commas ts) (parts_at_commas us) h.0 k
 
-  abbrev SameOperands : Operands → Operands → Type 0
-  SameOperands x y = AgreeOption (SameTokens names others) x.a y.a × AgreeOption (SameTokens names others) x.b y.b
-
-  no-same : (o : Op) → Agree SameOperands (no_operand o) (no_operand o)
-  no-same op.Dat = (tt, tt)
-  no-same op.Nop = (tt, tt)
-  no-same _ = tt
-
-  one-same : (o : Op) (x y : List Token) → SameTokens names others x y → SameOperands (one_operand o x) (one_operand o y)
-  one-same op.Dat x y h = (tt, h)
-  one-same _ x y h = (h, tt)
-
-  operands-same : (o : Op) (ps qs : List (List Token)) → Pairwise (SameTokens names others) ps qs
-      → Agree SameOperands (operands_of o ps) (operands_of o qs)
-  operands-same o [] [] h = no-same o
-  operands-same o [] (q ∷ qs) h = absurd h
-  operands-same o (p ∷ ps) [] h = absurd h
-  operands-same o (p ∷ []) (q ∷ []) h = one-same o p q h.0
-  operands-same o (p ∷ []) (q ∷ r ∷ qs) h = absurd h.1
-  operands-same o (p ∷ r ∷ ps) (q ∷ []) h = absurd h.1
-  operands-same o (p ∷ r ∷ []) (q ∷ s ∷ []) h = (h.0, h.1.0)
-  operands-same o (p ∷ r ∷ []) (q ∷ s ∷ t ∷ qs) h = absurd h.1.1
-  operands-same o (p ∷ r ∷ t ∷ ps) (q ∷ s ∷ []) h = absurd h.1.1
-  operands-same o (p ∷ r ∷ t ∷ ps) (q ∷ s ∷ u ∷ qs) h = tt
-
-  empty-same : (ps qs : List (List Token)) → Pairwise (SameTokens names others) ps qs
-      → list_any (λ p. length p == 0) ps ≡ list_any (λ p. length p == 0) qs
-  empty-same [] [] h = refl
-  empty-same [] (q ∷ qs) h = absurd h
-  empty-same (p ∷ ps) [] h = absurd h
-  empty-same (p ∷ ps) (q ∷ qs) h =
-      let n = pairwise-length (SameToken names others) p q h.0 in
-      let rest = empty-same ps qs h.1 in
-      λ i. (n i == 0) || rest i
-
-  full-same : (o : Op) (ps qs : List (List Token)) → Pairwise (SameTokens names others) ps qs
-      → Agree SameOperands (full_operands o ps) (full_operands o qs)
-  full-same o ps qs h =
-      subst (λ b. Agree SameOperands (full_operands o ps) (if b then Err Operand else operands_of o qs)) (empty-same ps qs h)
-      (go (list_any (λ p. length p == 0) ps))
-    where
-      go : (b : Bool) → Agree SameOperands (if b then Err Operand else operands_of o ps) (if b then Err Operand else operands_of o qs)
-      go true = tt
-      go false = operands-same o ps qs h
-
-  given-same : (o : Op) (ts us : List Token) → SameTokens names others ts us
-      → Agree SameOperands (given_operands o ts) (given_operands o us)
-  given-same o [] [] h = no-same o
-  given-same o [] (u ∷ us) h = absurd h
-  given-same o (t ∷ ts) [] h = absurd h
-  given-same o (t ∷ ts) (u ∷ us) h = full-same o (parts_at_commas (t ∷ ts)) (parts_at_commas (u ∷ us)) (parts-same (t ∷ ts) (u ∷ us) h)
+  same-empty : (ts us : List Token) → SameTokens names others ts us → AreAsEmpty ts us
+  same-empty [] [] h = tt
+  same-empty [] (u ∷ us) h = absurd h
+  same-empty (t ∷ ts) [] h = absurd h
+  same-empty (t ∷ ts) (u ∷ us) h = tt
 
   -- ---- a mode, a modifier and an opcode
 
@@ -202,25 +156,17 @@ module _ (names others : List (List ℕ)) where
   -- ---- a cell, where the same names stand for the same
 
   module _ (f g : ℕ → Option ℤ) (same : (n m : ℕ) → SameName names others n m → f n ≡ g m) (m : ℕ) where
-    operand-same : (x y : Option (List Token)) → AgreeOption (SameTokens names others) x y → operand_value m f x ≡ operand_value m g y
-    operand-same (Some ts) (Some us) h =
+    operand-same : (ts us : List Token) → SameTokens names others ts us → operand_value m f (Some ts) ≡ operand_value m g (Some us)
+    operand-same ts us h =
         let l = mode-same ts us h in
         let v = value-same names others f g same (split_mode ts).1 (split_mode us).1 l.1 in
         λ i. expressed (v i) >>= λ w. Ok (l.0 i, residue m w)
-    operand-same (Some ts) None h = absurd h
-    operand-same None (Some us) h = absurd h
-    operand-same None None h = refl
 
     made-same : (o : Op) (given : Option Modifier) (ts us : List Token) → SameTokens names others ts us
         → Agree (Same {A = Cell}) (cell_from m f o given ts) (cell_from m g o given us)
     made-same o given ts us h =
-        agree-bind SameOperands (Same {A = Cell}) (given_operands o ts) (given_operands o us)
-        (λ x. operand_value m f x.a >>= λ a. operand_value m f x.b >>= λ b. Ok (cell_with o given a b))
-        (λ x. operand_value m g x.a >>= λ a. operand_value m g x.b >>= λ b. Ok (cell_with o given a b))
-        (given-same o ts us h)
-        (λ x y k. agree-same (operand_value m f x.a >>= λ a. operand_value m f x.b >>= λ b. Ok (cell_with o given a b))
-        (operand_value m g y.a >>= λ a. operand_value m g y.b >>= λ b. Ok (cell_with o given a b))
-        (λ i. operand-same x.a y.a k.0 i >>= λ a. operand-same x.b y.b k.1 i >>= λ b. Ok (cell_with o given a b)))
+        agree-same (cell_from m f o given ts) (cell_from m g o given us)
+        (pairwise-made m f g given (SameTokens names others) same-empty operand-same o ts us (same-empty ts us h) (parts-same ts us h))
 
     pub cell-from-same : (o : Op) (one other : Option Modifier) (ts us : List Token) → one ≡ other → SameTokens names others ts us
         → Agree (Same {A = Cell}) (cell_from m f o one ts) (cell_from m g o other us)

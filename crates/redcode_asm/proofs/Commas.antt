@@ -31,7 +31,7 @@ prepend-next : (ts : List Token) (t : Token) (ps : List (List Token)) → prepen
 prepend-next ts t [] = refl
 prepend-next ts t (p ∷ ps) = ap (λ front. front ∷ ps) (append_assoc ts (t ∷ []) p)
 
-parts-first : (t : Token) (ts : List Token) (b : Bool) → is_comma t.kind ≡ b → parts_at_commas (t ∷ ts) ≡ parts_by b t (parts_at_commas ts)
+pub parts-first : (t : Token) (ts : List Token) (b : Bool) → is_comma t.kind ≡ b → parts_at_commas (t ∷ ts) ≡ parts_by b t (parts_at_commas ts)
 parts-first t ts b e = ap (λ b. parts_by b t (parts_at_commas ts)) e
 
 -- at a comma

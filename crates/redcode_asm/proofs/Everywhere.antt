@@ -9,10 +9,11 @@ use Rattle.redcode_text.specs.Results.{◌>>=◌}
 use Rattle.redcode_text.specs.declared.fault.ExprFault.{ExprFault}
 use Rattle.redcode_text.specs.declared.token.Token.{Token}
 use Rattle.redcode_text.specs.Expansion.{ProgramValue}
+use Rattle.redcode_text.specs.Code.Values.{IsValued}
 use Rattle.redcode_text.specs.Expression.{kinds, value_of}
 use Rattle.redcode_text.specs.Lines.{Assert, Line, is_instruction, Predefined, name_at, predefined_value}
 use Rattle.redcode_text.proofs.CallerLemmas.{Extends, Follows, follows-itself, value-follows}
-use Rattle.redcode_asm.specs.Assembly.{Placed, assert_holds, holds, at_line, placed_from, cells_of, cell_from, cell_of, expressed, given_operands, known_value, label_among, name_value, opcode_of, operand_value, placed, replaced, split_mode, split_modifier, value_in, value_or}
+use Rattle.redcode_asm.specs.Assembly.{Placed, assert_holds, holds, at_line, placed_from, cells_of, cell_from, cell_of, expressed, given_operands, known_value, label_among, name_value, opcode_of, operand_value, placed, replaced, split_mode, split_modifier, texted, value_in, value_or}
 use Rattle.redcode_asm.specs.Code.Fixed.{AreFixed, AreHeld, IsFixed, IsHeld, fixed_value, unless_label}
 use Rattle.redcode_asm.specs.Code.Problems.{Gives}
 use Rattle.redcode_asm.specs.declared.shortcuts.fixed_cells.FixedCell.{FixedCell}
@@ -33,7 +34,7 @@ use Rattle.redcode_text.specs.declared.program.Line as code
 use Rattle.redcode_text.specs.declared.program.Assert as held
 use Rattle.redcode_text.specs.Views.{line_of}
 use Rattle.redcode_asm.specs.declared.fault.AsmFault.{AsmFault}
-use Rattle.redcode_asm.specs.Code.Sources.{behind_cells, cells_among}
+use Rattle.redcode_asm.specs.Code.Sources.{behind_cells, cell_written, cells_among}
 
 -- what a fixed name stands for, it stands for everywhere
 everywhere : (f : ℕ → ℤ) (k v : ℤ) (b : Bool) (o : Option ℕ) (w : Option ℤ)
@@ -80,6 +81,32 @@ fixed-made ps m source operation line o rest ts cell first second third made p e
     cell-made ps m source p o (rest.0, split.rest) other.made (Ok cell) (ap (opcode_of source.names) e ∙ first) split.is other.is
     (sym (subst (λ r. Follows r (cell_from m (name_value ps source p.index p.index) o rest.0 other.made)) (cell-like m (fixed_value ps source) o rest.0 other.made ts (sym other.like) ∙ made)
     (cell-follows (fixed_value ps source) (name_value ps source p.index p.index) (extends-line ps source p.index p.index) m o rest.0 other.made)))
+
+-- a value behind a step, and that of the step
+bound : {A B E : Type 0} (r : Result A E) (f : A → Result B E) (y : B) → (r >>= f) ≡ Ok y → (x : A) × (r ≡ Ok x) × (f x ≡ Ok y)
+bound (Ok x) f y h = (x, refl, h)
+bound (Err e) f y h = cc
+
+-- the same where its tokens are replaced and make the cell in one step
+pub fixed-short : (ps : Predefined) (m : ℕ) (source : ProgramValue) (operation : Option ℕ) (line : List Token) (o : Op)
+    (rest : Option Modifier × List Token) (cell : Cell)
+    → opcode_of source.names operation ≡ Ok o → split_modifier source.names line ≡ Ok rest
+    → cell_written source m (fixed_value ps source) o rest.0 rest.1 ≡ Ok cell
+    → (p : Placed) → p.line.operation ≡ operation → kinds p.line.rest ≡ kinds line → cell_of ps m source p ≡ Ok cell
+fixed-short ps m source operation line o rest cell first second made =
+    let b = bound (replaced source rest.1) (cell_from m (fixed_value ps source) o rest.0) cell made in
+    fixed-made ps m source operation line o rest b.0 cell first second b.1 b.2
+
+-- a cell under fixed names is that under the names of a place
+pub short-follows : (ps : Predefined) (m : ℕ) (source : ProgramValue) (index : ℕ) (o : Op) (given : Option Modifier) (rest : List Token)
+    (cell : Cell)
+    → cell_written source m (fixed_value ps source) o given rest ≡ Ok cell
+    → cell_written source m (name_value ps source index index) o given rest ≡ Ok cell
+short-follows ps m source index o given rest cell h =
+    let names = fixed_value ps source in let more = name_value ps source index index in
+    subst (λ r. Follows r (cell_written source m more o given rest)) h
+    (follows-bind (replaced source rest) (replaced source rest) (cell_from m names o given) (cell_from m more o given)
+    (follows-itself (replaced source rest)) (cell-follows names more (extends-line ps source index index) m o given))
 
 -- ---- what a name stands for wherever it stands
 
@@ -187,3 +214,18 @@ held-push ps source asserts assert are is = record { each = λ k d inside. go k 
     go k d inside (inr last) =
         let e : length asserts ≡ k = omega (arith, inside, last, length-append asserts (assert ∷ [])) in
         subst (λ (a : Bor held.Assert). IsHeld ps source a.now.tokens.items) (sym (get_or-append_seam asserts assert [] d) ∙ ap (λ n. get_or (asserts ++ assert ∷ []) n d) e) is
+
+-- an assert with a value under fixed names has it behind any instructions
+pub valued-follows : (ps : Predefined) (source : ProgramValue) (index : ℕ) (ts : List Token) (v : ℤ)
+    → IsValued source.equates (fixed_value ps source) ts v → IsValued source.equates (known_value ps source index) ts v
+valued-follows ps source index ts v h = record {
+  made = h.made;
+  replaced = h.replaced;
+  is = subst (λ r. Follows r (value_of (known_value ps source index) (kinds h.made))) h.is
+      (value-follows (fixed_value ps source) (known_value ps source index) (extends-assert ps source index) (kinds h.made));
+}
+
+pub held-valued : (ps : Predefined) (source : ProgramValue) (tokens : List Token) (v : ℤ)
+    → IsValued source.equates (fixed_value ps source) tokens v → holds v ≡ Ok tt
+    → (a : Assert) → kinds a.tokens ≡ kinds tokens → assert_holds ps source a ≡ Ok tt
+held-valued ps source tokens v h = held-made ps source tokens h.made v (ap texted h.replaced) h.is

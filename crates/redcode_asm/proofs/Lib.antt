@@ -21,3 +21,5 @@ pub mod AlikeLines
 pub mod AlikeCells
 pub mod AlikePrograms
 pub mod AlikeSources
+pub mod Parts
+pub mod ShortCells

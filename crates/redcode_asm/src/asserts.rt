@@ -53,6 +53,14 @@ impl<'a> Source<'a> {
         ensures held { IfOk result (λ held. held ≡ true
             → IsHeld (predefined_of self.now.predefined.now) self.now.program.now assert.now.tokens.items) }
     {
+        if let Some((value, is_fixed)) = self.short_assert(
+            alloc,
+            assert.current_line,
+            &assert.tokens,
+        ) {
+            judge_value(value)?;
+            return Ok(is_fixed);
+        }
         let tokens = self.replace(alloc, &assert.tokens)?;
         match self.assert_value(assert.current_line, &tokens) {
             Ok((value, is_fixed)) => match judge_value(value) {

@@ -72,6 +72,9 @@ impl<'a> Source<'a> {
         let names = self.program.names();
         let op = read_opcode(names, place.line.operation)?;
         let (modifier, rest) = take_modifier(names, &place.line.rest)?;
+        if let Some(made) = self.short_cell_at(alloc, core_size, place.index, op, modifier, rest) {
+            return Ok(made);
+        }
         let operands = self.replace(alloc, rest)?;
         match self.cell_with(core_size, place, op, modifier, &operands) {
             Ok(made) => Ok(made),

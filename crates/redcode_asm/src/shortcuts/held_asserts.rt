@@ -1,13 +1,14 @@
 //! Asserts that hold wherever they stand, which are evaluated once.
 ghost use Rattle.std.specs.Prelude.{◌≡◌, true, Ok, [], ◌∷◌, ◌++◌, IfSome, OnOk, OnErr};
+ghost use Rattle.redcode_text.specs.Code.Values.{IsValued};
 ghost use Rattle.redcode_text.specs.Expression.{kinds, value_of};
 ghost use Rattle.redcode_text.specs.Views.{assert_of, predefined_of};
-ghost use Rattle.redcode_asm.specs.Assembly.{assert_holds};
+ghost use Rattle.redcode_asm.specs.Assembly.{assert_holds, known_value};
 ghost use Rattle.redcode_asm.specs.Code.Fixed.{AreHeld, IsHeld, fixed_value};
 ghost use Rattle.redcode_asm.specs.Code.Problems.{Gives};
 
 use crate::fault::AsmProblem;
-use crate::sources::Source;
+use crate::sources::{AssertNames, Source};
 use indexmap::IndexMap;
 use redcode_text::{Assert, Token, are_alike, eval};
 use std::alloc::{AllocError, Global};
@@ -75,6 +76,31 @@ impl<'a> Source<'a> {
         match eval(tokens, &self.fixed_names()) {
             Ok(value) => Some(value),
             Err(_) => None,
+        }
+    }
+
+    /// The value of an assert behind so many instructions whose EQU names stand for sums or for nothing, where it has one, and
+    /// whether it is known to be the same behind any others. It is asked only where EQU names were written.
+    pub fn short_assert(&self, alloc: Global, index: u32, tokens: &[Token]) -> Option<(i64, bool)>
+        ensures value { IfSome result (λ found. IsValued self.now.program.now.equates
+            (known_value (predefined_of self.now.predefined.now) self.now.program.now index) tokens.now found.0) }
+        ensures fixed { IfSome result (λ found. found.1 ≡ true → IsValued self.now.program.now.equates
+            (fixed_value (predefined_of self.now.predefined.now) self.now.program.now) tokens.now found.0) }
+    {
+        if !self.program.has_equate(tokens) {
+            return None;
+        }
+        let fixed = self.fixed_names();
+        if let Some(value) = self.program.sum_value(alloc, tokens, &fixed) {
+            return Some((value, true));
+        }
+        let names = AssertNames {
+            source: *self,
+            index,
+        };
+        match self.program.sum_value(alloc, tokens, &names) {
+            Some(value) => Some((value, false)),
+            None => None,
         }
     }
 
