@@ -21,8 +21,8 @@ use part::Part;
 use std::alloc::Global;
 use sum::Sum;
 
-/// How many tokens of EQU names are read for a value that isn't kept.
-const MOST_STEPS: usize = 2_048;
+/// How many tokens of EQU names are read for a value that isn't kept: names that nest 32 deep need 96 of them for 65,536 operands.
+const MOST_STEPS: usize = 256;
 
 /// What an EQU name or a line of one stands for in short: nothing, or a sum.
 #[derive(Clone, Copy)]
