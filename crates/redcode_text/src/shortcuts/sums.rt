@@ -21,7 +21,8 @@ use part::Part;
 use std::alloc::Global;
 use sum::Sum;
 
-/// How many tokens of EQU names are read for a value that isn't kept: names that nest 32 deep need 96 of them for 65,536 operands.
+/// How many tokens of EQU names are read for a value that isn't kept. Names that each stand for the one before twice reach the
+/// limit on tokens within 46.
 const MOST_STEPS: usize = 256;
 
 /// What an EQU name or a line of one stands for in short: nothing, or a sum.
