@@ -1,11 +1,10 @@
 -- What EQU names stand for in short is put together token by token.
-use Rattle.std.proofs.Common.{◌≡◌, ◌∙◌, refl, ap, sym, subst, ℕ, ℤ, zero, suc, ◌+◌, ◌<◌, ◌≤◌, max, nat_eq, nat_le, cond, List, [], ◌∷◌, ◌++◌, length, map, Bool, true, false, Option, Some, None, is_none, is_some, Result, Ok, Err, arith, append_assoc, append-nil, length-append}
+use Rattle.std.proofs.Common.{◌≡◌, ◌∙◌, refl, ap, sym, subst, ℕ, ℤ, zero, suc, ◌+◌, ◌<◌, ◌≤◌, max, nat_eq, nat_le, cond, List, [], ◌∷◌, ◌++◌, length, Bool, true, false, Option, Some, None, is_none, is_some, Result, Ok, Err, arith, append_assoc, append-nil, length-append}
 use Rattle.std.proofs.lemmas.Bool.{eqb-true}
 use Rattle.std.proofs.lemmas.Bool.Decides.{nat_tests}
 use Rattle.std.proofs.lemmas.List.{map-append}
 use Rattle.std.proofs.lemmas.List.Elements.{All-append, All-cons, All-nil}
-use Rattle.std.proofs.Common.{◌⊎◌, inl, inr}
-use Rattle.std.specs.List.{All}
+use Rattle.std.proofs.Common.{inl, inr}
 use Rattle.std.specs.Map.{lookup}
 use Rattle.redcode_text.specs.Results.{◌>>=◌}
 use Rattle.redcode_text.specs.declared.fault.TextFault.{TextFault}
@@ -20,7 +19,7 @@ use Rattle.redcode_text.specs.declared.shortcuts.sums.part.Part.{Part}
 use Rattle.redcode_text.specs.declared.shortcuts.sums.sum.Sum.{Sum}
 use Rattle.redcode_text.specs.Code.Shortening.{AreKnown, AreMade, IsPart, PartStandsFor, TokenStandsFor}
 use Rattle.redcode_text.specs.Code.Sums.{IsMaybeSum, IsPiece, IsShort, IsSum, LineStandsFor, Piece, Shortened, StandsFor, long_of, operand_of, short_of, short_tokens, sign_of}
-use Rattle.redcode_text.specs.Equates.{Equate, Replaced, Replacing, depth_limit, each_replaced, each_replaced_at_line, equate_lines, kept, limit, one_line, one_more, replaced_name, replaced_token, replacing, substitution, token_lines}
+use Rattle.redcode_text.specs.Equates.{Equate, Replaced, Replacing, depth_limit, each_replaced, each_replaced_at_line, equate_lines, limit, one_line, one_more, replaced_name, replaced_token, replacing, token_lines}
 use Rattle.redcode_text.specs.Code.Values.{IsValued}
 use Rattle.redcode_text.specs.Expression.{kinds, value_of}
 use Rattle.redcode_text.specs.Tokens.{at_line, without_line}

@@ -21,8 +21,9 @@ use part::Part;
 use std::alloc::Global;
 use sum::Sum;
 
-/// How many tokens of EQU names are read for a value that isn't kept.
-const MOST_STEPS: usize = 2_048;
+/// How many tokens of EQU names are read for a value that isn't kept. Names that each stand for the one before twice reach the
+/// limit on tokens within 46.
+const MOST_STEPS: usize = 256;
 
 /// What an EQU name or a line of one stands for in short: nothing, or a sum.
 #[derive(Clone, Copy)]

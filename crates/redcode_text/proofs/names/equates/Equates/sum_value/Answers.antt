@@ -1,4 +1,4 @@
-use Rattle.std.proofs.Common.{◌∙◌, Ok, ap, rules, subst, sym, w64}
+use Rattle.std.proofs.Common.{◌∙◌, ap, rules, subst, sym, w64}
 use Rattle.std.proofs.lemmas.Int.{to_z-of_z}
 use Rattle.redcode_text.specs.Code.Values.{IsValued}
 use Rattle.redcode_text.specs.Expression.{kinds, value_of}

@@ -1,5 +1,3 @@
-use Rattle.std.proofs.Common.{arith, sym, subst}
-use Rattle.redcode_text.specs.Code.Shortening.{AreMade}
 use Rattle.redcode_text.proofs.Shortening.{made-kept}
 use Rattle.redcode_text.proofs.shortcuts.sums.made.Made.keep.Goals as goal
 

@@ -1,4 +1,4 @@
-use Rattle.std.proofs.Common.{ap, rules, sym}
+use Rattle.std.proofs.Common.{ap, rules}
 use Rattle.redcode_text.proofs.Shortening.{nothing-more, sum-more}
 use Rattle.redcode_text.proofs.shortcuts.sums.part.Part.with_short.Goals as goal
 use Rattle.redcode_text.proofs.shortcuts.sums.part.Part.with_short.Goals.{in-None, in-Some+in_ok-sum_with-in-Some}
