@@ -148,14 +148,16 @@ impl Program {
         self.equates.substitute(alloc, tokens)
     }
 
-    /// Tokens with each EQU name replaced, in short, where each stands for a sum or for nothing under what names stand for.
+    /// Tokens with each EQU name replaced, in short, where each stands for a sum (operands with + and - between them) or for
+    /// nothing under what names stand for: at most nine tokens for each, which are worth the same, and of whose numbers some may
+    /// be negative. None where an EQU name stands for anything else, where `substitute` gives a fault, and for want of memory.
     pub fn shortened<E: Env>(&self, alloc: Global, tokens: &[Token], env: &E) -> Option<Vec<Token>>
         ensures { IfSome result (λ short. Shortened self.now.equates (E.value_of env.now) tokens.now short.items) }
     {
         self.equates.shortened(alloc, tokens, env)
     }
 
-    /// The value of an expression whose EQU names stand for sums or for nothing, if it has one.
+    /// The value of an expression whose EQU names stand for sums or for nothing, if it has one. None as for `shortened`.
     pub fn sum_value<E: Env>(&self, alloc: Global, tokens: &[Token], env: &E) -> Option<i64>
         ensures { IfSome result (λ value. IsValued self.now.equates (E.value_of env.now) tokens.now value) }
     {

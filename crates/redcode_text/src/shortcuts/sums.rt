@@ -12,7 +12,7 @@ mod part;
 mod sum;
 
 use crate::expression::{Env, eval};
-use crate::limits::{MAX_NESTING, MAX_REPLACED};
+use crate::limits::MAX_NESTING;
 use crate::names::equates::{Equates, only_line};
 use crate::token::{Sign, Token, TokenKind};
 use known::Known;
@@ -21,9 +21,11 @@ use part::Part;
 use std::alloc::Global;
 use sum::Sum;
 
-/// How many tokens of EQU names are read for a value that isn't kept. Names that each stand for the one before twice reach the
-/// limit on tokens within 46.
-const MOST_STEPS: usize = 256;
+/// How many tokens of EQU lines are read for an operand: past that, the ordinary way costs less.
+const MOST_STEPS: usize = 1_024;
+
+/// The same for a count, whose value is kept by the ordinary way: names that nest 32 deep need 96 for 65,536 operands.
+const MOST_STEPS_OF_COUNT: usize = 256;
 
 /// What an EQU name or a line of one stands for in short: nothing, or a sum.
 #[derive(Clone, Copy)]
@@ -198,11 +200,11 @@ impl Equates {
         Some(tokens)
     }
 
-    /// The same for an expression that is replaced each time: going over the lines costs no more than that.
+    /// The same for an operand, which is replaced each time.
     pub fn shortened<E: Env>(&self, alloc: Global, tokens: &[Token], env: &E) -> Option<Vec<Token>>
         ensures { IfSome result (λ short. Shortened self.now (E.value_of env.now) tokens.now short.items) }
     {
-        self.shortened_within(alloc, MAX_REPLACED, tokens, env)
+        self.shortened_within(alloc, MOST_STEPS, tokens, env)
     }
 
     /// The value of an expression whose EQU names stand for sums or for nothing, if it has one. It isn't kept, so where
@@ -210,7 +212,7 @@ impl Equates {
     pub fn sum_value<E: Env>(&self, alloc: Global, tokens: &[Token], env: &E) -> Option<i64>
         ensures { IfSome result (λ value. IsValued self.now (E.value_of env.now) tokens.now value) }
     {
-        let short = self.shortened_within(alloc, MOST_STEPS, tokens, env)?;
+        let short = self.shortened_within(alloc, MOST_STEPS_OF_COUNT, tokens, env)?;
         match eval(&short, env) {
             Ok(value) => Some(value),
             Err(_) => None,
