@@ -1,0 +1,49 @@
+-- Calls one after another, each of which finds what the one before it left, and the room that a tape has for places.
+use Rattle.std.specs.Prelude.{◌≡◌, ℕ, [], ◌∷◌, Err, refl}
+use Rattle.std.proofs.Common.{arith}
+use Rattle.mars_core.specs.Examples.{the_machine}
+use Rattle.mars_session.specs.declared.calls.Call.TheVariants.{Step, Run, Undo}
+use Rattle.mars_session.specs.declared.calls.Refusal.TheVariants.{NothingToUndo, OutOfMemory}
+use Rattle.mars_session.specs.History.{History, beginning}
+use Rattle.mars_session.specs.Memory.{never}
+use Rattle.mars_session.specs.Script.{EachAnswers, SessionValue, history_after}
+use Rattle.mars_session.specs.Examples.{imp, stands}
+
+-- a session of the imp that stands at a history, over a tape that has room for so many places
+abbrev session : History → ℕ → SessionValue
+session h room = record { state = record { history = h; limit = 100; memory = never }; room = room }
+
+-- the history once the imp made so many turns
+abbrev after_steps : ℕ → History
+after_steps n = history_after never 100 (Run n ∷ []) [] (beginning imp)
+
+pub the_second_step_follows_the_first : EachAnswers (session (beginning imp) 100)
+    (Step ∷ Undo ∷ Undo ∷ Step ∷ [])
+    (stands 1 1 1 ∷ stands 0 0 1 ∷ Err NothingToUndo ∷ stands 1 1 1 ∷ [])
+    (session (after_steps 1) 100)
+unfolding the_machine
+the_second_step_follows_the_first =
+    let undone = history_after never 100 (Step ∷ Undo ∷ []) [] (beginning imp) in
+    ( session (after_steps 1) 100, (refl, refl, λ e. cc)
+    , ( session undone 100, (refl, refl, λ e. cc)
+      , ( session undone 100, (refl, refl, λ e. cc), (session (after_steps 1) 100, (refl, refl, λ e. cc), refl))))
+
+-- memory may be wanting where the tape has less room than the call needs
+pub a_step_that_finds_no_room : EachAnswers (session (beginning imp) 0) (Step ∷ []) (Err OutOfMemory ∷ []) (session (beginning imp) 0)
+unfolding the_machine
+a_step_that_finds_no_room = (session (beginning imp) 0, (refl, refl, λ e. omega arith), refl)
+
+-- and not where it has as much
+pub a_step_that_finds_room : (new : SessionValue) → EachAnswers (session (beginning imp) 1) (Step ∷ []) (Err OutOfMemory ∷ []) new → ⊥
+unfolding the_machine
+a_step_that_finds_room new answers = let less = answers.1.2 refl in omega (arith, less)
+
+pub each_call_has_a_reply : (old new : SessionValue) → EachAnswers old (Step ∷ []) [] new → ⊥
+each_call_has_a_reply old new answers = answers
+
+pub each_reply_has_a_call : (old new : SessionValue) → EachAnswers old [] (Err NothingToUndo ∷ []) new → ⊥
+each_reply_has_a_call old new answers = answers
+
+-- calls leave the session that the last of them left
+pub no_call_leaves_the_session : (old new : SessionValue) → EachAnswers old [] [] new → new ≡ old
+no_call_leaves_the_session old new answers = answers
