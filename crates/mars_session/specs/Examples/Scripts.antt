@@ -23,10 +23,9 @@ pub the_second_step_follows_the_first : EachAnswers (session (beginning imp) 100
     (session (after_steps 1) 100)
 unfolding the_machine
 the_second_step_follows_the_first =
-    let undone = history_after never 100 (Step ∷ Undo ∷ []) [] (beginning imp) in
-    ( session (after_steps 1) 100, (refl, refl, λ e. cc)
-    , ( session undone 100, (refl, refl, λ e. cc)
-      , ( session undone 100, (refl, refl, λ e. cc), (session (after_steps 1) 100, (refl, refl, λ e. cc), refl))))
+    let stepped = session (after_steps 1) 100 in
+    let undone = session (history_after never 100 (Step ∷ Undo ∷ []) [] (beginning imp)) 100 in
+    (stepped, (refl, refl, λ e. cc), (undone, (refl, refl, λ e. cc), (undone, (refl, refl, λ e. cc), (stepped, (refl, refl, λ e. cc), refl))))
 
 -- memory may be wanting where the tape has less room than the call needs
 pub a_step_that_finds_no_room : EachAnswers (session (beginning imp) 0) (Step ∷ []) (Err OutOfMemory ∷ []) (session (beginning imp) 0)
