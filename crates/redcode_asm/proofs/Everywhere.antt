@@ -9,7 +9,7 @@ use Rattle.redcode_text.specs.Results.{◌>>=◌}
 use Rattle.redcode_text.specs.declared.fault.ExprFault.{ExprFault}
 use Rattle.redcode_text.specs.declared.token.Token.{Token}
 use Rattle.redcode_text.specs.Expansion.{ProgramValue}
-use Rattle.redcode_text.specs.Code.Values.{IsValued}
+use Rattle.redcode_text.specs.Shortening.{IsValued}
 use Rattle.redcode_text.specs.Expression.{kinds, value_of}
 use Rattle.redcode_text.specs.Lines.{Assert, Line, is_instruction, Predefined, name_at, predefined_value}
 use Rattle.redcode_text.proofs.CallerLemmas.{Extends, Follows, follows-itself, value-follows}
@@ -48,11 +48,11 @@ pub extends-line : (ps : Predefined) (source : ProgramValue) (origin index : ℕ
 extends-line ps source origin index n v h =
     everywhere (λ i. pos i -ℤ pos origin) (pos index) v (bytes_eq (codes "CURLINE") (name_at source.names n)) (label_among (placed source) n) (predefined_value ps (name_at source.names n)) h
 
-follows-bind : {A B E : Type 0} (r s : Result A E) (f g : A → Result B E) → Follows r s → ((x : A) → Follows (f x) (g x)) → Follows (r >>= f) (s >>= g)
+pub follows-bind : {A B E : Type 0} (r s : Result A E) (f g : A → Result B E) → Follows r s → ((x : A) → Follows (f x) (g x)) → Follows (r >>= f) (s >>= g)
 follows-bind (Ok x) s f g h k = subst (λ s. Follows (f x) (s >>= g)) (sym h) (k x)
 follows-bind (Err e) s f g h k = tt
 
-expressed-follows : (r s : Result ℤ ExprFault) → Follows r s → Follows (expressed r) (expressed s)
+pub expressed-follows : (r s : Result ℤ ExprFault) → Follows r s → Follows (expressed r) (expressed s)
 expressed-follows (Ok v) s h = ap expressed h
 expressed-follows (Err e) s h = tt
 
@@ -83,7 +83,7 @@ fixed-made ps m source operation line o rest ts cell first second third made p e
     (cell-follows (fixed_value ps source) (name_value ps source p.index p.index) (extends-line ps source p.index p.index) m o rest.0 other.made)))
 
 -- a value behind a step, and that of the step
-bound : {A B E : Type 0} (r : Result A E) (f : A → Result B E) (y : B) → (r >>= f) ≡ Ok y → (x : A) × (r ≡ Ok x) × (f x ≡ Ok y)
+pub bound : {A B E : Type 0} (r : Result A E) (f : A → Result B E) (y : B) → (r >>= f) ≡ Ok y → (x : A) × (r ≡ Ok x) × (f x ≡ Ok y)
 bound (Ok x) f y h = (x, refl, h)
 bound (Err e) f y h = cc
 

@@ -23,3 +23,5 @@ pub mod AlikePrograms
 pub mod AlikeSources
 pub mod Parts
 pub mod ShortCells
+pub mod PlaceShorts
+pub mod LineCells

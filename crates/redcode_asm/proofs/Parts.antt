@@ -1,6 +1,7 @@
 -- Operands between commas, and the cell that they make: pairwise operands that are worth the same make the same cell.
 use Rattle.std.specs.Bool.{⊤}
-use Rattle.std.proofs.Common.{◌≡◌, ◌∙◌, ℕ, ℤ, ◌==◌, ◌||◌, Bool, true, false, List, [], ◌∷◌, length, if◌then◌else◌, Option, Some, Result, Ok, Err, refl, ap, sym, arith}
+use Rattle.std.proofs.Common.{◌≡◌, ◌∙◌, ℕ, ℤ, ◌==◌, ◌||◌, Bool, true, false, List, [], ◌∷◌, length, if◌then◌else◌, Option, Some, Result}
+use Rattle.std.proofs.Common.{Ok, Err, refl, ap, sym, arith}
 use Rattle.std.proofs.lemmas.Bool.{ne_eqb}
 use Rattle.std.specs.List.{list_any}
 use Rattle.mars_cell.specs.declared.instruction.Cell.{Cell}
@@ -11,7 +12,8 @@ use Rattle.mars_cell.specs.declared.instruction.Op.TheVariants as op
 use Rattle.redcode_text.specs.Results.{◌>>=◌}
 use Rattle.redcode_text.specs.declared.token.Token.{Token}
 use Rattle.redcode_text.proofs.CallerLemmas.{Pairwise}
-use Rattle.redcode_asm.specs.Assembly.{Operands, cell_from, cell_with, full_operands, no_operand, one_operand, operand_value, operands_of, parts_at_commas}
+use Rattle.redcode_asm.specs.Assembly.{Operands, cell_from, cell_with, full_operands, no_operand, one_operand, operand_value, operands_of}
+use Rattle.redcode_asm.specs.Assembly.{parts_at_commas}
 use Rattle.redcode_asm.specs.declared.fault.AsmProblem.{AsmProblem}
 use Rattle.redcode_asm.specs.declared.fault.AsmProblem.TheVariants.{Operand}
 
@@ -31,15 +33,9 @@ empty-test [] (u ∷ us) h = absurd h
 empty-test (t ∷ ts) [] h = absurd h
 empty-test (t ∷ ts) (u ∷ us) h = none t ts ∙ sym (none u us)
 
--- the operands of one kind are empty together, and worth the same under two lists of names
-module _ (m : ℕ) (names more : ℕ → Option ℤ) (given : Option Modifier) (R : List Token → List Token → Type 0)
-    (empty : (ts us : List Token) → R ts us → AreAsEmpty ts us)
-    (worth : (ts us : List Token) → R ts us → operand_value m names (Some ts) ≡ operand_value m more (Some us)) where
-  abbrev made_of : (ℕ → Option ℤ) → Op → Result Operands AsmProblem → Result Cell AsmProblem
-  made_of ns o r =
-      r >>= λ operands. operand_value m ns operands.a >>= λ a. operand_value m ns operands.b >>= λ b. Ok (cell_with o given a b)
-
-  any-empty : (ps qs : List (List Token)) → Pairwise R ps qs → list_any (λ p. length p == 0) ps ≡ list_any (λ p. length p == 0) qs
+-- where operands of one kind are empty together
+module _ (R : List Token → List Token → Type 0) (empty : (ts us : List Token) → R ts us → AreAsEmpty ts us) where
+  pub any-empty : (ps qs : List (List Token)) → Pairwise R ps qs → list_any (λ p. length p == 0) ps ≡ list_any (λ p. length p == 0) qs
   any-empty [] [] h = refl
   any-empty [] (q ∷ qs) h = absurd h
   any-empty (p ∷ ps) [] h = absurd h
@@ -47,6 +43,14 @@ module _ (m : ℕ) (names more : ℕ → Option ℤ) (given : Option Modifier) (
       let first = empty-test p q (empty p q h.0) in
       let rest = any-empty ps qs h.1 in
       λ i. first i || rest i
+
+-- the operands of one kind are empty together, and worth the same under two lists of names
+module _ (m : ℕ) (names more : ℕ → Option ℤ) (given : Option Modifier) (R : List Token → List Token → Type 0)
+    (empty : (ts us : List Token) → R ts us → AreAsEmpty ts us)
+    (worth : (ts us : List Token) → R ts us → operand_value m names (Some ts) ≡ operand_value m more (Some us)) where
+  abbrev made_of : (ℕ → Option ℤ) → Op → Result Operands AsmProblem → Result Cell AsmProblem
+  made_of ns o r =
+      r >>= λ operands. operand_value m ns operands.a >>= λ a. operand_value m ns operands.b >>= λ b. Ok (cell_with o given a b)
 
   one-made : (o : Op) (ts us : List Token) → R ts us → made_of names o (Ok (one_operand o ts)) ≡ made_of more o (Ok (one_operand o us))
   one-made op.Dat ts us h = let w = worth ts us h in λ i. w i >>= λ b. Ok (cell_with op.Dat given (mode.Direct, 0) b)
@@ -81,7 +85,7 @@ module _ (m : ℕ) (names more : ℕ → Option ℤ) (given : Option Modifier) (
       → made_of names o (full_operands o ps) ≡ made_of more o (full_operands o qs)
   full-made o ps qs h =
       go (list_any (λ p. length p == 0) ps)
-      ∙ ap (λ b. made_of more o (if b then Err Operand else operands_of o qs)) (any-empty ps qs h)
+      ∙ ap (λ b. made_of more o (if b then Err Operand else operands_of o qs)) (any-empty R empty ps qs h)
     where
       go : (b : Bool) → made_of names o (if b then Err Operand else operands_of o ps)
           ≡ made_of more o (if b then Err Operand else operands_of o qs)

@@ -3,3 +3,5 @@ pub mod Problems
 pub mod Sources
 pub mod Labels
 pub mod Fixed
+pub mod PlaceShorts
+pub mod OnLines

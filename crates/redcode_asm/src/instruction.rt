@@ -1,11 +1,11 @@
 //! One instruction.
 ghost use Rattle.std.specs.Prelude.{◌≡◌, ◌<◌, Ok, Err, IfOk, MatchResult};
 ghost use Rattle.mars_cell.specs.Cells.{FitsCore};
-ghost use Rattle.redcode_asm.specs.Assembly.{cell_from, modifier_in, opcode_of, split_modifier};
+ghost use Rattle.redcode_asm.specs.Assembly.{cell_from, cell_with, modifier_in, opcode_of, split_modifier};
 
 use crate::fault::AsmProblem;
 use crate::operands::{operand_value, split_operands};
-use mars_cell::{Cell, Modifier, Op, default_modifier, read_modifier, read_op};
+use mars_cell::{Cell, Mode, Modifier, Op, default_modifier, read_modifier, read_op};
 use redcode_text::{Env, NameTable, Sign, Token, TokenKind};
 
 /// The opcode of an operation, by its index among the names.
@@ -51,6 +51,26 @@ pub fn take_modifier<'a>(
     Ok((Some(modifier), operands))
 }
 
+/// The cell of an opcode, perhaps a modifier, and the modes and numbers of its operands.
+pub fn whole_cell(op: Op, modifier: Option<Modifier>, a: (Mode, u32), b: (Mode, u32)) -> Cell
+    ensures { result ≡ cell_with op modifier a b }
+{
+    let (a_mode, a) = a;
+    let (b_mode, b) = b;
+    let modifier = match modifier {
+        Some(modifier) => modifier,
+        None => default_modifier(op, a_mode, b_mode),
+    };
+    Cell {
+        op,
+        modifier,
+        a_mode,
+        b_mode,
+        a,
+        b,
+    }
+}
+
 /// The cell of an opcode, perhaps a modifier, and the tokens of its operands.
 pub fn make_cell<E: Env>(
     op: Op,
@@ -64,18 +84,7 @@ pub fn make_cell<E: Env>(
     ensures fits { IfOk result (FitsCore core_size) }
 {
     let operands = split_operands(op, tokens)?;
-    let (a_mode, a) = operand_value(operands.a, names, core_size)?;
-    let (b_mode, b) = operand_value(operands.b, names, core_size)?;
-    let modifier = match modifier {
-        Some(modifier) => modifier,
-        None => default_modifier(op, a_mode, b_mode),
-    };
-    Ok(Cell {
-        op,
-        modifier,
-        a_mode,
-        b_mode,
-        a,
-        b,
-    })
+    let a = operand_value(operands.a, names, core_size)?;
+    let b = operand_value(operands.b, names, core_size)?;
+    Ok(whole_cell(op, modifier, a, b))
 }

@@ -8,17 +8,25 @@
 //! - `held_asserts`: asserts that hold.
 //! - `fixed_names`: what names stand for wherever they stand. Neither a label nor CURLINE is among them, and under these both
 //!   are evaluated first.
-//! - `short_cells`, and `short_assert` of `held_asserts`: operands and asserts whose EQU names stand for sums, which are evaluated
-//!   as sums of fewer tokens. Such a one may have another value in each line, as `DAT e15+i` in a loop with a counter i.
+//! - `place_shorts`, `program_shorts`: what EQU names stand for in short, found out once for a program.
+//! - `line_cells`: instructions whose operands lie on a line, from the first place to the last, as they do where they depend on
+//!   their place by labels and CURLINE alone.
+//! - `short_cells`, and `short_assert` of `held_asserts`: operands and asserts whose EQU names stand for many tokens, which are
+//!   evaluated in fewer. Such a one may have another value in each line, as `DAT e15+i` in a loop with a counter i.
 //!
 //! Without them `cell_with` and `assert_value` evaluate under the names of their place alone, `cell_at` and
-//! `check_assert_at` ask `cell_of` and `check_assert`, and these replace EQU names without asking `short_cell_at` and
-//! `short_assert`.
+//! `check_assert_at` ask `cell_of` and `check_assert`, these replace EQU names without asking `short_cell_at` and
+//! `short_assert`, and a `Source` has no `shorts`.
 
 mod fixed_cells;
 mod fixed_names;
 mod held_asserts;
+mod line_cells;
+mod place_shorts;
+mod program_shorts;
 mod short_cells;
 
 pub use fixed_cells::FixedCells;
 pub use held_asserts::HeldAsserts;
+pub use place_shorts::PlaceShorts;
+pub use program_shorts::shorts_of_program;

@@ -8,6 +8,7 @@ ghost use Rattle.redcode_asm.specs.Code.Sources.{warrior_from};
 
 use crate::fault::{AsmFault, AsmProblem};
 use crate::places::{Labels, check_length};
+use crate::shortcuts::shorts_of_program;
 use crate::sources::Source;
 use mars_cell::{Cell, Params, Warrior};
 use redcode_text::{PredefinedNames, Program};
@@ -66,10 +67,10 @@ impl<'a> Source<'a> {
 }
 
 /// The warrior of a program, or its first fault.
-pub fn program_warrior(
+pub fn program_warrior<'p>(
     alloc: Global,
-    program: &Program,
-    predefined: &PredefinedNames,
+    program: &'p Program,
+    predefined: &'p PredefinedNames,
     params: &Params,
 ) -> Result<Warrior, AsmFault>
     ensures value { Answers (λ warrior. warrior) result (warrior_of (predefined_of predefined.now) params.now program.now) }
@@ -78,10 +79,13 @@ pub fn program_warrior(
     let Ok(labels) = Labels::of_lines(alloc, program.names(), program.lines()) else {
         return Err(AsmFault::out_of_memory());
     };
+    let tables = shorts_of_program(alloc, program, &labels, predefined);
+    let shorts = tables.as_ref();
     let source = Source {
         program,
         labels: &labels,
         predefined,
+        shorts,
     };
     source.warrior(alloc, params)
 }

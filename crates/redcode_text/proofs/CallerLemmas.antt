@@ -26,6 +26,7 @@ pub use Rattle.redcode_text.proofs.PlainRows.{IsPlain, all-read, each_row, ended
 pub use Rattle.redcode_text.proofs.TokensRead.{Leads, Seen, blank-leads, decimal-is, end-leads, name-leads, number-leads, token-leads}
 pub use Rattle.redcode_text.specs.Trees.{spelling, is_prefix, IsLevelled}
 pub use Rattle.redcode_text.proofs.Trees.{rank-≤5}
+pub use Rattle.redcode_text.proofs.OnLines.{AreOnLine, NamesOnLines, value-on-line}
 pub use Rattle.redcode_text.proofs.Shapes.{shaped}
 pub use Rattle.redcode_text.proofs.Splits.{tree-spelled}
 pub use Rattle.redcode_text.proofs.Agreement.{Agree, AgreeOption, Pairwise, Same, agree-after, agree-bind, agree-same, agree-value, pairwise-filter, pairwise-last, pairwise-length}
@@ -33,7 +34,7 @@ pub use Rattle.redcode_text.proofs.AlikeValues.{substitution-same, value-same}
 pub use Rattle.redcode_text.proofs.Named.{AreDistinct, IsNamed}
 pub use Rattle.redcode_text.proofs.SameNames.{SameAssert, SameEquate, SameKind, SameLine, SameName, SameToken, SameTokens, asserts-same, equates-same, index-same, lines-same}
 pub use Rattle.redcode_text.proofs.SourcePrograms.{loops-written-out, source-named}
-pub use Rattle.redcode_text.proofs.Sums.{value-short}
+pub use Rattle.redcode_text.proofs.Shortening.{value-short}
 pub use Rattle.redcode_text.proofs.ShortWords.{has_word_length, find-same, name-same, predefined-same, spelled-same, word-same}
 
 -- where the first is a value, the second is it

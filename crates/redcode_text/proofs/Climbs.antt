@@ -8,7 +8,7 @@ use Rattle.redcode_text.specs.declared.token.Sign.{Sign}
 use Rattle.redcode_text.specs.declared.token.Sign.TheVariants.{Plus, OpenParen, CloseParen}
 use Rattle.redcode_text.specs.declared.fault.ExprFault.{ExprFault}
 use Rattle.redcode_text.specs.Expression.{precedence, unary, binary, known, value, Tree, Numeral, Named, Parens, Unary, Binary, Missing}
-use Rattle.redcode_text.specs.Code.Climbing.{Waiting, Left, Opened, State, wants, has, signed, reduced, operand, reach, placed, before_mark, run, IsLooser}
+use Rattle.redcode_text.specs.Code.Climbing.{Follows, Waiting, Left, Opened, State, wants, has, signed, reduced, operand, reach, placed, before_mark, run, IsLooser}
 use Rattle.redcode_text.specs.Trees.{spelling, rank, is_prefix, IsLevelled}
 use Rattle.redcode_text.proofs.Trees.{precedence-≤5, rank-≤5}
 use Rattle.std.proofs.lemmas.Bool.{le-leb, lt-leb}
@@ -21,23 +21,17 @@ pub unit : {A : Type 0} (r : Result A ExprFault) → (r >>= λ x. Ok x) ≡ r
 unit (Ok x) = refl
 unit (Err e) = refl
 
--- what follows closes an expression whose operators are no looser than k
-abbrev pub Follows : ℕ → List TokenKind → Type 0
-Follows k [] = Unit {0}
-Follows k (token.Sign s ∷ xs) = k ≤ reach s
-Follows k (_ ∷ xs) = ⊥
-
 abbrev pub Fits : Tree → List Waiting → List TokenKind → List TokenKind → Type 0
 Fits (Binary l s r) stack [] rest = IsLooser (precedence s) stack × Follows (precedence s) rest
 Fits (Binary l s r) stack (_ ∷ _) rest = ⊥
 Fits _ stack signs rest = Unit {0}
 
-looser-below : (k j : ℕ) (stack : List Waiting) → k ≤ j → IsLooser j stack → IsLooser k stack
+pub looser-below : (k j : ℕ) (stack : List Waiting) → k ≤ j → IsLooser j stack → IsLooser k stack
 looser-below k j [] le h = tt
 looser-below k j (Left u s ∷ stack) le h = omega arith
 looser-below k j (Opened signs ∷ stack) le h = tt
 
-follows-below : (k j : ℕ) (rest : List TokenKind) → k ≤ j → Follows j rest → Follows k rest
+pub follows-below : (k j : ℕ) (rest : List TokenKind) → k ≤ j → Follows j rest → Follows k rest
 follows-below k j [] le h = tt
 follows-below k j (token.Sign s ∷ xs) le h = omega arith
 follows-below k j (Number n ∷ xs) le h = h
@@ -87,7 +81,7 @@ operand-run : (names : ℕ → Option ℤ) (v : ℤ) (stack : List Waiting) (sig
 operand-run names v stack signs rest n = assoc (signed signs n) (λ w. Ok (has w stack)) (λ next. run names next rest)
 
 -- what waits is applied before what follows
-pops : (names : ℕ → Option ℤ) (a b : ℤ) (s : Sign) (stack : List Waiting) (rest : List TokenKind) → Follows (precedence s) rest → run names (has b (Left a s ∷ stack)) rest ≡ (binary s a b >>= λ w. run names (has w stack) rest)
+pub pops : (names : ℕ → Option ℤ) (a b : ℤ) (s : Sign) (stack : List Waiting) (rest : List TokenKind) → Follows (precedence s) rest → run names (has b (Left a s ∷ stack)) rest ≡ (binary s a b >>= λ w. run names (has w stack) rest)
 pops names a b s stack [] h =
     ap (λ r. r >>= λ r. Ok r.0) (reduced-tighter 5 a b s stack (precedence-≤5 s)) ∙ assoc (binary s a b) (λ w. reduced 5 stack w) (λ r. Ok r.0)
 pops names a b s stack (token.Sign x ∷ xs) h =
@@ -98,7 +92,7 @@ pops names a b s stack (Number n ∷ xs) h = absurd h
 pops names a b s stack (Name n ∷ xs) h = absurd h
 
 -- an operator after an operand waits for its right side
-waits : (names : ℕ → Option ℤ) (a : ℤ) (s : Sign) (stack : List Waiting) (rest : List TokenKind) → 0 < precedence s → IsLooser (precedence s) stack → run names (has a stack) (token.Sign s ∷ rest) ≡ run names (wants a (Left a s ∷ stack) []) rest
+pub waits : (names : ℕ → Option ℤ) (a : ℤ) (s : Sign) (stack : List Waiting) (rest : List TokenKind) → 0 < precedence s → IsLooser (precedence s) stack → run names (has a stack) (token.Sign s ∷ rest) ≡ run names (wants a (Left a s ∷ stack) []) rest
 waits names a s stack rest pos h =
     ap (λ k. (reduced k stack a >>= λ r. placed s r.0 r.1) >>= λ next. run names next rest) (operator-reach s pos)
     ∙ ap (λ r. (r >>= λ r. placed s r.0 r.1) >>= λ next. run names next rest) (reduced-looser (precedence s) stack a h)

@@ -14,7 +14,8 @@ use Rattle.redcode_text.specs.declared.token.TokenKind.{TokenKind}
 use Rattle.redcode_text.specs.declared.token.TokenKind.TheVariants.{Number, Name}
 use Rattle.redcode_text.specs.declared.token.TokenKind.TheVariants as token
 use Rattle.redcode_text.specs.Code.Climbing.{State, move, operand, run, wants}
-use Rattle.redcode_text.specs.Code.Values.{IsKnown, IsValued, value_among}
+use Rattle.redcode_text.specs.Code.Values.{IsKnown, value_among}
+use Rattle.redcode_text.specs.Shortening.{IsValued}
 use Rattle.redcode_text.specs.Equates.{Equate, substitution}
 use Rattle.redcode_text.specs.Expansion.{as_count, count_of, has_label}
 use Rattle.redcode_text.specs.Expression.{kinds, known, shape, start, value_of}

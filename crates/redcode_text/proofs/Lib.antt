@@ -6,6 +6,11 @@ pub mod Climbs
 pub mod Splits
 pub mod Shapes
 pub mod Evaluates
+pub mod OnLines
+pub mod Nested
+pub mod StandIns
+pub mod OperandEnds
+pub mod Products
 pub mod ShapedTrees
 pub mod Reducing
 pub mod Standing
@@ -67,4 +72,6 @@ pub mod WrittenTrees
 pub mod WrittenReadings
 pub mod WrittenOut
 pub mod SourcePrograms
+pub mod Worths
+pub mod Groups
 pub mod Sums

@@ -12,7 +12,7 @@ use Rattle.redcode_text.specs.declared.token.Sign.TheVariants.{OpenParen, CloseP
 use Rattle.redcode_text.specs.declared.fault.ExprFault.{ExprFault}
 use Rattle.redcode_text.specs.declared.expression.evaluation.Pending.{Pending}
 use Rattle.redcode_text.specs.declared.expression.evaluation.Pending.TheVariants.{Value, Open}
-use Rattle.redcode_text.specs.declared.expression.evaluation.Evaluation.{Evaluation}
+use Rattle.redcode_text.specs.Code.Progress.{Progress}
 use Rattle.redcode_text.specs.Expression.{precedence, binary, kinds, known, shape, next_state}
 use Rattle.redcode_text.specs.Code.Climbing.{Left, State, signed, reduced, placed, before_mark, after_mark, move, run, operand, waiting_all, seen}
 use Rattle.redcode_text.specs.Code.Positions.{Stands, reduced_on, popped, taken, before_on, after_on, advance, run_on}
@@ -22,7 +22,7 @@ use Rattle.redcode_text.proofs.Standing.{stands-next, bind-ok, ok}
 use Rattle.redcode_text.specs.declared.expression.shape.ShapeState.{ShapeState}
 
 -- the state that a reading stands for, or the fault
-abbrev seen_next : List Token → ℕ → Result Evaluation ExprFault → Result State ExprFault
+abbrev seen_next : List Token → ℕ → Result Progress ExprFault → Result State ExprFault
 seen_next ts n r = r >>= λ q. Ok (seen ts n q)
 
 reduced-seen : (ts : List Token) (k : ℕ) (stack : List Pending) (v : ℤ) → reduced k (waiting_all ts stack) v ≡ (reduced_on k stack v >>= λ p. Ok (p.0, waiting_all ts p.1))
@@ -38,7 +38,7 @@ reduced-seen ts k (Value u s ∷ stack) v = go (leb (precedence s) k) (λ w. red
 fresh : (ts : List Token) (n : ℕ) (stack : List Pending) (v : ℤ) (after : Bool) → record { stack = waiting_all ts stack; signs = []; value = v; after = after } ≡ seen ts n (record { stack = stack; first_sign = n; value = v; after_operand = after })
 fresh ts n stack v after = ap (λ l. record { stack = waiting_all ts stack; signs = l; value = v; after = after }) (sym (none-between ts n))
 
-taken-seen : (ts : List Token) (n : ℕ) (r : Evaluation) (v : ℤ) → operand (seen ts n r) v ≡ seen_next ts (n + 1) (taken ts n r v)
+taken-seen : (ts : List Token) (n : ℕ) (r : Progress) (v : ℤ) → operand (seen ts n r) v ≡ seen_next ts (n + 1) (taken ts n r v)
 taken-seen ts n r v =
     (λ i. signed (kinds (slice_range ts r.first_sign n)) v >>= λ w. Ok (fresh ts (n + 1) r.stack w true i))
     ∙ sym (assoc (signed (kinds (slice_range ts r.first_sign n)) v) (λ w. Ok (record { stack = r.stack; first_sign = n + 1; value = w; after_operand = true })) (λ q. Ok (seen ts (n + 1) q)))
@@ -50,7 +50,7 @@ popped-seen ts n v (Open a b ∷ stack) =
     (λ i. signed (kinds (slice_range ts a b)) v >>= λ w. Ok (fresh ts (n + 1) stack w true i))
     ∙ sym (assoc (signed (kinds (slice_range ts a b)) v) (λ w. Ok (record { stack = stack; first_sign = n + 1; value = w; after_operand = true })) (λ q. Ok (seen ts (n + 1) q)))
 
-after-by : (ts : List Token) (n k : ℕ) (s : Sign) (r : Evaluation) (f : ℤ → List Pending → Result Evaluation ExprFault) → ((v : ℤ) (stack : List Pending) → placed s v (waiting_all ts stack) ≡ seen_next ts (n + 1) (f v stack))
+after-by : (ts : List Token) (n k : ℕ) (s : Sign) (r : Progress) (f : ℤ → List Pending → Result Progress ExprFault) → ((v : ℤ) (stack : List Pending) → placed s v (waiting_all ts stack) ≡ seen_next ts (n + 1) (f v stack))
     → (reduced k (waiting_all ts r.stack) r.value >>= λ x. placed s x.0 x.1) ≡ seen_next ts (n + 1) (reduced_on k r.stack r.value >>= λ x. f x.0 x.1)
 after-by ts n k s r f same =
     ap (λ y. y >>= λ x. placed s x.0 x.1) (reduced-seen ts k r.stack r.value)
@@ -58,7 +58,7 @@ after-by ts n k s r f same =
     ∙ (λ i. reduced_on k r.stack r.value >>= λ p. same p.0 p.1 i)
     ∙ sym (assoc (reduced_on k r.stack r.value) (λ x. f x.0 x.1) (λ q. Ok (seen ts (n + 1) q)))
 
-after-seen : (ts : List Token) (n : ℕ) (s : Sign) (r : Evaluation) → after_mark (seen ts n r) s ≡ seen_next ts (n + 1) (after_on ts n r s)
+after-seen : (ts : List Token) (n : ℕ) (s : Sign) (r : Progress) → after_mark (seen ts n r) s ≡ seen_next ts (n + 1) (after_on ts n r s)
 after-seen ts n CloseParen r = after-by ts n 5 CloseParen r (popped ts n) (popped-seen ts n)
 after-seen ts n s r =
     after-by ts n (precedence s) s r (λ v stack. Ok (record { stack = Value v s ∷ stack; first_sign = n + 1; value = v; after_operand = false }))
@@ -75,20 +75,20 @@ signs-more ts a n d le lt =
     ∙ ap (λ t. kinds (take (n - a) (drop a ts)) ++ t.kind ∷ []) (get_or-drop a ts (n - a) d ∙ ap (λ k. get_or ts k d) there)
 
 -- a unary sign joins the signs
-sign-seen : (ts : List Token) (n : ℕ) (s : Sign) (r : Evaluation) (d : Token) → r.first_sign ≤ n → n < length ts → (get_or ts n d).kind ≡ token.Sign s → r.after_operand ≡ false → ok (record { stack = waiting_all ts r.stack; signs = kinds (slice_range ts r.first_sign n) ++ token.Sign s ∷ []; value = r.value; after = false }) ≡ ok (seen ts (n + 1) r)
+sign-seen : (ts : List Token) (n : ℕ) (s : Sign) (r : Progress) (d : Token) → r.first_sign ≤ n → n < length ts → (get_or ts n d).kind ≡ token.Sign s → r.after_operand ≡ false → ok (record { stack = waiting_all ts r.stack; signs = kinds (slice_range ts r.first_sign n) ++ token.Sign s ∷ []; value = r.value; after = false }) ≡ ok (seen ts (n + 1) r)
 sign-seen ts n s r d le lt is f =
     (λ i. ok (record { stack = waiting_all ts r.stack; signs = sym (signs-more ts r.first_sign n d le lt ∙ ap (λ k. kinds (slice_range ts r.first_sign n) ++ k ∷ []) is) i; value = r.value; after = sym f i }))
 
-before-seen : (ts : List Token) (n : ℕ) (s : Sign) (r : Evaluation) (d : Token) → r.first_sign ≤ n → n < length ts → (get_or ts n d).kind ≡ token.Sign s → r.after_operand ≡ false → before_mark (seen ts n r) s ≡ ok (seen ts (n + 1) (before_on n r s))
+before-seen : (ts : List Token) (n : ℕ) (s : Sign) (r : Progress) (d : Token) → r.first_sign ≤ n → n < length ts → (get_or ts n d).kind ≡ token.Sign s → r.after_operand ≡ false → before_mark (seen ts n r) s ≡ ok (seen ts (n + 1) (before_on n r s))
 before-seen ts n OpenParen r d le lt is f = ap (λ y. ok y) (fresh ts (n + 1) (Open r.first_sign n ∷ r.stack) r.value false)
 before-seen ts n s r d le lt is f = sign-seen ts n s r d le lt is f
 
-mark-seen : (ts : List Token) (n : ℕ) (s : Sign) (r : Evaluation) (d : Token) (a : Bool) → r.after_operand ≡ a → r.first_sign ≤ n → n < length ts → (get_or ts n d).kind ≡ token.Sign s
+mark-seen : (ts : List Token) (n : ℕ) (s : Sign) (r : Progress) (d : Token) (a : Bool) → r.after_operand ≡ a → r.first_sign ≤ n → n < length ts → (get_or ts n d).kind ≡ token.Sign s
     → cond a (after_mark (seen ts n r) s) (before_mark (seen ts n r) s) ≡ seen_next ts (n + 1) (cond a (after_on ts n r s) (Ok (before_on n r s)))
 mark-seen ts n s r d true e le lt is = after-seen ts n s r
 mark-seen ts n s r d false e le lt is = before-seen ts n s r d le lt is e
 
-advance-seen : (names : ℕ → Option ℤ) (ts : List Token) (n : ℕ) (r : Evaluation) (d : Token) (x : TokenKind) → r.first_sign ≤ n → n < length ts → (get_or ts n d).kind ≡ x → move names (seen ts n r) x ≡ seen_next ts (n + 1) (advance names ts n r x)
+advance-seen : (names : ℕ → Option ℤ) (ts : List Token) (n : ℕ) (r : Progress) (d : Token) (x : TokenKind) → r.first_sign ≤ n → n < length ts → (get_or ts n d).kind ≡ x → move names (seen ts n r) x ≡ seen_next ts (n + 1) (advance names ts n r x)
 advance-seen names ts n r d (Number v) le lt is = taken-seen ts n r v
 advance-seen names ts n r d (Name v) le lt is =
     (λ i. known (names v) >>= λ v. taken-seen ts n r v i)
@@ -100,7 +100,7 @@ bind-along (Ok x) f g h = h x refl
 bind-along (Err e) f g h = refl
 
 -- both readings give the same
-pub linked : (names : ℕ → Option ℤ) (ts rest : List Token) (n : ℕ) (r : Evaluation) (p : ShapeState) → drop n ts ≡ rest → Stands n r p → shape p (kinds rest) ≡ Ok tt → run names (seen ts n r) (kinds rest) ≡ run_on names ts n r rest
+pub linked : (names : ℕ → Option ℤ) (ts rest : List Token) (n : ℕ) (r : Progress) (p : ShapeState) → drop n ts ≡ rest → Stands n r p → shape p (kinds rest) ≡ Ok tt → run names (seen ts n r) (kinds rest) ≡ run_on names ts n r rest
 linked names ts [] n r p e st h =
     ap (λ y. y >>= λ x. Ok x.0) (reduced-seen ts 5 r.stack r.value)
     ∙ assoc (reduced_on 5 r.stack r.value) (λ p. Ok (p.0, waiting_all ts p.1)) (λ x. Ok x.0)

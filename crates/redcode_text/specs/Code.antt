@@ -6,6 +6,7 @@ pub mod Rows
 pub mod Runs
 pub mod Pairs
 pub mod Scanning
+pub mod Progress
 pub mod Climbing
 pub mod Positions
 pub mod Labels
@@ -15,5 +16,8 @@ pub mod Used
 pub mod Heads
 pub mod Loops
 pub mod Parts
+pub mod Worth
+pub mod Products
+pub mod Nesting
 pub mod Sums
 pub mod Shortening

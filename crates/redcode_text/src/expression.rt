@@ -1,14 +1,16 @@
 //! Expressions over numbers and names.
-ghost use Rattle.std.specs.Prelude.{◌≡◌, IfSome, Ok};
+ghost use Rattle.std.specs.Prelude.{◌≡◌, ◌≤◌, ◌⊎◌, length, IfSome, Ok};
 ghost use Rattle.redcode_text.specs.Expression.{kinds, shape, start, value_of};
+ghost use Rattle.redcode_text.specs.declared.limits.TheConstants.{MAX_WAITING};
 
 mod evaluation;
-mod operators;
+pub mod operators;
 pub mod shape;
 
 use crate::expression::evaluation::Evaluation;
 use crate::expression::shape::check_shape;
 use crate::fault::ExprFault;
+use crate::limits::{FEW_WAITING, MAX_WAITING};
 use crate::token::{Token, TokenKind};
 
 /// What names stand for.
@@ -22,12 +24,15 @@ pub trait Env {
         ensures { result ≡ value_of self.now name };
 }
 
-/// The value of tokens that have the shape of an expression, read from the left.
-fn evaluate<E: Env>(tokens: &[Token], env: &E) -> Result<i64, ExprFault>
-    requires { shape start (kinds tokens.now) ≡ Ok tt }
+/// The value of tokens that have the shape of an expression, read from the left with a stack of `N` places.
+/// That is as many as any expression needs, or as there are tokens, since a token lets at most one more wait.
+fn evaluate<E: Env, const N: usize>(tokens: &[Token], env: &E) -> Result<i64, ExprFault>
+    requires shape { shape start (kinds tokens.now) ≡ Ok tt }
+    requires places { N ≤ MAX_WAITING }
+    requires room { (MAX_WAITING ≤ N) ⊎ (length tokens.now ≤ N) }
     ensures { result ≡ value_of (E.value_of env.now) (kinds tokens.now) }
 {
-    let mut evaluation = Evaluation::new();
+    let mut evaluation = Evaluation::<N>::new();
     for at in 0..tokens.len() {
         evaluation.advance(tokens, at, env)?;
     }
@@ -58,5 +63,10 @@ pub fn eval<E: Env>(tokens: &[Token], env: &E) -> Result<i64, ExprFault>
         return value;
     }
     check_shape(tokens)?;
-    evaluate(tokens, env)
+    // All places of a stack are written when it is made, and most expressions are short.
+    if tokens.len() <= FEW_WAITING {
+        evaluate::<E, FEW_WAITING>(tokens, env)
+    } else {
+        evaluate::<E, MAX_WAITING>(tokens, env)
+    }
 }

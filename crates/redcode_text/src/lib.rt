@@ -35,8 +35,9 @@
 //! - The readers of a `Program` give its parts. It has at most 65,536 lines; its name and its author can be printed.
 //! - `Program::substitute` gives tokens with each EQU name replaced, at most 65,536, or the first fault, exactly as
 //!   `specs/Equates` defines it.
-//! - `Program::shortened` gives fewer tokens that are worth the same, and `Program::sum_value` the value of such, where EQU names
-//!   stand for sums; they answer None where they know none, and serve speed alone.
+//! - `Program::shorts` gives a table of what EQU names stand for in short, where they stand for many tokens; with it
+//!   `Program::shortened` gives fewer tokens that are worth the same, and `Program::short_value` the value of such. They answer None
+//!   where they know none, and serve speed alone.
 //! - `PredefinedNames` has the values of the predefined names, `PredefinedNames::value_at` one of them, `NameTable` the names of a text.
 //! - `is_instruction` tells which lines are instructions, and `is_spelled` whether an operation is a word.
 //! - `are_alike` tells whether tokens are of the same kinds, and `NameTable::key_of` gives a number by which such are found again.
@@ -70,4 +71,5 @@ pub use lexer::{LineTokens, scan};
 pub use names::NameTable;
 pub use names::predefined::PredefinedNames;
 pub use program::{Assert, Line, Program, is_instruction, is_spelled};
+pub use shortcuts::{ShortTokens, Shorts};
 pub use token::{Sign, Token, TokenKind, are_alike};

@@ -31,5 +31,8 @@ pub const MAX_SIGNS: usize = 64;
 /// one value for each of the five levels of operators, with the parenthesis before them.
 pub const MAX_WAITING: usize = 6 * 65;
 
+/// How many tokens an expression may have to be read with a stack of that many places, in place of `MAX_WAITING`.
+pub const FEW_WAITING: usize = 16;
+
 /// How many bytes a name or an author may have.
 pub const MAX_NAME: usize = 60;

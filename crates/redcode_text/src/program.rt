@@ -6,6 +6,7 @@ use crate::expression::Env;
 use crate::fault::TextFault;
 use crate::names::NameTable;
 use crate::names::equates::Equates;
+use crate::shortcuts::{ShortTokens, Shorts};
 use crate::token::Token;
 use std::alloc::Global;
 use std::marker::Model;
@@ -75,9 +76,8 @@ impl Model for Program {
 }
 
 impl Program {
-    ghost use Rattle.std.specs.Prelude.{◌≡◌, ◌≤◌, IfOk, IfSome, length, map, option_map, vec_len};
-    ghost use Rattle.redcode_text.specs.Code.Sums.{Shortened};
-    ghost use Rattle.redcode_text.specs.Code.Values.{IsValued, has_equate};
+    ghost use Rattle.std.specs.Prelude.{◌≡◌, ◌≤◌, ℕ, ℤ, Option, IfOk, IfSome, length, map, option_map, vec_len};
+    ghost use Rattle.redcode_text.specs.Shortening.{AreKnown, IsValued, Shortened, has_equate};
     ghost use Rattle.redcode_text.specs.Equates.{equate_lines, limit, substitution};
     ghost use Rattle.redcode_text.specs.Views.{assert_of, line_of};
     ghost use Rattle.redcode_text.specs.Outcomes.{Answers};
@@ -148,20 +148,43 @@ impl Program {
         self.equates.substitute(alloc, tokens)
     }
 
-    /// Tokens with each EQU name replaced, in short, where each stands for a sum (operands with + and - between them) or for
-    /// nothing under what names stand for: at most nine tokens for each, which are worth the same, and of whose numbers some may
-    /// be negative. None where an EQU name stands for anything else, where `substitute` gives a fault, and for want of memory.
-    pub fn shortened<E: Env>(&self, alloc: Global, tokens: &[Token], env: &E) -> Option<Vec<Token>>
-        ensures { IfSome result (λ short. Shortened self.now.equates (E.value_of env.now) tokens.now short.items) }
+    /// What the EQU names of the program stand for in short, under what names stand for: those of which it can be found out. The
+    /// table is empty where none of them stands for many tokens.
+    pub fn shorts<E: Env>(&self, alloc: Global, env: &E) -> Shorts
+        ensures { AreKnown self.now.equates (E.value_of env.now) result }
     {
-        self.equates.shortened(alloc, tokens, env)
+        self.equates.shorts(alloc, env)
     }
 
-    /// The value of an expression whose EQU names stand for sums or for nothing, if it has one. None as for `shortened`.
-    pub fn sum_value<E: Env>(&self, alloc: Global, tokens: &[Token], env: &E) -> Option<i64>
-        ensures { IfSome result (λ value. IsValued self.now.equates (E.value_of env.now) tokens.now value) }
+    /// The same of the EQU names among tokens alone, as long as few tokens are read for that.
+    pub fn shorts_among<E: Env>(&self, alloc: Global, tokens: &[Token], env: &E) -> Shorts
+        ensures { AreKnown self.now.equates (E.value_of env.now) result }
     {
-        self.equates.sum_value(alloc, tokens, env)
+        self.equates.shorts_among(alloc, tokens, env)
+    }
+
+    /// Tokens with each EQU name replaced, in short: by fewer tokens, with which an expression has the same value or none, and of
+    /// whose numbers some may be negative. None where the EQU names stand for few tokens, where one of them isn't in the table,
+    /// where `substitute` gives a fault, and for want of memory.
+    pub fn shortened(&self, alloc: Global, tokens: &[Token], shorts: &Shorts) -> Option<ShortTokens>
+        ensures { IfSome result (λ short. (names : ℕ → Option ℤ) → AreKnown self.now.equates names shorts.now
+            → Shortened self.now.equates names tokens.now short.tokens.items short.is_linear) }
+    {
+        self.equates.shortened(alloc, tokens, shorts)
+    }
+
+    /// The value of an expression in short, if it has one. The table has to be of the same names. None as for `shortened`.
+    pub fn short_value<E: Env>(
+        &self,
+        alloc: Global,
+        tokens: &[Token],
+        shorts: &Shorts,
+        env: &E,
+    ) -> Option<i64>
+        ensures { IfSome result (λ value. AreKnown self.now.equates (E.value_of env.now) shorts.now
+            → IsValued self.now.equates (E.value_of env.now) tokens.now value) }
+    {
+        self.equates.short_value(alloc, tokens, shorts, env)
     }
 }
 

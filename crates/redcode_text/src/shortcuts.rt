@@ -13,9 +13,10 @@
 //!   apart, and is compared with the name that stood at its place before in place of being hashed.
 //! - `values`, `counts`: a loop in a loop, with EQU names in its count that stand for 65,536 tokens, and EQU lines between. The
 //!   value of a count is kept until a name becomes an EQU name that may be among those tokens, or an EQU name gets one line more.
-//! - `sums`: EQU names that stand for sums of 65,536 operands, in the operands and counts of a loop, beside its counter, so that
-//!   no value can be kept. The sum of such a name is put together from those of the names in its line, so that a use costs what
-//!   is written, and not what it stands for.
+//! - `shortening`: EQU names that stand for 65,536 tokens, in the operands and counts of a loop, beside its counter, so that no
+//!   value can be kept. What such a name stands for is put in short from what those in its line stand for: sums, products and
+//!   what is in parentheses get few operands that are worth the same. A table of that is made once for all uses where names stand
+//!   for the same. So a use costs what is written, and not what it stands for.
 //! - `seed`: names that all have the same hash. Hashes begin with the text itself.
 //!
 //! Without them `Text` has no runs, a `Word` is its bytes, `NameTable` is a set of texts, a count is worked out each time,
@@ -35,7 +36,7 @@ mod long_names;
 mod reaches;
 mod runs;
 mod seed;
-mod sums;
+mod shortening;
 mod values;
 mod words;
 
@@ -43,6 +44,7 @@ pub use long_names::{PartedNames, is_long_name};
 pub use reaches::{Cursor, known_start, past_blank, run_at};
 pub use runs::{LongRun, long_runs, runs_before};
 pub use seed::Seed;
+pub use shortening::{ShortTokens, Shorts};
 pub use values::KnownValues;
 pub use words::{
     Counter, KnownStart, Word, has_joins, kept_len, long_name, past_zeros, round_after,

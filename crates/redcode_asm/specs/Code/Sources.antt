@@ -9,7 +9,7 @@ use Rattle.redcode_text.specs.declared.token.Token.{Token}
 use Rattle.redcode_text.specs.Expansion.{ProgramValue}
 use Rattle.redcode_text.specs.Lines.{Line, Predefined, is_instruction}
 use Rattle.redcode_text.specs.Views.{line_of}
-use Rattle.redcode_asm.specs.Assembly.{Operands, Placed, cell_from, cells_of, placed_from, replaced}
+use Rattle.redcode_asm.specs.Assembly.{Operands, Placed, cell_from, cells_of, placed_from, replaced, value_in}
 use Rattle.redcode_asm.specs.declared.fault.AsmFault.{AsmFault}
 use Rattle.redcode_asm.specs.declared.fault.AsmProblem.{AsmProblem}
 use Rattle.redcode_asm.specs.declared.operands.Operands.{Operands as OperandSlices}
@@ -25,6 +25,10 @@ placed_of place = record { index = place.index; line = line_of place.line.now }
 -- the cell of an opcode, perhaps a modifier, and operands whose EQU names are to be replaced
 abbrev pub cell_written : ProgramValue → ℕ → (ℕ → Option ℤ) → Op → Option Modifier → List Token → Result Cell AsmProblem
 cell_written source m names o given rest = replaced source rest >>= cell_from m names o given
+
+-- the value of an expression whose EQU names are to be replaced
+abbrev pub value_written : ProgramValue → (ℕ → Option ℤ) → List Token → Result ℤ AsmProblem
+value_written source names tokens = replaced source tokens >>= value_in names
 
 -- cells, and those of a result behind them
 abbrev pub behind_cells : List Cell → Result (List Cell) AsmFault → Result (List Cell) AsmFault

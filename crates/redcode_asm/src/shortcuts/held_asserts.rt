@@ -1,11 +1,12 @@
 //! Asserts that hold wherever they stand, which are evaluated once.
 ghost use Rattle.std.specs.Prelude.{◌≡◌, true, Ok, [], ◌∷◌, ◌++◌, IfSome, OnOk, OnErr};
-ghost use Rattle.redcode_text.specs.Code.Values.{IsValued};
+ghost use Rattle.redcode_text.specs.Shortening.{IsValued};
 ghost use Rattle.redcode_text.specs.Expression.{kinds, value_of};
 ghost use Rattle.redcode_text.specs.Views.{assert_of, predefined_of};
 ghost use Rattle.redcode_asm.specs.Assembly.{assert_holds, known_value};
 ghost use Rattle.redcode_asm.specs.Code.Fixed.{AreHeld, IsHeld, fixed_value};
 ghost use Rattle.redcode_asm.specs.Code.Problems.{Gives};
+ghost use Rattle.redcode_asm.specs.Code.Sources.{value_written};
 
 use crate::fault::AsmProblem;
 use crate::sources::{AssertNames, Source};
@@ -79,7 +80,17 @@ impl<'a> Source<'a> {
         }
     }
 
-    /// The value of an assert behind so many instructions whose EQU names stand for sums or for nothing, where it has one, and
+    /// The same of an assert whose EQU names stand for many tokens.
+    fn fixed_short_assert(&self, alloc: Global, tokens: &[Token]) -> Option<i64>
+        ensures { IfSome result (λ value. value_written self.now.program.now
+            (fixed_value (predefined_of self.now.predefined.now) self.now.program.now) tokens.now ≡ Ok value) }
+    {
+        let shorts = self.shorts?;
+        self.program
+            .short_value(alloc, tokens, &shorts.fixed, &self.fixed_names())
+    }
+
+    /// The value of an assert behind so many instructions whose EQU names stand for many tokens, where it has one, and
     /// whether it is known to be the same behind any others. It is asked only where EQU names were written.
     pub fn short_assert(&self, alloc: Global, index: u32, tokens: &[Token]) -> Option<(i64, bool)>
         ensures value { IfSome result (λ found. IsValued self.now.program.now.equates
@@ -90,15 +101,15 @@ impl<'a> Source<'a> {
         if !self.program.has_equate(tokens) {
             return None;
         }
-        let fixed = self.fixed_names();
-        if let Some(value) = self.program.sum_value(alloc, tokens, &fixed) {
+        if let Some(value) = self.fixed_short_assert(alloc, tokens) {
             return Some((value, true));
         }
         let names = AssertNames {
             source: *self,
             index,
         };
-        match self.program.sum_value(alloc, tokens, &names) {
+        let shorts = self.program.shorts_among(alloc, tokens, &names);
+        match self.program.short_value(alloc, tokens, &shorts, &names) {
             Some(value) => Some((value, false)),
             None => None,
         }

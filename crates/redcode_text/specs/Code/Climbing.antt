@@ -12,7 +12,7 @@ use Rattle.redcode_text.specs.declared.token.Token.{Token}
 use Rattle.redcode_text.specs.declared.expression.evaluation.Pending.{Pending}
 use Rattle.redcode_text.specs.declared.expression.evaluation.Pending.TheVariants.{Value, Open}
 use Rattle.redcode_text.specs.declared.expression.shape.ShapeState.{ShapeState}
-use Rattle.redcode_text.specs.declared.expression.evaluation.Evaluation as code
+use Rattle.redcode_text.specs.Code.Progress.{Progress}
 use Rattle.redcode_text.specs.Expression.{most_parens, precedence, unary, binary, known, kinds}
 
 -- a value with an operator that waits for its right side, or a parenthesis with the unary signs before it
@@ -108,11 +108,11 @@ GivesReduced ts (Ok v) stack read = read ≡ Ok (v, waiting_all ts stack)
 GivesReduced ts (Err e) stack read = read ≡ Err e
 
 -- what the code holds before the token at a place
-abbrev pub seen : List Token → ℕ → code.Evaluation → State
+abbrev pub seen : List Token → ℕ → Progress → State
 seen ts at r = record { stack = waiting_all ts r.stack; signs = kinds (slice_range ts r.first_sign at); value = r.value; after = r.after_operand }
 
 -- what the code returns and leaves before the token at a place is what reading gives
-abbrev pub Gives : List Token → ℕ → Result (Unit {0}) ExprFault → code.Evaluation → Result State ExprFault → Type 0
+abbrev pub Gives : List Token → ℕ → Result (Unit {0}) ExprFault → Progress → Result State ExprFault → Type 0
 Gives ts at (Ok x) r read = read ≡ Ok (seen ts at r)
 Gives ts at (Err e) r read = read ≡ Err e
 
@@ -128,9 +128,15 @@ IsOrdered (Left u s ∷ stack) n = (0 < precedence s) × IsLooser (precedence s)
 IsOrdered (Opened signs ∷ stack) n = (0 < n) × IsOrdered stack (n - 1)
 
 -- the reading stands at this state of the shape
-pub record Stands (n : ℕ) (r : code.Evaluation) (st : State) (p : ShapeState) : Type 0 where
+pub record Stands (n : ℕ) (r : Progress) (st : State) (p : ShapeState) : Type 0 where
   pub ordered : IsOrdered st.stack p.opened
   pub opened : p.opened ≤ most_parens
   pub after : st.after ≡ p.after_operand
   pub inside : AreInside n r.stack
   pub first : r.first_sign ≤ n
+
+-- what follows applies each operator that waits and is no looser than k
+abbrev pub Follows : ℕ → List TokenKind → Type 0
+Follows k [] = Unit {0}
+Follows k (token.Sign s ∷ xs) = k ≤ reach s
+Follows k (_ ∷ xs) = ⊥

@@ -1,5 +1,5 @@
 -- The same as Climbing, over what the code itself holds.
-use Rattle.std.specs.Prelude.{◌≡◌, ℕ, List, [], ◌∷◌, ◌+◌, ◌-◌, ◌<◌, ◌≤◌, slice_range, true, false, ℤ, Option, Result, Ok, Err, if◌then◌else◌, nat_le}
+use Rattle.std.specs.Prelude.{◌≡◌, ℕ, List, [], ◌∷◌, ◌+◌, ◌-◌, ◌<◌, ◌≤◌, length, slice_range, true, false, ℤ, Option, Result, Ok, Err, if◌then◌else◌, nat_le}
 use Rattle.redcode_text.specs.Results.{◌>>=◌}
 use Rattle.redcode_text.specs.declared.token.Token.{Token}
 use Rattle.redcode_text.specs.declared.token.TokenKind.{TokenKind}
@@ -12,7 +12,7 @@ use Rattle.redcode_text.specs.declared.fault.ExprFault.TheVariants.{Syntax}
 use Rattle.redcode_text.specs.declared.expression.evaluation.Pending.{Pending}
 use Rattle.redcode_text.specs.declared.expression.evaluation.Pending.TheVariants.{Value, Open}
 use Rattle.redcode_text.specs.declared.expression.shape.ShapeState.{ShapeState}
-use Rattle.redcode_text.specs.declared.expression.evaluation.Evaluation as code
+use Rattle.redcode_text.specs.Code.Progress.{Progress}
 use Rattle.redcode_text.specs.Expression.{most_parens, precedence, binary, kinds, known}
 use Rattle.redcode_text.specs.Code.Climbing.{signed, AreInside}
 
@@ -30,42 +30,42 @@ abbrev pub GivesState : {B : Type 0} → B → Result (Unit {0}) ExprFault → R
 GivesState after (Ok v) read = read ≡ Ok after
 GivesState after (Err e) read = read ≡ Err e
 
-abbrev pub operated : ℕ → Sign → code.Evaluation → Result code.Evaluation ExprFault
+abbrev pub operated : ℕ → Sign → Progress → Result Progress ExprFault
 operated at s r = reduced_on (precedence s) r.stack r.value >>= λ x. Ok (record { stack = Value x.0 s ∷ x.1; first_sign = at + 1; value = x.0; after_operand = false })
 
-abbrev pub popped : List Token → ℕ → ℤ → List Pending → Result code.Evaluation ExprFault
+abbrev pub popped : List Token → ℕ → ℤ → List Pending → Result Progress ExprFault
 popped ts at v (Open from to ∷ stack) = signed (kinds (slice_range ts from to)) v >>= λ w. Ok (record { stack = stack; first_sign = at + 1; value = w; after_operand = true })
 popped ts at v _ = Err Syntax
 
-abbrev pub closed_on : List Token → ℕ → code.Evaluation → Result code.Evaluation ExprFault
+abbrev pub closed_on : List Token → ℕ → Progress → Result Progress ExprFault
 closed_on ts at r = reduced_on 5 r.stack r.value >>= λ x. popped ts at x.0 x.1
 
-abbrev pub taken : List Token → ℕ → code.Evaluation → ℤ → Result code.Evaluation ExprFault
+abbrev pub taken : List Token → ℕ → Progress → ℤ → Result Progress ExprFault
 taken ts at r v = signed (kinds (slice_range ts r.first_sign at)) v >>= λ w. Ok (record { stack = r.stack; first_sign = at + 1; value = w; after_operand = true })
 
-abbrev pub opened_on : ℕ → code.Evaluation → code.Evaluation
+abbrev pub opened_on : ℕ → Progress → Progress
 opened_on at r = record { stack = Open r.first_sign at ∷ r.stack; first_sign = at + 1; value = r.value; after_operand = false }
 
-abbrev pub before_on : ℕ → code.Evaluation → Sign → code.Evaluation
+abbrev pub before_on : ℕ → Progress → Sign → Progress
 before_on at r OpenParen = opened_on at r
 before_on at r s = r
 
-abbrev pub after_on : List Token → ℕ → code.Evaluation → Sign → Result code.Evaluation ExprFault
+abbrev pub after_on : List Token → ℕ → Progress → Sign → Result Progress ExprFault
 after_on ts at r CloseParen = closed_on ts at r
 after_on ts at r s = operated at s r
 
 -- the reading after one more token
-abbrev pub advance : (ℕ → Option ℤ) → List Token → ℕ → code.Evaluation → TokenKind → Result code.Evaluation ExprFault
+abbrev pub advance : (ℕ → Option ℤ) → List Token → ℕ → Progress → TokenKind → Result Progress ExprFault
 advance names ts at r (Number n) = taken ts at r n
 advance names ts at r (Name n) = known (names n) >>= λ v. taken ts at r v
 advance names ts at r (token.Sign s) = if r.after_operand then after_on ts at r s else Ok (before_on at r s)
 
 -- the value of a reading that has taken all tokens
-abbrev pub finished : code.Evaluation → Result ℤ ExprFault
+abbrev pub finished : Progress → Result ℤ ExprFault
 finished r = reduced_on 5 r.stack r.value >>= λ x. Ok x.0
 
 -- the value once all tokens are read
-abbrev pub run_on : (ℕ → Option ℤ) → List Token → ℕ → code.Evaluation → List Token → Result ℤ ExprFault
+abbrev pub run_on : (ℕ → Option ℤ) → List Token → ℕ → Progress → List Token → Result ℤ ExprFault
 run_on names ts at r [] = finished r
 run_on names ts at r (t ∷ rest) = advance names ts at r t.kind >>= λ q. run_on names ts (at + 1) q rest
 
@@ -80,10 +80,11 @@ IsOrdered [] n = n ≡ 0
 IsOrdered (Value v s ∷ stack) n = (0 < precedence s) × StaysBelow (precedence s) stack × IsOrdered stack n
 IsOrdered (Open from to ∷ stack) n = (0 < n) × IsOrdered stack (n - 1)
 
--- the reading before the token at n stands at this state of the shape
-pub record Stands (n : ℕ) (r : code.Evaluation) (p : ShapeState) : Type 0 where
+-- the reading before the token at n stands at this state of the shape; each token read let at most one more wait
+pub record Stands (n : ℕ) (r : Progress) (p : ShapeState) : Type 0 where
   pub ordered : IsOrdered r.stack p.opened
   pub opened : p.opened ≤ most_parens
   pub after : r.after_operand ≡ p.after_operand
   pub inside : AreInside n r.stack
   pub first : r.first_sign ≤ n
+  pub counted : length r.stack ≤ n

@@ -1,29 +1,19 @@
 -- Values of expressions that are kept, and which tokens may be worth that.
-use Rattle.std.specs.Prelude.{◌≡◌, ◌≤◌, ⊤, ℕ, ℤ, List, [], ◌∷◌, Bool, Option, Some, None, is_some, Ok, true, false, ◌==◌}
-use Rattle.std.specs.List.{All, list_any}
+use Rattle.std.specs.Prelude.{◌≡◌, ◌≤◌, ⊤, ℕ, ℤ, List, [], ◌∷◌, Option, Some, None, true, false, ◌==◌}
+use Rattle.std.specs.List.{All}
 use Rattle.redcode_text.specs.declared.shortcuts.values.KnownValue.{KnownValue}
 use Rattle.redcode_text.specs.declared.shortcuts.values.NameValue.{NameValue}
 use Rattle.redcode_text.specs.declared.token.Token.{Token}
 use Rattle.redcode_text.specs.declared.token.TokenKind.{TokenKind}
 use Rattle.redcode_text.specs.declared.token.TokenKind.TheVariants.{Name}
-use Rattle.redcode_text.specs.Equates.{Equate, substitution, token_lines}
-use Rattle.redcode_text.specs.Expression.{kinds, value_of}
-use Rattle.redcode_text.specs.Tokens.{without_line}
-
--- whether an EQU name is among tokens, so that they may stand for many others
-abbrev pub has_equate : List Equate → List Token → Bool
-has_equate equates ts = list_any (λ t. is_some (token_lines equates t.kind)) ts
+use Rattle.redcode_text.specs.Equates.{Equate}
+use Rattle.redcode_text.specs.Expression.{kinds}
+use Rattle.redcode_text.specs.Shortening.{IsValued}
 
 -- what a name stands for, among these
 abbrev pub value_among : List NameValue → ℕ → Option ℤ
 value_among [] name = None
 value_among (v ∷ vs) name = elim (name == v.name) [ true ↦ Some v.value | false ↦ value_among vs name ]
-
--- tokens that have a value once their EQU names are replaced, and this one
-pub record IsValued (equates : List Equate) (names : ℕ → Option ℤ) (tokens : List Token) (value : ℤ) : Type 0 where
-  pub made : List Token
-  pub replaced : without_line (substitution equates tokens) ≡ Ok made
-  pub is : value_of names (kinds made) ≡ Ok value
 
 -- all tokens of these kinds have the value that is kept of them
 pub record IsKnown (equates : List Equate) (known : KnownValue) : Type 0 where

@@ -2,13 +2,11 @@
 ghost use Rattle.std.specs.Prelude.{◌≡◌, ℕ, ℤ, List, [], ◌∷◌, ◌<◌, ◌≤◌, length, IfSome, IfNone, Ok, false, slice_get};
 ghost use Rattle.redcode_text.specs.Code.Climbing.{signed, AreInside, StaysAt, IsNoOpen};
 ghost use Rattle.redcode_text.specs.Expression.{precedence, kinds};
-ghost use Rattle.redcode_text.specs.declared.limits.TheConstants.{MAX_WAITING};
 ghost use Rattle.redcode_text.specs.Code.Positions.{GivesOn, reduced_on};
 
 use crate::expression::Env;
 use crate::expression::operators::{apply_binary, apply_unary, precedence};
 use crate::fault::ExprFault;
-use crate::limits::MAX_WAITING;
 use crate::token::{Sign, Token, TokenKind};
 use arrayvec::ArrayVec;
 use std::marker::Model;
@@ -28,13 +26,13 @@ impl Default for Pending {
     }
 }
 
-/// What waits, the latest first.
+/// What waits, the latest first, of at most `N` entries. All `N` places are written when it is made.
 #[derive(Drop)]
-struct Stack {
-    entries: ArrayVec<Pending, MAX_WAITING>,
+struct Stack<const N: usize> {
+    entries: ArrayVec<Pending, N>,
 }
 
-impl Model for Stack {
+impl<const N: usize> Model for Stack<N> {
     ghost use Rattle.std.specs.Prelude.{List, reverse};
     ghost use Rattle.redcode_text.specs.declared.expression.evaluation.Pending.{Pending};
 
@@ -43,7 +41,7 @@ impl Model for Stack {
     ghost view = { λ s. reverse s.entries.items };
 }
 
-impl Stack {
+impl<const N: usize> Stack<N> {
     fn new() -> Self
         ensures { result ≡ [] }
     {
@@ -53,7 +51,7 @@ impl Stack {
     }
 
     fn push(&mut self, entry: Pending)
-        requires { length self.old < MAX_WAITING }
+        requires { length self.old < N }
         ensures { self.new ≡ entry ∷ self.old }
     {
         self.entries.push(entry);
@@ -103,10 +101,10 @@ fn apply_signs(run: &[Token], value: i64) -> Result<i64, ExprFault>
     }
 }
 
-/// The reading of an expression from the left.
+/// The reading of an expression from the left, in which at most `N` values and parentheses wait.
 #[derive(Drop)]
-pub struct Evaluation {
-    stack: Stack,
+pub struct Evaluation<const N: usize> {
+    stack: Stack<N>,
     /// Where the unary signs directly before begin among the tokens.
     first_sign: usize,
     /// The value of the operand directly before, if one stands there.
@@ -114,7 +112,20 @@ pub struct Evaluation {
     after_operand: bool,
 }
 
-impl Evaluation {
+impl<const N: usize> Model for Evaluation<N> {
+    ghost use Rattle.redcode_text.specs.Code.Progress.{Progress};
+
+    ghost Value = { Progress };
+
+    ghost view = { λ e. record {
+      stack = e.stack;
+      first_sign = e.first_sign;
+      value = e.value;
+      after_operand = e.after_operand;
+    } };
+}
+
+impl<const N: usize> Evaluation<N> {
     ghost use Rattle.redcode_text.specs.Code.Positions.{GivesState, operated, closed_on, taken, opened_on, advance, finished};
 
     pub fn new() -> Self
@@ -145,7 +156,7 @@ impl Evaluation {
 
     /// Takes an opening parenthesis.
     fn open(&mut self, at: usize)
-        requires room { length self.old.stack < MAX_WAITING }
+        requires room { length self.old.stack < N }
         requires fits { at < usize.MAX }
 
         ensures gives { self.new ≡ opened_on at self.old }
@@ -167,9 +178,9 @@ impl Evaluation {
         requires first { self.old.first_sign ≤ at }
         requires within { at < length tokens.now }
         requires inside { AreInside at self.old.stack }
-        requires room { length self.old.stack < MAX_WAITING }
+        requires room { length self.old.stack < N }
         requires room_after { (k : ℕ) (w : ℤ) (stack : List Pending) → reduced_on k self.old.stack self.old.value ≡ Ok (w, stack)
-            → length stack < MAX_WAITING }
+            → length stack < N }
 
         ensures gives { IfSome (slice_get tokens.now at)
             (λ t. GivesState self.new result (advance (E.value_of env.now) tokens.now at self.old t.kind)) }
@@ -200,7 +211,7 @@ impl Evaluation {
     fn operate(&mut self, at: usize, sign: Sign) -> Result<(), ExprFault>
         requires fits { at < usize.MAX }
         requires room { (w : ℤ) (stack : List Pending)
-            → reduced_on (precedence sign) self.old.stack self.old.value ≡ Ok (w, stack) → length stack < MAX_WAITING }
+            → reduced_on (precedence sign) self.old.stack self.old.value ≡ Ok (w, stack) → length stack < N }
 
         ensures gives { GivesState self.new result (operated at sign self.old) }
     {
@@ -231,7 +242,7 @@ impl Evaluation {
 }
 
 /// The value, once everything is applied that waits and is no looser than `reach`.
-fn reduce_on(stack: &mut Stack, value: i64, reach: u8) -> Result<i64, ExprFault>
+fn reduce_on<const N: usize>(stack: &mut Stack<N>, value: i64, reach: u8) -> Result<i64, ExprFault>
     ensures value { GivesOn stack.new result (reduced_on reach stack.old value) }
     ensures inside { (n : ℕ) → AreInside n stack.old → AreInside n stack.new }
 {

@@ -5,7 +5,7 @@ ghost use Rattle.redcode_text.specs.Equates.{Replaced, equate_lines, token_lines
 ghost use Rattle.redcode_text.specs.Lines.{with_line};
 ghost use Rattle.redcode_text.specs.Outcomes.{Answers};
 ghost use Rattle.redcode_text.specs.Code.Problems.{Gives};
-ghost use Rattle.redcode_text.specs.Code.Values.{has_equate};
+ghost use Rattle.redcode_text.specs.Shortening.{has_equate};
 ghost use Rattle.redcode_text.specs.Tokens.{at_line};
 
 use crate::fault::{TextFault, TextProblem};

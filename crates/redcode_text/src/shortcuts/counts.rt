@@ -2,7 +2,7 @@
 ghost use Rattle.std.specs.Prelude.{◌≡◌, Ok, IfSome};
 ghost use Rattle.redcode_text.specs.Code.Problems.{Gives};
 ghost use Rattle.redcode_text.specs.Code.Readings.{reading_of};
-ghost use Rattle.redcode_text.specs.Code.Values.{IsValued};
+ghost use Rattle.redcode_text.specs.Shortening.{IsValued};
 ghost use Rattle.redcode_text.specs.Equates.{substitution};
 ghost use Rattle.redcode_text.specs.Expansion.{count_of};
 ghost use Rattle.redcode_text.specs.Tokens.{without_line};
@@ -36,13 +36,16 @@ impl Equates {
         Some(known.value)
     }
 
-    /// The value of an expression, where there is a short way to it: it was kept, or its EQU names stand for sums.
+    /// The value of an expression, where there is a short way to it: it was kept, or has one in short.
     fn quick_value<E: Env>(&self, alloc: Global, tokens: &[Token], env: &E) -> Option<i64>
         ensures { IfSome result (λ value. IsValued self.now (E.value_of env.now) tokens.now value) }
     {
         match self.known_value(tokens, env) {
             Some(value) => Some(value),
-            None => self.sum_value(alloc, tokens, env),
+            None => {
+                let shorts = self.shorts_among(alloc, tokens, env);
+                self.short_value(alloc, tokens, &shorts, env)
+            }
         }
     }
 

@@ -1,6 +1,6 @@
 use Rattle.std.proofs.Common.{rules, subst, List}
 use Rattle.redcode_text.specs.declared.token.Token.{Token}
-use Rattle.redcode_text.specs.Code.Values.{IsValued}
+use Rattle.redcode_text.specs.Shortening.{IsValued}
 use Rattle.redcode_text.specs.Views.{predefined_of}
 use Rattle.redcode_asm.specs.Code.Fixed.{fixed_value}
 use Rattle.redcode_asm.proofs.Everywhere.{held-made, held-valued}

@@ -1,6 +1,6 @@
 use Rattle.std.proofs.Common.{◌∙◌, ℕ, ℤ, Ok, Option, ap, rules, subst, w64}
 use Rattle.std.proofs.lemmas.Int.{to_z-of_z}
-use Rattle.redcode_text.specs.Code.Values.{IsValued}
+use Rattle.redcode_text.specs.Shortening.{IsValued}
 use Rattle.redcode_text.specs.Expansion.{as_count}
 use Rattle.redcode_text.specs.Lines.{name_at, predefined_value, with_current_line}
 use Rattle.redcode_text.specs.Views.{predefined_of}

@@ -2,7 +2,8 @@ use Rattle.std.proofs.Common.{◌≡◌, ◌∙◌, ℕ, ℤ, Some, ap, rules, s
 use Rattle.std.proofs.lemmas.Int.{to_z-of_z}
 use Rattle.std.proofs.lemmas.List.Elements.{All-get_or}
 use Rattle.std.specs.List.{All}
-use Rattle.redcode_text.specs.Code.Values.{IsKnown, IsValued, value_among}
+use Rattle.redcode_text.specs.Code.Values.{IsKnown, value_among}
+use Rattle.redcode_text.specs.Shortening.{IsValued}
 use Rattle.redcode_text.specs.Expression.{kinds}
 use Rattle.redcode_text.proofs.KnownValues.{valued-on}
 use Rattle.redcode_text.proofs.LaterNames.{kept-all}

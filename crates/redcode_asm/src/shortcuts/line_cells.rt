@@ -1,0 +1,134 @@
+//! The cells of instructions whose operands lie on a line: what they are worth depends on their place only by labels and CURLINE,
+//! and no more than in proportion. So the value at a place follows from that at the first index and that at the last.
+ghost use Rattle.std.specs.Prelude.{◌≡◌, ◌<◌, ◌+ℤ◌, ◌*ℤ◌, pos, true, Ok, IfSome, option_map};
+ghost use Rattle.mars_cell.specs.Cells.{FitsCore};
+ghost use Rattle.redcode_text.specs.Views.{predefined_of};
+ghost use Rattle.redcode_asm.specs.Assembly.{name_value};
+ghost use Rattle.redcode_asm.specs.Code.OnLines.{IsBetween, IsGivenBetween, are_linear, is_linear};
+ghost use Rattle.redcode_asm.specs.Code.Sources.{cell_written};
+
+use crate::instruction::whole_cell;
+use crate::operands::{split_mode, split_operands};
+use crate::shortcuts::place_shorts::LAST_INDEX;
+use crate::shortcuts::short_cells::Written;
+use crate::sources::Source;
+use mars_cell::{Cell, Mode, residue};
+use redcode_text::{Sign, Token, TokenKind, eval};
+use std::alloc::Global;
+
+/// Whether a token is a number or a name, + or -, or a parenthesis.
+fn is_linear(kind: TokenKind) -> bool
+    ensures { result ≡ is_linear kind }
+{
+    match kind {
+        TokenKind::Number(_) | TokenKind::Name(_) => true,
+        TokenKind::Sign(Sign::Plus | Sign::Minus | Sign::OpenParen | Sign::CloseParen) => true,
+        TokenKind::Sign(_) => false,
+    }
+}
+
+/// Whether all tokens are.
+fn are_linear(tokens: &[Token]) -> bool
+    ensures { result ≡ are_linear tokens.now }
+{
+    tokens.iter().all(|token| is_linear(token.kind))
+}
+
+/// What lies at an index on the line that begins so and has this slope. None where it is no 64-bit number.
+fn on_line(first: i64, slope: i64, index: u32) -> Option<i64>
+    ensures { IfSome result (λ value. value ≡ first +ℤ slope *ℤ pos index) }
+{
+    first.checked_add(slope.checked_mul(i64::from(index))?)
+}
+
+/// What lies at an index on the line from a value at the first index to one at the last. None where there is no such line.
+fn value_between(first: i64, end: i64, index: u32) -> Option<i64>
+    ensures { IfSome result (λ value. IsBetween index first value end) }
+{
+    let slope = end.checked_sub(first)? / i64::from(LAST_INDEX);
+    if on_line(first, slope, LAST_INDEX)? != end {
+        return None;
+    }
+    on_line(first, slope, index)
+}
+
+impl<'a> Source<'a> {
+    /// The mode and the number at an index of an operand whose tokens in short are these at the first index and at the last. None
+    /// where it isn't linear, or has no value at one of the two.
+    fn operand_between(
+        &self,
+        core_size: u32,
+        index: u32,
+        first: &[Token],
+        last: &[Token],
+    ) -> Option<(Mode, u32)>
+        requires { 0 < core_size }
+        ensures value { IfSome result (IsGivenBetween (predefined_of self.now.predefined.now) self.now.program.now core_size index
+            (Some first.now) (Some last.now)) }
+        ensures below { IfSome result (λ operand. operand.1 < core_size) }
+    {
+        let (mode, expression) = split_mode(first);
+        if !are_linear(expression) {
+            return None;
+        }
+        let Ok(start) = eval(expression, &self.instruction_names(0)) else {
+            return None;
+        };
+        let Ok(end) = eval(split_mode(last).1, &self.instruction_names(LAST_INDEX)) else {
+            return None;
+        };
+        let value = value_between(start, end, index)?;
+        Some((mode, residue(value, core_size)))
+    }
+
+    /// The same, `$0` where the operand isn't given.
+    fn given_between(
+        &self,
+        core_size: u32,
+        index: u32,
+        first: Option<&[Token]>,
+        last: Option<&[Token]>,
+    ) -> Option<(Mode, u32)>
+        requires { 0 < core_size }
+        ensures value { IfSome result (IsGivenBetween (predefined_of self.now.predefined.now) self.now.program.now core_size index
+            (option_map (λ ts. ts.now) first.entry) (option_map (λ ts. ts.now) last.entry)) }
+        ensures below { IfSome result (λ operand. operand.1 < core_size) }
+    {
+        match (first, last) {
+            (None, None) => Some((Mode::Direct, 0)),
+            (Some(first), Some(last)) => self.operand_between(core_size, index, first, last),
+            _ => None,
+        }
+    }
+
+    /// The cell of an instruction at an index, where its operands lie on a line.
+    pub fn line_cell(
+        &self,
+        alloc: Global,
+        core_size: u32,
+        index: u32,
+        written: Written<'_>,
+    ) -> Option<Cell>
+        requires { 0 < core_size }
+        ensures value { IfSome result (λ cell. cell_written self.now.program.now core_size
+            (name_value (predefined_of self.now.predefined.now) self.now.program.now index index)
+            written.entry.op written.entry.modifier written.entry.rest.now ≡ Ok cell) }
+        ensures fits { IfSome result (FitsCore core_size) }
+    {
+        let shorts = self.shorts?;
+        let first = self.program.shortened(alloc, written.rest, &shorts.first)?;
+        let last = self.program.shortened(alloc, written.rest, &shorts.last)?;
+        if !first.is_linear || index > LAST_INDEX {
+            return None;
+        }
+        let Ok(starts) = split_operands(written.op, &first.tokens) else {
+            return None;
+        };
+        let Ok(ends) = split_operands(written.op, &last.tokens) else {
+            return None;
+        };
+        let a = self.given_between(core_size, index, starts.a, ends.a)?;
+        let b = self.given_between(core_size, index, starts.b, ends.b)?;
+        Some(whole_cell(written.op, written.modifier, a, b))
+    }
+}
