@@ -10,19 +10,15 @@ use Rattle.mars_cell.specs.declared.instruction.Mode.{Mode}
 use Rattle.mars_cell.specs.declared.instruction.Modifier.{Modifier}
 use Rattle.mars_cell.specs.declared.instruction.Op.{Op}
 use Rattle.redcode_text.specs.Results.{◌>>=◌}
-use Rattle.redcode_text.specs.declared.token.Sign.TheVariants.{Plus, Minus, OpenParen, CloseParen}
 use Rattle.redcode_text.specs.declared.token.Token.{Token}
-use Rattle.redcode_text.specs.declared.token.TokenKind.{TokenKind}
-use Rattle.redcode_text.specs.declared.token.TokenKind.TheVariants.{Number, Name}
-use Rattle.redcode_text.specs.declared.token.TokenKind.TheVariants as token
 use Rattle.redcode_text.specs.Expansion.{ProgramValue}
 use Rattle.redcode_text.specs.Expression.{kinds, value_of}
 use Rattle.redcode_text.specs.Lines.{Predefined, name_at, predefined_value}
-use Rattle.redcode_text.specs.Shortening.{IsLinear, IsShort, Shortened}
+use Rattle.redcode_text.specs.Shortening.{IsLinear, IsShort, Shortened, are_linear, is_linear}
 use Rattle.redcode_text.proofs.CallerLemmas.{AreOnLine, NamesOnLines, value-on-line, value-short}
 use Rattle.redcode_asm.specs.Assembly.{Operands, cell_from, cell_with, expressed, given_operands, label_among, name_value, operand_value}
 use Rattle.redcode_asm.specs.Assembly.{placed, split_mode, texted, value_or}
-use Rattle.redcode_asm.specs.Code.OnLines.{IsBetween, IsGivenBetween, IsOperandBetween, are_linear, is_linear}
+use Rattle.redcode_asm.specs.Code.OnLines.{IsBetween, IsGivenBetween, IsOperandBetween}
 use Rattle.redcode_asm.specs.Code.PlaceShorts.{last_index}
 use Rattle.redcode_asm.specs.Code.Sources.{cell_written}
 use Rattle.redcode_asm.proofs.ShortCells.{IsOperandShort, linear-long, operands-short, short-mode}
@@ -91,20 +87,11 @@ both-true : (a b : Bool) → (a && b) ≡ true → (a ≡ true) × (b ≡ true)
 both-true true b h = (refl, h)
 both-true false b h = cc
 
-kind-linear : (k : TokenKind) → is_linear k ≡ true → IsLinear k
-kind-linear (Number n) h = tt
-kind-linear (Name n) h = tt
-kind-linear (token.Sign Plus) h = tt
-kind-linear (token.Sign Minus) h = tt
-kind-linear (token.Sign OpenParen) h = tt
-kind-linear (token.Sign CloseParen) h = tt
-kind-linear (token.Sign _) h = cc
-
 all-linear : (ts : List Token) → are_linear ts ≡ true → All IsLinear (kinds ts)
 all-linear [] h = All-nil IsLinear
 all-linear (t ∷ ts) h =
     let b = both-true (is_linear t.kind) (are_linear ts) h in
-    All-cons IsLinear t.kind (kinds ts) (kind-linear t.kind b.0) (all-linear ts b.1)
+    All-cons IsLinear t.kind (kinds ts) b.0 (all-linear ts b.1)
 
 -- ---- an operand
 

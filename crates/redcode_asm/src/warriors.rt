@@ -80,7 +80,7 @@ pub fn program_warrior<'p>(
         return Err(AsmFault::out_of_memory());
     };
     let tables = shorts_of_program(alloc, program, &labels, predefined);
-    let shorts = tables.as_ref();
+    let shorts = Some(&tables);
     let source = Source {
         program,
         labels: &labels,

@@ -1,6 +1,7 @@
 -- The joins of a word, one further.
-use Rattle.std.proofs.Common.{◌≤◌, Option, Result, zero, ◌≡◌, ℕ, suc, ◌+◌, ◌-◌, ◌<◌, List, [], ◌∷◌, ◌++◌, length, drop, take, Bool, true, false, not, ◌==◌, ◌||◌, cond, Some, None, Ok, Err, refl, ap, sym, ◌∙◌, arith, add-one, drop-drop}
-use Rattle.std.proofs.Math.Seq.{drop-cons}
+use Rattle.std.proofs.Common.{◌≤◌, Option, Result, zero, append_assoc, ◌≡◌, ℕ, suc, ◌+◌, ◌-◌, ◌<◌, List, [], ◌∷◌, ◌++◌, length, drop, take, Bool, true, false, not, ◌==◌, ◌||◌, cond, Some, None, Ok, Err, refl, ap, sym, ◌∙◌, arith, add-one, drop-drop}
+use Rattle.std.proofs.Math.Seq.{drop-cons, take-add}
+use Rattle.std.proofs.lemmas.List.{take-append-drop}
 use Rattle.std.specs.List.{onto_first, prefix_len, list_any}
 use Rattle.redcode_text.specs.Results.{◌>>=◌}
 use Rattle.redcode_text.specs.declared.fault.TextProblem.{TextProblem}
@@ -116,3 +117,11 @@ joined-behind loops (suc n) (b ∷ bs) within = go (b == 38) refl within (joined
     go true e less rest = absurd (omega (arith, less))
     go false e less rest =
         joined-behind-one loops b bs e ∙ ap (then-first b) (rest (omega (arith, less))) ∙ behind-more b (take n bs) (joined loops (drop n bs))
+
+-- what is written behind a place as joins made it may stand on either side of it
+pub moved : (at over : ℕ) (word end : List ℕ) → take over (drop at word) ≡ take over end
+    → take (at + over) word ++ drop over end ≡ take at word ++ end
+moved at over word end same =
+    ap (λ l. l ++ drop over end) (take-add at over word ∙ ap (λ l. take at word ++ l) same)
+    ∙ append_assoc (take at word) (take over end) (drop over end)
+    ∙ ap (λ l. take at word ++ l) (take-append-drop over end)

@@ -2,11 +2,9 @@
 use Rattle.std.proofs.Common.{◌≡◌, ◌∙◌, ◌<◌, ◌≤◌, ◌==◌, ◌+◌, refl, ap, sym, subst, ℕ, zero, suc, List, [], ◌∷◌, ◌++◌, length, get_or, take, map, Bool, true, false, Option, Some, None, Result, Ok, Err, arith}
 use Rattle.std.proofs.lemmas.Bool.Decides.{nat_tests}
 use Rattle.std.proofs.lemmas.List.{map-append, take_more}
-use Rattle.std.proofs.lemmas.Option.{get_or_from_slice_get, slice_get_within}
 use Rattle.std.proofs.lemmas.List.Elements.{All-append, All-cons, All-head, All-nil, All-tail}
 use Rattle.std.specs.Bool.{⊤}
-use Rattle.std.specs.List.{All, slice_get}
-use Rattle.std.specs.Option.{IsSome}
+use Rattle.std.specs.List.{All}
 use Rattle.std.specs.Result.{OnErr, OnOk}
 use Rattle.redcode_text.specs.Results.{◌>>=◌}
 use Rattle.redcode_text.specs.declared.shortcuts.values.KnownValue.{KnownValue}
@@ -74,17 +72,12 @@ rows-next f greatest next rows i d inside h is u =
     (subst (RowsUpTo next) (sym (map-append f (take i rows) (get_or rows i d ∷ []))) (rows-push next (map f (take i rows)) (f (get_or rows i d)) (rows-more greatest next (map f (take i rows)) h u) is))
 
 -- one EQU name more
-pub equates-next : {E : Type 0} (f : E → Equate) (greatest next : ℕ) (es : List E) (i : ℕ) (e : E) → slice_get es i ≡ Some e → greatest ≤ next → RowsUpTo next (f e).lines → EquatesUpTo greatest (map f (take i es))
+pub equates-next : {E : Type 0} (f : E → Equate) (greatest next : ℕ) (es : List E) (i : ℕ) (d : E) → i < length es → greatest ≤ next → RowsUpTo next (f (get_or es i d)).lines → EquatesUpTo greatest (map f (take i es))
     → EquatesUpTo next (map f (take (i + 1) es))
-equates-next f greatest next es i e at h is u =
-    let entry : get_or es i e ≡ e = get_or_from_slice_get es i e e at in
-    subst (λ l. EquatesUpTo next (map f l)) (sym (take_more es i e (slice_get_within es i e at)))
-    (subst (EquatesUpTo next) (sym (map-append f (take i es) (get_or es i e ∷ [])))
-    (equates-push next (map f (take i es)) (f (get_or es i e)) (equates-more greatest next (map f (take i es)) h u) (subst (λ x. RowsUpTo next (f x).lines) (sym entry) is)))
-
-pub none-there : {A : Type 0} (o : Option A) → IsSome o → ((x : A) → o ≡ Some x → ⊥) → ⊥
-none-there (Some x) s h = h x refl
-none-there None s h = cc
+equates-next f greatest next es i d inside h is u =
+    subst (λ l. EquatesUpTo next (map f l)) (sym (take_more es i d inside))
+    (subst (EquatesUpTo next) (sym (map-append f (take i es) (get_or es i d ∷ [])))
+    (equates-push next (map f (take i es)) (f (get_or es i d)) (equates-more greatest next (map f (take i es)) h u) is))
 
 up-kinds : (last : ℕ) (ts us : List Token) → kinds ts ≡ kinds us → AreUpTo last us → AreUpTo last ts
 up-kinds last [] us e u = tt

@@ -10,7 +10,10 @@ pub mod OnLines
 pub mod Nested
 pub mod StandIns
 pub mod OperandEnds
+pub mod BehindOperands
+pub mod Triples
 pub mod Products
+pub mod Quotients
 pub mod ShapedTrees
 pub mod Reducing
 pub mod Standing
@@ -23,7 +26,7 @@ pub mod Digits
 pub mod Joins
 pub mod Failing
 pub mod Scans
-pub mod EquateLookup
+pub mod EquatePlaces
 pub mod Replacing
 pub mod SourceLines
 pub mod PairSteps
@@ -46,6 +49,7 @@ pub mod SourceRows
 pub mod Printing
 pub mod NameSets
 pub mod NameParts
+pub mod Placed
 pub mod PrintedNames
 pub mod BehindEnd
 pub mod Moved
@@ -75,3 +79,4 @@ pub mod SourcePrograms
 pub mod Worths
 pub mod Groups
 pub mod Sums
+pub mod Chains

@@ -1,5 +1,5 @@
 -- Names in two parts, by their indices among texts that grow.
-use Rattle.std.proofs.Common.{◌≤◌, ◌≡◌, ◌∙◌, ℕ, zero, suc, ◌+◌, ◌-◌, ◌<◌, List, [], ◌∷◌, ◌++◌, length, drop, take, get_or, get_or-drop, length-drop, map, Bool, true, false, not, ◌&&◌, ◌||◌, cond, nat_eq, nat_lt, if◌then◌else◌, Some, None, option_map, unwrap_or, refl, ap, sym, subst, append_assoc, append-nil, arith}
+use Rattle.std.proofs.Common.{◌≤◌, ◌≡◌, ◌∙◌, ℕ, zero, suc, ◌+◌, ◌-◌, ◌<◌, List, [], ◌∷◌, ◌++◌, length, drop, take, get_or, get_or-drop, length-drop, map, Bool, true, false, not, ◌&&◌, ◌||◌, cond, nat_eq, nat_lt, if◌then◌else◌, Some, None, option_map, unwrap_or, refl, ap, sym, subst, append-nil, arith}
 use Rattle.std.proofs.Math.Seq.{drop-length}
 use Rattle.std.proofs.lemmas.Bool.Decides.{nat_tests}
 use Rattle.std.proofs.Math.Bool.{and_assoc}
@@ -71,7 +71,7 @@ with-index texts q = go (list_any (bytes_eq q) texts)
     go true = refl
     go false = added-index texts q
 
-with-there : (texts : List (List ℕ)) (q : List ℕ) → IsThere (with_name texts q) q
+pub with-there : (texts : List (List ℕ)) (q : List ℕ) → IsThere (with_name texts q) q
 with-there texts q = go (list_any (bytes_eq q) texts) refl
   where
     go : (b : Bool) → list_any (bytes_eq q) texts ≡ b → IsThere (if b then texts else texts ++ q ∷ []) q
@@ -84,12 +84,6 @@ with-front texts q = go (list_any (bytes_eq q) texts)
     go : (b : Bool) → IsFrontOf texts (if b then texts else texts ++ q ∷ [])
     go true = ([], sym (append-nil texts))
     go false = (q ∷ [], refl)
-
-pub front-itself : (texts : List (List ℕ)) → IsFrontOf texts texts
-front-itself texts = ([], sym (append-nil texts))
-
-pub front-front : (texts grown last : List (List ℕ)) → IsFrontOf texts grown → IsFrontOf grown last → IsFrontOf texts last
-front-front texts grown last h more = (h.0 ++ more.0, more.1 ∙ ap (λ l. l ++ more.0) h.1 ∙ append_assoc texts h.0 more.0)
 
 front-index : (texts grown : List (List ℕ)) (q : List ℕ) → IsFrontOf texts grown → IsThere texts q → name_index grown q ≡ name_index texts q
 front-index texts grown q h there = ap (λ l. name_index l q) h.1 ∙ index-append texts h.0 q there
@@ -237,7 +231,7 @@ module _ (texts : List (List ℕ)) (names : List (ℕ × ℕ)) (i : ℕ) where
 -- ---- the parts of a long name
 
 pub parted : (front digits : List ℕ) → 256 ≤ length front + length digits → length digits ≤ most_digits → 0 < length front
-    → is_ascii_digit (get_or front (length front - 1) 0) ≡ false → list_all is_ascii_digit digits ≡ true
+    → (length digits < most_digits → is_ascii_digit (get_or front (length front - 1) 0) ≡ false) → list_all is_ascii_digit digits ≡ true
     → front_len (front ++ digits) ≡ length front
 parted front digits long few some last all =
     let name = front ++ digits in
@@ -257,7 +251,7 @@ parted front digits long few some last all =
     ap is_ascii_digit (get_or-drop from name (length front - from - 1) 0)
     ∙ ap (λ k. is_ascii_digit (get_or name k 0)) place
     ∙ ap is_ascii_digit (get_or_append_left front digits 0 (length front - 1) (omega (arith, some)))
-    ∙ last) in
+    ∙ last (omega (arith, more, len, long))) in
     ap (λ b. if b then length name else length name - suffix_len is_ascii_digit end) test ∙ omega (arith, behind, len, end_len, few, long)
 
 -- ---- a name and a word in either case

@@ -1,5 +1,5 @@
 -- The names as bytes.
-use Rattle.std.proofs.Common.{◌≡◌, ℕ, List, [], ◌∷◌, ◌++◌, map, Bool, true, false, ◌||◌, cond, refl, ap, sym, ◌∙◌, Some, None, ◌<◌, length, not, get_or, arith, option_map, unwrap_or}
+use Rattle.std.proofs.Common.{◌≡◌, ℕ, List, [], ◌∷◌, ◌++◌, map, Bool, true, false, ◌||◌, cond, refl, ap, sym, ◌∙◌, Some, None, ◌<◌, length, get_or, arith, option_map, unwrap_or}
 use Rattle.std.proofs.lemmas.List.Sums.{position_or_len_is}
 use Rattle.std.proofs.lemmas.Map.Keys.{any_passes_from_place, apart_from_distinct}
 use Rattle.std.proofs.lemmas.Option.{slice_get-get_or, slice_get-map}
@@ -52,13 +52,6 @@ other-way p q e = go (bytes_eq q p) refl
     go : (t : Bool) → bytes_eq q p ≡ t → bytes_eq q p ≡ false
     go false h = h
     go true h = let c : true ≡ false = sym ((bytes_eq-Decides p q).1 (sym ((bytes_eq-Decides q p).0 h))) ∙ e in cc
-
-pub same-bytes : (p q : List ℕ) → false ≡ not (bytes_eq p q) → p ≡ q
-same-bytes p q e = go (bytes_eq p q) refl e
-  where
-    go : (t : Bool) → bytes_eq p q ≡ t → false ≡ not t → p ≡ q
-    go true h e = (bytes_eq-Decides p q).0 h
-    go false h e = cc
 
 -- the name of an index is found there
 module _ {T : Type 0} (f : T → List ℕ) (keys : List T) (apart : IsDistinct (λ x y. bytes_eq (f x) (f y)) keys) where

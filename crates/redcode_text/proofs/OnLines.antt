@@ -180,7 +180,7 @@ module _ (place last : ℕ) (inside : place ≤ last) where
   sign-on-line Minus i x y z a b l h k = on-range (neg_ℤ x) (neg_ℤ y) (neg_ℤ z) a b (neg-on-line place last x y z l) h k
   sign-on-line OpenParen i x y z a b l h k = cc
   sign-on-line CloseParen i x y z a b l h k = cc
-  sign-on-line _ i x y z a b l h k = absurd i
+  sign-on-line _ i x y z a b l h k = cc
 
   operator-on-line : (s : Sign) → IsLinear (token.Sign s) → (x y z x' y' z' a b : ℤ)
       → AreOnLine place last x y z → AreOnLine place last x' y' z' → binary s x x' ≡ ok a → binary s z z' ≡ ok b
@@ -192,7 +192,7 @@ module _ (place last : ℕ) (inside : place ≤ last) where
       (sum-on-line place last x y z (neg_ℤ x') (neg_ℤ y') (neg_ℤ z') l (neg-on-line place last x' y' z' m)) h k
   operator-on-line OpenParen i x y z x' y' z' a b l m h k = cc
   operator-on-line CloseParen i x y z x' y' z' a b l m h k = cc
-  operator-on-line _ i x y z x' y' z' a b l m h k = absurd i
+  operator-on-line _ i x y z x' y' z' a b l m h k = cc
 
   -- ---- trees
 

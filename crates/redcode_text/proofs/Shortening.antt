@@ -139,18 +139,17 @@ begin-through (x ∷ xs) (y ∷ ys) [] some h k = absurd k
 begin-through (x ∷ xs) (y ∷ ys) (z ∷ zs) some h k = (h.0, k)
 
 pub stands-shorter : (replaces : ℕ → Replaced → Result Replaced TextProblem) (names : ℕ → Option ℤ) (linear : Bool) (cost : Cost)
-    (short grouped summed others : List Token) → 0 < length short → StandIn names (kinds short) (kinds grouped)
-    → StandIn names (kinds grouped) (kinds summed) → StandIn names (kinds summed) (kinds others) → Begins (kinds others)
+    (short grouped others : List Token) → 0 < length short → StandIn names (kinds short) (kinds grouped)
+    → StandIn names (kinds grouped) (kinds others) → Begins (kinds others)
     → list_any (λ t. is_comma t.kind) others ≡ false → Stands replaces (AreInShort names linear short) cost
     → Stands replaces (AreInShort names linear others) cost
-stands-shorter replaces names linear cost short grouped summed others some first second third begins inside s = record {
+stands-shorter replaces names linear cost short grouped others some first second begins inside s = record {
   made = s.made;
   is = (
     record {
       worth =
           stand-through names (kinds s.made) (kinds short) (kinds others) s.is.0.worth
-          (stand-through names (kinds short) (kinds grouped) (kinds others) first
-          (stand-through names (kinds grouped) (kinds summed) (kinds others) second third));
+          (stand-through names (kinds short) (kinds grouped) (kinds others) first second);
       begin = begin-through (kinds s.made) short (kinds others) some s.is.0.begin begins;
       long_inside = s.is.0.long_inside;
       short_inside = any-comma others inside;

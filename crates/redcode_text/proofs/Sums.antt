@@ -1,10 +1,9 @@
 -- Sums in short: what stands behind an operand, in fewer tokens that are worth the same.
 use Rattle.std.specs.Prelude.{neg_ℤ, ◌+ℤ◌, ◌-ℤ◌, ◌≤ℤ◌, ◌<ℤ◌}
-use Rattle.std.proofs.Common.{◌≡◌, ◌⊎◌, inl, inr, ℕ, ◌+◌, ◌-◌, ◌<◌, ◌≤◌, ◌^◌, ℤ, pos, negsuc, List, [], ◌∷◌, ◌++◌, Bool, true, false, cond, Option, Some, None, Result, Ok, Err, ap, sym, subst, ◌∙◌, append_assoc, drop, length, slice_range, take, arith, ⊎_elim}
-use Rattle.std.proofs.lemmas.Bool.{cases_lt, lt-ltb, le-ltb}
+use Rattle.std.proofs.Common.{◌≡◌, ◌⊎◌, inl, inr, ℕ, ◌+◌, ◌≤◌, ◌^◌, ℤ, pos, negsuc, List, [], ◌∷◌, ◌++◌, Bool, true, false, cond, Option, Some, None, Result, Ok, Err, ap, sym, subst, ◌∙◌, append_assoc, drop, take, arith}
+use Rattle.std.proofs.lemmas.Bool.{lt-ltb, le-ltb}
 use Rattle.std.proofs.lemmas.Int.{ints, clamps, by_lt_z}
-use Rattle.std.proofs.lemmas.List.{map-append, take-append-drop, take_all}
-use Rattle.std.proofs.Math.Seq.{take-add}
+use Rattle.std.proofs.lemmas.List.{map-append, take-append-drop}
 use Rattle.redcode_text.specs.Results.{◌>>=◌}
 use Rattle.redcode_text.specs.declared.token.Token.{Token}
 use Rattle.redcode_text.specs.declared.token.TokenKind.{TokenKind}
@@ -12,21 +11,20 @@ use Rattle.redcode_text.specs.declared.token.TokenKind.TheVariants.{Number, Name
 use Rattle.redcode_text.specs.declared.token.TokenKind.TheVariants as token
 use Rattle.redcode_text.specs.declared.fault.ExprFault.{ExprFault}
 use Rattle.redcode_text.specs.declared.fault.ExprFault.TheVariants.{Range}
-use Rattle.redcode_text.specs.declared.expression.shape.ShapeState.{ShapeState}
 use Rattle.redcode_text.specs.declared.shortcuts.shortening.sums.Tail.{Tail}
 use Rattle.redcode_text.specs.declared.shortcuts.shortening.sums.Walk.{Walk}
 use Rattle.redcode_text.specs.declared.shortcuts.shortening.worth.Worth.{Worth}
-use Rattle.redcode_text.specs.Expression.{binary, ends_operand, in_range, kinds, most_parens, next_state, precedence, shape}
+use Rattle.redcode_text.specs.Expression.{binary, ends_operand, in_range, kinds, most_parens, precedence, shape}
 use Rattle.redcode_text.specs.Shortening.{StandIn}
-use Rattle.redcode_text.specs.Code.Climbing.{Follows, IsLooser, State, Waiting, has, move, operand, placed, reach, reduced, run}
-use Rattle.redcode_text.specs.Code.Climbing.Waiting.{Left, Opened}
+use Rattle.redcode_text.specs.Code.Climbing.{Follows, IsLooser, Waiting, has, operand, placed, reach, reduced, run}
+use Rattle.redcode_text.specs.Code.Climbing.Waiting.{Left}
 use Rattle.redcode_text.specs.Code.Sums.{IsBehind, IsOrdered, IsTail, both, plain, sign_of, step_after, stepped, tail_kinds, term_of, walk_kinds, walked, whole}
-use Rattle.redcode_text.specs.Code.Worth.{Agrees, IsWorth, Replaces, behind, nested}
+use Rattle.redcode_text.specs.Code.Worth.{IsWorth, behind, nested}
 use Rattle.redcode_text.proofs.Climbs.{assoc, reduced-looser, reduced-tighter}
 use Rattle.redcode_text.proofs.Nested.{nested-room, nested-worth}
-use Rattle.redcode_text.proofs.Standing.{bind-ok}
-use Rattle.redcode_text.proofs.OperandEnds.{ends, follows-shaped}
-use Rattle.redcode_text.proofs.StandIns.{agrees-next, goes, stand-behind, stands-in}
+use Rattle.redcode_text.proofs.OperandEnds.{follows-shaped}
+use Rattle.redcode_text.proofs.BehindOperands.{SameBehind, same-stands, under}
+use Rattle.redcode_text.proofs.StandIns.{stand-behind}
 
 -- ---- walks
 
@@ -139,29 +137,6 @@ after-ordered None minus last h = step-ordered minus last
 after-ordered (Some a) minus last h = both-ordered a (stepped minus last) h (step-ordered minus last)
 
 -- ---- tails
-
--- what is left on the stack is looser
-under : (k : ℕ) (stack : List Waiting) (v : ℤ) (f g : ℤ × List Waiting → Result ℤ ExprFault)
-    → ((u : ℤ) (rest : List Waiting) → IsLooser k rest → f (u, rest) ≡ g (u, rest))
-    → (reduced k stack v >>= f) ≡ (reduced k stack v >>= g)
-under k [] v f g h = h v [] tt
-under k (Opened signs ∷ stack) v f g h = h v (Opened signs ∷ stack) tt
-under k (Left u s ∷ stack) v f g h = ⊎_elim stays (applied (λ w. under k stack w f g h)) (cases_lt k (precedence s))
-  where
-    stays : k < precedence s → (reduced k (Left u s ∷ stack) v >>= f) ≡ (reduced k (Left u s ∷ stack) v >>= g)
-    stays lt =
-        ap (λ r. r >>= f) (reduced-looser k (Left u s ∷ stack) v lt)
-        ∙ h v (Left u s ∷ stack) lt
-        ∙ sym (ap (λ r. r >>= g) (reduced-looser k (Left u s ∷ stack) v lt))
-
-    applied : ((w : ℤ) → (reduced k stack w >>= f) ≡ (reduced k stack w >>= g)) → precedence s ≤ k
-        → (reduced k (Left u s ∷ stack) v >>= f) ≡ (reduced k (Left u s ∷ stack) v >>= g)
-    applied deeper le =
-        ap (λ r. r >>= f) (reduced-tighter k u v s stack le)
-        ∙ assoc (binary s u v) (λ w. reduced k stack w) f
-        ∙ (λ i. binary s u v >>= λ w. deeper w i)
-        ∙ sym (assoc (binary s u v) (λ w. reduced k stack w) g)
-        ∙ sym (ap (λ r. r >>= g) (reduced-tighter k u v s stack le))
 
 -- a sign and a term
 first-tail : (names : ℕ → Option ℤ) (minus : Bool) (term : Worth) (xs : List TokenKind) → IsWorth names 1 term.nesting xs term.value
@@ -278,26 +253,6 @@ more-tail names tail t next minus worth term operand sign some split is x more x
     subst (λ ks. IsTail names (xs ++ ks) next) (sym (ap kinds split ∙ ap (λ k. k ∷ kinds operand) is))
     (more names xs (kinds operand) (subst (IsBehind names xs) some h) x)
 
--- a tail up to a place, and the term from there up to another
-pub cut-tail : (names : ℕ → Option ℤ) (tokens : List Token) (from at : ℕ) (tail : Option Tail) (next : Tail) → from ≤ at
-    → ((xs : List TokenKind) → IsBehind names xs tail → IsTail names (xs ++ kinds (slice_range tokens from at)) next)
-    → IsBehind names (kinds (take from tokens)) tail → IsTail names (kinds (take at tokens)) next
-cut-tail names tokens from at tail next le more x =
-    subst (λ ks. IsTail names ks next)
-    (sym (map-append (λ (t : Token). t.kind) (take from tokens) (slice_range tokens from at)) ∙ ap kinds (sym whole-range))
-    (more (kinds (take from tokens)) x)
-  where
-    whole-range : take at tokens ≡ take from tokens ++ slice_range tokens from at
-    whole-range = let e : at ≡ from + (at - from) = omega arith in ap (λ n. take n tokens) e ∙ take-add from (at - from) tokens
-
--- the same up to the end
-pub last-tail : (names : ℕ → Option ℤ) (tokens : List Token) (from : ℕ) (tail : Option Tail) (next : Tail) → from ≤ length tokens
-    → ((xs : List TokenKind) → IsBehind names xs tail → IsTail names (xs ++ kinds (slice_range tokens from (length tokens))) next)
-    → IsBehind names (kinds (take from tokens)) tail → IsTail names (kinds tokens) next
-last-tail names tokens from tail next le more x =
-    subst (λ ts. IsTail names (kinds ts) next) (take_all (length tokens) tokens (omega arith))
-    (cut-tail names tokens from (length tokens) tail next le more x)
-
 -- ---- the tokens in short
 
 -- three steps that go to the highest place, to the lowest, and to the end
@@ -370,62 +325,25 @@ tail-room (Some w) false last opened rest h e = nested-room opened last.nesting 
 
 -- ---- behind an operand
 
--- a reading behind an operand, where there is room for the parentheses of a tail
-record IsPast (names : ℕ → Option ℤ) (t : Tail) (xs ys rest : List TokenKind) (q : ShapeState) (st : State) : Type 0 where
-  shape : shape q (xs ++ rest) ≡ Ok tt
-  run : run names st (xs ++ rest) ≡ run names st (ys ++ rest)
-
-past : (names : ℕ → Option ℤ) (t : Tail) (xs ys rest : List TokenKind) → IsTail names xs t → IsTail names ys t
+-- two tails that do the same
+same-tail : (names : ℕ → Option ℤ) (xs ys : List TokenKind) (t : Tail) → IsTail names xs t → IsTail names ys t
     → ((opened : ℕ) (rest : List TokenKind) → opened ≤ most_parens → shape (behind opened) (ys ++ rest) ≡ Ok tt
     → opened + t.last.nesting ≤ most_parens)
-    → (opened : ℕ) (v : ℤ) (stack : List Waiting) → opened ≤ most_parens → shape (behind opened) (ys ++ rest) ≡ Ok tt
-    → IsPast names t xs ys rest (behind opened) (has v stack)
-past names t xs ys rest x y room opened v stack few shaped =
-    let within : opened + t.last.nesting ≤ most_parens = room opened rest few shaped in
-    let on : shape (behind opened) rest ≡ Ok tt = sym (y.shape opened rest within) ∙ shaped in
-    let follows : Follows 1 rest = follows-shaped opened rest on in
-    record { shape = x.shape opened rest within ∙ on; run = x.run v stack rest follows ∙ sym (y.run v stack rest follows) }
-
--- the same where a shape and a reading stand behind an operand
-past-at : (names : ℕ → Option ℤ) (t : Tail) (xs ys rest : List TokenKind) → IsTail names xs t → IsTail names ys t
-    → ((opened : ℕ) (rest : List TokenKind) → opened ≤ most_parens → shape (behind opened) (ys ++ rest) ≡ Ok tt
-    → opened + t.last.nesting ≤ most_parens)
-    → (q : ShapeState) (st : State) → Agrees q st → q.after_operand ≡ true → shape q (ys ++ rest) ≡ Ok tt → IsPast names t xs ys rest q st
-past-at names t xs ys rest x y room q st a after shaped =
-    let stands : behind q.opened ≡ q = λ i. record { opened = q.opened; signs = sym (a.none after) i; after_operand = sym after i } in
-    let is : st.after ≡ true = a.after ∙ after in
-    let reads : has st.value st.stack ≡ st =
-    λ i. record { stack = st.stack; signs = sym (a.signs is) i; value = st.value; after = sym is i } in
-    subst (λ q. IsPast names t xs ys rest q st) stands
-    (subst (IsPast names t xs ys rest (behind q.opened)) reads
-    (past names t xs ys rest x y room q.opened st.value st.stack a.room (ap (λ q. shape q (ys ++ rest)) stands ∙ shaped)))
-
--- two tails that do the same behind the end of an operand
-same-tail : (names : ℕ → Option ℤ) (x : TokenKind) (xs ys : List TokenKind) (t : Tail) → ends_operand x ≡ true → IsTail names xs t
-    → IsTail names ys t
-    → ((opened : ℕ) (rest : List TokenKind) → opened ≤ most_parens → shape (behind opened) (ys ++ rest) ≡ Ok tt
-    → opened + t.last.nesting ≤ most_parens)
-    → Replaces names (x ∷ xs) (x ∷ ys)
-same-tail names x xs ys t end long short room = record {
-  fits = λ p st rest v a s h.
-      let q = bind-ok (next_state p x) (λ q. shape q (ys ++ rest)) tt s in
-      let n = bind-ok (move names st x) (λ next. run names next (ys ++ rest)) v h in
-      goes (next_state p x) (λ q. shape q (xs ++ rest)) q.0 q.1
-      ∙ (past-at names t xs ys rest long short room q.0 n.0 (agrees-next names p q.0 st n.0 x a q.1 n.1) (ends x end p q.0 q.1) q.2).shape;
-  runs = λ p st rest v a s h.
-      let q = bind-ok (next_state p x) (λ q. shape q (ys ++ rest)) tt s in
-      let n = bind-ok (move names st x) (λ next. run names next (ys ++ rest)) v h in
-      goes (move names st x) (λ next. run names next (xs ++ rest)) n.0 n.1
-      ∙ (past-at names t xs ys rest long short room q.0 n.0 (agrees-next names p q.0 st n.0 x a q.1 n.1) (ends x end p q.0 q.1) q.2).run
-      ∙ n.2;
+    → SameBehind names xs ys
+same-tail names xs ys t x y room = record {
+  is = λ opened u v stack rest few shaped read.
+      let within : opened + t.last.nesting ≤ most_parens = room opened rest few shaped in
+      let on : shape (behind opened) rest ≡ Ok tt = sym (y.shape opened rest within) ∙ shaped in
+      let follows : Follows 1 rest = follows-shaped opened rest on in
+      record { shape = x.shape opened rest within ∙ on; run = x.run u stack rest follows ∙ sym (y.run u stack rest follows) ∙ read };
 }
 
 -- a tail in short behind the end of an operand
 tail-stands : (names : ℕ → Option ℤ) (x : TokenKind) (xs : List TokenKind) (t : Tail) → ends_operand x ≡ true → IsTail names xs t
     → StandIn names (x ∷ xs) (x ∷ tail_kinds t)
 tail-stands names x xs t end long =
-    stands-in names (x ∷ xs) (x ∷ tail_kinds t)
-    (same-tail names x xs (tail_kinds t) t end long (short-tail names t.walk t.minus t.last long.ordered) (tail-room t.walk t.minus t.last))
+    same-stands names x xs (tail_kinds t) end
+    (same-tail names xs (tail_kinds t) t long (short-tail names t.walk t.minus t.last long.ordered) (tail-room t.walk t.minus t.last))
 
 -- tokens and those in their place, which begin alike
 pub sum-stands : (names : ℕ → Option ℤ) (front xs tokens short : List TokenKind) (x : TokenKind) (t : Tail) → ends_operand x ≡ true

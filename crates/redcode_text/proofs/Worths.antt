@@ -4,21 +4,20 @@ use Rattle.std.proofs.Common.{List, replicate, [], ◌∷◌, ◌++◌, add-one,
 use Rattle.std.proofs.Common.{Result, Ok}
 use Rattle.std.proofs.Common.{Err}
 use Rattle.std.proofs.lemmas.Bool.{eqb-false, lt-leb, ne_eqb}
-use Rattle.std.proofs.lemmas.List.{map-append, replicate_more}
+use Rattle.std.proofs.lemmas.List.{replicate_more}
 use borrow.Author.Tests.{eqb-true}
 use Rattle.redcode_text.specs.declared.expression.shape.ShapeState.{ShapeState}
 use Rattle.redcode_text.specs.declared.fault.ExprFault.{ExprFault}
 use Rattle.redcode_text.specs.declared.fault.ExprFault.TheVariants.{Depth, Syntax}
 use Rattle.redcode_text.specs.declared.token.Sign.{Sign}
 use Rattle.redcode_text.specs.declared.token.Sign.TheVariants.{Plus, Minus, Bang, OpenParen, CloseParen}
-use Rattle.redcode_text.specs.declared.token.Token.{Token}
 use Rattle.redcode_text.specs.declared.token.TokenKind.{TokenKind}
 use Rattle.redcode_text.specs.declared.token.TokenKind.TheVariants.{Number, Name}
 use Rattle.redcode_text.specs.declared.token.TokenKind.TheVariants as token
 use Rattle.redcode_text.specs.Code.Climbing.{Follows, IsLooser, Waiting, has, run, wants}
 use Rattle.redcode_text.specs.Code.Nesting.{AreNested}
 use Rattle.redcode_text.specs.Code.Worth.{IsWorth, before, behind, nested}
-use Rattle.redcode_text.specs.Expression.{Tree, Numeral, Named, Parens, Unary, Binary, Missing, depth_after, ends_operand, kinds}
+use Rattle.redcode_text.specs.Expression.{Tree, Numeral, Named, Parens, Unary, Binary, Missing, depth_after, ends_operand}
 use Rattle.redcode_text.specs.Expression.{next_state, precedence, shape, start, value, value_of}
 use Rattle.redcode_text.specs.Trees.{IsLevelled, rank, spelling}
 use Rattle.redcode_text.proofs.Climbs.{climbs, fits, follows-below, looser-below, unit}
@@ -230,12 +229,11 @@ regroup : (old xs ys : List TokenKind) (x : TokenKind) → ((old ++ xs) ++ x ∷
 regroup old xs ys x = simp append_assoc
 
 -- one more is put
-pub times-put : (old : List TokenKind) (ts : List Token) (t : Token) (n : ℕ) (s : Sign) → t.kind ≡ token.Sign s
-    → kinds ts ≡ old ++ times n s
-    → kinds (ts ++ t ∷ []) ≡ old ++ times (n + 1) s
-times-put old ts t n s e h =
-    map-append (λ t. t.kind) ts (t ∷ [])
-    ∙ (λ i. h i ++ e i ∷ [])
+pub times-put : (old before after : List TokenKind) (n : ℕ) (s : Sign) → before ≡ old ++ times n s → after ≡ before ++ token.Sign s ∷ []
+    → after ≡ old ++ times (n + 1) s
+times-put old before after n s h e =
+    e
+    ∙ ap (λ l. l ++ token.Sign s ∷ []) h
     ∙ append_assoc old (times n s) (token.Sign s ∷ [])
     ∙ ap (λ l. old ++ l) (replicate_more n (token.Sign s))
 
@@ -247,11 +245,10 @@ nested-times (suc n) v =
     ∙ ap (λ l. token.Sign OpenParen ∷ (times n OpenParen ++ (Number v ∷ l)))
     (replicate_more n (token.Sign CloseParen) ∙ ap (λ m. times m CloseParen) (add-one n))
 
-pub nested-put : (old made : List TokenKind) (opening : List Token) (number : Token) (n : ℕ) (v : ℤ)
-    → kinds opening ≡ old ++ times n OpenParen → number.kind ≡ Number v
-    → made ≡ kinds (opening ++ number ∷ []) ++ times n CloseParen → made ≡ old ++ nested n v
-nested-put old made opening number n v h e f =
+pub nested-put : (old opening between made : List TokenKind) (n : ℕ) (v : ℤ) → opening ≡ old ++ times n OpenParen
+    → between ≡ opening ++ Number v ∷ [] → made ≡ between ++ times n CloseParen → made ≡ old ++ nested n v
+nested-put old opening between made n v h e f =
     f
-    ∙ ap (λ l. l ++ times n CloseParen) (map-append (λ t. t.kind) opening (number ∷ []) ∙ (λ i. h i ++ e i ∷ []))
+    ∙ ap (λ l. l ++ times n CloseParen) (e ∙ ap (λ l. l ++ Number v ∷ []) h)
     ∙ regroup old (times n OpenParen) (times n CloseParen) (Number v)
     ∙ ap (λ l. old ++ l) (sym (nested-times n v))

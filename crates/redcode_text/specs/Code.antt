@@ -1,6 +1,7 @@
 -- How the code holds and reaches what is defined. All of this serves the proofs alone.
 pub mod Problems
 pub mod Values
+pub mod Places
 pub mod Kinds
 pub mod Rows
 pub mod Runs
@@ -16,8 +17,12 @@ pub mod Used
 pub mod Heads
 pub mod Loops
 pub mod Parts
+pub mod Placed
 pub mod Worth
+pub mod Triples
 pub mod Products
+pub mod Quotients
+pub mod Chains
 pub mod Nesting
 pub mod Sums
 pub mod Shortening

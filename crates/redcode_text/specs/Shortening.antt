@@ -1,7 +1,7 @@
 -- Fewer tokens in place of those that EQU names stand for, which are worth the same. No definition stands on these, which say what
 -- `Program::shorts`, `Program::shortened`, `Program::short_value` and `Program::has_equate` give. It serves speed alone.
 use Rattle.std.specs.Prelude.{◌≡◌, ◌⊎◌, ⊤, ◌+◌, ◌≤◌, ℕ, ℤ, List, [], ◌∷◌, ◌++◌, length, nat_eq, Bool, true, false, Option, Some, None, is_some, Result, Ok, Err}
-use Rattle.std.specs.List.{All, list_any}
+use Rattle.std.specs.List.{All, list_all, list_any}
 use Rattle.std.specs.Map.{lookup}
 use Rattle.redcode_text.specs.declared.token.Sign.TheVariants.{Plus, Minus, Bang, OpenParen, CloseParen, Comma}
 use Rattle.redcode_text.specs.declared.token.Token.{Token}
@@ -62,14 +62,20 @@ pub record IsInShort (names : ℕ → Option ℤ) (long short : List TokenKind) 
 
 -- ---- tokens in short
 
--- numbers and names with + and - and in parentheses: what they are worth is linear in what the names stand for
+-- a number, a name, + or -, or a parenthesis: what such tokens are worth is linear in what the names stand for
+abbrev pub is_linear : TokenKind → Bool
+is_linear (token.Sign Plus) = true
+is_linear (token.Sign Minus) = true
+is_linear (token.Sign OpenParen) = true
+is_linear (token.Sign CloseParen) = true
+is_linear (token.Sign _) = false
+is_linear _ = true
+
 abbrev pub IsLinear : TokenKind → Type 0
-IsLinear (token.Sign Plus) = ⊤
-IsLinear (token.Sign Minus) = ⊤
-IsLinear (token.Sign OpenParen) = ⊤
-IsLinear (token.Sign CloseParen) = ⊤
-IsLinear (token.Sign _) = ⊥
-IsLinear _ = ⊤
+IsLinear x = is_linear x ≡ true
+
+abbrev pub are_linear : List Token → Bool
+are_linear ts = list_all (λ t. is_linear t.kind) ts
 
 -- tokens within an operand in place of others, which are linear if that is known
 abbrev pub IsKnownShort : (ℕ → Option ℤ) → Bool → List TokenKind → List TokenKind → Type 0

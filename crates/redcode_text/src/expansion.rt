@@ -4,6 +4,7 @@ ghost use Rattle.redcode_text.specs.Expansion.{expansion, flat, nothing_read, pr
 ghost use Rattle.redcode_text.specs.Views.{predefined_of};
 ghost use Rattle.redcode_text.specs.Code.Readings.{reading_of};
 ghost use Rattle.redcode_text.specs.Code.Loops.{RowsFit};
+ghost use Rattle.redcode_text.specs.Code.Placed.{AreParts};
 ghost use Rattle.redcode_text.specs.Code.Rows.{row_of};
 ghost use Rattle.redcode_text.specs.Outcomes.{Answers};
 ghost use Rattle.redcode_text.specs.Source.{tree_of, tree_of_rows};
@@ -19,8 +20,8 @@ use crate::source::{read_rows, rows_of};
 use std::alloc::Global;
 
 /// What is kept of all that was read.
-fn program_of(reading: Reading) -> Program
-    ensures { result ≡ program_of (reading_of reading) }
+fn program_of(reading: Reading<'_>) -> Program
+    ensures { result ≡ program_of (reading_of reading.entry) }
 {
     let Reading {
         loops,
@@ -37,7 +38,7 @@ fn program_of(reading: Reading) -> Program
     drop(loops);
     drop(labels);
     Program {
-        names,
+        names: names.into_table(),
         equates,
         lines,
         name,
@@ -47,13 +48,14 @@ fn program_of(reading: Reading) -> Program
 }
 
 /// Reads rows of a source, up to END.
-fn read_from_rows(
+fn read_from_rows<'a>(
     alloc: Global,
-    source: &[u8],
+    source: &'a [u8],
     rows: &[Row<'_>],
     names: &PredefinedNames,
-) -> Result<Reading, TextFault>
-    requires { RowsFit rows.now }
+) -> Result<Reading<'a>, TextFault>
+    requires fits { RowsFit rows.now }
+    requires parts { AreParts source.now rows.now }
     ensures { Answers (λ reading. reading_of reading) result
         (flat (predefined_of names.now) (tree_of_rows (map row_of rows.now)) nothing_read) }
 {
@@ -71,8 +73,12 @@ fn read_from_rows(
 }
 
 /// Reads a source.
-#[tactic(auto, using(crate::proofs::SourceRows::rows_fit))]
-fn read_source(alloc: Global, bytes: &[u8], names: &PredefinedNames) -> Result<Reading, TextFault>
+#[tactic(auto, using(crate::proofs::SourceRows::rows_fit, crate::proofs::SourceRows::are_parts))]
+fn read_source<'a>(
+    alloc: Global,
+    bytes: &'a [u8],
+    names: &PredefinedNames,
+) -> Result<Reading<'a>, TextFault>
     ensures { Answers (λ reading. reading_of reading) result (flat (predefined_of names.now) (tree_of bytes.now) nothing_read) }
 {
     let Ok(runs) = long_runs(alloc, bytes) else {
@@ -103,7 +109,7 @@ fn read_source(alloc: Global, bytes: &[u8], names: &PredefinedNames) -> Result<R
 ///
 /// The time is linear in the length of the source, in the words of the lines that are read, those of a loop once for each
 /// round, and in the replacements in counts, of which each count has at most 65,536. A long run of blanks counts once, and so
-/// does a long number; in each further round a long name is compared once, and one with joins is made anew.
+/// does a long number, and a long name up to its first join.
 #[tactic(auto, unfolding(crate::specs::Expansion::expansion))]
 pub fn expand(alloc: Global, bytes: &[u8], names: &PredefinedNames) -> Result<Program, TextFault>
     ensures { Answers (λ program. program) result (expansion (predefined_of names.now) bytes.now) }

@@ -3,6 +3,7 @@ ghost use Rattle.std.specs.Prelude.{◌≡◌, ◌≤◌, ◌<◌, ◌+◌, ◌^
 ghost use Rattle.redcode_text.specs.Code.Runs.{IsKnownStart};
 ghost use Rattle.redcode_text.specs.Outcomes.{Answers};
 ghost use Rattle.redcode_text.specs.Views.{scan_of};
+ghost use Rattle.redcode_text.specs.Code.Placed.{IsPart, StandsAt};
 ghost use Rattle.redcode_text.specs.Code.Problems.{Gives};
 ghost use Rattle.redcode_text.specs.Code.Scanning.{found_alone, with_names};
 ghost use Rattle.redcode_text.specs.Code.Scanning.{one_token};
@@ -18,7 +19,9 @@ use crate::lexer::open_loops::OpenLoops;
 use crate::lexer::text::Text;
 use crate::lexer::words::read_word;
 use crate::names::NameTable;
-use crate::shortcuts::{Cursor, KnownStart, Seed, known_start, past_blank, run_at, word_of};
+use crate::shortcuts::{
+    Cursor, KnownStart, Seed, SourceNames, known_start, past_blank, run_at, word_of,
+};
 use crate::token::{Spelled, Token, TokenKind, one_byte_sign, two_byte_sign};
 use std::alloc::Global;
 
@@ -51,13 +54,15 @@ fn read_sign(bytes: &[u8]) -> Result<Spelled, TextProblem>
 fn read_token(
     alloc: Global,
     loops: &OpenLoops,
-    names: &mut NameTable,
+    names: &mut SourceNames<'_>,
     bytes: &[u8],
     known: KnownStart,
 ) -> Result<Spelled, TextProblem>
-    requires { IsKnownStart known bytes.now }
-    ensures value { Gives (with_names names.new) result (token_at loops.now names.old bytes.now) }
+    requires known { IsKnownStart known bytes.now }
+    requires placed { StandsAt names.old.source.now known.place bytes.now }
+    ensures value { Gives (with_names names.new.table) result (token_at loops.now names.old.table bytes.now) }
     ensures len { IfOk result (λ s. (1 ≤ s.len) × (s.len ≤ length bytes.now)) }
+    ensures source { names.new.source.now ≡ names.old.source.now }
 {
     let [first, ..] = bytes else {
         return Err(TextProblem::BadToken);
@@ -78,15 +83,17 @@ fn add_token(
     text: Text<'_>,
     cursor: Cursor,
     room: usize,
-    names: &mut NameTable,
+    names: &mut SourceNames<'_>,
     tokens: &mut Vec<Token>,
 ) -> Result<usize, TextProblem>
     requires within { cursor.at < length text.bytes.now }
     requires fits { text.at + length text.bytes.now < 2 ^ 64 }
-    ensures value { Gives (λ len. (len, scan_of tokens.new names.new)) result
-        (one_token loops.now text.entry.number room (text.entry.at + cursor.at) (drop cursor.at text.entry.bytes.now) (scan_of tokens.old names.old)) }
+    requires part { IsPart names.old.source.now text.at text.bytes.now }
+    ensures value { Gives (λ len. (len, scan_of tokens.new names.new.table)) result
+        (one_token loops.now text.entry.number room (text.entry.at + cursor.at) (drop cursor.at text.entry.bytes.now) (scan_of tokens.old names.old.table)) }
     ensures len { IfOk result (λ len. (1 ≤ len) × (cursor.at + len ≤ length text.entry.bytes.now)) }
     ensures room { vec_len tokens.old ≤ room → vec_len tokens.new ≤ room }
+    ensures source { names.new.source.now ≡ names.old.source.now }
 {
     let Spelled { kind, len } = match read_token(
         alloc,
@@ -120,14 +127,16 @@ pub fn read_tokens(
     loops: &OpenLoops,
     text: Text<'_>,
     room: usize,
-    names: &mut NameTable,
+    names: &mut SourceNames<'_>,
     tokens: &mut Vec<Token>,
 ) -> Result<(), TextProblem>
     requires fits { text.at + length text.bytes.now < 2 ^ 64 }
+    requires part { IsPart names.old.source.now text.at text.bytes.now }
     requires room { vec_len tokens.old ≤ room }
-    ensures value { Gives (λ _. scan_of tokens.new names.new) result
-        (scan_from loops.now text.entry.number room text.entry.at 0 text.entry.bytes.now (scan_of tokens.old names.old)) }
+    ensures value { Gives (λ _. scan_of tokens.new names.new.table) result
+        (scan_from loops.now text.entry.number room text.entry.at 0 text.entry.bytes.now (scan_of tokens.old names.old.table)) }
     ensures room { vec_len tokens.new ≤ room }
+    ensures source { names.new.source.now ≡ names.old.source.now }
 {
     let mut at = 0;
     let mut run = 0;
@@ -163,7 +172,7 @@ pub fn scan(alloc: Global, text: &[u8]) -> Result<LineTokens, TextFault>
     ensures { Answers (λ s. scan_of s.tokens s.names) result (scanned text.now) }
 {
     let mut tokens = Vec::new(alloc);
-    let mut names = NameTable::new(alloc, Seed::new(text));
+    let mut names = SourceNames::new(alloc, text, Seed::new(text));
     let line = Text {
         number: 1,
         at: 0,
@@ -172,7 +181,10 @@ pub fn scan(alloc: Global, text: &[u8]) -> Result<LineTokens, TextFault>
     };
     let loops = OpenLoops::new(alloc);
     match read_tokens(alloc, &loops, line, text.len(), &mut names, &mut tokens) {
-        Ok(()) => Ok(LineTokens { tokens, names }),
+        Ok(()) => Ok(LineTokens {
+            tokens,
+            names: names.into_table(),
+        }),
         Err(problem) => Err(problem.at_line(1)),
     }
 }

@@ -37,7 +37,7 @@
 //!   `specs/Equates` defines it.
 //! - `Program::shorts` gives a table of what EQU names stand for in short, where they stand for many tokens; with it
 //!   `Program::shortened` gives fewer tokens that are worth the same, and `Program::short_value` the value of such. They answer None
-//!   where they know none, and serve speed alone.
+//!   where they know none. `are_linear` tells whether what tokens are worth is linear in what names stand for. These serve speed alone.
 //! - `PredefinedNames` has the values of the predefined names, `PredefinedNames::value_at` one of them, `NameTable` the names of a text.
 //! - `is_instruction` tells which lines are instructions, and `is_spelled` whether an operation is a word.
 //! - `are_alike` tells whether tokens are of the same kinds, and `NameTable::key_of` gives a number by which such are found again.
@@ -71,5 +71,5 @@ pub use lexer::{LineTokens, scan};
 pub use names::NameTable;
 pub use names::predefined::PredefinedNames;
 pub use program::{Assert, Line, Program, is_instruction, is_spelled};
-pub use shortcuts::{ShortTokens, Shorts};
+pub use shortcuts::{ShortTokens, Shorts, are_linear};
 pub use token::{Sign, Token, TokenKind, are_alike};

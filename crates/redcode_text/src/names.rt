@@ -1,11 +1,12 @@
 //! The names of a text.
-ghost use Rattle.std.specs.Prelude.{◌≡◌, ◌++◌, length, string_bytes, [], IfOk, OnOk, IsAscii};
+ghost use Rattle.std.specs.Prelude.{◌≡◌, ◌++◌, length, string_bytes, [], IfOk, IfSome, OnOk, IsAscii};
 ghost use Rattle.std.specs.Str.{str_eq_ignore_ascii_case};
-ghost use Rattle.redcode_text.specs.Code.Parts.{front_len};
+ghost use Rattle.redcode_text.specs.Code.Parts.{BeginsWith, front_len};
 ghost use Rattle.redcode_text.specs.Lines.{name_at};
 ghost use Rattle.redcode_text.specs.ShortNames.{word_at};
 ghost use Rattle.redcode_text.specs.Tokens.{name_index, with_name};
 
+pub mod equate_lines;
 pub mod equates;
 pub mod predefined;
 pub mod set;
@@ -47,35 +48,37 @@ impl NameTable {
         self.seed.key_of(tokens)
     }
 
-    /// The index of a name that stands at a place of the text; it is added where it is new.
+    /// The index of a name; it is added where it is new. A name may be known that begins with it.
     pub(crate) fn index_at(
         &mut self,
         alloc: Global,
         name: &[u8],
-        place: usize,
+        known: Option<usize>,
     ) -> Result<usize, AllocError>
         requires ascii { IsAscii name.now }
+        requires known { IfSome known (BeginsWith self.old name.now) }
         ensures index { IfOk result (λ n. n ≡ name_index self.old name.now) }
         ensures names { OnOk result (self.new ≡ with_name self.old name.now) }
     {
-        self.names.index_at(alloc, name, place)
+        self.names.index_at(alloc, name, known)
     }
 
-    /// The index of a name in its two parts that stands at a place of the text; it is added where it is new.
+    /// The index of a name in its two parts; it is added where it is new. A name may be known that begins with the first.
     pub(crate) fn index_of_parts(
         &mut self,
         alloc: Global,
         front: &[u8],
         digits: &[u8],
-        place: usize,
+        known: Option<usize>,
     ) -> Result<usize, AllocError>
         requires front { IsAscii front.now }
         requires digits { IsAscii digits.now }
+        requires known { IfSome known (BeginsWith self.old front.now) }
         requires parted { front_len (front.now ++ digits.now) ≡ length front.now }
         ensures index { IfOk result (λ n. n ≡ name_index self.old (front.now ++ digits.now)) }
         ensures names { OnOk result (self.new ≡ with_name self.old (front.now ++ digits.now)) }
     {
-        self.names.index_of_parts(alloc, front, digits, place)
+        self.names.index_of_parts(alloc, front, digits, known)
     }
 
     /// How many names there are.

@@ -1,6 +1,7 @@
 //! All that has been read of a source: what a line adds to it, and what a name is to it.
 ghost use Rattle.std.specs.Prelude.{◌≡◌, ◌≤◌, ◌<◌, ◌+◌, ◌^◌, length, string_bytes, vec_len, [], false, IfOk, OnOk, ◌∷◌, MatchOption};
 ghost use Rattle.redcode_text.specs.Code.Labels.{AreLabels};
+ghost use Rattle.redcode_text.specs.Code.Placed.{IsPart};
 ghost use Rattle.redcode_text.specs.Programs.{IsPrinted};
 ghost use Rattle.redcode_text.specs.declared.limits.TheConstants.{MAX_LINES, MAX_TOKENS};
 ghost use Rattle.std.specs.List.{list_any};
@@ -20,22 +21,21 @@ use crate::lexer::open_loops::OpenLoops;
 use crate::lexer::read_tokens;
 use crate::lexer::text::Text;
 use crate::limits::{MAX_LINES, MAX_TOKENS};
-use crate::names::NameTable;
 use crate::names::equates::Equates;
 use crate::names::predefined::PredefinedNames;
 use crate::names::set::NameSet;
 use crate::program::{Assert, Line};
-use crate::shortcuts::Seed;
+use crate::shortcuts::{Seed, SourceNames};
 use crate::source::row::Row;
 use crate::token::{Sign, Token, TokenKind};
 use std::alloc::{AllocError, Global};
 
 /// All that has been read.
 #[derive(Drop)]
-pub struct Reading {
+pub struct Reading<'a> {
     /// The open loops.
     pub loops: OpenLoops,
-    pub names: NameTable,
+    pub names: SourceNames<'a>,
     pub equates: Equates,
     /// Whether an EQU line without a name adds to the last EQU name.
     pub equate_grows: bool,
@@ -79,7 +79,7 @@ fn is_operation_word(name: &[u8]) -> bool
     is_among(name, &OPERATIONS)
 }
 
-impl Reading {
+impl<'a> Reading<'a> {
     ghost use Rattle.redcode_text.specs.Code.Readings.{reading_of};
     ghost use Rattle.redcode_text.specs.Expansion.{nothing_read};
     ghost use Rattle.redcode_text.specs.Lines.{is_equate, is_label, is_operation, is_predefined, line_read, row_tokens, tokens_counted};
@@ -88,17 +88,18 @@ impl Reading {
     ghost use Rattle.redcode_text.specs.Views.{predefined_of};
 
     /// Nothing, before a source is read.
-    pub fn new(alloc: Global, source: &[u8]) -> Result<Reading, AllocError>
+    pub fn new(alloc: Global, source: &'a [u8]) -> Result<Reading<'a>, AllocError>
         ensures value { IfOk result (λ reading. reading_of reading ≡ nothing_read) }
         ensures loops { IfOk result (λ reading. reading.loops ≡ []) }
         ensures going { IfOk result (λ reading. reading.ended ≡ false) }
+        ensures source { IfOk result (λ reading. reading.names.source.now ≡ source.now) }
     {
         let seed = Seed::new(source);
         let name = String::from_str(alloc, "Unknown")?;
         let author = String::from_str(alloc, "Anonymous")?;
         Ok(Reading {
             loops: OpenLoops::new(alloc),
-            names: NameTable::new(alloc, seed),
+            names: SourceNames::new(alloc, source, seed),
             equates: Equates::new(alloc, seed),
             equate_grows: false,
             lines: Vec::new(alloc),
@@ -118,6 +119,7 @@ impl Reading {
         ensures value { Gives (λ _. reading_of self.new) result (line_read (reading_of self.old)) }
         ensures equates { self.new.equates ≡ self.old.equates }
         ensures room { OnOk result (vec_len self.new.lines < self.new.lines_read) }
+        ensures source { self.new.names.source.now ≡ self.old.names.source.now }
     {
         if self.lines_read >= MAX_LINES {
             return Err(TextProblem::TooLong);
@@ -132,6 +134,7 @@ impl Reading {
         ensures equates { self.new.equates ≡ self.old.equates }
         ensures lines { vec_len self.new.lines ≡ vec_len self.old.lines }
         ensures lines_read { self.new.lines_read ≡ self.old.lines_read }
+        ensures source { self.new.names.source.now ≡ self.old.names.source.now }
     {
         if tokens.len() > MAX_TOKENS - self.tokens_read {
             return Err(TextProblem::TooLong);
@@ -149,10 +152,12 @@ impl Reading {
     ) -> Result<Vec<Token>, TextProblem>
         requires within { at ≤ length row.bytes.now }
         requires fits { row.at + length row.bytes.now < 2 ^ 64 }
+        requires part { IsPart self.old.names.source.now row.at row.bytes.now }
         ensures value { Gives (λ tokens. (tokens.items, reading_of self.new)) result
             (row_tokens (row_of row.entry) at (reading_of self.old)) }
         ensures lines { vec_len self.new.lines ≡ vec_len self.old.lines }
         ensures lines_read { self.new.lines_read ≡ self.old.lines_read }
+        ensures source { self.new.names.source.now ≡ self.old.names.source.now }
     {
         let code = Text {
             number: row.number,
@@ -190,14 +195,14 @@ impl Reading {
     pub fn is_predefined(&self, names: &PredefinedNames, name: usize) -> bool
         ensures { result ≡ is_predefined (predefined_of names.now) (reading_of self.now) name }
     {
-        names.value_at(0, self.names.word(name)).is_some()
+        names.value_at(0, self.names.table.word(name)).is_some()
     }
 
     /// Whether a name is an operation.
     pub fn is_operation(&self, name: usize) -> bool
         ensures { result ≡ is_operation (reading_of self.now) name }
     {
-        self.is_equate(name) || is_operation_word(self.names.word(name))
+        self.is_equate(name) || is_operation_word(self.names.table.word(name))
     }
 }
 

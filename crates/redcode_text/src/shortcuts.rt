@@ -10,22 +10,23 @@
 //!   name and a number with zeros in front aren't put together with what their joins stand for, and a join of the same counter as
 //!   the last one isn't looked up.
 //! - `long_names`: long names that a loop makes by joins. A name of 256 bytes and more is two texts, the last digits at its end
-//!   apart, and is compared with the name that stood at its place before in place of being hashed.
+//!   apart.
+//! - `placed_names`: a long name in a loop. It is known by its place in the source, and neither hashed nor compared again.
 //! - `values`, `counts`: a loop in a loop, with EQU names in its count that stand for 65,536 tokens, and EQU lines between. The
 //!   value of a count is kept until a name becomes an EQU name that may be among those tokens, or an EQU name gets one line more.
 //! - `shortening`: EQU names that stand for 65,536 tokens, in the operands and counts of a loop, beside its counter, so that no
-//!   value can be kept. What such a name stands for is put in short from what those in its line stand for: sums, products and
-//!   what is in parentheses get few operands that are worth the same. A table of that is made once for all uses where names stand
-//!   for the same. So a use costs what is written, and not what it stands for.
+//!   value can be kept. What such a name stands for is put in short from what those in its line stand for: sums, products,
+//!   quotients, chains of comparisons and what is in parentheses get few operands that are worth the same. A table of that is made
+//!   once for all uses where names stand for the same. So a use costs what is written, and not what it stands for.
 //! - `seed`: names that all have the same hash. Hashes begin with the text itself.
 //!
-//! Without them `Text` has no runs, a `Word` is its bytes, `NameTable` is a set of texts, a count is worked out each time,
-//! and each EQU name is replaced by all that it stands for.
+//! Without them `Text` has no runs, a `Word` is its bytes, `SourceNames` is its table, `NameTable` is a set of texts, a count is
+//! worked out each time, and each EQU name is replaced by all that it stands for.
 //!
 //! What serves speed alone, too, but has no form apart from what it is used in, stands there:
 //!
 //! - `source/row`: what is found out by going over the bytes of a row, as its kind, is kept in it.
-//! - `names/equates`: where an EQU name stands is noted (`guess`), so that it isn't hashed at each use.
+//! - `names/equates`: a table has the place of each name among the EQU names, so that none is hashed at each use.
 //! - `reader/repeat`: a loop with nothing in it makes no rounds (`read_rounds`).
 //! - `names`: `NameTable::word` gives no name of 256 bytes and more (`specs/ShortNames`), so that none is put together.
 //! - `token`, `names`, `program`: `are_alike`, `key_of` and `has_equate` tell the shortcuts here, and those of the assembler,
@@ -33,6 +34,7 @@
 
 mod counts;
 mod long_names;
+mod placed_names;
 mod reaches;
 mod runs;
 mod seed;
@@ -40,11 +42,12 @@ mod shortening;
 mod values;
 mod words;
 
-pub use long_names::{PartedNames, is_long_name};
+pub use long_names::{PartedNames, is_long_name, len_over};
+pub use placed_names::SourceNames;
 pub use reaches::{Cursor, known_start, past_blank, run_at};
 pub use runs::{LongRun, long_runs, runs_before};
 pub use seed::Seed;
-pub use shortening::{ShortTokens, Shorts};
+pub use shortening::{ShortTokens, Shorts, are_linear};
 pub use values::KnownValues;
 pub use words::{
     Counter, KnownStart, Word, has_joins, kept_len, long_name, past_zeros, round_after,

@@ -1,30 +1,15 @@
 -- Operands whose values lie on a line, from the instruction of index 0 to that of the last index.
-use Rattle.std.specs.Prelude.{◌≡◌, ℕ, ℤ, pos, ◌+ℤ◌, ◌*ℤ◌, List, Bool, true, false, Option, Some, None, Ok}
-use Rattle.std.specs.List.{list_all}
+use Rattle.std.specs.Prelude.{◌≡◌, ℕ, ℤ, pos, ◌+ℤ◌, ◌*ℤ◌, List, true, Option, Some, None, Ok}
 use Rattle.mars_cell.specs.declared.instruction.Mode.{Mode}
 use Rattle.mars_cell.specs.declared.instruction.Mode.TheVariants as mode
 use Rattle.mars_cell.specs.Numbers.{residue}
-use Rattle.redcode_text.specs.declared.token.Sign.TheVariants.{Plus, Minus, OpenParen, CloseParen}
 use Rattle.redcode_text.specs.declared.token.Token.{Token}
-use Rattle.redcode_text.specs.declared.token.TokenKind.{TokenKind}
-use Rattle.redcode_text.specs.declared.token.TokenKind.TheVariants as token
 use Rattle.redcode_text.specs.Expansion.{ProgramValue}
 use Rattle.redcode_text.specs.Expression.{kinds, value_of}
 use Rattle.redcode_text.specs.Lines.{Predefined}
+use Rattle.redcode_text.specs.Shortening.{are_linear}
 use Rattle.redcode_asm.specs.Assembly.{name_value, split_mode}
 use Rattle.redcode_asm.specs.Code.PlaceShorts.{last_index}
-
--- a number, a name, + or -, or a parenthesis
-abbrev pub is_linear : TokenKind → Bool
-is_linear (token.Sign Plus) = true
-is_linear (token.Sign Minus) = true
-is_linear (token.Sign OpenParen) = true
-is_linear (token.Sign CloseParen) = true
-is_linear (token.Sign _) = false
-is_linear _ = true
-
-abbrev pub are_linear : List Token → Bool
-are_linear ts = list_all (λ t. is_linear t.kind) ts
 
 -- a value at an index, on the line of those at the first index and at the last
 pub record IsBetween (index : ℕ) (first value end : ℤ) : Type 0 where

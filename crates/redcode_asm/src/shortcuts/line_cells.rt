@@ -4,7 +4,7 @@ ghost use Rattle.std.specs.Prelude.{◌≡◌, ◌<◌, ◌+ℤ◌, ◌*ℤ◌, 
 ghost use Rattle.mars_cell.specs.Cells.{FitsCore};
 ghost use Rattle.redcode_text.specs.Views.{predefined_of};
 ghost use Rattle.redcode_asm.specs.Assembly.{name_value};
-ghost use Rattle.redcode_asm.specs.Code.OnLines.{IsBetween, IsGivenBetween, are_linear, is_linear};
+ghost use Rattle.redcode_asm.specs.Code.OnLines.{IsBetween, IsGivenBetween};
 ghost use Rattle.redcode_asm.specs.Code.Sources.{cell_written};
 
 use crate::instruction::whole_cell;
@@ -13,26 +13,8 @@ use crate::shortcuts::place_shorts::LAST_INDEX;
 use crate::shortcuts::short_cells::Written;
 use crate::sources::Source;
 use mars_cell::{Cell, Mode, residue};
-use redcode_text::{Sign, Token, TokenKind, eval};
+use redcode_text::{Token, are_linear, eval};
 use std::alloc::Global;
-
-/// Whether a token is a number or a name, + or -, or a parenthesis.
-fn is_linear(kind: TokenKind) -> bool
-    ensures { result ≡ is_linear kind }
-{
-    match kind {
-        TokenKind::Number(_) | TokenKind::Name(_) => true,
-        TokenKind::Sign(Sign::Plus | Sign::Minus | Sign::OpenParen | Sign::CloseParen) => true,
-        TokenKind::Sign(_) => false,
-    }
-}
-
-/// Whether all tokens are.
-fn are_linear(tokens: &[Token]) -> bool
-    ensures { result ≡ are_linear tokens.now }
-{
-    tokens.iter().all(|token| is_linear(token.kind))
-}
 
 /// What lies at an index on the line that begins so and has this slope. None where it is no 64-bit number.
 fn on_line(first: i64, slope: i64, index: u32) -> Option<i64>

@@ -1,5 +1,5 @@
 //! What EQU names stand for in short, found out once for a program.
-ghost use Rattle.std.specs.Prelude.{◌≡◌, [], IfSome};
+ghost use Rattle.std.specs.Prelude.{◌≡◌, []};
 ghost use Rattle.redcode_text.specs.Views.{predefined_of};
 ghost use Rattle.redcode_asm.specs.Assembly.{placed};
 ghost use Rattle.redcode_asm.specs.Code.Labels.{table_with};
@@ -27,42 +27,21 @@ impl<'a> Source<'a> {
     }
 }
 
-/// How many EQU names a program may have for which tables are made: each may have 512 tokens in each of three, so these take no more
-/// than some 60 MB.
-const MOST_EQUATES: usize = 1_024;
-
-/// Whether a program has few EQU names.
-fn has_few_equates(program: &Program) -> bool {
-    let mut left = MOST_EQUATES;
-    for name in 0..program.names().len() {
-        if program.equate_lines(name).is_some() {
-            if left == 0 {
-                return false;
-            }
-            left -= 1;
-        }
-    }
-    true
-}
-
-/// What the EQU names of a program with these labels stand for in short. None where they are many.
+/// What the EQU names of a program with these labels stand for in short.
 pub fn shorts_of_program<'p>(
     alloc: Global,
     program: &'p Program,
     labels: &'p Labels,
     predefined: &'p PredefinedNames,
-) -> Option<PlaceShorts>
+) -> PlaceShorts
     requires { labels.now ≡ table_with [] (placed program.now) }
-    ensures { IfSome result (ArePlaceShorts (predefined_of predefined.now) program.now) }
+    ensures { ArePlaceShorts (predefined_of predefined.now) program.now result }
 {
-    if !has_few_equates(program) {
-        return None;
-    }
     let source = Source {
         program,
         labels,
         predefined,
         shorts: None,
     };
-    Some(source.place_shorts(alloc))
+    source.place_shorts(alloc)
 }

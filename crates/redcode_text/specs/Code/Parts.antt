@@ -3,7 +3,7 @@ use Rattle.std.specs.Prelude.{◌≡◌, ℕ, ◌-◌, ◌<◌, List, ◌++◌, 
 use Rattle.std.specs.Char.{is_ascii_digit}
 use Rattle.std.specs.List.{All, suffix_len}
 use Rattle.redcode_text.specs.Lines.{name_at}
-use Rattle.redcode_text.specs.Tokens.{name_index}
+use Rattle.redcode_text.specs.Tokens.{name_index, with_name}
 
 -- the second part of a name has so many digits at most, so that what a loop writes before those of its joins is a first part,
 -- though it ends with digits itself
@@ -38,3 +38,11 @@ AreParts texts parts = HasParts texts (name_of texts parts) × (parts ≡ parts_
 
 abbrev pub AllParts : List (List ℕ) → List (ℕ × ℕ) → Type 0
 AllParts texts names = All (AreParts texts) names
+
+-- the name of this index begins with these bytes
+abbrev pub BeginsWith : List (List ℕ) → List ℕ → ℕ → Type 0
+BeginsWith names bytes n = take (length bytes) (name_at names n) ≡ bytes
+
+-- a text that is there, and its index
+abbrev pub IsIndexOf : List (List ℕ) → List ℕ → ℕ → Type 0
+IsIndexOf texts text n = (n ≡ name_index texts text) × (with_name texts text ≡ texts)

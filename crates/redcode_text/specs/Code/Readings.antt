@@ -10,7 +10,7 @@ abbrev pub reading_of : code.Reading → Reading
 reading_of r =
     record {
       loops = r.loops;
-      names = r.names;
+      names = r.names.table;
       equates = r.equates;
       equate_grows = r.equate_grows;
       lines = map line_of r.lines.items;

@@ -3,6 +3,7 @@ ghost use Rattle.std.specs.Prelude.{◌≡◌, ◌++◌, ◌≤◌, ◌^◌, ℕ
 ghost use Rattle.std.specs.Char.{is_ascii_digit};
 ghost use Rattle.std.specs.List.{list_all};
 ghost use Rattle.std.specs.Str.Parse.{digits_value};
+ghost use Rattle.redcode_text.specs.Code.Placed.{StandsAt};
 ghost use Rattle.redcode_text.specs.Code.Problems.{Gives};
 ghost use Rattle.redcode_text.specs.Code.Runs.{AreZeros, IsKnownStart};
 ghost use Rattle.redcode_text.specs.Code.Scanning.{with_names};
@@ -11,10 +12,9 @@ ghost use Rattle.redcode_text.specs.Tokens.{begins_name, joined, number_kind, pl
 use crate::characters::{are_digits, begins_name, part_len};
 use crate::fault::TextProblem;
 use crate::lexer::open_loops::OpenLoops;
-use crate::names::NameTable;
 use crate::shortcuts::{
-    Counter, Word, has_joins, is_long_name, kept_len, long_name, past_zeros, round_after,
-    unknown_word,
+    Counter, SourceNames, Word, has_joins, is_long_name, kept_len, len_over, long_name, past_zeros,
+    round_after, unknown_word,
 };
 use crate::token::{Spelled, TokenKind};
 use itoa::Buffer;
@@ -48,14 +48,16 @@ fn number_kind(digits: &[u8]) -> Result<TokenKind, TextProblem>
 /// A word that is no counter.
 fn plain_word(
     alloc: Global,
-    names: &mut NameTable,
+    names: &mut SourceNames<'_>,
     word: Word<'_>,
     len: usize,
 ) -> Result<Spelled, TextProblem>
     requires ascii { IsAscii word.bytes.now }
     requires front { IsKnownStart word.known word.bytes.now }
-    ensures value { Gives (with_names names.new) result (plain_word_found names.old len word.entry.bytes.now) }
+    requires placed { StandsAt names.old.source.now word.known.place word.bytes.now }
+    ensures value { Gives (with_names names.new.table) result (plain_word_found names.old.table len word.entry.bytes.now) }
     ensures len { IfOk result (λ s. s.len ≡ len) }
+    ensures source { names.new.source.now ≡ names.old.source.now }
 {
     let digits = past_zeros(word);
     if are_digits(digits) {
@@ -78,15 +80,17 @@ fn plain_word(
 fn joined_word(
     alloc: Global,
     loops: &OpenLoops,
-    names: &mut NameTable,
+    names: &mut SourceNames<'_>,
     word: Word<'_>,
     len: usize,
 ) -> Result<Spelled, TextProblem>
     requires ascii { IsAscii word.bytes.now }
     requires front { IsKnownStart word.known word.bytes.now }
-    ensures value { let bytes = word.entry.bytes.now in Gives (with_names names.new) result
-        (word_found names.old len bytes (round_of loops.now bytes)) }
+    requires placed { StandsAt names.old.source.now word.known.place word.bytes.now }
+    ensures value { let bytes = word.entry.bytes.now in Gives (with_names names.new.table) result
+        (word_found names.old.table len bytes (round_of loops.now bytes)) }
     ensures len { IfOk result (λ s. s.len ≡ len) }
+    ensures source { names.new.source.now ≡ names.old.source.now }
 {
     match loops.round_of(word.bytes) {
         Some(round) => Ok(Spelled {
@@ -176,7 +180,7 @@ fn padded_number(
 fn parted_word(
     alloc: Global,
     loops: &OpenLoops,
-    names: &mut NameTable,
+    names: &mut SourceNames<'_>,
     front: Word<'_>,
     end: &[u8],
     len: usize,
@@ -184,9 +188,11 @@ fn parted_word(
     requires front { IsAscii front.bytes.now }
     requires end { IsAscii end.now }
     requires zeros { length front.bytes.now ≤ front.known.zeros → AreZeros (length front.bytes.now) front.bytes.now }
+    requires placed { StandsAt names.old.source.now front.known.place front.bytes.now }
     ensures value { let bytes = front.entry.bytes.now
-        ++ end.now in Gives (with_names names.new) result (word_found names.old len bytes (round_of loops.now bytes)) }
+        ++ end.now in Gives (with_names names.new.table) result (word_found names.old.table len bytes (round_of loops.now bytes)) }
     ensures len { IfOk result (λ s. s.len ≡ len) }
+    ensures source { names.new.source.now ≡ names.old.source.now }
 {
     if is_long_name(front.bytes, end) {
         return long_name(alloc, loops, names, front, end, len);
@@ -197,7 +203,7 @@ fn parted_word(
     let Ok(bytes) = whole_word(alloc, front.bytes, end) else {
         return Err(TextProblem::OutOfMemory);
     };
-    let word = unknown_word(&bytes, front.known.place);
+    let word = unknown_word(&bytes);
     joined_word(alloc, loops, names, word, len)
 }
 
@@ -205,13 +211,15 @@ fn parted_word(
 pub fn read_word(
     alloc: Global,
     loops: &OpenLoops,
-    names: &mut NameTable,
+    names: &mut SourceNames<'_>,
     word: Word<'_>,
 ) -> Result<Spelled, TextProblem>
     requires ascii { IsAscii word.bytes.now }
     requires front { IsKnownStart word.known word.bytes.now }
-    ensures value { Gives (with_names names.new) result (word_token loops.now names.old word.entry.bytes.now) }
+    requires placed { StandsAt names.old.source.now word.known.place word.bytes.now }
+    ensures value { Gives (with_names names.new.table) result (word_token loops.now names.old.table word.entry.bytes.now) }
     ensures len { IfOk result (λ s. s.len ≡ length word.entry.bytes.now) }
+    ensures source { names.new.source.now ≡ names.old.source.now }
 {
     let len = word.bytes.len();
     if !has_joins(word) {
@@ -219,9 +227,10 @@ pub fn read_word(
     }
     let at = kept_len(word);
     let end = join_word(alloc, loops, &word.bytes[at..])?;
+    let over = len_over(&word.bytes[at..], &end);
     let front = Word {
-        bytes: &word.bytes[..at],
+        bytes: &word.bytes[..at + over],
         known: word.known,
     };
-    parted_word(alloc, loops, names, front, &end, len)
+    parted_word(alloc, loops, names, front, &end[over..], len)
 }

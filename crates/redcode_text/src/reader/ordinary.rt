@@ -40,7 +40,7 @@ fn colons(tokens: &[Token]) -> usize
     }
 }
 
-impl Reading {
+impl Reading<'_> {
     /// Whether a name may be a label of a line that has these labels so far.
     fn may_label(&self, names: &PredefinedNames, labels: &NameSet, name: usize) -> bool
         ensures { result ≡ may_label (predefined_of names.now) (reading_of self.now) labels.now name }
@@ -127,7 +127,7 @@ fn add_labelled(lines: &mut Vec<Line>, labels: &mut NameSet, line: Line) -> Resu
     Ok(())
 }
 
-impl Reading {
+impl Reading<'_> {
     /// A line whose operation is no EQU name.
     fn add_line(&mut self, line: Line) -> Result<(), TextProblem>
         requires { vec_len self.old.lines < self.old.lines_read }
@@ -136,9 +136,10 @@ impl Reading {
             (Ok (line_added line.number
             (record { labels = line.labels.items; label_tokens = []; operation = line.operation; rest = line.rest.items })
             (reading_of self.old))) }
+        ensures source { self.new.names.source.now ≡ self.old.names.source.now }
     {
-        let counts = is_instruction(&self.names, line.operation, &line.rest);
-        let ends = is_end(&self.names, line.operation);
+        let counts = is_instruction(&self.names.table, line.operation, &line.rest);
+        let ends = is_end(&self.names.table, line.operation);
         let Ok(()) = add_labelled(&mut self.lines, &mut self.labels, line) else {
             return Err(TextProblem::OutOfMemory);
         };
@@ -175,7 +176,7 @@ fn on_line(alloc: Global, number: usize, tokens: &[Token]) -> Result<Vec<Token>,
     Ok(made)
 }
 
-impl Reading {
+impl Reading<'_> {
     /// The lines of an operation that is an EQU name.
     fn operation_lines(&self, operation: Option<usize>) -> Option<&[Vec<Token>]>
         ensures { option_map (λ lines. map (λ line. line.items) lines.now) result ≡ operation_lines (reading_of self.now) operation }
@@ -208,6 +209,7 @@ impl Reading {
         ensures equates { self.new.equates ≡ self.old.equates }
         ensures value { Gives (λ _. reading_of self.new) result
             (Ok (line_added number (record { labels = parts.labels.items; label_tokens = []; operation = parts.operation; rest = on_line number rest.now }) (reading_of self.old))) }
+        ensures source { self.new.names.source.now ≡ self.old.names.source.now }
     {
         let rest = on_line(alloc, number, rest)?;
         let Parts {
@@ -238,6 +240,7 @@ impl Reading {
         ensures value { Gives (λ _. reading_of self.new) result
             (ordinary_line (predefined_of names.now) number depth tokens.now (reading_of self.old)) }
         ensures equates { self.new.equates ≡ self.old.equates }
+        ensures source { self.new.names.source.now ≡ self.old.names.source.now }
     {
         let parts = match self.parts_of(alloc, names, tokens) {
             Ok(parts) => parts,
@@ -271,6 +274,7 @@ impl Reading {
         ensures value { Gives (λ _. reading_of self.new) result
             (read_one (ordinary_line (predefined_of names.now) number depth) line.now (reading_of self.old)) }
         ensures equates { self.new.equates ≡ self.old.equates }
+        ensures source { self.new.names.source.now ≡ self.old.names.source.now }
     {
         self.count_line()?;
         self.count_tokens(line)?;
@@ -290,6 +294,7 @@ impl Reading {
         ensures value { Gives (λ _. reading_of self.new) result
             (each_line (ordinary_line (predefined_of names.now) number depth) (used operation.entry.before.now (lines_under (reading_of self.old) operation.entry.name) operation.entry.behind.now) (reading_of self.old)) }
         ensures equates { self.new.equates ≡ self.old.equates }
+        ensures source { self.new.names.source.now ≡ self.old.names.source.now }
     {
         let Operation {
             name,

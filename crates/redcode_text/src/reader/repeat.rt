@@ -7,6 +7,7 @@ ghost use Rattle.redcode_text.specs.Views.{predefined_of};
 ghost use Rattle.redcode_text.specs.Code.Readings.{reading_of};
 ghost use Rattle.redcode_text.specs.Code.Loops.{IsFor, IsPlain, ReadTo, RowsFit};
 ghost use Rattle.redcode_text.specs.Outcomes.{Answers};
+ghost use Rattle.redcode_text.specs.Code.Placed.{AreParts, IsPart};
 ghost use Rattle.redcode_text.specs.Code.Problems.{Gives};
 ghost use Rattle.redcode_text.specs.Code.Rows.{row_of};
 ghost use Rattle.redcode_text.specs.Code.Pairs.{AreEnds, here_from};
@@ -24,11 +25,13 @@ use crate::source::row::{LineKind, Row};
 use crate::source::{end_from, ends_of};
 use std::alloc::Global;
 
-impl Reading {
+impl Reading<'_> {
     /// Reads the line of a ROF, whose tokens mean nothing.
     pub fn read_rof(&mut self, alloc: Global, row: Row<'_>) -> Result<(), TextProblem>
-        requires { row.at + length row.bytes.now < 2 ^ 64 }
-        ensures { Gives (λ _. reading_of self.new) result (rof_line (row_of row.entry) (reading_of self.old)) }
+        requires fits { row.at + length row.bytes.now < 2 ^ 64 }
+        requires part { IsPart self.old.names.source.now row.at row.bytes.now }
+        ensures value { Gives (λ _. reading_of self.new) result (rof_line (row_of row.entry) (reading_of self.old)) }
+        ensures source { self.new.names.source.now ≡ self.old.names.source.now }
     {
         self.count_line()?;
         match self.row_tokens(alloc, row, 0) {
@@ -47,13 +50,15 @@ fn read_row(
     names: &PredefinedNames,
     rows: &[Row<'_>],
     at: usize,
-    reading: &mut Reading,
+    reading: &mut Reading<'_>,
 ) -> Result<usize, TextFault>
     requires fits { RowsFit rows.now }
     requires within { at < length rows.now }
     requires plain { IsPlain rows.now at }
+    requires parts { AreParts reading.old.names.source.now rows.now }
     ensures gives { ReadTo (predefined_of names.now) rows.now at (reading_of reading.old) (reading_of reading.new) result }
     ensures loops { OnOk result (reading.new.loops ≡ reading.old.loops) }
+    ensures source { reading.new.names.source.now ≡ reading.old.names.source.now }
 {
     let row = rows[at];
     match reading.read_plain(alloc, names, row) {
@@ -68,15 +73,17 @@ fn read_for_row(
     names: &PredefinedNames,
     row: Row<'_>,
     word_at: usize,
-    reading: &mut Reading,
+    reading: &mut Reading<'_>,
 ) -> Result<Head, TextFault>
     requires fits { row.at + length row.bytes.now < 2 ^ 64 }
     requires inside { word_at ≤ length row.bytes.now }
     requires word { ForLine word_at ≡ line_kind row.bytes.now }
+    requires part { IsPart reading.old.names.source.now row.at row.bytes.now }
     ensures loops { OnOk result (reading.new.loops ≡ reading.old.loops) }
     ensures depth { OnOk result (length reading.old.loops < MAX_LOOPS) }
     ensures gives { Answers (head_of (reading_of reading.new)) result
         (at_line row.entry.number (head_line (predefined_of names.now) (row_of row.entry) (reading_of reading.old))) }
+    ensures source { reading.new.names.source.now ≡ reading.old.names.source.now }
 {
     match reading.read_head(alloc, names, row, word_at) {
         Ok(head) => Ok(head),
@@ -85,11 +92,13 @@ fn read_for_row(
 }
 
 /// Reads the row of a ROF.
-fn read_rof_row(alloc: Global, row: Row<'_>, reading: &mut Reading) -> Result<(), TextFault>
-    requires { row.at + length row.bytes.now < 2 ^ 64 }
+fn read_rof_row(alloc: Global, row: Row<'_>, reading: &mut Reading<'_>) -> Result<(), TextFault>
+    requires fits { row.at + length row.bytes.now < 2 ^ 64 }
+    requires part { IsPart reading.old.names.source.now row.at row.bytes.now }
     ensures loops { OnOk result (reading.new.loops ≡ reading.old.loops) }
     ensures gives { Answers (λ _. reading_of reading.new) result
         (at_line row.entry.number (rof_line (row_of row.entry) (reading_of reading.old))) }
+    ensures source { reading.new.names.source.now ≡ reading.old.names.source.now }
 {
     match reading.read_rof(alloc, row) {
         Ok(()) => Ok(()),
@@ -101,9 +110,11 @@ fn read_rof_row(alloc: Global, row: Row<'_>, reading: &mut Reading) -> Result<()
 fn refuse_unpaired(
     row: Row<'_>,
     problem: TextProblem,
-    reading: &mut Reading,
+    reading: &mut Reading<'_>,
 ) -> Result<(), TextFault>
-    ensures { Answers (λ _. reading_of reading.new) result (at_line row.entry.number (unpaired_line problem (reading_of reading.old))) }
+    ensures gives { Answers (λ _. reading_of reading.new) result
+        (at_line row.entry.number (unpaired_line problem (reading_of reading.old))) }
+    ensures source { reading.new.names.source.now ≡ reading.old.names.source.now }
 {
     match reading.count_line() {
         Ok(()) => Err(problem.at_line(row.number)),
@@ -128,14 +139,16 @@ fn read_items(
     names: &PredefinedNames,
     source: PairedRows<'_>,
     first: usize,
-    reading: &mut Reading,
+    reading: &mut Reading<'_>,
 ) -> Result<(), TextFault>
     requires ends { AreEnds source.rows.now source.ends.now }
     requires within { first ≤ length source.rows.now }
     requires depth { length reading.old.loops ≤ MAX_LOOPS }
+    requires parts { AreParts reading.old.names.source.now source.rows.now }
     ensures gives { Answers (λ _. reading_of reading.new) result
         (flat (predefined_of names.now) (here_from source.entry.rows.now first) (reading_of reading.old)) }
     ensures loops { OnOk result (reading.new.loops ≡ reading.old.loops) }
+    ensures source { reading.new.names.source.now ≡ reading.old.names.source.now }
 {
     let PairedRows { rows, ends } = source;
     let mut at = first;
@@ -165,15 +178,17 @@ fn read_loop(
     source: PairedRows<'_>,
     at: usize,
     word_at: usize,
-    reading: &mut Reading,
+    reading: &mut Reading<'_>,
 ) -> Result<usize, TextFault>
     requires ends { AreEnds source.rows.now source.ends.now }
     requires within { at < length source.rows.now }
     requires closed { slice_index source.ends.now at < length source.rows.now }
     requires word { IsFor source.rows.now at word_at }
     requires depth { length reading.old.loops ≤ MAX_LOOPS }
+    requires parts { AreParts reading.old.names.source.now source.rows.now }
     ensures gives { ReadTo (predefined_of names.now) source.entry.rows.now at (reading_of reading.old) (reading_of reading.new) result }
     ensures loops { OnOk result (reading.new.loops ≡ reading.old.loops) }
+    ensures source { reading.new.names.source.now ≡ reading.old.names.source.now }
 {
     let PairedRows { rows, ends } = source;
     let last = ends[at];
@@ -194,14 +209,16 @@ fn read_rounds(
     source: PairedRows<'_>,
     first: usize,
     head: Head,
-    reading: &mut Reading,
+    reading: &mut Reading<'_>,
 ) -> Result<(), TextFault>
     requires ends { AreEnds source.rows.now source.ends.now }
     requires within { first < length source.rows.now }
     requires depth { length reading.old.loops < MAX_LOOPS }
+    requires parts { AreParts reading.old.names.source.now source.rows.now }
     ensures gives { Answers (λ _. reading_of reading.new) result
         (rounds (flat (predefined_of names.now) (here_from source.entry.rows.now first)) (option_map (λ s. string_bytes s) head.counter) 1 head.count (reading_of reading.old)) }
     ensures loops { OnOk result (reading.new.loops ≡ reading.old.loops) }
+    ensures source { reading.new.names.source.now ≡ reading.old.names.source.now }
 {
     let rows = source.rows;
     if let LineKind::Rof = rows[first].kind() {
@@ -226,11 +243,12 @@ pub fn read_all(
     alloc: Global,
     names: &PredefinedNames,
     rows: &[Row<'_>],
-    reading: &mut Reading,
+    reading: &mut Reading<'_>,
 ) -> Result<(), TextFault>
     requires fits { RowsFit rows.now }
     requires depth { length reading.old.loops ≤ MAX_LOOPS }
     requires going { reading.old.ended ≡ false }
+    requires parts { AreParts reading.old.names.source.now rows.now }
     ensures { Answers (λ _. reading_of reading.new) result
         (flat (predefined_of names.now) (tree_of_rows (map row_of rows.now)) (reading_of reading.old)) }
 {

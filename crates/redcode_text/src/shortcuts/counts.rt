@@ -75,7 +75,7 @@ impl Equates {
     }
 }
 
-impl Reading {
+impl Reading<'_> {
     /// How often the body of a loop is read, where there is a short way to the value of its count.
     pub fn known_count(
         &self,
@@ -103,13 +103,15 @@ impl Reading {
         requires { without_line (substitution self.old.equates tokens.now) ≡ Ok replaced.now }
         ensures value { Gives (λ _. reading_of self.new) result (Ok (reading_of self.old)) }
         ensures same { reading_of self.new ≡ reading_of self.old }
+        ensures source { self.new.names.source.now ≡ self.old.names.source.now }
     {
         if !self.equates.has_name(tokens) {
             return Ok(());
         }
+        let source_names = &self.names;
         let env = CountNames {
             predefined: names,
-            names: &self.names,
+            names: &source_names.table,
             current_line: self.instructions as u32,
         };
         match self.equates.keep_value(alloc, tokens, replaced, &env) {

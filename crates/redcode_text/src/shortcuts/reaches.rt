@@ -1,5 +1,5 @@
 //! How far long runs reach over the places of a text.
-ghost use Rattle.std.specs.Prelude.{◌≡◌, ◌≤◌, ◌<◌, ◌+◌, ◌^◌, ℕ, drop, length, slice_index, true, IfSome};
+ghost use Rattle.std.specs.Prelude.{◌≡◌, ◌≤◌, ◌<◌, ◌+◌, ◌^◌, ℕ, Some, drop, length, slice_index, true, IfSome};
 ghost use Rattle.redcode_text.specs.Code.Runs.{IsKnownStart, stands};
 ghost use Rattle.redcode_text.specs.Tokens.{is_blank};
 
@@ -45,7 +45,8 @@ fn reach_of(text: Text<'_>, cursor: Cursor) -> Option<Reach>
 pub fn known_start(text: Text<'_>, cursor: Cursor) -> KnownStart
     requires within { cursor.at < length text.bytes.now }
     requires fits { text.at + length text.bytes.now < 2 ^ 64 }
-    ensures { IsKnownStart result (drop cursor.at text.entry.bytes.now) }
+    ensures known { IsKnownStart result (drop cursor.at text.entry.bytes.now) }
+    ensures place { result.place ≡ Some (text.entry.at + cursor.at) }
 {
     let place = text.at + cursor.at;
     match reach_of(text, cursor) {
@@ -55,11 +56,11 @@ pub fn known_start(text: Text<'_>, cursor: Cursor) -> KnownStart
                 to,
             },
         ) => KnownStart {
-            place,
+            place: Some(place),
             plain: to - cursor.at,
             zeros: zeros_to.saturating_sub(place).min(to - cursor.at),
         },
-        _ => KnownStart::unknown(place),
+        _ => KnownStart::unknown(Some(place)),
     }
 }
 

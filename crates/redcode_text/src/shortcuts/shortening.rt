@@ -4,15 +4,19 @@ ghost use Rattle.redcode_text.specs.declared.token.Token.{Token};
 ghost use Rattle.redcode_text.specs.Code.Shortening.{ExpressionStands};
 ghost use Rattle.redcode_text.specs.Shortening.{AreKnown, IsValued, Shortened};
 
+mod chains;
 mod groups;
 mod inside;
+mod linear;
 mod operators;
 mod products;
+mod quotients;
 mod short;
 mod shorter;
 mod shorts;
 mod sums;
 mod tables;
+mod triples;
 mod worth;
 
 use crate::expression::{Env, eval};
@@ -20,6 +24,7 @@ use crate::limits::{MAX_NESTING, MAX_REPLACED, MAX_REPLACEMENTS};
 use crate::names::equates::{Equates, only_line};
 use crate::shortcuts::shortening::short::Short;
 use crate::token::{Token, TokenKind};
+pub use linear::are_linear;
 pub use shorts::Shorts;
 use std::alloc::Global;
 
@@ -60,8 +65,8 @@ impl Equates {
 
     /// Whether an EQU name of one line stands for many.
     fn has_long_name(&self) -> bool {
-        for lines in self.lines.values() {
-            if let Ok(line) = only_line(lines) {
+        for equate in &self.lines {
+            if let Ok(line) = only_line(&equate.lines) {
                 if self.stand_for_many(line) {
                     return true;
                 }

@@ -2,8 +2,10 @@
 ghost use Rattle.std.specs.Prelude.{◌≡◌, ◌∷◌, ◌++◌, ◌≤◌, [], List, ℕ, ℤ, Some, map, true, OnOk, OnErr};
 ghost use Rattle.redcode_text.specs.Code.Values.{AreKept, AreUpTo, EquatesUpTo, IsUpTo, RowsUpTo, value_among};
 ghost use Rattle.redcode_text.specs.Equates.{Equate};
+ghost use Rattle.redcode_text.specs.Views.{equate_of};
 
 use crate::expression::Env;
+use crate::names::equate_lines::EquateLines;
 use crate::shortcuts::seed::Seed;
 use crate::token::{Token, TokenKind};
 use indexmap::IndexMap;
@@ -121,26 +123,24 @@ fn greatest_of_rows(rows: &[Vec<Token>], from: usize) -> usize
 }
 
 /// The greatest index of a name among the lines of EQU names.
-fn greatest_of_lines(lines: &IndexMap<usize, Vec<Vec<Token>>>) -> usize
-    ensures { EquatesUpTo result (map (λ e. record { name = e.0; lines = map (λ line. line.items) e.1.items }) lines.now.entries) }
+fn greatest_of_lines(equates: &[EquateLines]) -> usize
+    ensures { EquatesUpTo result (map equate_of equates.now) }
 {
     let mut greatest = 0;
-    for at in 0..lines.len() {
-        if let Some((_, rows)) = lines.get_index(at) {
-            greatest = greatest_of_rows(rows, greatest);
-        }
+    for equate in equates {
+        greatest = greatest_of_rows(&equate.lines, greatest);
     }
     greatest
 }
 
 /// An index that no name among the lines of EQU names exceeds, and none of what is kept. Only where nothing is kept the lines
 /// are gone over.
-pub fn last_name(lines: &IndexMap<usize, Vec<Vec<Token>>>, known: &KnownValues) -> usize
-    ensures { let es = map (λ e. record { name = e.0; lines = map (λ line. line.items) e.1.items }) lines.now.entries in
+pub fn last_name(equates: &[EquateLines], known: &KnownValues) -> usize
+    ensures { let es = map equate_of equates.now in
         AreKept es known.now.last known.now.values.items → EquatesUpTo result es × AreKept es result known.now.values.items }
 {
     if known.values.is_empty() {
-        return greatest_of_lines(lines);
+        return greatest_of_lines(equates);
     }
     known.last
 }

@@ -1,10 +1,11 @@
 //! Long words, which are not gone over byte by byte: what is known of their fronts, and long names that joins make.
-ghost use Rattle.std.specs.Prelude.{◌≡◌, ◌++◌, ◌≤◌, Some, length, not, take, ◌==◌, true, IfOk, IfSome, IsAscii};
+ghost use Rattle.std.specs.Prelude.{◌≡◌, ◌++◌, ◌≤◌, ℕ, List, None, Some, length, not, take, ◌==◌, true, IfOk, IfSome, IsAscii};
 ghost use Rattle.std.specs.Char.{is_ascii_digit};
 ghost use Rattle.std.specs.List.{list_all, list_any, prefix_len};
 ghost use Rattle.std.specs.Str.Parse.{digits_value};
 ghost use Rattle.redcode_text.specs.Bytes.{ampersand};
 ghost use Rattle.redcode_text.specs.Code.Parts.{front_len};
+ghost use Rattle.redcode_text.specs.Code.Placed.{StandsAt};
 ghost use Rattle.redcode_text.specs.Code.Problems.{Gives};
 ghost use Rattle.redcode_text.specs.Code.Runs.{IsKnownStart};
 ghost use Rattle.redcode_text.specs.Code.Scanning.{with_names};
@@ -13,15 +14,16 @@ ghost use Rattle.redcode_text.specs.Tokens.{begins_name, begins_word, round_of, 
 use crate::characters::{part_len, word_len};
 use crate::fault::TextProblem;
 use crate::lexer::open_loops::OpenLoops;
-use crate::names::NameTable;
 use crate::shortcuts::long_names::front_len;
+use crate::shortcuts::placed_names::SourceNames;
 use crate::token::{Spelled, TokenKind};
 use std::alloc::Global;
 
-/// Where a word begins in the source, and what is known of its front without going over it.
+/// What is known of a word without going over it.
 #[derive(Clone, Copy)]
 pub struct KnownStart {
-    pub place: usize,
+    /// Where it stands in the source; nothing, where a part of it is what joins stand for.
+    pub place: Option<usize>,
     /// So many bytes are letters, digits and `_`.
     pub plain: usize,
     /// So many bytes are zeros.
@@ -29,8 +31,9 @@ pub struct KnownStart {
 }
 
 impl KnownStart {
-    /// Nothing is known but the place.
-    pub fn unknown(place: usize) -> Self
+    /// Nothing is known but the place, if that.
+    pub fn unknown(place: Option<usize>) -> Self
+        ensures place { result.place ≡ place }
         ensures plain { result.plain ≡ 0 }
         ensures zeros { result.zeros ≡ 0 }
     {
@@ -49,14 +52,15 @@ pub struct Word<'a> {
     pub known: KnownStart,
 }
 
-/// A word that begins at a place of the source, of whose front no more is known.
-pub fn unknown_word<'a>(bytes: &'a [u8], place: usize) -> Word<'a>
+/// A word that doesn't stand in the source, of which nothing is known.
+pub fn unknown_word<'a>(bytes: &'a [u8]) -> Word<'a>
     ensures bytes { result.bytes.now ≡ bytes.now }
+    ensures place { result.known.place ≡ None }
     ensures known { IsKnownStart result.known bytes.now }
 {
     Word {
         bytes,
-        known: KnownStart::unknown(place),
+        known: KnownStart::unknown(None),
     }
 }
 
@@ -66,6 +70,7 @@ pub fn word_of<'a>(bytes: &'a [u8], known: KnownStart) -> Word<'a>
     ensures bytes { result.bytes.now ≡ take (word_len bytes.now) bytes.now }
     ensures ascii { IsAscii result.bytes.now }
     ensures front { IsKnownStart result.known result.bytes.now }
+    ensures placed { (source : List ℕ) → StandsAt source known.place bytes.now → StandsAt source result.known.place result.bytes.now }
     ensures within { length result.bytes.now ≤ length bytes.now }
     ensures some { begins_word bytes.now ≡ true → 1 ≤ length result.bytes.now }
 {
@@ -116,7 +121,7 @@ pub fn kept_len(word: Word<'_>) -> usize
 pub fn long_name(
     alloc: Global,
     loops: &OpenLoops,
-    names: &mut NameTable,
+    names: &mut SourceNames<'_>,
     front: Word<'_>,
     digits: &[u8],
     len: usize,
@@ -125,8 +130,10 @@ pub fn long_name(
     requires digits { IsAscii digits.now }
     requires name { begins_name front.bytes.now ≡ true }
     requires parted { front_len (front.bytes.now ++ digits.now) ≡ length front.bytes.now }
+    requires placed { StandsAt names.old.source.now front.known.place front.bytes.now }
     ensures value { let bytes = front.entry.bytes.now
-        ++ digits.now in Gives (with_names names.new) result (word_found names.old len bytes (round_of loops.now bytes)) }
+        ++ digits.now in Gives (with_names names.new.table) result (word_found names.old.table len bytes (round_of loops.now bytes)) }
+    ensures source { names.new.source.now ≡ names.old.source.now }
     ensures len { IfOk result (λ s. s.len ≡ len) }
 {
     if let Some(round) = loops.round_of_parts(front.bytes, digits) {

@@ -1,5 +1,6 @@
 use Rattle.std.proofs.Common.{◌≡◌, ◌+◌, ◌-◌, ◌∙◌, arith, drop, sym, subst}
 use Rattle.redcode_text.specs.Views.{scan_of}
+use Rattle.redcode_text.specs.Code.Placed.{IsPart}
 use Rattle.redcode_text.specs.Code.Problems.{Fails}
 use Rattle.redcode_text.specs.Tokens.{scan_from}
 use Rattle.redcode_text.proofs.LongRuns.{scan-blanks}
@@ -12,19 +13,20 @@ loop-at-preserved c =
     record {
       within = c.in-Ok.ensures.len.1;
       same =
-          sym (scan-token c.args.loops.now text.number c.args.room text.at at text.bytes.now (scan_of c.loop-at.tokens c.loop-at.names) (scan_of c.add_token.new.tokens c.add_token.new.names) c.in-Ok.len c.loop-at-test.true (sym c.is_blank.ensures ∙ c.if-is_blank.false) c.in-Ok.ensures.len.0 c.in-Ok.ensures.value)
+          sym (scan-token c.args.loops.now text.number c.args.room text.at at text.bytes.now (scan_of c.loop-at.tokens c.loop-at.names.table) (scan_of c.add_token.new.tokens c.add_token.new.names.table) c.in-Ok.len c.loop-at-test.true (sym c.is_blank.ensures ∙ c.if-is_blank.false) c.in-Ok.ensures.len.0 c.in-Ok.ensures.value)
           ∙ c.loop-at.invariant.same;
       room = c.in-Ok.ensures.room c.loop-at.invariant.room;
+      source = c.in-Ok.ensures.source ∙ c.loop-at.invariant.source;
     }
 
 pub returns-in-Err-clause-value : goal.returns-in-Err-clause-value
 returns-in-Err-clause-value c =
     let text = c.args.text in let at = c.loop-at.at in
-    subst (Fails c.in-Err.problem) c.loop-at.invariant.same (scan-fails c.args.loops.now text.number c.args.room text.at at text.bytes.now (scan_of c.loop-at.tokens c.loop-at.names) c.in-Err.problem c.loop-at-test.true (sym c.is_blank.ensures ∙ c.if-is_blank.false) c.in-Err.ensures.value)
+    subst (Fails c.in-Err.problem) c.loop-at.invariant.same (scan-fails c.args.loops.now text.number c.args.room text.at at text.bytes.now (scan_of c.loop-at.tokens c.loop-at.names.table) c.in-Err.problem c.loop-at-test.true (sym c.is_blank.ensures ∙ c.if-is_blank.false) c.in-Err.ensures.value)
 
 pub loop-at-preserved-then-is_blank : goal.loop-at-preserved-then-is_blank
 loop-at-preserved-then-is_blank c =
-    let text = c.args.text in let at = c.loop-at.at in let end = c.past_blank-at.result in let read = scan_of c.loop-at.tokens c.loop-at.names in
+    let text = c.args.text in let at = c.loop-at.at in let end = c.past_blank-at.result in let read = scan_of c.loop-at.tokens c.loop-at.names.table in
     let there : at + (end - at) ≡ end = omega (arith, c.past_blank-at.ensures.on) in
     record {
       within = c.past_blank-at.ensures.within;
@@ -33,4 +35,8 @@ loop-at-preserved-then-is_blank c =
           ∙ sym (scan-blanks c.args.loops.now text.number c.args.room text.at at (end - at) text.bytes.now read (omega (arith, there, c.past_blank-at.ensures.within)) (λ k low high. c.past_blank-at.ensures.blank k low (omega (arith, there, high))))
           ∙ c.loop-at.invariant.same;
       room = c.loop-at.invariant.room;
+      source = c.loop-at.invariant.source;
     }
+
+pub add_token-requires-clause-part : goal.add_token-requires-clause-part
+add_token-requires-clause-part c = subst (λ source. IsPart source c.args.text.at c.args.text.bytes.now) (sym c.loop-at.invariant.source) c.requires.part

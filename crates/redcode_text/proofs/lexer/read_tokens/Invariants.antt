@@ -6,9 +6,10 @@ use Rattle.redcode_text.proofs.lexer.read_tokens.Given as goal
 abbrev pub invariant-loop-at : goal.invariant-loop-at
 invariant-loop-at l = record {
   within : l.at ≤ length l.text.bytes.now;
-  same : scan_from l.loops l.text.number l.room (l.text.at + l.at) 0 (drop l.at l.text.bytes.now) (scan_of l.tokens l.names)
-      ≡ scan_from l.loops l.text.number l.room l.text.at 0 l.text.bytes.now (scan_of l.fn.tokens l.fn.names);
+  same : scan_from l.loops l.text.number l.room (l.text.at + l.at) 0 (drop l.at l.text.bytes.now) (scan_of l.tokens l.names.table)
+      ≡ scan_from l.loops l.text.number l.room l.text.at 0 l.text.bytes.now (scan_of l.fn.tokens l.fn.names.table);
   room : vec_len l.tokens ≤ l.room;
+  source : l.names.source.now ≡ l.fn.names.source.now;
 }
 
 abbrev pub decreases-loop-at : goal.decreases-loop-at

@@ -7,6 +7,7 @@ ghost use Rattle.redcode_text.specs.Expression.{kinds};
 ghost use Rattle.redcode_text.specs.Code.Heads.{head_of};
 ghost use Rattle.redcode_text.specs.Views.{predefined_of};
 ghost use Rattle.redcode_text.specs.Code.Readings.{reading_of};
+ghost use Rattle.redcode_text.specs.Code.Placed.{IsPart};
 ghost use Rattle.redcode_text.specs.Code.Problems.{Gives};
 ghost use Rattle.redcode_text.specs.Code.Rows.{row_of};
 ghost use Rattle.redcode_text.specs.Source.{ForLine, line_kind};
@@ -59,7 +60,7 @@ pub fn as_count(value: Result<i64, ExprFault>) -> Result<u32, TextProblem>
     }
 }
 
-impl Reading {
+impl Reading<'_> {
     /// Whether a name that isn't predefined is among the tokens.
     fn has_label(&self, names: &PredefinedNames, tokens: &[Token]) -> bool
         ensures { result ≡ has_label (predefined_of names.now) (reading_of self.now) (kinds tokens.now) }
@@ -77,12 +78,12 @@ impl Reading {
     /// What names stand for in a count here.
     pub fn count_names<'a>(&'a self, predefined: &'a PredefinedNames) -> CountNames<'a>
         ensures predefined { result.predefined.now ≡ predefined.now }
-        ensures names { result.names.now ≡ self.now.names }
+        ensures names { result.names.now ≡ self.now.names.table }
         ensures line { result.current_line ≡ self.now.instructions }
     {
         CountNames {
             predefined,
-            names: &self.names,
+            names: &self.names.table,
             current_line: self.instructions as u32,
         }
     }
@@ -113,6 +114,7 @@ impl Reading {
     ) -> Result<u32, TextProblem>
         ensures value { Gives (λ count. count) result (count_of (predefined_of names.now) (reading_of self.old) tokens.now) }
         ensures same { reading_of self.new ≡ reading_of self.old }
+        ensures source { self.new.names.source.now ≡ self.old.names.source.now }
     {
         if let Some(count) = self.known_count(alloc, names, tokens) {
             return count;
@@ -127,7 +129,7 @@ impl Reading {
     }
 }
 
-impl Reading {
+impl Reading<'_> {
     /// The counter of a loop, by its index among the names.
     fn counter_of(&self, alloc: Global, name: Option<usize>) -> Result<Option<String>, TextProblem>
         ensures { Gives (λ c. option_map (λ s. string_bytes s) c) result (Ok (counter_name (reading_of self.now) name)) }
@@ -135,7 +137,7 @@ impl Reading {
         let Some(name) = name else {
             return Ok(None);
         };
-        match self.names.name(alloc, name) {
+        match self.names.table.name(alloc, name) {
             Ok(text) => Ok(Some(text)),
             Err(_) => Err(TextProblem::OutOfMemory),
         }
@@ -150,10 +152,12 @@ impl Reading {
         word_at: usize,
     ) -> Result<Head, TextProblem>
         requires fits { row.at + length row.bytes.now < 2 ^ 64 }
+        requires part { IsPart self.old.names.source.now row.at row.bytes.now }
         requires inside { word_at ≤ length row.bytes.now }
         requires word { ForLine word_at ≡ line_kind row.bytes.now }
-        ensures { Gives (head_of (reading_of self.new)) result
+        ensures value { Gives (head_of (reading_of self.new)) result
             (head_line (predefined_of names.now) (row_of row.entry) (reading_of self.old)) }
+        ensures source { self.new.names.source.now ≡ self.old.names.source.now }
     {
         self.count_line()?;
         let mut tokens = self.row_tokens(alloc, row, 0)?;

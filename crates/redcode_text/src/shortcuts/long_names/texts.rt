@@ -1,12 +1,11 @@
 //! Texts, each kept once.
-ghost use Rattle.std.specs.Prelude.{◌≡◌, [], IfOk, IfSome, OnOk, IsAscii};
+ghost use Rattle.std.specs.Prelude.{◌≡◌, [], IfOk, OnOk, IsAscii};
 ghost use Rattle.redcode_text.specs.Code.Parts.{IsFrontOf};
 ghost use Rattle.redcode_text.specs.Lines.{name_at};
 ghost use Rattle.redcode_text.specs.Tokens.{name_index, with_name};
 
-use crate::shortcuts::long_names::LONG;
 use crate::shortcuts::seed::Seed;
-use indexmap::{IndexMap, IndexSet};
+use indexmap::IndexSet;
 use std::alloc::{AllocError, Global};
 use std::marker::Model;
 
@@ -14,8 +13,6 @@ use std::marker::Model;
 #[derive(Drop)]
 pub struct Texts {
     texts: IndexSet<String, Seed>,
-    /// The indices of the long texts, by the places in the source where they stand: guesses, which are tested.
-    guesses: IndexMap<usize, usize>,
 }
 
 impl Model for Texts {
@@ -33,48 +30,11 @@ impl Texts {
     {
         Texts {
             texts: IndexSet::with_hasher(alloc, seed),
-            guesses: IndexMap::new(alloc),
         }
-    }
-
-    /// The index of a text that stands at a place of the source; it is added where it is new. A long one is compared with
-    /// the text that was found at its place before, so that it isn't hashed in each round of its loop.
-    pub fn index_at(
-        &mut self,
-        alloc: Global,
-        text: &[u8],
-        place: usize,
-    ) -> Result<usize, AllocError>
-        requires ascii { IsAscii text.now }
-        ensures index { IfOk result (λ n. n ≡ name_index self.old text.now) }
-        ensures texts { OnOk result (self.new ≡ with_name self.old text.now) }
-        ensures grown { IsFrontOf self.old self.new }
-    {
-        if text.len() < LONG {
-            return self.index_of(alloc, text);
-        }
-        if let Some(index) = self.guess(text, place) {
-            return Ok(index);
-        }
-        let index = self.index_of(alloc, text)?;
-        self.guesses.insert(place, index)?;
-        Ok(index)
-    }
-
-    /// The index of a text, if it is the text that was found at a place of the source before.
-    fn guess(&self, text: &[u8], place: usize) -> Option<usize>
-        ensures index { IfSome result (λ n. n ≡ name_index self.now text.now) }
-        ensures there { IfSome result (λ _. with_name self.now text.now ≡ self.now) }
-    {
-        let index = *self.guesses.get(&place)?;
-        if index >= self.texts.len() || self.text_of(index).as_bytes() != text {
-            return None;
-        }
-        Some(index)
     }
 
     /// The index of a text, which is added where it is new.
-    fn index_of(&mut self, alloc: Global, text: &[u8]) -> Result<usize, AllocError>
+    pub fn index_of(&mut self, alloc: Global, text: &[u8]) -> Result<usize, AllocError>
         requires ascii { IsAscii text.now }
         ensures index { IfOk result (λ n. n ≡ name_index self.old text.now) }
         ensures texts { OnOk result (self.new ≡ with_name self.old text.now) }

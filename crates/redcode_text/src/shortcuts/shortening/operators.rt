@@ -1,8 +1,8 @@
 //! Where operators stand among tokens.
-ghost use Rattle.std.specs.Prelude.{◌≡◌};
+ghost use Rattle.std.specs.Prelude.{◌≡◌, ◌≤◌, true, length};
 ghost use Rattle.redcode_text.specs.Expression.{ends_operand};
 
-use crate::token::{Sign, TokenKind};
+use crate::token::{Sign, Token, TokenKind};
 
 /// Whether a token is the last of an operand.
 pub fn ends_operand(kind: TokenKind) -> bool
@@ -11,6 +11,16 @@ pub fn ends_operand(kind: TokenKind) -> bool
     match kind {
         TokenKind::Sign(sign) => sign == Sign::CloseParen,
         TokenKind::Number(_) | TokenKind::Name(_) => true,
+    }
+}
+
+/// Whether a token is this sign.
+pub fn is_sign(kind: TokenKind, wanted: Sign) -> bool
+    ensures { result ≡ true → kind ≡ TokenKind.Sign wanted }
+{
+    match kind {
+        TokenKind::Sign(sign) => sign == wanted,
+        TokenKind::Number(_) | TokenKind::Name(_) => false,
     }
 }
 
@@ -46,4 +56,19 @@ impl Operators {
         }
         if is_operator { Some(sign) } else { None }
     }
+}
+
+/// Where the next operator stands outside parentheses, from where an operand begins, or where the tokens end.
+pub fn next_operator(tokens: &[Token], from: usize) -> usize
+    requires { from ≤ length tokens.now }
+    ensures low { from ≤ result }
+    ensures high { result ≤ length tokens.now }
+{
+    let mut operators = Operators::new();
+    for at in from..tokens.len() {
+        if operators.next(tokens[at].kind).is_some() {
+            return at;
+        }
+    }
+    tokens.len()
 }

@@ -5,11 +5,12 @@ ghost use Rattle.redcode_text.specs.declared.token.TokenKind.{TokenKind};
 ghost use Rattle.redcode_text.specs.declared.token.TokenKind.TheVariants.{Name};
 ghost use Rattle.redcode_text.specs.Code.Shortening.{ExpressionStands, LineStands, both, named};
 ghost use Rattle.redcode_text.specs.Equates.{Equate, equate_lines, one_line, token_lines};
-ghost use Rattle.redcode_text.specs.Shortening.{IsLinear, NameStands};
+ghost use Rattle.redcode_text.specs.Shortening.{NameStands};
 
 use crate::limits::MAX_REPLACED;
 use crate::shortcuts::shortening::inside::may_follow;
-use crate::token::{Sign, Token, TokenKind};
+use crate::shortcuts::shortening::linear::is_linear;
+use crate::token::Token;
 use std::alloc::Global;
 
 /// What it costs to replace EQU names.
@@ -58,17 +59,6 @@ impl Cost {
             count: self.count.checked_add(1)?,
             depth: self.depth.checked_add(1)?,
         })
-    }
-}
-
-/// Whether a token is a number or a name, + or -, or a parenthesis.
-fn is_linear(kind: TokenKind) -> bool
-    ensures { result ≡ true → IsLinear kind }
-{
-    match kind {
-        TokenKind::Number(_) | TokenKind::Name(_) => true,
-        TokenKind::Sign(Sign::Plus | Sign::Minus | Sign::OpenParen | Sign::CloseParen) => true,
-        TokenKind::Sign(_) => false,
     }
 }
 

@@ -7,9 +7,11 @@ ghost use Rattle.redcode_text.specs.Expression.{kinds};
 ghost use Rattle.redcode_text.specs.Shortening.{StandIn};
 
 use crate::expression::Env;
+use crate::shortcuts::shortening::chains::{put_chain, split_chain};
 use crate::shortcuts::shortening::groups::short_groups;
 use crate::shortcuts::shortening::inside::are_inside;
 use crate::shortcuts::shortening::products::short_product;
+use crate::shortcuts::shortening::quotients::short_quotient;
 use crate::shortcuts::shortening::short::Short;
 use crate::shortcuts::shortening::sums::short_sum;
 use crate::token::{Sign, Token, TokenKind};
@@ -45,14 +47,55 @@ fn with_short_sum<E: Env>(alloc: Global, tokens: Vec<Token>, env: &E) -> Vec<Tok
     }
 }
 
-/// Tokens with a product in short, if they are one, and are still too many.
+/// Tokens with a product or a quotient in short, if they are one, and are still too many.
 fn with_short_product<E: Env>(alloc: Global, tokens: Vec<Token>, env: &E) -> Vec<Token>
     ensures { StandIn (E.value_of env.now) (kinds tokens.items) (kinds result.items) }
 {
     if tokens.len() <= LONGEST {
         return tokens;
     }
-    match short_product(alloc, &tokens, env) {
+    if let Some(short) = short_product(alloc, &tokens, env) {
+        return short;
+    }
+    match short_quotient(alloc, &tokens, env) {
+        Some(short) => short,
+        None => tokens,
+    }
+}
+
+/// Tokens with a sum in short, if they are one, or with the product at their front. None for want of memory.
+fn short_terms<E: Env>(alloc: Global, tokens: &[Token], env: &E) -> Option<Vec<Token>>
+    ensures { IfSome result (λ short. StandIn (E.value_of env.now) (kinds tokens.now) (kinds short.items)) }
+{
+    let Ok(copy) = Vec::from_slice(alloc, tokens) else {
+        return None;
+    };
+    let summed = with_short_sum(alloc, copy, env);
+    Some(with_short_product(alloc, summed, env))
+}
+
+/// Tokens with chains of operators of this precedence, and of tighter ones, in short: the operands before and behind a chain, and all
+/// between in two operators. None for want of memory, or where an operand between isn't worth a value of its own.
+fn short_chains<E: Env>(alloc: Global, tokens: &[Token], loosest: u8, env: &E) -> Option<Vec<Token>>
+    ensures { IfSome result (λ short. StandIn (E.value_of env.now) (kinds tokens.now) (kinds short.items)) }
+{
+    if loosest < 3 {
+        return short_terms(alloc, tokens, env);
+    }
+    let Some((front, middle, operator, operand)) = split_chain(tokens, loosest) else {
+        return short_chains(alloc, tokens, loosest - 1, env);
+    };
+    let mut short = short_chains(alloc, front, loosest - 1, env)?;
+    let last = short_chains(alloc, operand, loosest - 1, env)?;
+    put_chain(middle, operator, &last, loosest, env, &mut short)?;
+    Some(short)
+}
+
+/// Tokens with their chains in short, where that can be.
+fn with_short_chains<E: Env>(alloc: Global, tokens: Vec<Token>, env: &E) -> Vec<Token>
+    ensures { StandIn (E.value_of env.now) (kinds tokens.items) (kinds result.items) }
+{
+    match short_chains(alloc, &tokens, 5, env) {
         Some(short) => short,
         None => tokens,
     }
@@ -73,8 +116,7 @@ impl Short {
             is_linear,
         } = self;
         let grouped = without_groups(alloc, tokens, env);
-        let summed = with_short_sum(alloc, grouped, env);
-        let tokens = with_short_product(alloc, summed, env);
+        let tokens = with_short_chains(alloc, grouped, env);
         if !are_inside(&tokens) {
             return None;
         }

@@ -12,6 +12,9 @@ use std::marker::Model;
 /// How many tokens an EQU name may stand for in short.
 const MOST_TOKENS: usize = 512;
 
+/// How many tokens are kept for all names: some 20 MB. Where sources have more, those of the last names aren't known.
+const ALL_TOKENS: usize = 1 << 19;
+
 /// What EQU names stand for in short under what names stand for, by their indices among the names.
 #[derive(Drop)]
 pub struct Shorts {
@@ -20,6 +23,8 @@ pub struct Shorts {
     tried: IndexMap<usize, usize>,
     /// How many tokens may still be read or copied to find out more.
     steps: usize,
+    /// How many tokens may still be kept.
+    room: usize,
 }
 
 impl Model for Shorts {
@@ -40,6 +45,7 @@ impl Shorts {
             shorts: IndexMap::new(alloc),
             tried: IndexMap::new(alloc),
             steps,
+            room: ALL_TOKENS,
         }
     }
 
@@ -80,13 +86,16 @@ impl Shorts {
         Some(short.tokens.len())
     }
 
-    /// One name more, if it stands for few tokens in short and there is memory.
+    /// One name more, if it stands for few tokens in short, and there is room and memory.
     pub(crate) fn keep(&mut self, name: usize, short: Short)
         ensures { (equates : List Equate) (names : ℕ → Option ℤ) → NameStands equates names name short
             → AreKnown equates names self.old → AreKnown equates names self.new }
     {
-        if short.tokens.len() <= MOST_TOKENS {
-            let _kept = self.shorts.insert(name, short);
+        let len = short.tokens.len();
+        if len > MOST_TOKENS || len > self.room {
+            return;
         }
+        self.room -= len;
+        let _kept = self.shorts.insert(name, short);
     }
 }

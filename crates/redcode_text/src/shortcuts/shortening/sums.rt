@@ -20,7 +20,7 @@ ghost use Rattle.redcode_text.specs.Shortening.{StandIn};
 
 use crate::expression::Env;
 use crate::shortcuts::shortening::operators::{Operators, ends_operand};
-use crate::shortcuts::shortening::worth::{Worth, put_nested, worth_of};
+use crate::shortcuts::shortening::worth::{Worth, put_kind, put_nested, worth_of};
 use crate::token::{Sign, Token, TokenKind};
 use std::alloc::Global;
 
@@ -110,13 +110,7 @@ fn put_term(minus: bool, worth: Worth, place: Token, tokens: &mut Vec<Token>) ->
     ensures { IfSome result (λ _. kinds tokens.new.items ≡ kinds tokens.old.items ++ term_of minus worth) }
 {
     let sign = if minus { Sign::Minus } else { Sign::Plus };
-    let sign = Token {
-        kind: TokenKind::Sign(sign),
-        ..place
-    };
-    let Ok(_) = tokens.push(sign) else {
-        return None;
-    };
+    put_kind(TokenKind::Sign(sign), place, tokens)?;
     put_nested(tokens, place, worth)
 }
 

@@ -139,8 +139,8 @@ impl Equates {
         if !self.has_long_name() {
             return shorts;
         }
-        for name in self.lines.keys() {
-            self.know_name(alloc, *name, env, &mut shorts);
+        for equate in &self.lines {
+            self.know_name(alloc, equate.name, env, &mut shorts);
         }
         shorts
     }

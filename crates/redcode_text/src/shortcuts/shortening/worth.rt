@@ -1,5 +1,5 @@
 //! The value of tokens that stand among others.
-ghost use Rattle.std.specs.Prelude.{◌≡◌, ◌++◌, false, IfSome, replicate};
+ghost use Rattle.std.specs.Prelude.{◌≡◌, ◌∷◌, ◌++◌, [], false, IfSome, replicate};
 ghost use Rattle.redcode_text.specs.Code.Nesting.{AreNested, IsNext, IsNoLooser};
 ghost use Rattle.redcode_text.specs.Code.Worth.{IsWorth, nested};
 ghost use Rattle.redcode_text.specs.Expression.{depth_after, kinds};
@@ -97,18 +97,22 @@ pub fn worth_of<E: Env>(tokens: &[Token], loosest: u8, env: &E) -> Option<Worth>
     Some(Worth { value, nesting })
 }
 
+/// Puts a token of a kind behind others, at another token's place. None where memory is wanting.
+pub fn put_kind(kind: TokenKind, place: Token, tokens: &mut Vec<Token>) -> Option<()>
+    ensures { IfSome result (λ _. kinds tokens.new.items ≡ kinds tokens.old.items ++ kind ∷ []) }
+{
+    let Ok(()) = tokens.push(Token { kind, ..place }) else {
+        return None;
+    };
+    Some(())
+}
+
 /// Puts a sign so many times behind tokens, at another token's place. None where memory is wanting.
 fn put_times(tokens: &mut Vec<Token>, place: Token, sign: Sign, count: usize) -> Option<()>
     ensures { IfSome result (λ _. kinds tokens.new.items ≡ kinds tokens.old.items ++ replicate count (TokenKind.Sign sign)) }
 {
-    let token = Token {
-        kind: TokenKind::Sign(sign),
-        ..place
-    };
     for _put in 0..count {
-        let Ok(()) = tokens.push(token) else {
-            return None;
-        };
+        put_kind(TokenKind::Sign(sign), place, tokens)?;
     }
     Some(())
 }
@@ -118,12 +122,6 @@ pub fn put_nested(tokens: &mut Vec<Token>, place: Token, worth: Worth) -> Option
     ensures { IfSome result (λ _. kinds tokens.new.items ≡ kinds tokens.old.items ++ nested worth.nesting worth.value) }
 {
     put_times(tokens, place, Sign::OpenParen, worth.nesting)?;
-    let number = Token {
-        kind: TokenKind::Number(worth.value),
-        ..place
-    };
-    let Ok(()) = tokens.push(number) else {
-        return None;
-    };
+    put_kind(TokenKind::Number(worth.value), place, tokens)?;
     put_times(tokens, place, Sign::CloseParen, worth.nesting)
 }

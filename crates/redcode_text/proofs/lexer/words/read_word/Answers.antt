@@ -1,4 +1,4 @@
-use Rattle.std.proofs.Common.{◌∙◌, ◌++◌, ◌≤◌, List, ℕ, length, drop, take, ap, subst, sym}
+use Rattle.std.proofs.Common.{◌∙◌, ◌+◌, ◌++◌, ◌≤◌, List, ℕ, length, drop, take, ap, subst, sym}
 use Rattle.std.proofs.lemmas.Result.{err_from_is_err_and}
 use Rattle.std.proofs.lemmas.List.{take_rest}
 use Rattle.redcode_text.specs.Results.{◌>>=◌}
@@ -6,7 +6,8 @@ use Rattle.redcode_text.specs.Code.Problems.{Fails, Gives}
 use Rattle.redcode_text.specs.Code.Scanning.{with_names}
 use Rattle.redcode_text.specs.Tokens.{joined, round_of, word_found}
 use Rattle.redcode_text.proofs.Failing.{fails-bind}
-use Rattle.redcode_text.proofs.Joins.{behind, joined-behind, joined-none, part_len}
+use Rattle.redcode_text.proofs.Joins.{behind, joined-behind, joined-none, moved, part_len}
+use Rattle.redcode_text.proofs.Placed.{front-stands}
 use Rattle.redcode_text.proofs.lexer.words.read_word.Goals as goal
 
 pub returns-then-not-has_joins-clause-value : goal.returns-then-not-has_joins-clause-value
@@ -15,7 +16,7 @@ returns-then-not-has_joins-clause-value c =
 
 pub returns-in_err-end-clause-value : goal.returns-in_err-end-clause-value
 returns-in_err-end-clause-value c =
-    let word = c.args.word.bytes.now in let loops = c.args.loops.now in let names = c.args.names.now in let at = c.kept_len-at.result in let problem = c.in_err-end.field-0.0 in
+    let word = c.args.word.bytes.now in let loops = c.args.loops.now in let names = c.args.names.now.table in let at = c.kept_len-at.result in let problem = c.in_err-end.field-0.0 in
     let found = λ (w : List ℕ). word_found names (length word) w (round_of loops w) in
     let inside : at ≤ part_len word = c.kept_len-at.ensures.first in
     let rest = subst (λ r. Fails problem (joined loops r)) (take_rest word at) c.in_err-end.ensures.value in
@@ -27,7 +28,7 @@ returns-in_err-end-clause-value c =
 
 pub returns-clause-value : goal.returns-clause-value
 returns-clause-value c =
-    let word = c.args.word.bytes.now in let loops = c.args.loops.now in let names = c.args.names.now in let at = c.kept_len-at.result in
+    let word = c.args.word.bytes.now in let loops = c.args.loops.now in let names = c.args.names.now.table in let at = c.kept_len-at.result in
     let found = λ (w : List ℕ). word_found names (length word) w (round_of loops w) in
     let inside : at ≤ part_len word = c.kept_len-at.ensures.first in
     let rest = ap (joined loops) (sym (take_rest word at)) ∙ c.in_ok-end.ensures.value in
@@ -35,4 +36,14 @@ returns-clause-value c =
     ap (λ r. r >>= found) (joined-behind loops at word inside)
     ∙ ap (λ r. behind (take at word) r >>= found) rest
     ∙ ap (λ end. found (take at word ++ end)) (sym c.deref.ensures.value) in
-    subst (Gives (with_names c.parted_word.new.names) c.parted_word.result) (sym whole) c.parted_word.ensures.value
+    let over = c.len_over-over.result in let end = c.deref.result.now in
+    let parts =
+    ap (λ w. take (at + over) word ++ w)
+    (take_rest c.deref-2.result.now over ∙ ap (drop over) (c.deref-2.ensures.value ∙ sym c.deref.ensures.value))
+    ∙ moved at over word end (ap (take over) (sym (take_rest word at)) ∙ c.len_over-over.ensures.same) in
+    subst (Gives (with_names c.parted_word.new.names.table) c.parted_word.result) (sym whole)
+    (subst (λ w. Gives (with_names c.parted_word.new.names.table) c.parted_word.result (found w)) parts c.parted_word.ensures.value)
+
+pub parted_word-requires-clause-placed : goal.parted_word-requires-clause-placed
+parted_word-requires-clause-placed c =
+    let word = c.args.word in front-stands c.args.names.now.source.now word.known.place (c.kept_len-at.result + c.len_over-over.result) word.bytes.now c.requires.placed

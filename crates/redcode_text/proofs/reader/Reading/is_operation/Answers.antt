@@ -7,7 +7,7 @@ use Rattle.redcode_text.proofs.reader.Reading.is_operation.Goals as goal
 
 pub returns-else-is_equate : goal.returns-else-is_equate
 returns-else-is_equate c =
-    let name = name_at c.args.self.now.names c.args.name in
+    let name = name_at c.args.self.now.names.table c.args.name in
     c.is_operation_word.ensures
     ∙ ap (λ word. list_any (str_eq_ignore_ascii_case word) operations) c.word.ensures
     ∙ operation_same name

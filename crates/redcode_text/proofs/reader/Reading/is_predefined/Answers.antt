@@ -9,4 +9,4 @@ pub returns : goal.returns
 returns c =
     let names = c.args.names.now in
     c.is_some.ensures
-    ∙ ap is_some (c.value_at.ensures ∙ ap (predefined_value (with_current_line (predefined_of names) 0)) c.word.ensures ∙ predefined-same names 0 (name_at c.args.self.now.names c.args.name))
+    ∙ ap is_some (c.value_at.ensures ∙ ap (predefined_value (with_current_line (predefined_of names) 0)) c.word.ensures ∙ predefined-same names 0 (name_at c.args.self.now.names.table c.args.name))

@@ -1,5 +1,6 @@
-use Rattle.std.proofs.Common.{◌≡◌, arith, length}
+use Rattle.std.proofs.Common.{◌≡◌, ◌+◌, ◌-◌, arith, drop, length}
 use Rattle.redcode_text.proofs.LongRuns.{part-runs}
+use Rattle.redcode_text.proofs.Placed.{part-back, part-front}
 use Rattle.redcode_text.proofs.RowTokens.{code-is, row-ok, row-fails}
 use Rattle.redcode_text.specs.Code.Readings.{reading_of}
 use Rattle.redcode_text.specs.Views.{scan_of}
@@ -11,7 +12,7 @@ returns-in-Ok-clause-value c =
     let read = c.read_tokens.new.tokens in
     let count : c.len.result ≡ length read.items = omega (arith, c.len.ensures, read.ok.0) in
     row-ok (reading_of c.args.self.now) (row_of c.args.row) c.args.at _ c.new-tokens.result.items (code-is c.args.row.bytes.now c.args.at c.code_len.result c.code_len.ensures.value) c.new-tokens.ensures.items
-    (scan_of read c.read_tokens.new.names) c.len.result count c.in-Ok.ensures.value
+    (scan_of read c.read_tokens.new.names.table) c.len.result count c.in-Ok.ensures.value
 
 pub returns-in-Err-clause-value : goal.returns-in-Err-clause-value
 returns-in-Err-clause-value c =
@@ -21,3 +22,8 @@ returns-in-Err-clause-value c =
 pub invariant_of-code : goal.invariant_of-code
 invariant_of-code c =
     let row = c.args.row in record { are_runs = part-runs row.runs.now row.bytes.now row.at c.args.at c.code_len.result row.are_runs c.code_len.ensures.within }
+
+pub read_tokens-requires-clause-part : goal.read_tokens-requires-clause-part
+read_tokens-requires-clause-part c =
+    let row = c.args.row in let source = c.args.self.now.names.source.now in
+    part-front source (row.at + c.args.at) (c.args.at + c.code_len.result - c.args.at) (drop c.args.at row.bytes.now) (part-back source row.at c.args.at row.bytes.now c.requires.part)

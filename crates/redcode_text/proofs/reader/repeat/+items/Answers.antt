@@ -43,7 +43,7 @@ pub read_rounds-returns-in_err-read_items : goal.read_rounds-returns-in_err-read
 read_rounds-returns-in_err-read_items t c =
     let opened = c.in-Ok.ensures.ok ∙ ap (λ l. l ∷ c.loop-round.reading.loops) (c.new.ensures ∙ ap (λ n. record { counter = n; round = c.loop-round.round }) c.loop-round.invariant.counter) in
     let p = err_from_is_err_and c.from_residual.result c.from_residual.ensures.1 in
-    rw (p.1, p.2) (record { gives = round-fails (flat (predefined_of c.args.names.now) (here_from c.args.source.rows.now c.args.first)) (option_map (λ s. string_bytes s) c.args.head.counter) c.args.head.count c.loop-round.round (reading_of c.loop-round.reading) c.push.new.self (rounds (flat (predefined_of c.args.names.now) (here_from c.args.source.rows.now c.args.first)) (option_map (λ s. string_bytes s) c.args.head.counter) 1 c.args.head.count (reading_of c.args.reading.now)) _ (omega arith) c.loop-round.invariant.same opened c.in_err-read_items.ensures.gives; loops = tt })
+    rw (p.1, p.2) (record { gives = round-fails (flat (predefined_of c.args.names.now) (here_from c.args.source.rows.now c.args.first)) (option_map (λ s. string_bytes s) c.args.head.counter) c.args.head.count c.loop-round.round (reading_of c.loop-round.reading) c.push.new.self (rounds (flat (predefined_of c.args.names.now) (here_from c.args.source.rows.now c.args.first)) (option_map (λ s. string_bytes s) c.args.head.counter) 1 c.args.head.count (reading_of c.args.reading.now)) _ (omega arith) c.loop-round.invariant.same opened c.in_err-read_items.ensures.gives; loops = tt; source = c.in_err-read_items.ensures.source ∙ c.loop-round.invariant.source })
 
 pub read_rounds-returns-then-reading : goal.read_rounds-returns-then-reading
 read_rounds-returns-then-reading t c =
@@ -52,6 +52,7 @@ read_rounds-returns-then-reading t c =
     record {
       gives = round-ended (flat (predefined_of c.args.names.now) (here_from c.args.source.rows.now c.args.first)) (option_map (λ s. string_bytes s) c.args.head.counter) c.args.head.count c.loop-round.round (reading_of c.loop-round.reading) (reading_of c.read_items.new.reading) c.push.new.self c.close-counter.new.self (rounds (flat (predefined_of c.args.names.now) (here_from c.args.source.rows.now c.args.first)) (option_map (λ s. string_bytes s) c.args.head.counter) 1 c.args.head.count (reading_of c.args.reading.now)) (omega arith) c.loop-round.invariant.same opened c.in_ok-read_items.ensures.gives closed c.if-reading.true;
       loops = closed ∙ c.loop-round.invariant.loops;
+      source = c.in_ok-read_items.ensures.source ∙ c.loop-round.invariant.source;
     }
 
 pub read_rounds-loop-round-preserved : goal.read_rounds-loop-round-preserved
@@ -62,6 +63,7 @@ read_rounds-loop-round-preserved t c =
       same = round-done (flat (predefined_of c.args.names.now) (here_from c.args.source.rows.now c.args.first)) (option_map (λ s. string_bytes s) c.args.head.counter) c.args.head.count c.loop-round.round (reading_of c.loop-round.reading) (reading_of c.read_items.new.reading) c.push.new.self c.close-counter.new.self (rounds (flat (predefined_of c.args.names.now) (here_from c.args.source.rows.now c.args.first)) (option_map (λ s. string_bytes s) c.args.head.counter) 1 c.args.head.count (reading_of c.args.reading.now)) (omega arith) c.loop-round.invariant.same opened c.in_ok-read_items.ensures.gives closed c.if-reading.false;
       counter = c.close-counter.ensures.counter ∙ ap innermost_counter (c.in_ok-read_items.ensures.loops ∙ opened);
       loops = closed ∙ c.loop-round.invariant.loops;
+      source = c.in_ok-read_items.ensures.source ∙ c.loop-round.invariant.source;
     }
 
 pub read_rounds-returns-in-Rof-clause-gives : goal.read_rounds-returns-in-Rof-clause-gives

@@ -19,6 +19,7 @@ invariant-read_items-loop-at l = record {
   within : l.at ≤ length l.source.rows.now;
   same : flat (predefined_of l.names) (here_from l.source.rows.now l.at) (reading_of l.reading) ≡ flat (predefined_of l.names) (here_from l.source.rows.now l.fn.first) (reading_of l.fn.reading);
   loops : l.reading.loops ≡ l.fn.reading.loops;
+  source : l.reading.names.source.now ≡ l.fn.reading.names.source.now;
 }
 
 abbrev pub decreases-read_items-loop-at : goal.decreases-read_items-loop-at
@@ -31,4 +32,5 @@ invariant-read_rounds-loop-round l = record {
       ≡ rounds (flat (predefined_of l.names) (here_from l.source.rows.now l.first)) (option_map (λ s. string_bytes s) l.fn.head.counter) 1 l.count (reading_of l.fn.reading);
   counter : option_map (λ s. string_bytes s) l.counter ≡ option_map (λ s. string_bytes s) l.fn.head.counter;
   loops : l.reading.loops ≡ l.fn.reading.loops;
+  source : l.reading.names.source.now ≡ l.fn.reading.names.source.now;
 }

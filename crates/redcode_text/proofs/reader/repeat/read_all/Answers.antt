@@ -17,4 +17,4 @@ returns-then-reading c =
 pub returns : goal.returns
 returns c =
     rw (lone-at (predefined_of c.args.names.now) c.args.rows.now _ c.index-rows-end.result (reading_of c.args.reading.now) (reading_of c.read_items.new.reading) c.requires.going c.in_ok-read_items.ensures.gives c.if-reading.false c.end_from-end.ensures c.if-end-rows.false c.index-rows-end.is)
-    c.refuse_unpaired.ensures
+    c.refuse_unpaired.ensures.gives

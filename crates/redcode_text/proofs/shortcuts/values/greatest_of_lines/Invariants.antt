@@ -1,6 +1,7 @@
 use Rattle.std.proofs.Common.{map, take}
 use Rattle.redcode_text.specs.Code.Values.{EquatesUpTo}
+use Rattle.redcode_text.specs.Views.{equate_of}
 use Rattle.redcode_text.proofs.shortcuts.values.greatest_of_lines.Given as goal
 
-abbrev pub invariant-loop-at : goal.invariant-loop-at
-invariant-loop-at l = EquatesUpTo l.greatest (map (λ e. record { name = e.0; lines = map (λ line. line.items) e.1.items }) (take l.at l.lines.entries))
+abbrev pub invariant-loop-equate : goal.invariant-loop-equate
+invariant-loop-equate l = EquatesUpTo l.greatest (map equate_of (take l.equate-index l.equates))

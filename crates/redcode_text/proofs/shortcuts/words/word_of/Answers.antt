@@ -2,6 +2,7 @@ use Rattle.std.proofs.Common.{◌≡◌, ◌∙◌, ◌+◌, ap, arith, length, 
 use Rattle.std.proofs.lemmas.List.{length-take-le, take_rest}
 use Rattle.redcode_text.specs.Tokens.{word_len}
 use Rattle.redcode_text.proofs.LongRuns.{word-behind}
+use Rattle.redcode_text.proofs.Placed.{front-stands}
 use Rattle.redcode_text.proofs.WordSteps.{word-ascii, word_len-some, word_len-within}
 use Rattle.redcode_text.proofs.shortcuts.words.word_of.Goals as goal
 use Rattle.redcode_text.specs.declared.shortcuts.words.KnownStart.{KnownStart}
@@ -22,3 +23,6 @@ pub returns-clause-some : goal.returns-clause-some
 returns-clause-some c =
     let bs = c.args.bytes.now in
     rw (len-is c.args.known bs c.word_len.result c.requires c.word_len.ensures.value) (λ e. omega (arith, word_len-some bs e, length-take-le (word_len bs) bs (word_len-within bs)))
+
+pub returns-clause-placed : goal.returns-clause-placed
+returns-clause-placed c source h = front-stands source c.args.known.place (c.args.known.plain + c.word_len.result) c.args.bytes.now h

@@ -13,7 +13,7 @@ pub returns : goal.returns
 returns g c =
     let equates = c.args.self.now in let names = g.E.Env.value_of c.args.env.now in let k = c.index-known.result.now in
     let all = c.self.inside.known.values.items in
-    let are : All (IsKnown equates) all = subst (λ es. All (IsKnown es) all) c.self.view_is (kept-all _ c.self.inside.known.last all c.self.invariant) in
+    let are : All (IsKnown equates) all = subst (λ es. All (IsKnown es) all) c.self.view_is (kept-all _ c.self.inside.known.last all c.self.invariant.0) in
     let is : IsKnown equates k = subst (IsKnown equates) (sym c.index-known.ensures) (All-get_or (IsKnown equates) all c.in_ok-place.place k (search rules) are) in
     subst (IsValued equates names c.args.tokens.now) (sym (to_z-of_z w64 k.value (search rules)))
     (valued-on equates (value_among k.names.items) names c.args.tokens.now k.value

@@ -1,6 +1,7 @@
 use Rattle.std.proofs.Common.{arith, subst, sym}
+use Rattle.redcode_text.specs.declared.token.Sign.TheVariants.{Star}
 use Rattle.redcode_text.specs.Code.Products.{IsProduct}
-use Rattle.redcode_text.proofs.Products.{take-factor}
+use Rattle.redcode_text.proofs.Triples.{take-number}
 use Rattle.redcode_text.proofs.shortcuts.shortening.products.factors_of.Goals as goal
 
 pub factors-init : goal.factors-init
@@ -12,6 +13,8 @@ factors-preserved g c =
     record {
       inside = c.next_operator-next.ensures.high;
       product =
-          subst (λ xs. IsProduct names xs c.in_ok-product.product) (sym (take-factor tokens c.factors.at next _ (omega (arith, c.next_operator-next.ensures.low)) c.next_operator-next.ensures.high (c.is_star.ensures c.if-is_star.true)))
+          subst (λ xs. IsProduct names xs c.in_ok-product.product)
+          (sym (take-number tokens c.factors.at next _ Star (omega (arith, c.next_operator-next.ensures.low))
+          c.next_operator-next.ensures.high (c.is_sign.ensures c.if-is_sign.true)))
           (c.in_ok-product.ensures names _ _ c.factors.invariant.product c.in_ok-worth_of.ensures);
     }

@@ -8,7 +8,7 @@ use Rattle.redcode_text.proofs.shortcuts.shortening.short.Short.shorter.Goals as
 pub returns : goal.returns
 returns g c equates tokens s = let self = c.args.self in let made = c.deref.ensures.value in
     stands-shorter (replaces_line equates tokens) (g.E.Env.value_of c.args.env.now) self.is_linear self.cost self.tokens.items
-    c.without_groups-grouped.result.items c.with_short_sum-summed.result.items c.with_short_product-tokens.result.items (omega arith)
-    c.without_groups-grouped.ensures c.with_short_sum-summed.ensures c.with_short_product-tokens.ensures
+    c.without_groups-grouped.result.items c.with_short_chains-tokens.result.items (omega arith)
+    c.without_groups-grouped.ensures c.with_short_chains-tokens.ensures
     (subst (λ ts. Begins (kinds ts)) made (c.are_inside.ensures.begin c.if-not-are_inside.false))
     (subst (λ ts. list_any (λ t. is_comma t.kind) ts ≡ false) made (c.are_inside.ensures.inside c.if-not-are_inside.false)) s
