@@ -24,4 +24,5 @@ pub mod AlikeSources
 pub mod Parts
 pub mod ShortCells
 pub mod PlaceShorts
+pub mod LineAsserts
 pub mod LineCells

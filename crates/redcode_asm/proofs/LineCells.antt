@@ -6,6 +6,7 @@ use Rattle.std.proofs.lemmas.List.Elements.{All-cons, All-nil}
 use Rattle.std.specs.List.{All}
 use Rattle.std.specs.Str.{bytes_eq}
 use Rattle.mars_cell.specs.Numbers.{residue}
+use Rattle.mars_cell.specs.declared.instruction.Cell.{Cell}
 use Rattle.mars_cell.specs.declared.instruction.Mode.{Mode}
 use Rattle.mars_cell.specs.declared.instruction.Modifier.{Modifier}
 use Rattle.mars_cell.specs.declared.instruction.Op.{Op}
@@ -18,7 +19,7 @@ use Rattle.redcode_text.specs.Shortening.{IsLinear, IsShort, Shortened, are_line
 use Rattle.redcode_text.proofs.CallerLemmas.{AreOnLine, NamesOnLines, value-on-line, value-short}
 use Rattle.redcode_asm.specs.Assembly.{Operands, cell_from, cell_with, expressed, given_operands, label_among, name_value, operand_value}
 use Rattle.redcode_asm.specs.Assembly.{placed, split_mode, texted, value_or}
-use Rattle.redcode_asm.specs.Code.OnLines.{IsBetween, IsGivenBetween, IsOperandBetween}
+use Rattle.redcode_asm.specs.Code.OnLines.{IsBetween, IsCellBetween, IsGivenBetween, IsOperandBetween}
 use Rattle.redcode_asm.specs.Code.PlaceShorts.{last_index}
 use Rattle.redcode_asm.specs.Code.Sources.{cell_written}
 use Rattle.redcode_asm.proofs.ShortCells.{IsOperandShort, linear-long, operands-short, short-mode}
@@ -39,15 +40,15 @@ flat-middle v i = omega (arith, ints)
 
 -- ---- names
 
-abbrev value_by : ℕ → Option ℕ → Bool → Option ℤ → Option ℤ
+abbrev pub value_by : ℕ → Option ℕ → Bool → Option ℤ → Option ℤ
 value_by i o b w = value_or (option_map (λ j. pos j -ℤ pos i) o) (elim b as (λ _. Option ℤ) [ true ↦ Some (pos i) | false ↦ w ])
 
-abbrev OnLine : ℕ → Option ℤ → Option ℤ → Option ℤ → Type 0
+abbrev pub OnLine : ℕ → Option ℤ → Option ℤ → Option ℤ → Type 0
 OnLine index x y z =
     ((x ≡ None) × (y ≡ None))
     ⊎ ((a : ℤ) × (v : ℤ) × (b : ℤ) × (x ≡ Some a) × (y ≡ Some v) × (z ≡ Some b) × AreOnLine index last_index a v b)
 
-name-line : (index : ℕ) (o : Option ℕ) (b : Bool) (w : Option ℤ)
+pub name-line : (index : ℕ) (o : Option ℕ) (b : Bool) (w : Option ℤ)
     → OnLine index (value_by 0 o b w) (value_by index o b w) (value_by last_index o b w)
 name-line index (Some j) b w =
     inr (
@@ -108,19 +109,24 @@ between-from index first start slope end reached (Some v) same far is h =
     let begin = λ (at : ℕ). ap (λ (z : ℤ). z +ℤ slope *ℤ pos at) same in
     record { slope = slope; middle = h ∙ begin index; far = sym is ∙ far ∙ begin last_index }
 
+-- tokens that are linear are worth at a place what lies between what they are worth in short at the ends
+pub value-at : (index : ℕ) → index ≤ last_index → (names at ends : ℕ → Option ℤ) → NamesOnLines index last_index names at ends
+    → (ts first last : List Token) (linear : Bool) (start value end : ℤ) → IsShort names true ts first
+    → IsShort ends linear ts last → are_linear first ≡ true → value_of names (kinds first) ≡ Ok start
+    → value_of ends (kinds last) ≡ Ok end → IsBetween index start value end → value_of at (kinds ts) ≡ Ok value
+value-at index inside names at ends lines ts first last linear start value end h k all e f between =
+    let on = value-on-line index last_index inside names at ends lines (kinds ts)
+    (linear-long names true ts first refl h (all-linear first all))
+    start end (value-short names true ts first start h e) (value-short ends linear ts last end k f) in
+    on.1 ∙ ap Ok (value-between index start on.0 value end on.2 between)
+
+pub ok-same : {A E : Type 0} (r : Result A E) (x y : A) → r ≡ Ok x → r ≡ Ok y → x ≡ y
+ok-same (Ok z) x y h k = cc
+ok-same (Err e) x y h k = cc
+
 module _ (ps : Predefined) (source : ProgramValue) (m index : ℕ) (inside : index ≤ last_index) where
   abbrev names_at : ℕ → ℕ → Option ℤ
   names_at i = name_value ps source i i
-
-  value-at : (ts first last : List Token) (linear : Bool) (start value end : ℤ) → IsShort (names_at 0) true ts first
-      → IsShort (names_at last_index) linear ts last → are_linear first ≡ true → value_of (names_at 0) (kinds first) ≡ Ok start
-      → value_of (names_at last_index) (kinds last) ≡ Ok end → IsBetween index start value end
-      → value_of (names_at index) (kinds ts) ≡ Ok value
-  value-at ts first last linear start value end h k all e f between =
-      let on = value-on-line index last_index inside (names_at 0) (names_at index) (names_at last_index)
-      (names-on-lines ps source index) (kinds ts) (linear-long (names_at 0) true ts first refl h (all-linear first all))
-      start end (value-short (names_at 0) true ts first start h e) (value-short (names_at last_index) linear ts last end k f) in
-      on.1 ∙ ap Ok (value-between index start on.0 value end on.2 between)
 
   operand-at : (ts first last : List Token) (linear : Bool) (made : Mode × ℕ) → IsShort (names_at 0) true ts first
       → IsShort (names_at last_index) linear ts last → IsOperandBetween ps source m index first last made
@@ -129,7 +135,8 @@ module _ (ps : Predefined) (source : ProgramValue) (m index : ℕ) (inside : ind
       let p = short-mode (names_at 0) true ts first h in
       let q = short-mode (names_at last_index) linear ts last k in
       ap (λ r. expressed r >>= λ v. Ok ((split_mode ts).0, residue m v))
-      (value-at (split_mode ts).1 (split_mode first).1 (split_mode last).1 linear is.start is.value is.end p.1 q.1 is.linear
+      (value-at index inside (names_at 0) (names_at index) (names_at last_index) (names-on-lines ps source index)
+      (split_mode ts).1 (split_mode first).1 (split_mode last).1 linear is.start is.value is.end p.1 q.1 is.linear
       is.at_first is.at_last is.between)
       ∙ ap (λ mode. Ok (mode, residue m is.value)) p.0
       ∙ ap Ok (sym is.is)
@@ -146,10 +153,6 @@ module _ (ps : Predefined) (source : ProgramValue) (m index : ℕ) (inside : ind
 
   -- ---- a cell
 
-  ok-same : {A E : Type 0} (r : Result A E) (x y : A) → r ≡ Ok x → r ≡ Ok y → x ≡ y
-  ok-same (Ok z) x y h k = cc
-  ok-same (Err e) x y h k = cc
-
   cell-at : (o : Op) (given : Option Modifier) (made : List Token) (x : Operands) (a b : Mode × ℕ) → given_operands o made ≡ Ok x
       → operand_value m (names_at index) x.a ≡ Ok a → operand_value m (names_at index) x.b ≡ Ok b
       → cell_from m (names_at index) o given made ≡ Ok (cell_with o given a b)
@@ -159,21 +162,20 @@ module _ (ps : Predefined) (source : ProgramValue) (m index : ℕ) (inside : ind
       ∙ ap (λ r. r >>= λ a. operand_value m (names_at index) x.b >>= λ b. Ok (cell_with o given a b)) f
       ∙ ap (λ r. r >>= λ b. Ok (cell_with o given a b)) g
 
-  pub line-made : (o : Op) (given : Option Modifier) (rest first last : List Token) (linear other : Bool) (starts ends : Operands)
-      (a b : Mode × ℕ) → Shortened source.equates (names_at 0) rest first linear
-      → Shortened source.equates (names_at last_index) rest last other → linear ≡ true
-      → given_operands o first ≡ Ok starts → given_operands o last ≡ Ok ends
-      → IsGivenBetween ps source m index starts.a ends.a a → IsGivenBetween ps source m index starts.b ends.b b
-      → cell_written source m (names_at index) o given rest ≡ Ok (cell_with o given a b)
-  line-made o given rest first last linear other starts ends a b h k is e f on-a on-b =
+  pub line-made : (o : Op) (given : Option Modifier) (rest first last : List Token) (linear other : Bool) (cell : Cell)
+      → Shortened source.equates (names_at 0) rest first linear → Shortened source.equates (names_at last_index) rest last other
+      → linear ≡ true → IsCellBetween ps source m index o given first last cell
+      → cell_written source m (names_at index) o given rest ≡ Ok cell
+  line-made o given rest first last linear other cell h k is on =
       let same = ok-same _ k.made h.made k.replaced h.replaced in
       let short = subst (λ l. IsShort (names_at 0) l h.made first) is h.is in
-      let x = operands-short (names_at 0) true o h.made first starts short e in
-      let y = operands-short (names_at last_index) other o h.made last ends
-      (subst (λ (ts : List Token). IsShort (names_at last_index) other ts last) same k.is) f in
+      let x = operands-short (names_at 0) true o h.made first on.starts short on.at_first in
+      let y = operands-short (names_at last_index) other o h.made last on.ends
+      (subst (λ (ts : List Token). IsShort (names_at last_index) other ts last) same k.is) on.at_last in
       let given-same : y.given ≡ x.given = ok-same _ y.given x.given y.is x.is in
-      let y-a = subst (λ (g : Operands). IsOperandShort (names_at last_index) other g.a ends.a) given-same y.a in
-      let y-b = subst (λ (g : Operands). IsOperandShort (names_at last_index) other g.b ends.b) given-same y.b in
+      let y-a = subst (λ (g : Operands). IsOperandShort (names_at last_index) other g.a on.ends.a) given-same y.a in
+      let y-b = subst (λ (g : Operands). IsOperandShort (names_at last_index) other g.b on.ends.b) given-same y.b in
       ap (λ r. texted r >>= cell_from m (names_at index) o given) h.replaced
-      ∙ cell-at o given h.made x.given a b x.is (given-at x.given.a starts.a ends.a other a x.a y-a on-a)
-      (given-at x.given.b starts.b ends.b other b x.b y-b on-b)
+      ∙ cell-at o given h.made x.given on.a on.b x.is (given-at x.given.a on.starts.a on.ends.a other on.a x.a y-a on.a_is)
+      (given-at x.given.b on.starts.b on.ends.b other on.b x.b y-b on.b_is)
+      ∙ ap Ok (sym on.is)

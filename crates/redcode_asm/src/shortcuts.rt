@@ -9,8 +9,8 @@
 //! - `fixed_names`: what names stand for wherever they stand. Neither a label nor CURLINE is among them, and under these both
 //!   are evaluated first.
 //! - `place_shorts`, `program_shorts`: what EQU names stand for in short, found out once for a program.
-//! - `line_cells`: instructions whose operands lie on a line, from the first place to the last, as they do where they depend on
-//!   their place by labels and CURLINE alone.
+//! - `line_cells`, `line_asserts`, `line_values`: instructions and asserts whose values lie on a line, from the first place to the
+//!   last, as they do where they depend on their place by labels and CURLINE alone, and are sums of them.
 //! - `short_cells`, and `short_assert` of `held_asserts`: operands and asserts whose EQU names stand for many tokens, which are
 //!   evaluated in fewer. Such a one may have another value in each line, as `DAT e15+i` in a loop with a counter i.
 //!
@@ -21,7 +21,9 @@
 mod fixed_cells;
 mod fixed_names;
 mod held_asserts;
+mod line_asserts;
 mod line_cells;
+mod line_values;
 mod place_shorts;
 mod program_shorts;
 mod short_cells;

@@ -117,6 +117,16 @@ impl<'a> Source<'a> {
         }
     }
 
+    /// What names stand for in an assert behind so many instructions.
+    pub fn assert_names(&self, index: u32) -> AssertNames<'a>
+        ensures { result ≡ record { source = self.now; index = index } }
+    {
+        AssertNames {
+            source: *self,
+            index,
+        }
+    }
+
     /// What names stand for in an ORG or an END behind so many instructions: a label is the index of its instruction.
     pub fn start_names(&self, index: u32) -> LineNames<'a>
         ensures { result ≡ record { source = self.now; origin = 0; index = index } }

@@ -87,5 +87,9 @@ pub fn program_warrior<'p>(
         predefined,
         shorts,
     };
-    source.warrior(alloc, params)
+    let warrior = source.warrior(alloc, params);
+    // by calls, since their drops in this body are dear to prove
+    drop(tables);
+    drop(labels);
+    warrior
 }

@@ -11,7 +11,7 @@ use Rattle.std.specs.Prelude.{slice_index}
 use Rattle.redcode_text.specs.declared.shortcuts.values.KnownValue.{KnownValue}
 use Rattle.redcode_text.specs.declared.token.Token.{Token}
 use Rattle.redcode_text.specs.Code.Values.{AreKept}
-use Rattle.redcode_text.specs.Code.Places.{ArePlaced, equate_place, noted_place}
+use Rattle.redcode_text.specs.Code.Places.{AreNoted, equate_place, noted_place}
 use Rattle.redcode_text.specs.Equates.{Equate, equate_lines}
 use Rattle.redcode_text.specs.Lines.{with_line}
 
@@ -94,7 +94,7 @@ place-other [] e n other = ap (λ b. elim b as (λ _. Option ℕ) [ true ↦ Som
 place-other (x ∷ es) e n other = ap (λ o. elim (n == x.name) as (λ _. Option ℕ) [ true ↦ Some 0 | false ↦ option_map suc o ]) (place-other es e n other)
 
 pub placed-more : (es : List Equate) (places : List ℕ) (e : Equate) (name place : ℕ) → length es ≡ place → e.name ≡ name → equate_lines es name ≡ None
-    → name < length places → ArePlaced es places → ArePlaced (es ++ e ∷ []) (set places name (place + 1))
+    → name < length places → AreNoted es places → AreNoted (es ++ e ∷ []) (set places name (place + 1))
 placed-more es places e name place here named none inside are = record { each = λ n. go n (n == name) refl }
   where
     go : (n : ℕ) (b : Bool) → (n == name) ≡ b → noted_place (slice_index (set places name (place + 1)) n) ≡ equate_place (es ++ e ∷ []) n
@@ -121,7 +121,7 @@ longer [] k n = zeros k n
 longer (p ∷ places) k zero = refl
 longer (p ∷ places) k (suc n) = longer places k n
 
-pub placed-longer : (es : List Equate) (places others : List ℕ) (n k : ℕ) → length places ≤ n → others ≡ take n places ++ replicate k 0 → ArePlaced es places → ArePlaced es others
+pub placed-longer : (es : List Equate) (places others : List ℕ) (n k : ℕ) → length places ≤ n → others ≡ take n places ++ replicate k 0 → AreNoted es places → AreNoted es others
 placed-longer es places others n k all more are =
     record {
       each = λ name.
@@ -137,6 +137,6 @@ kept-more f (Ok tt) entries others e last ks ok err same more = subst (λ l. Are
 kept-more f (Err x) entries others e last ks ok err same more = subst (λ l. AreKept (map f l) last ks) (sym err) same
 
 pub placed-with-line : {X : Type 0} (r : Result (Unit {0}) X) (es others : List Equate) (ts : List Token) (places : List ℕ)
-    → OnOk r (others ≡ with_line es ts) → OnErr r (others ≡ es) → ArePlaced es places → ArePlaced others places
-placed-with-line (Ok tt) es others ts places ok err are = subst (λ l. ArePlaced l places) (sym ok) (record { each = λ n. are.each n ∙ sym (with-line-place es ts n) })
-placed-with-line (Err x) es others ts places ok err are = subst (λ l. ArePlaced l places) (sym err) are
+    → OnOk r (others ≡ with_line es ts) → OnErr r (others ≡ es) → AreNoted es places → AreNoted others places
+placed-with-line (Ok tt) es others ts places ok err are = subst (λ l. AreNoted l places) (sym ok) (record { each = λ n. are.each n ∙ sym (with-line-place es ts n) })
+placed-with-line (Err x) es others ts places ok err are = subst (λ l. AreNoted l places) (sym err) are

@@ -41,25 +41,25 @@ names-first bs i h =
 pub joined-first : (loops : List OpenLoop) (bs : List ℕ) → joined loops bs ≡ join_counters loops (take (part_len bs) bs) (names_of (drop (part_len bs) bs))
 joined-first loops bs = ap (join_parts loops) (parts-first bs)
 
--- the same, with the length of the name as it was found
-names-found : (bs : List ℕ) (i p : ℕ) → i < length bs → p ≡ part_len (drop (i + 1) bs) → names_of (drop i bs) ≡ take (i + 1 + p - (i + 1)) (drop (i + 1) bs) ∷ names_of (drop (i + 1 + p) bs)
-names-found bs i p h e =
-    let q : part_len (drop (i + 1) bs) ≡ i + 1 + p - (i + 1) = omega (arith, e) in
-    names-first bs i h ∙ (λ j. take (q j) (drop (i + 1) bs) ∷ names_of (drop (i + 1 + sym e j) bs))
+-- the same, with the end of the name as it was found
+names-found : (bs : List ℕ) (i to : ℕ) → i < length bs → to ≡ i + 1 + part_len (drop (i + 1) bs) → names_of (drop i bs) ≡ take (to - (i + 1)) (drop (i + 1) bs) ∷ names_of (drop to bs)
+names-found bs i to h e =
+    let q : part_len (drop (i + 1) bs) ≡ to - (i + 1) = omega (arith, e) in
+    names-first bs i h ∙ (λ j. take (q j) (drop (i + 1) bs) ∷ names_of (drop (sym e j) bs))
 
-pub join-ok : (loops : List OpenLoop) (front bs : List ℕ) (i p round : ℕ) → i < length bs → p ≡ part_len (drop (i + 1) bs)
-    → Some round ≡ round_of loops (take (i + 1 + p - (i + 1)) (drop (i + 1) bs))
-    → join_counters loops front (names_of (drop i bs)) ≡ join_counters loops (front ++ round_digits round) (names_of (drop (i + 1 + p) bs))
-join-ok loops front bs i p round h e is =
-    ap (join_counters loops front) (names-found bs i p h e)
-    ∙ ap (λ o. round_or_bad o >>= λ n. join_counters loops (front ++ round_digits n) (names_of (drop (i + 1 + p) bs))) (sym is)
+pub join-ok : (loops : List OpenLoop) (front bs : List ℕ) (i to round : ℕ) → i < length bs → to ≡ i + 1 + part_len (drop (i + 1) bs)
+    → Some round ≡ round_of loops (take (to - (i + 1)) (drop (i + 1) bs))
+    → join_counters loops front (names_of (drop i bs)) ≡ join_counters loops (front ++ round_digits round) (names_of (drop to bs))
+join-ok loops front bs i to round h e is =
+    ap (join_counters loops front) (names-found bs i to h e)
+    ∙ ap (λ o. round_or_bad o >>= λ n. join_counters loops (front ++ round_digits n) (names_of (drop to bs))) (sym is)
 
-pub join-bad : (loops : List OpenLoop) (front bs : List ℕ) (i p : ℕ) → i < length bs → p ≡ part_len (drop (i + 1) bs)
-    → None ≡ round_of loops (take (i + 1 + p - (i + 1)) (drop (i + 1) bs))
+pub join-bad : (loops : List OpenLoop) (front bs : List ℕ) (i to : ℕ) → i < length bs → to ≡ i + 1 + part_len (drop (i + 1) bs)
+    → None ≡ round_of loops (take (to - (i + 1)) (drop (i + 1) bs))
     → join_counters loops front (names_of (drop i bs)) ≡ Err BadToken
-join-bad loops front bs i p h e is =
-    ap (join_counters loops front) (names-found bs i p h e)
-    ∙ ap (λ o. round_or_bad o >>= λ n. join_counters loops (front ++ round_digits n) (names_of (drop (i + 1 + p) bs))) (sym is)
+join-bad loops front bs i to h e is =
+    ap (join_counters loops front) (names-found bs i to h e)
+    ∙ ap (λ o. round_or_bad o >>= λ n. join_counters loops (front ++ round_digits n) (names_of (drop to bs))) (sym is)
 
 -- a word without joins
 parts-none : (bs : List ℕ) → list_any (λ b. b == 38) bs ≡ false → parts_at_joins bs ≡ bs ∷ []

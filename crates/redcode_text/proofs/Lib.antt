@@ -14,12 +14,14 @@ pub mod BehindOperands
 pub mod Triples
 pub mod Products
 pub mod Quotients
+pub mod Remainders
 pub mod ShapedTrees
 pub mod Reducing
 pub mod Standing
 pub mod Linking
 pub mod Running
 pub mod WordSteps
+pub mod WrittenWords
 pub mod NameSteps
 pub mod ShortWords
 pub mod Digits
@@ -43,6 +45,7 @@ pub mod KnownValues
 pub mod Shortening
 pub mod LaterNames
 pub mod Kept
+pub mod BelowNames
 pub mod LoopSteps
 pub mod LoneSteps
 pub mod SourceRows
@@ -50,6 +53,7 @@ pub mod Printing
 pub mod NameSets
 pub mod NameParts
 pub mod Placed
+pub mod Counters
 pub mod PrintedNames
 pub mod BehindEnd
 pub mod Moved

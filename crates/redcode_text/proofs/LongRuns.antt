@@ -12,8 +12,7 @@ use Rattle.std.specs.List.{list_all, list_any, prefix_len}
 use Rattle.std.specs.Str.Parse.{digits_value, digits_value_after}
 use Rattle.redcode_text.specs.declared.shortcuts.runs.LongRun.{LongRun}
 use Rattle.redcode_text.specs.declared.shortcuts.runs.RunKind.TheVariants.{Word}
-use Rattle.redcode_text.specs.declared.shortcuts.words.KnownStart.{KnownStart}
-use Rattle.redcode_text.specs.Code.Runs.{AreRuns, ArePlain, AreZeros, IsKnownStart, stands}
+use Rattle.redcode_text.specs.Code.Runs.{AreRuns, ArePlain, AreZeros, stands}
 use Rattle.redcode_text.specs.Tokens.{OpenLoop, Scanned, begins_name, begins_word, is_blank, is_word_byte, name_found, number_found, number_kind, plain_word_found, scan_from, word_len}
 use Rattle.redcode_text.proofs.Scans.{scan-blank}
 use Rattle.redcode_text.proofs.WordSteps.{word_len-more}
@@ -176,13 +175,3 @@ pub padded-found : (names : List (List ℕ)) (len : ℕ) (zs ds : List ℕ) → 
 padded-found names len zs ds h all =
     ap (λ t. cond t (number_found names len (zs ++ ds)) (name_found names len (zs ++ ds))) (padded-digits zs ds h ∙ all)
     ∙ ap (λ n. number_kind n >>= λ kind. Ok (record { kind = kind; len = len; names = names })) (padded-value zs ds h)
-
--- what is known of the front of a word that is cut behind it
-pub cut-front : (front : KnownStart) (n : ℕ) (bs : List ℕ) → IsKnownStart front bs → front.plain ≤ n → n ≤ length bs → IsKnownStart front (take n bs)
-cut-front front n bs is on within =
-    record {
-      within = omega (arith, on, length-take-le n bs within);
-      plain = λ i less. ap is_word_byte (get_or-take n bs i 0 (omega (arith, less, on))) ∙ is.plain i less;
-      inside = is.inside;
-      zeros = λ i less. ap (λ b. b == 48) (get_or-take n bs i 0 (omega (arith, less, on, is.inside))) ∙ is.zeros i less;
-    }

@@ -98,12 +98,6 @@ round-once : (body : Reading → Result Reading TextFault) (counter : Option (Li
 round-once body counter n t st l whole h is opened =
     sym is ∙ one-round body counter n t st h ∙ ap (λ l. body (record st { loops = l }) >>= λ a. unless_ended (record a { loops = st.loops }) (rounds body counter (t + 1) (n + 1 - (t + 1)))) (sym opened)
 
-pub round-fails : (body : Reading → Result Reading TextFault) (counter : Option (List ℕ)) (n t : ℕ) (st : Reading) (l : List OpenLoop) (whole : Result Reading TextFault) (fault : TextFault)
-    → t ≤ n → rounds body counter t (n + 1 - t) st ≡ whole → l ≡ record { counter = counter; round = t } ∷ st.loops → FailsAt fault.problem fault (body (record st { loops = l })) → FailsAt fault.problem fault whole
-round-fails body counter n t st l whole fault h is opened f =
-    subst (FailsAt fault.problem fault) (sym (round-once body counter n t st l whole h is opened))
-    (then-fails fault (body (record st { loops = l })) (λ a. unless_ended (record a { loops = st.loops }) (rounds body counter (t + 1) (n + 1 - (t + 1)))) f)
-
 round-ok : (body : Reading → Result Reading TextFault) (counter : Option (List ℕ)) (n t : ℕ) (st a : Reading) (l k : List OpenLoop) (whole : Result Reading TextFault)
     → t ≤ n → rounds body counter t (n + 1 - t) st ≡ whole → l ≡ record { counter = counter; round = t } ∷ st.loops → body (record st { loops = l }) ≡ Ok a → k ≡ st.loops
     → whole ≡ unless_ended (record a { loops = k }) (rounds body counter (t + 1) (n + 1 - (t + 1)))
@@ -112,17 +106,27 @@ round-ok body counter n t st a l k whole h is opened b close =
     ∙ ap (λ r. r >>= λ a. unless_ended (record a { loops = st.loops }) (rounds body counter (t + 1) (n + 1 - (t + 1)))) b
     ∙ ap (λ k. unless_ended (record a { loops = k }) (rounds body counter (t + 1) (n + 1 - (t + 1)))) (sym close)
 
-pub round-done : (body : Reading → Result Reading TextFault) (counter : Option (List ℕ)) (n t : ℕ) (st a : Reading) (l k : List OpenLoop) (whole : Result Reading TextFault)
-    → t ≤ n → rounds body counter t (n + 1 - t) st ≡ whole → l ≡ record { counter = counter; round = t } ∷ st.loops → body (record st { loops = l }) ≡ Ok a → k ≡ st.loops
-    → a.ended ≡ false → rounds body counter (t + 1) (n + 1 - (t + 1)) (record a { loops = k }) ≡ whole
-round-done body counter n t st a l k whole h is opened b close e =
-    sym (round-ok body counter n t st a l k whole h is opened b close ∙ goes-on (record a { loops = k }) (rounds body counter (t + 1) (n + 1 - (t + 1))) e)
+module _ (body : Reading → Result Reading TextFault) (counter : Option (List ℕ)) (n t : ℕ) (st next : Reading) (whole : Result Reading TextFault) (h : t ≤ n)
+    (is : rounds body counter t (n + 1 - t) st ≡ whole) (opened : next ≡ record st { loops = record { counter = counter; round = t } ∷ st.loops }) where
+  abbrev open_loops : List OpenLoop
+  open_loops = record { counter = counter; round = t } ∷ st.loops
 
-pub round-ended : (body : Reading → Result Reading TextFault) (counter : Option (List ℕ)) (n t : ℕ) (st a : Reading) (l k : List OpenLoop) (whole : Result Reading TextFault)
-    → t ≤ n → rounds body counter t (n + 1 - t) st ≡ whole → l ≡ record { counter = counter; round = t } ∷ st.loops → body (record st { loops = l }) ≡ Ok a → k ≡ st.loops
-    → a.ended ≡ true → whole ≡ Ok (record a { loops = k })
-round-ended body counter n t st a l k whole h is opened b close e =
-    round-ok body counter n t st a l k whole h is opened b close ∙ stops (record a { loops = k }) (rounds body counter (t + 1) (n + 1 - (t + 1))) e
+  pub round-fails : (fault : TextFault) → FailsAt fault.problem fault (body next) → FailsAt fault.problem fault whole
+  round-fails fault f =
+      subst (FailsAt fault.problem fault) (sym (round-once body counter n t st open_loops whole h is refl))
+      (then-fails fault (body (record st { loops = open_loops })) (λ a. unless_ended (record a { loops = st.loops }) (rounds body counter (t + 1) (n + 1 - (t + 1))))
+      (subst (λ s. FailsAt fault.problem fault (body s)) opened f))
+
+  pub round-done : (a last : Reading) → body next ≡ Ok a → last ≡ record a { loops = st.loops } → a.ended ≡ false → rounds body counter (t + 1) (n + 1 - (t + 1)) last ≡ whole
+  round-done a last b closed e =
+      ap (rounds body counter (t + 1) (n + 1 - (t + 1))) closed
+      ∙ sym (round-ok body counter n t st a open_loops st.loops whole h is refl (ap body (sym opened) ∙ b) refl ∙ goes-on (record a { loops = st.loops }) (rounds body counter (t + 1) (n + 1 - (t + 1))) e)
+
+  pub round-ended : (a last : Reading) → body next ≡ Ok a → last ≡ record a { loops = st.loops } → a.ended ≡ true → whole ≡ Ok last
+  round-ended a last b closed e =
+      round-ok body counter n t st a open_loops st.loops whole h is refl (ap body (sym opened) ∙ b) refl
+      ∙ stops (record a { loops = st.loops }) (rounds body counter (t + 1) (n + 1 - (t + 1))) e
+      ∙ ap Ok (sym closed)
 
 -- ---- a loop at a place
 

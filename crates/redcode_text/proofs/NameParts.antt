@@ -40,7 +40,7 @@ at-index (t ∷ texts) q h = go (bytes_eq q t) refl h (at-index texts q)
     go true e h ih = sym ((bytes_eq-Decides q t).0 e)
     go false e h ih = let on : 1 + name_index texts q ≡ suc (name_index texts q) = omega arith in ap (name_at (t ∷ texts)) on ∙ ih (omega (arith, h))
 
-at-append : (texts more : List (List ℕ)) (i : ℕ) → i < length texts → name_at (texts ++ more) i ≡ name_at texts i
+pub at-append : (texts more : List (List ℕ)) (i : ℕ) → i < length texts → name_at (texts ++ more) i ≡ name_at texts i
 at-append [] more i h = absurd (omega (arith, h))
 at-append (t ∷ texts) more zero h = refl
 at-append (t ∷ texts) more (suc i) h = at-append texts more i (omega (arith, h))

@@ -22,23 +22,23 @@ use Rattle.redcode_text.proofs.StandIns.{goes}
 
 -- ---- numbers
 
-neg-neg : (z : ℤ) → neg_ℤ (neg_ℤ z) ≡ z
+pub neg-neg : (z : ℤ) → neg_ℤ (neg_ℤ z) ≡ z
 neg-neg (pos zero) = refl
 neg-neg (pos (suc n)) = refl
 neg-neg (negsuc n) = refl
 
-neg-left : (a b : ℤ) → neg_ℤ a *ℤ b ≡ neg_ℤ (a *ℤ b)
+pub neg-left : (a b : ℤ) → neg_ℤ a *ℤ b ≡ neg_ℤ (a *ℤ b)
 neg-left (pos zero) b = zero-*ℤ b ∙ ap neg_ℤ (sym (zero-*ℤ b))
 neg-left (pos (suc n)) (pos k) = refl
 neg-left (pos (suc n)) (negsuc k) = sym (neg-neg (pos (suc n * suc k)))
 neg-left (negsuc n) (pos k) = sym (neg-neg (pos (suc n * k)))
 neg-left (negsuc n) (negsuc k) = refl
 
-neg-right : (a b : ℤ) → a *ℤ neg_ℤ b ≡ neg_ℤ (a *ℤ b)
+pub neg-right : (a b : ℤ) → a *ℤ neg_ℤ b ≡ neg_ℤ (a *ℤ b)
 neg-right a b = *ℤ_comm a (neg_ℤ b) ∙ neg-left b a ∙ ap neg_ℤ (*ℤ_comm b a)
 
 -- what holds of a number holds of its negation: so it holds of all if it holds of those that are no less than 0
-by-sign : (P : ℤ → Type 0) → ((n : ℕ) → P (pos n)) → ((z : ℤ) → P z → P (neg_ℤ z)) → (z : ℤ) → P z
+pub by-sign : (P : ℤ → Type 0) → ((n : ℕ) → P (pos n)) → ((z : ℤ) → P z → P (neg_ℤ z)) → (z : ℤ) → P z
 by-sign P f g (pos n) = f n
 by-sign P f g (negsuc n) = g (pos (suc n)) (f (suc n))
 
@@ -59,7 +59,7 @@ minus-one : (z : ℤ) → z *ℤ negsuc 0 ≡ neg_ℤ z
 unfolding lib.IntN.one
 minus-one z = *ℤ-negsuc z 0 ∙ ap neg_ℤ (*ℤ-one z)
 
-some-abs : (w : ℤ) → w ≢ pos 0 → 0 < unsigned_abs w
+pub some-abs : (w : ℤ) → w ≢ pos 0 → 0 < unsigned_abs w
 some-abs (pos zero) h = absurd (h refl)
 some-abs (pos (suc n)) h = omega arith
 some-abs (negsuc n) h = omega arith
@@ -69,7 +69,7 @@ factor-small : (a w : ℤ) → w ≢ pos 0 → IsSmall (a *ℤ w) → IsSmall a
 factor-small a w some small =
     omega (arith, unsigned_abs-mul a w, mul-le-mul_left (unsigned_abs a) (some-abs w some), small)
 
-product-some : (a w : ℤ) → a ≢ pos 0 → w ≢ pos 0 → (a *ℤ w) ≢ pos 0
+pub product-some : (a w : ℤ) → a ≢ pos 0 → w ≢ pos 0 → (a *ℤ w) ≢ pos 0
 product-some a w h k e =
     let size : unsigned_abs (a *ℤ w) ≡ 0 = ap unsigned_abs e in
     omega (arith, unsigned_abs-mul a w, mul-le-mul_left (unsigned_abs a) (some-abs w k), some-abs a h, size)

@@ -1,286 +1,313 @@
 -- Quotients by many divisors, in short.
-use Rattle.std.proofs.Common.{◌≡◌, ◌∙◌, refl, ap, sym, subst, ℕ, zero, suc, max, ◌-◌, ◌*◌, ◌/◌, ◌^◌, ◌<◌, ◌≤◌, ℤ, pos, negsuc, ◌*ℤ◌, ◌<ℤ◌, neg_ℤ, int_div, unsigned_abs, List, [], ◌∷◌, ◌++◌, Bool, true, false, cond, Decides, FitsSigned, Option, Ok, Err, arith, w64, ⊎_elim}
-use Rattle.std.proofs.lemmas.Bool.{cases_lt, lt-ltb}
-use Rattle.std.proofs.lemmas.Int.{fits_signed_from_abs, ints}
-use Rattle.std.proofs.Math.IntN.{*ℤ_comm}
-use Rattle.std.proofs.Math.Nat.{div-div-eq-div-mul, div-eq_of_lt, div-le_of_le-mul, div-le_self, div-one, mul-pos, zero-div}
+use Rattle.std.proofs.Common.{◌≡◌, ◌≢◌, ◌∙◌, refl, ap, sym, subst, ℕ, zero, suc, max, ◌-◌, ◌/◌, ◌^◌, ◌<◌, ◌≤◌, ℤ, pos, negsuc, ◌*ℤ◌, neg_ℤ, int_div, unsigned_abs, List, [], ◌∷◌, ◌++◌, Bool, true, false, cond, Decides, FitsSigned, Option, Ok, Err, arith, w64, ⊎_elim}
+use Rattle.std.proofs.lemmas.Bool.{cases_lt}
+use Rattle.std.proofs.lemmas.Int.{fits_signed_from_abs}
+use Rattle.std.proofs.Math.Nat.{div-div-eq-div-mul, div-eq_of_lt, div-le_of_le-mul, div-le_self, div-one, div-zero, zero-div}
 use Rattle.std.proofs.lemmas.Bool.Decides.{Decides-int_eq}
 use Rattle.std.specs.Ordering.{int_eq}
 use Rattle.redcode_text.specs.Results.{◌>>=◌}
-use Rattle.redcode_text.specs.declared.fault.ExprFault.TheVariants.{DivideByZero, Range}
+use Rattle.redcode_text.specs.declared.fault.ExprFault.TheVariants.{DivideByZero}
 use Rattle.redcode_text.specs.declared.shortcuts.shortening.quotients.Quotient.{Quotient}
 use Rattle.redcode_text.specs.declared.token.Sign.TheVariants.{Slash}
 use Rattle.redcode_text.specs.declared.token.TokenKind.{TokenKind}
 use Rattle.redcode_text.specs.declared.token.TokenKind.TheVariants as token
 use Rattle.redcode_text.specs.Expression.{binary, in_range}
 use Rattle.redcode_text.specs.Code.Triples.{in_turn}
+use Rattle.redcode_text.specs.Code.Products.{IsSmall}
 use Rattle.redcode_text.specs.Code.Quotients.{IsQuotient, quotient_triple}
 use Rattle.redcode_text.specs.Code.Worth.{IsWorth}
 use Rattle.redcode_text.proofs.Triples.{Makes, none-does, one-more}
-use Rattle.redcode_text.proofs.Products.{guarded, in-is, small-in}
+use Rattle.redcode_text.proofs.Products.{by-sign, guarded, in-is, neg-left, neg-neg, neg-right, product-some, small-in}
 use Rattle.redcode_text.proofs.Standing.{bind-ok, ok}
 use Rattle.redcode_text.proofs.StandIns.{goes}
 
 -- ---- numbers
 
-quot-neg : (m c : ℕ) → int_div (neg_ℤ (pos m)) (pos c) ≡ neg_ℤ (pos (m / c))
-quot-neg zero c = ap pos (zero-div c) ∙ sym (ap (λ m. neg_ℤ (pos m)) (zero-div c))
-quot-neg (suc m) c = refl
+-- the sign of a quotient is that of each of the two
+quot-left : (z b : ℤ) → int_div (neg_ℤ z) b ≡ neg_ℤ (int_div z b)
+quot-left (pos zero) (pos b) = ap pos (zero-div b) ∙ sym (ap (λ m. neg_ℤ (pos m)) (zero-div b))
+quot-left (pos zero) (negsuc b) =
+    ap (λ m. neg_ℤ (pos m)) (zero-div (suc b)) ∙ sym (ap (λ m. neg_ℤ (neg_ℤ (pos m))) (zero-div (suc b)))
+quot-left (pos (suc n)) (pos b) = refl
+quot-left (pos (suc n)) (negsuc b) = sym (neg-neg (pos (suc n / suc b)))
+quot-left (negsuc n) (pos b) = sym (neg-neg (pos (suc n / b)))
+quot-left (negsuc n) (negsuc b) = refl
+
+quot-right : (z b : ℤ) → int_div z (neg_ℤ b) ≡ neg_ℤ (int_div z b)
+quot-right (pos n) (pos zero) = ap pos (div-zero n) ∙ sym (ap (λ m. neg_ℤ (pos m)) (div-zero n))
+quot-right (negsuc n) (pos zero) =
+    ap (λ m. neg_ℤ (pos m)) (div-zero (suc n)) ∙ sym (ap (λ m. neg_ℤ (neg_ℤ (pos m))) (div-zero (suc n)))
+quot-right (pos n) (pos (suc b)) = refl
+quot-right (negsuc n) (pos (suc b)) = sym (neg-neg (pos (suc n / suc b)))
+quot-right (pos n) (negsuc b) = sym (neg-neg (pos (n / suc b)))
+quot-right (negsuc n) (negsuc b) = refl
 
 -- to divide twice is to divide by the product
-quot-quot : (z b c : ℤ) → pos 0 <ℤ b → pos 0 <ℤ c → int_div (int_div z b) c ≡ int_div z (b *ℤ c)
-quot-quot (pos n) (pos b) (pos c) p q = ap pos (div-div-eq-div-mul n b c)
-quot-quot (negsuc n) (pos b) (pos c) p q = quot-neg (suc n / b) c ∙ ap (λ m. neg_ℤ (pos m)) (div-div-eq-div-mul (suc n) b c)
-quot-quot z (negsuc b) c p q = absurd p.lt
-quot-quot z b (negsuc c) p q = absurd q.lt
-
--- in any order
-quot-swap : (z b c : ℤ) → pos 0 <ℤ b → pos 0 <ℤ c → int_div (int_div z b) c ≡ int_div (int_div z c) b
-quot-swap z b c p q = quot-quot z b c p q ∙ ap (int_div z) (*ℤ_comm b c) ∙ sym (quot-quot z c b q p)
-
-positive-times : (b c : ℤ) → pos 0 <ℤ b → pos 0 <ℤ c → pos 0 <ℤ (b *ℤ c)
-positive-times (pos b) (pos c) p q =
-    let left : 0 < b = omega (arith, ints, p) in let right : 0 < c = omega (arith, ints, q) in
-    omega (arith, ints, mul-pos left right)
-positive-times (negsuc b) c p q = absurd p.lt
-positive-times b (negsuc c) p q = absurd q.lt
+quot-quot : (z b c : ℤ) → int_div (int_div z b) c ≡ int_div z (b *ℤ c)
+quot-quot z b =
+    by-sign (λ c. int_div (int_div z b) c ≡ int_div z (b *ℤ c))
+    (λ k. by-sign (λ b. int_div (int_div z b) (pos k) ≡ int_div z (b *ℤ pos k))
+    (λ m. by-sign (λ z. int_div (int_div z (pos m)) (pos k) ≡ int_div z (pos m *ℤ pos k))
+    (λ n. ap pos (div-div-eq-div-mul n m k))
+    (λ z h. ap (λ x. int_div x (pos k)) (quot-left z (pos m)) ∙ quot-left (int_div z (pos m)) (pos k) ∙ ap neg_ℤ h
+    ∙ sym (quot-left z (pos m *ℤ pos k)))
+    z)
+    (λ b h. ap (λ x. int_div x (pos k)) (quot-right z b) ∙ quot-left (int_div z b) (pos k) ∙ ap neg_ℤ h
+    ∙ sym (quot-right z (b *ℤ pos k)) ∙ ap (int_div z) (sym (neg-left b (pos k))))
+    b)
+    (λ c h. quot-right (int_div z b) c ∙ ap neg_ℤ h ∙ sym (quot-right z (b *ℤ c)) ∙ ap (int_div z) (sym (neg-right b c)))
 
 quot-one : (z : ℤ) → int_div z (pos 1) ≡ z
 unfolding lib.IntN.one
 quot-one (pos n) = ap pos (div-one n)
 quot-one (negsuc n) = ap (λ m. neg_ℤ (pos m)) (div-one (suc n))
 
-neg-in : (m : ℕ) → m ≤ 2 ^ 63 → in_range (neg_ℤ (pos m)) ≡ ok (neg_ℤ (pos m))
-neg-in zero h = small-in (pos 0) (omega arith)
-neg-in (suc m) h = ap (λ b. cond b (Ok (negsuc m)) (Err Range)) (lt-ltb m (2 ^ 63) h)
-
--- a quotient by a positive number is in range
-quot-in : (z b : ℤ) → pos 0 <ℤ b → in_range z ≡ ok z → in_range (int_div z b) ≡ ok (int_div z b)
-quot-in (pos n) (pos b) p h =
-    let low : n < 2 ^ 63 = (guarded n _ (pos n) (pos n) refl h).0 in
-    small-in (pos (n / b)) (omega (arith, div-le_self n b, low))
-quot-in (negsuc n) (pos b) p h =
-    let low : n < 2 ^ 63 = (guarded n _ (negsuc n) (negsuc n) refl h).0 in
-    neg-in (suc n / b) (omega (arith, div-le_self (suc n) b, low))
-quot-in z (negsuc b) p h = absurd p.lt
-
-bound : (z : ℤ) → in_range z ≡ ok z → unsigned_abs z ≤ 2 ^ 63
-bound (pos n) h = let low : n < 2 ^ 63 = (guarded n _ (pos n) (pos n) refl h).0 in omega arith
-bound (negsuc n) h = let low : n < 2 ^ 63 = (guarded n _ (negsuc n) (negsuc n) refl h).0 in omega arith
-
-abs-neg : (m : ℕ) → unsigned_abs (neg_ℤ (pos m)) ≡ m
+pub abs-neg : (m : ℕ) → unsigned_abs (neg_ℤ (pos m)) ≡ m
 abs-neg zero = refl
 abs-neg (suc m) = refl
 
-quot-abs : (z : ℤ) (b : ℕ) → unsigned_abs (int_div z (pos b)) ≡ unsigned_abs z / b
-quot-abs (pos n) b = refl
-quot-abs (negsuc n) b = abs-neg (suc n / b)
+quot-abs : (z b : ℤ) → unsigned_abs (int_div z b) ≡ unsigned_abs z / unsigned_abs b
+quot-abs (pos n) (pos b) = refl
+quot-abs (pos n) (negsuc b) = abs-neg (n / suc b)
+quot-abs (negsuc n) (pos b) = abs-neg (suc n / b)
+quot-abs (negsuc n) (negsuc b) = refl
+
+abs-zero : (z : ℤ) → unsigned_abs z ≡ 0 → z ≡ pos 0
+abs-zero (pos n) h = ap pos h
+abs-zero (negsuc n) h = absurd (omega arith)
 
 -- a quotient by a greater number
-quot-none : (z : ℤ) (b : ℕ) → unsigned_abs z < b → int_div z (pos b) ≡ pos 0
-quot-none (pos n) b h = ap pos (div-eq_of_lt h)
-quot-none (negsuc n) b h = ap (λ m. neg_ℤ (pos m)) (div-eq_of_lt h)
+pub quot-none : (z b : ℤ) → unsigned_abs z < unsigned_abs b → int_div z b ≡ pos 0
+quot-none z b h = abs-zero (int_div z b) (quot-abs z b ∙ div-eq_of_lt h)
 
--- the greatest number in range
-abbrev pub top : ℤ
-top = pos (2 ^ 63 - 1)
+quot-small : (z b : ℤ) → IsSmall z → IsSmall (int_div z b)
+quot-small z b h = omega (arith, h, quot-abs z b, div-le_self (unsigned_abs z) (unsigned_abs b))
 
-at-least-two : (b v : ℕ) → v < 2 ^ 63 → 2 ^ 63 ≤ b * v → 2 ≤ b
-at-least-two zero v low high = absurd (omega arith)
-at-least-two (suc zero) v low high = absurd (omega arith)
-at-least-two (suc (suc b)) v low high = omega arith
+abbrev InRange : ℤ → Type 0
+InRange z = in_range z ≡ ok z
 
--- what is divided by numbers whose products are too great is 0
-quot-top : (z b c v : ℤ) → in_range z ≡ ok z → pos 0 <ℤ b → pos 0 <ℤ c → pos 0 <ℤ v → unsigned_abs v < 2 ^ 63
-    → 2 ^ 63 ≤ unsigned_abs (b *ℤ v) → 2 ^ 63 ≤ unsigned_abs (c *ℤ v)
-    → int_div (int_div (int_div z b) c) v ≡ int_div (int_div z b) top
-quot-top z (pos b) (pos c) (pos v) h p q r low high higher =
-    let two : 2 ≤ b = at-least-two b v low high in
-    let few : unsigned_abs z / b ≤ 2 ^ 62 = div-le_of_le-mul b (omega (arith, bound z h)) in
-    let size : unsigned_abs (int_div z (pos b)) ≡ unsigned_abs z / b = quot-abs z b in
-    quot-quot (int_div z (pos b)) (pos c) (pos v) q r
-    ∙ quot-none (int_div z (pos b)) (c * v) (omega (arith, higher))
-    ∙ sym (quot-none (int_div z (pos b)) (2 ^ 63 - 1) (omega arith))
-quot-top z (negsuc b) c v h p q r low high higher = absurd p.lt
-quot-top z b (negsuc c) v h p q r low high higher = absurd q.lt
-quot-top z b c (negsuc v) h p q r low high higher = absurd r.lt
+bound : (z : ℤ) → InRange z → unsigned_abs z ≤ 2 ^ 63
+bound (pos n) h = let low : n < 2 ^ 63 = (guarded n _ (pos n) (pos n) refl h).0 in omega arith
+bound (negsuc n) h = let low : n < 2 ^ 63 = (guarded n _ (negsuc n) (negsuc n) refl h).0 in omega arith
 
-not-zero : (b : ℤ) → pos 0 <ℤ b → int_eq b (pos 0) ≡ false
-not-zero b p = go (int_eq b (pos 0)) (Decides-int_eq b (pos 0))
+quot-half : (z b : ℤ) → InRange z → 2 ≤ unsigned_abs b → IsSmall (int_div z b)
+quot-half z b h two =
+    let few : unsigned_abs z / unsigned_abs b ≤ 2 ^ 62 = div-le_of_le-mul (unsigned_abs b) (omega (arith, bound z h)) in
+    omega (arith, quot-abs z b)
+
+quot-turned : (z : ℤ) → InRange z → InRange (int_div z (negsuc 0)) → IsSmall (int_div z (negsuc 0))
+quot-turned (pos n) h k = let low : n < 2 ^ 63 = (guarded n _ (pos n) (pos n) refl h).0 in quot-small (pos n) (negsuc 0) low
+quot-turned (negsuc n) h k = (guarded (suc n / 1) _ (pos (suc n / 1)) (pos (suc n / 1)) refl k).0
+
+-- a quotient in range of a number in range is small, where the divisor isn't 1
+behind-small : (z b : ℤ) → b ≢ pos 0 → b ≢ pos 1 → InRange z → InRange (int_div z b) → IsSmall (int_div z b)
+behind-small z (pos zero) some more h k = absurd (some refl)
+behind-small z (pos (suc zero)) some more h k = absurd (more refl)
+behind-small z (pos (suc (suc b))) some more h k = quot-half z (pos (suc (suc b))) h (omega arith)
+behind-small z (negsuc zero) some more h k = quot-turned z h k
+behind-small z (negsuc (suc b)) some more h k = quot-half z (negsuc (suc b)) h (omega arith)
+
+-- the least number in range
+abbrev pub least : ℤ
+least = negsuc (2 ^ 63 - 1)
+
+-- what is divided by numbers whose product is too great is 0
+quot-least : (z b c : ℤ) → IsSmall z → 2 ^ 63 ≤ unsigned_abs (b *ℤ c) → int_div (int_div z b) c ≡ int_div z least
+quot-least z b c small high =
+    quot-quot z b c ∙ quot-none z (b *ℤ c) (omega (arith, small, high)) ∙ sym (quot-none z least (omega (arith, small)))
+
+pub not-zero : (b : ℤ) → b ≢ pos 0 → int_eq b (pos 0) ≡ false
+not-zero b some = go (int_eq b (pos 0)) (Decides-int_eq b (pos 0))
   where
     go : (t : Bool) → Decides t (b ≡ pos 0) → t ≡ false
-    go true d = let e : b ≡ pos 0 = d.0 refl in absurd (subst (λ z. pos 0 <ℤ z) e p).lt
+    go true d = absurd (some (d.0 refl))
     go false d = refl
 
-divided : (a b : ℤ) → pos 0 <ℤ b → binary Slash a b ≡ in_range (int_div a b)
-divided a b p = ap (λ t. cond t (Err DivideByZero) (in_range (int_div a b))) (not-zero b p)
+divided : (a b : ℤ) → b ≢ pos 0 → binary Slash a b ≡ in_range (int_div a b)
+divided a b some = ap (λ t. cond t (Err DivideByZero) (in_range (int_div a b))) (not-zero b some)
 
 -- too great to fit
 too-great : (z : ℤ) → (FitsSigned w64 z → ⊥) → 2 ^ 63 ≤ unsigned_abs z
 too-great z h = ⊎_elim (λ low. absurd (h (fits_signed_from_abs w64 z low))) (λ high. high) (cases_lt (unsigned_abs z) (2 ^ 63))
 
-positive-fits : (z : ℤ) → pos 0 <ℤ z → FitsSigned w64 z → unsigned_abs z < 2 ^ 63
-positive-fits (pos n) p f = omega (arith, f.sfits)
-positive-fits (negsuc n) p f = absurd p.lt
-
 -- ---- divisors in short
 
--- divisors that are positive
-pub record ArePositive (q : Quotient) : Type 0 where
-  pub first : pos 0 <ℤ q.first
-  pub rest : pos 0 <ℤ q.rest
-  pub more : pos 0 <ℤ q.more
+-- divisors of which none is 0
+record AreSome (q : Quotient) : Type 0 where
+  first : q.first ≢ pos 0
+  second : q.second ≢ pos 0
+  rest : q.rest ≢ pos 0
 
-abbrev quotient : Quotient → ℤ → ℤ
-quotient q z = int_div (int_div z q.rest) q.more
+-- what the first two leave
+abbrev left : Quotient → ℤ → ℤ
+left q u = int_div (int_div u q.first) q.second
 
--- the first quotient is in range, and what is left is the whole
+-- the first two quotients are in range, and what is left is the whole
 record Told (q : Quotient) (u v : ℤ) : Type 0 where
-  first : in_range (int_div u q.first) ≡ ok (int_div u q.first)
-  is : v ≡ quotient q (int_div u q.first)
+  first : InRange (int_div u q.first)
+  second : InRange (left q u)
+  is : v ≡ int_div (left q u) q.rest
 
-module _ (q : Quotient) (p : ArePositive q) (u : ℤ) where
+module _ (q : Quotient) (p : AreSome q) (u : ℤ) where
   told : (v : ℤ) → in_turn (quotient_triple q) u ≡ Ok v → Told q u v
   told v h =
-      let first = bind-ok (binary Slash u q.first) (λ x. binary Slash x q.rest >>= λ y. binary Slash y q.more) v h in
+      let first = bind-ok (binary Slash u q.first) (λ x. binary Slash x q.second >>= λ y. binary Slash y q.rest) v h in
       let first-in : in_range (int_div u q.first) ≡ ok first.0 = sym (divided u q.first p.first) ∙ first.1 in
       let a-is : first.0 ≡ int_div u q.first = in-is (int_div u q.first) first.0 first-in in
-      let second = bind-ok (binary Slash first.0 q.rest) (λ y. binary Slash y q.more) v first.2 in
-      let b-is : second.0 ≡ int_div first.0 q.rest =
-      in-is (int_div first.0 q.rest) second.0 (sym (divided first.0 q.rest p.rest) ∙ second.1) in
+      let second = bind-ok (binary Slash first.0 q.second) (λ y. binary Slash y q.rest) v first.2 in
+      let second-in : in_range (left q u) ≡ ok second.0 =
+      ap (λ x. in_range (int_div x q.second)) (sym a-is) ∙ sym (divided first.0 q.second p.second) ∙ second.1 in
+      let b-is : second.0 ≡ left q u = in-is (left q u) second.0 second-in in
       record {
         first = first-in ∙ ap ok a-is;
-        is = in-is (int_div second.0 q.more) v (sym (divided second.0 q.more p.more) ∙ second.2)
-            ∙ ap (λ z. int_div z q.more) (b-is ∙ ap (λ z. int_div z q.rest) a-is);
+        second = second-in ∙ ap ok b-is;
+        is = in-is (int_div second.0 q.rest) v (sym (divided second.0 q.rest p.rest) ∙ second.2) ∙ ap (λ z. int_div z q.rest) b-is;
       }
 
-  quotient-in : in_range (int_div u q.first) ≡ ok (int_div u q.first)
-      → in_range (quotient q (int_div u q.first)) ≡ ok (quotient q (int_div u q.first))
-  quotient-in h = quot-in (int_div (int_div u q.first) q.rest) q.more p.more (quot-in (int_div u q.first) q.rest p.rest h)
-
-  in-turn : in_range (int_div u q.first) ≡ ok (int_div u q.first) → in_turn (quotient_triple q) u ≡ ok (quotient q (int_div u q.first))
-  in-turn h =
+  in-turn : InRange (int_div u q.first) → InRange (left q u) → InRange (int_div (left q u) q.rest)
+      → in_turn (quotient_triple q) u ≡ ok (int_div (left q u) q.rest)
+  in-turn h k l =
       let z : ℤ = int_div u q.first in
-      goes (binary Slash u q.first) (λ x. binary Slash x q.rest >>= λ y. binary Slash y q.more) z (divided u q.first p.first ∙ h)
-      ∙ goes (binary Slash z q.rest) (λ y. binary Slash y q.more) (int_div z q.rest)
-      (divided z q.rest p.rest ∙ quot-in z q.rest p.rest h)
-      ∙ divided (int_div z q.rest) q.more p.more ∙ quotient-in h
+      goes (binary Slash u q.first) (λ x. binary Slash x q.second >>= λ y. binary Slash y q.rest) z (divided u q.first p.first ∙ h)
+      ∙ goes (binary Slash z q.second) (λ y. binary Slash y q.rest) (left q u) (divided z q.second p.second ∙ k)
+      ∙ divided (left q u) q.rest p.rest ∙ l
 
 -- ---- divisors
 
-all-positive : (names : ℕ → Option ℤ) (xs : List TokenKind) (q : Quotient) → IsQuotient names xs q → ArePositive q
-all-positive names xs q x = record { first = x.first; rest = x.rest; more = x.more }
+all-some : (names : ℕ → Option ℤ) (xs : List TokenKind) (q : Quotient) → IsQuotient names xs q → AreSome q
+all-some names xs q x = record { first = x.first; second = x.second; rest = x.rest }
 
 ok-is : (x y : ℤ) → ok x ≡ ok y → y ≡ x
 ok-is x y h = cc
 
+one-some : (z : ℤ) → z ≡ pos 1 → z ≢ pos 0
+one-some z e h = cc
+
 -- the first divisor
-pub one-divisor : (names : ℕ → Option ℤ) (ys : List TokenKind) (q : Quotient) (n : ℕ) (w : ℤ) → pos 0 <ℤ w → q.first ≡ w
-    → q.rest ≡ pos 1 → q.more ≡ pos 1 → q.nesting ≡ n → IsWorth names 0 n ys w → IsQuotient names (token.Sign Slash ∷ ys) q
-one-divisor names ys q n w p first rest more nests y =
-    let positive : ArePositive q =
+pub one-divisor : (names : ℕ → Option ℤ) (ys : List TokenKind) (q : Quotient) (n : ℕ) (w : ℤ) → w ≢ pos 0 → q.first ≡ w
+    → q.second ≡ pos 1 → q.rest ≡ pos 1 → q.nesting ≡ n → IsWorth names 0 n ys w → IsQuotient names (token.Sign Slash ∷ ys) q
+one-divisor names ys q n w some first second rest nests y =
+    let all : AreSome q =
     record {
-      first = subst (λ z. pos 0 <ℤ z) (sym first) p;
-      rest = subst (λ z. pos 0 <ℤ z) (sym rest) (record { lt = tt });
-      more = subst (λ z. pos 0 <ℤ z) (sym more) (record { lt = tt });
+      first = λ e. some (sym first ∙ e);
+      second = one-some q.second second;
+      rest = one-some q.rest rest;
     } in
     record {
-      first = positive.first;
-      rest = positive.rest;
-      more = positive.more;
+      first = all.first;
+      second = all.second;
+      rest = all.rest;
+      none = λ e. rest;
       does =
           one-more Slash refl names [] ys (λ u. ok u) (in_turn (quotient_triple q)) 0 n q.nesting w (none-does names (λ u. ok u) ok-is) y
-          (omega arith) (makes positive);
+          (omega arith) (makes all);
     }
   where
-    whole : (z : ℤ) → quotient q z ≡ z
-    whole z = (λ i. int_div (int_div z (rest i)) (more i)) ∙ quot-one (int_div z (pos 1)) ∙ quot-one z
+    whole : (z : ℤ) → int_div (int_div z q.second) q.rest ≡ z
+    whole z = (λ i. int_div (int_div z (second i)) (rest i)) ∙ quot-one (int_div z (pos 1)) ∙ quot-one z
 
-    makes : ArePositive q → (u v : ℤ) → in_turn (quotient_triple q) u ≡ Ok v → Makes Slash refl (λ u. ok u) w u v
-    makes positive u v h =
-        let t = told q positive u v h in
+    makes : AreSome q → (u v : ℤ) → in_turn (quotient_triple q) u ≡ Ok v → Makes Slash refl (λ u. ok u) w u v
+    makes all u v h =
+        let t = told q all u v h in
         record {
           between = u;
           first = refl;
           then =
-              divided u w p ∙ ap (λ d. in_range (int_div u d)) (sym first) ∙ t.first
+              divided u w some ∙ ap (λ d. in_range (int_div u d)) (sym first) ∙ t.first
               ∙ ap ok (sym (whole (int_div u q.first)) ∙ sym t.is);
         }
 
--- one divisor more, of which it is known what it makes of the quotient
-module _ (names : ℕ → Option ℤ) (xs ys : List TokenKind) (p q : Quotient) (n : ℕ) (w : ℤ) (x : IsQuotient names xs p)
-    (y : IsWorth names 0 n ys w) (positive : pos 0 <ℤ w) (positives : ArePositive q) (first : q.first ≡ p.first)
-    (nests : q.nesting ≡ max p.nesting n)
-    (is : (z : ℤ) → in_range z ≡ ok z → int_div (quotient p z) w ≡ quotient q z) where
-  divisor-makes : (u v : ℤ) → in_turn (quotient_triple q) u ≡ Ok v → Makes Slash refl (in_turn (quotient_triple p)) w u v
-  divisor-makes u v h =
-      let before : ArePositive p = all-positive names xs p x in
-      let t = told q positives u v h in
-      let fits : in_range (int_div u p.first) ≡ ok (int_div u p.first) =
-      subst (λ d. in_range (int_div u d) ≡ ok (int_div u d)) first t.first in
+-- what has to hold of one divisor more: the quotients before and behind it are in range, and it makes the one of the other
+record Goes (p q : Quotient) (w u : ℤ) : Type 0 where
+  inside : InRange (left p u)
+  before : InRange (int_div (left p u) p.rest)
+  after : InRange (int_div (left q u) q.rest)
+  is : int_div (int_div (left p u) p.rest) w ≡ int_div (left q u) q.rest
+
+module _ (names : ℕ → Option ℤ) (xs ys : List TokenKind) (p q : Quotient) (n : ℕ) (w : ℤ) (some : w ≢ pos 0) (first : q.first ≡ p.first)
+    (nests : q.nesting ≡ max p.nesting n) (x : IsQuotient names xs p) (y : IsWorth names 0 n ys w) where
+  first-in : (u : ℤ) → InRange (int_div u q.first) → InRange (int_div u p.first)
+  first-in u = subst (λ d. InRange (int_div u d)) first
+
+  module _ (all : AreSome q) (goes-on : (u : ℤ) → InRange (int_div u p.first) → InRange (left q u) → Goes p q w u) where
+    divisor-makes : (u v : ℤ) → in_turn (quotient_triple q) u ≡ Ok v → Makes Slash refl (in_turn (quotient_triple p)) w u v
+    divisor-makes u v h =
+        let t = told q all u v h in
+        let fits : InRange (int_div u p.first) = first-in u t.first in
+        let g = goes-on u fits t.second in
+        record {
+          between = int_div (left p u) p.rest;
+          first = in-turn p (all-some names xs p x) u fits g.inside g.before;
+          then = divided (int_div (left p u) p.rest) w some ∙ ap in_range g.is ∙ g.after ∙ ap ok (sym t.is);
+        }
+
+    one-more-divisor : (q.second ≡ pos 1 → q.rest ≡ pos 1) → IsQuotient names (xs ++ token.Sign Slash ∷ ys) q
+    one-more-divisor none = record {
+      first = all.first;
+      second = all.second;
+      rest = all.rest;
+      none = none;
+      does =
+          one-more Slash refl names xs ys (in_turn (quotient_triple p)) (in_turn (quotient_triple q)) p.nesting n q.nesting w x.does y nests
+          divisor-makes;
+    }
+
+  -- one behind divisors of 1
+  pub by-second : p.second ≡ pos 1 → q.second ≡ w → q.rest ≡ p.rest → IsQuotient names (xs ++ token.Sign Slash ∷ ys) q
+  by-second one second rest =
+      one-more-divisor
+      (record {
+        first = λ e. x.first (sym first ∙ e);
+        second = λ e. some (sym second ∙ e);
+        rest = λ e. x.rest (sym rest ∙ e);
+      })
+      (λ u h k.
+      let z : ℤ = int_div u p.first in
+      let last : int_div (left q u) q.rest ≡ left q u = ap (int_div (left q u)) (rest ∙ x.none one) ∙ quot-one (left q u) in
+      let stays : left p u ≡ z = ap (int_div z) one ∙ quot-one z in
+      let whole : int_div (left p u) p.rest ≡ z = (λ i. int_div (stays i) (x.none one i)) ∙ quot-one z in
       record {
-        between = quotient p (int_div u p.first);
-        first = in-turn p before u fits;
-        then =
-            divided (quotient p (int_div u p.first)) w positive
-            ∙ quot-in (quotient p (int_div u p.first)) w positive (quotient-in p before u fits)
-            ∙ ap ok (is (int_div u p.first) fits ∙ ap (λ d. quotient q (int_div u d)) (sym first) ∙ sym t.is);
-      }
+        inside = subst InRange (sym stays) h;
+        before = subst InRange (sym whole) h;
+        after = subst InRange (sym last) k;
+        is = ap (λ z. int_div z w) whole ∙ (λ i. int_div (int_div u (sym first i)) (sym second i)) ∙ sym last;
+      })
+      (λ e. rest ∙ x.none one)
 
-  one-more-divisor : IsQuotient names (xs ++ token.Sign Slash ∷ ys) q
-  one-more-divisor = record {
-    first = positives.first;
-    rest = positives.rest;
-    more = positives.more;
-    does =
-        one-more Slash refl names xs ys (in_turn (quotient_triple p)) (in_turn (quotient_triple q)) p.nesting n q.nesting w x.does y nests
-        divisor-makes;
-  }
+  -- one behind another that isn't 1, of which it is known what it makes of the quotient
+  module _ (more : p.second ≢ pos 1) (second : q.second ≡ p.second) where
+    by-rest : q.rest ≢ pos 0 → ((z : ℤ) → IsSmall z → int_div (int_div z p.rest) w ≡ int_div z q.rest)
+        → IsQuotient names (xs ++ token.Sign Slash ∷ ys) q
+    by-rest some-rest is =
+        one-more-divisor
+        (record {
+          first = λ e. x.first (sym first ∙ e);
+          second = λ e. x.second (sym second ∙ e);
+          rest = some-rest;
+        })
+        (λ u h k.
+        let same : left q u ≡ left p u = (λ i. int_div (int_div u (first i)) (second i)) in
+        let fits : InRange (left p u) = subst InRange same k in
+        let small : IsSmall (left p u) = behind-small (int_div u p.first) p.second x.second more h fits in
+        record {
+          inside = fits;
+          before = small-in (int_div (left p u) p.rest) (quot-small (left p u) p.rest small);
+          after = small-in (int_div (left q u) q.rest) (quot-small (left q u) q.rest (subst IsSmall (sym same) small));
+          is = is (left p u) small ∙ ap (λ z. int_div z q.rest) (sym same);
+        })
+        (λ e. absurd (more (sym second ∙ e)))
 
--- one with which the product is in range
-pub by-rest : (names : ℕ → Option ℤ) (xs ys : List TokenKind) (p q : Quotient) (n : ℕ) (w : ℤ) → pos 0 <ℤ w → q.first ≡ p.first
-    → q.rest ≡ p.rest *ℤ w → q.more ≡ p.more → q.nesting ≡ max p.nesting n → IsQuotient names xs p → IsWorth names 0 n ys w
-    → IsQuotient names (xs ++ token.Sign Slash ∷ ys) q
-by-rest names xs ys p q n w positive first rest more nests x y =
-    one-more-divisor names xs ys p q n w x y positive
-    (record {
-      first = subst (λ z. pos 0 <ℤ z) (sym first) x.first;
-      rest = subst (λ z. pos 0 <ℤ z) (sym rest) (positive-times p.rest w x.rest positive);
-      more = subst (λ z. pos 0 <ℤ z) (sym more) x.more;
-    })
-    first nests
-    (λ z h. quot-swap (int_div z p.rest) p.more w x.more positive
-    ∙ ap (λ z. int_div z p.more) (quot-quot z p.rest w x.rest positive)
-    ∙ (λ i. int_div (int_div z (sym rest i)) (sym more i)))
+    -- the product is in range
+    pub by-product : q.rest ≡ p.rest *ℤ w → IsQuotient names (xs ++ token.Sign Slash ∷ ys) q
+    by-product rest =
+        by-rest (λ e. product-some p.rest w x.rest some (sym rest ∙ e))
+        (λ z small. quot-quot z p.rest w ∙ ap (int_div z) (sym rest))
 
--- one that comes to those with which it isn't
-pub by-more : (names : ℕ → Option ℤ) (xs ys : List TokenKind) (p q : Quotient) (n : ℕ) (w : ℤ) → pos 0 <ℤ w → q.first ≡ p.first
-    → q.rest ≡ p.rest → q.more ≡ p.more *ℤ w → q.nesting ≡ max p.nesting n → IsQuotient names xs p → IsWorth names 0 n ys w
-    → IsQuotient names (xs ++ token.Sign Slash ∷ ys) q
-by-more names xs ys p q n w positive first rest more nests x y =
-    one-more-divisor names xs ys p q n w x y positive
-    (record {
-      first = subst (λ z. pos 0 <ℤ z) (sym first) x.first;
-      rest = subst (λ z. pos 0 <ℤ z) (sym rest) x.rest;
-      more = subst (λ z. pos 0 <ℤ z) (sym more) (positive-times p.more w x.more positive);
-    })
-    first nests
-    (λ z h. quot-quot (int_div z p.rest) p.more w x.more positive
-    ∙ (λ i. int_div (int_div z (sym rest i)) (sym more i)))
-
--- and one with which the product of these isn't, either
-pub by-top : (names : ℕ → Option ℤ) (xs ys : List TokenKind) (p q : Quotient) (n : ℕ) (w : ℤ) → pos 0 <ℤ w → FitsSigned w64 w
-    → (FitsSigned w64 (p.rest *ℤ w) → ⊥) → (FitsSigned w64 (p.more *ℤ w) → ⊥) → q.first ≡ p.first
-    → q.rest ≡ p.rest → q.more ≡ top → q.nesting ≡ max p.nesting n → IsQuotient names xs p → IsWorth names 0 n ys w
-    → IsQuotient names (xs ++ token.Sign Slash ∷ ys) q
-by-top names xs ys p q n w positive fits high higher first rest more nests x y =
-    one-more-divisor names xs ys p q n w x y positive
-    (record {
-      first = subst (λ z. pos 0 <ℤ z) (sym first) x.first;
-      rest = subst (λ z. pos 0 <ℤ z) (sym rest) x.rest;
-      more = subst (λ z. pos 0 <ℤ z) (sym more) (record { lt = omega arith });
-    })
-    first nests
-    (λ z h. quot-top z p.rest p.more w h x.rest x.more positive (positive-fits w positive fits)
-    (too-great (p.rest *ℤ w) high) (too-great (p.more *ℤ w) higher)
-    ∙ (λ i. int_div (int_div z (sym rest i)) (sym more i)))
+    -- or it isn't
+    pub by-least : (FitsSigned w64 (p.rest *ℤ w) → ⊥) → q.rest ≡ least → IsQuotient names (xs ++ token.Sign Slash ∷ ys) q
+    by-least high rest =
+        by-rest (λ e. least-some (sym rest ∙ e))
+        (λ z small. quot-least z p.rest w small (too-great (p.rest *ℤ w) high) ∙ ap (int_div z) (sym rest))
+      where
+        least-some : least ≢ pos 0
+        least-some e = cc

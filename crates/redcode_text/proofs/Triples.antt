@@ -29,7 +29,7 @@ use Rattle.redcode_text.proofs.StandIns.{goes, stand-between}
 ok-same : {A : Type 0} (x y : A) → ok x ≡ ok y → x ≡ y
 ok-same x y h = cc
 
-looser-left : (k : ℕ) (stack : List Waiting) (v : ℤ) (r : ℤ × List Waiting) → reduced k stack v ≡ ok r → IsLooser k r.1
+pub looser-left : (k : ℕ) (stack : List Waiting) (v : ℤ) (r : ℤ × List Waiting) → reduced k stack v ≡ ok r → IsLooser k r.1
 looser-left k [] v r h = subst (λ r. IsLooser k r.1) (ok-same (v, []) r h) tt
 looser-left k (Opened signs ∷ stack) v r h = subst (λ r. IsLooser k r.1) (ok-same (v, Opened signs ∷ stack) r h) tt
 looser-left k (Left u s ∷ stack) v r h = ⊎_elim
@@ -40,7 +40,7 @@ looser-left k (Left u s ∷ stack) v r h = ⊎_elim
     (cases_lt k (precedence s))
 
 -- what follows applies what waits first
-reduced-first : (names : ℕ → Option ℤ) (stack : List Waiting) (u : ℤ) (zs : List TokenKind) → Follows 1 zs
+pub reduced-first : (names : ℕ → Option ℤ) (stack : List Waiting) (u : ℤ) (zs : List TokenKind) → Follows 1 zs
     → run names (has u stack) zs ≡ (reduced 1 stack u >>= λ r. run names (has r.0 r.1) zs)
 reduced-first names [] u zs f = refl
 reduced-first names (Opened signs ∷ stack) u zs f = refl
@@ -54,10 +54,10 @@ reduced-first names (Left a s ∷ stack) u zs f = ⊎_elim
     (cases_lt 1 (precedence s))
 
 module _ (s : Sign) (tight : precedence s ≡ 1) where
-  sign-follows : (xs : List TokenKind) → Follows 1 (token.Sign s ∷ xs)
+  pub sign-follows : (xs : List TokenKind) → Follows 1 (token.Sign s ∷ xs)
   sign-follows xs = let e : reach s ≡ precedence s = operator-reach s (omega arith) in omega arith
 
-  sign-shape : (opened : ℕ) (xs : List TokenKind) → shape (behind opened) (token.Sign s ∷ xs) ≡ shape (before opened) xs
+  pub sign-shape : (opened : ℕ) (xs : List TokenKind) → shape (behind opened) (token.Sign s ∷ xs) ≡ shape (before opened) xs
   sign-shape opened xs = go s tight
     where
       go : (s : Sign) → precedence s ≡ 1 → shape (behind opened) (token.Sign s ∷ xs) ≡ shape (before opened) xs
@@ -75,7 +75,7 @@ module _ (s : Sign) (tight : precedence s ≡ 1) where
       ∙ y.run u (Left u s ∷ stack) rest (omega arith) (follows-below 0 1 rest (omega arith) f)
       ∙ pops names u w s stack rest (subst (λ k. Follows k rest) (sym tight) f)
 
-  number-shape : (names : ℕ → Option ℤ) (n : ℕ) (ys : List TokenKind) (w : ℤ) → IsWorth names 0 n ys w
+  pub number-shape : (names : ℕ → Option ℤ) (n : ℕ) (ys : List TokenKind) (w : ℤ) → IsWorth names 0 n ys w
       → (opened : ℕ) (rest : List TokenKind) → opened + n ≤ most_parens → shape (behind opened) (token.Sign s ∷ (ys ++ rest)) ≡ shape (behind opened) rest
   number-shape names n ys w y opened rest h = sign-shape opened (ys ++ rest) ∙ y.shape opened rest h
 
@@ -207,8 +207,8 @@ module _ (names : ℕ → Option ℤ) (xs : List TokenKind) (c : Triple) (tight 
 
 module _ (names : ℕ → Option ℤ) (xs : List TokenKind) (c : Triple) (tight : precedence c.sign ≡ 1)
     (does : Does names c.first.nesting xs (in_turn c)) where
-  same-behind : SameBehind names xs (triple_tokens c)
-  same-behind = record {
+  triple-behind : SameBehind names xs (triple_tokens c)
+  triple-behind = record {
     is = λ opened u v stack rest few s r.
         let room = short-room names xs c tight does opened rest few s in
         let rested = sym (short-shape names xs c tight does opened rest room) ∙ s in
@@ -217,13 +217,6 @@ module _ (names : ℕ → Option ℤ) (xs : List TokenKind) (c : Triple) (tight 
           run = short-run names xs c tight does u v stack rest (follows-shaped opened rest rested) r;
         };
   }
-
-  -- what stands behind an operand is worth the triple
-  pub triple-stands : (x : TokenKind) → ends_operand x ≡ true → (before rest : List TokenKind)
-      → StandIn names (before ++ (x ∷ (xs ++ rest))) (before ++ (x ∷ (triple_tokens c ++ rest)))
-  triple-stands x last before rest =
-      stand-between names (x ∷ xs) (x ∷ triple_tokens c) before rest
-      (same-stands names x xs (triple_tokens c) last same-behind)
 
 -- ---- the code's slices
 
@@ -240,13 +233,12 @@ take-number ts at next d s low high is =
     ∙ map-append (λ t. t.kind) (take at ts) (get_or ts at d ∷ slice_range ts (at + 1) next)
     ∙ ap (λ k. kinds (take at ts) ++ k ∷ kinds (slice_range ts (at + 1) next)) is
 
--- a triple in place of so many tokens behind an operand
-pub triple-short : (names : ℕ → Option ℤ) (front others behind rest old put short : List Token) (len : ℕ) (last : Token) (c : Triple)
-    → front ≡ others ++ last ∷ [] → rest ≡ drop len behind → old ≡ front
-    → ends_operand last.kind ≡ true → kinds put ≡ kinds old ++ triple_tokens c → short ≡ put ++ rest
-    → precedence c.sign ≡ 1 → Does names c.first.nesting (kinds (take len behind)) (in_turn c)
-    → StandIn names (kinds (front ++ behind)) (kinds short)
-triple-short names front others behind rest old put short len last c parted dropped copied ends made whole tight does =
+-- tokens in place of so many behind an operand
+pub short-behind : (names : ℕ → Option ℤ) (front others behind rest old put short : List Token) (len : ℕ) (last : Token)
+    (fewer : List TokenKind) → front ≡ others ++ last ∷ [] → rest ≡ drop len behind → old ≡ front
+    → ends_operand last.kind ≡ true → kinds put ≡ kinds old ++ fewer → short ≡ put ++ rest
+    → SameBehind names (kinds (take len behind)) fewer → StandIn names (kinds (front ++ behind)) (kinds short)
+short-behind names front others behind rest old put short len last fewer parted dropped copied ends made whole same =
     let first : List TokenKind = kinds (take len behind) in
     let front-is : kinds front ≡ kinds others ++ last.kind ∷ [] = ap kinds parted ∙ map-append (λ t. t.kind) others (last ∷ []) in
     let behind-is : kinds behind ≡ first ++ kinds rest =
@@ -255,14 +247,25 @@ triple-short names front others behind rest old put short len last c parted drop
     let long : kinds (front ++ behind) ≡ kinds others ++ (last.kind ∷ (first ++ kinds rest)) =
     map-append (λ t. t.kind) front behind ∙ (λ i. front-is i ++ behind-is i)
     ∙ append_assoc (kinds others) (last.kind ∷ []) (first ++ kinds rest) in
-    let less : kinds short ≡ kinds others ++ (last.kind ∷ (triple_tokens c ++ kinds rest)) =
+    let less : kinds short ≡ kinds others ++ (last.kind ∷ (fewer ++ kinds rest)) =
     ap kinds whole ∙ map-append (λ t. t.kind) put rest
-    ∙ ap (λ ks. ks ++ kinds rest) (made ∙ ap (λ ts. kinds ts ++ triple_tokens c) copied ∙ ap (λ ks. ks ++ triple_tokens c) front-is)
-    ∙ append_assoc (kinds others ++ last.kind ∷ []) (triple_tokens c) (kinds rest)
-    ∙ append_assoc (kinds others) (last.kind ∷ []) (triple_tokens c ++ kinds rest) in
+    ∙ ap (λ ks. ks ++ kinds rest) (made ∙ ap (λ ts. kinds ts ++ fewer) copied ∙ ap (λ ks. ks ++ fewer) front-is)
+    ∙ append_assoc (kinds others ++ last.kind ∷ []) fewer (kinds rest)
+    ∙ append_assoc (kinds others) (last.kind ∷ []) (fewer ++ kinds rest) in
     subst (λ ks. StandIn names ks (kinds short)) (sym long)
     (subst (StandIn names (kinds others ++ (last.kind ∷ (first ++ kinds rest)))) (sym less)
-    (triple-stands names first c tight does last.kind ends (kinds others) (kinds rest)))
+    (stand-between names (last.kind ∷ first) (last.kind ∷ fewer) (kinds others) (kinds rest)
+    (same-stands names last.kind first fewer ends same)))
+
+-- a triple in place of so many
+pub triple-short : (names : ℕ → Option ℤ) (front others behind rest old put short : List Token) (len : ℕ) (last : Token) (c : Triple)
+    → front ≡ others ++ last ∷ [] → rest ≡ drop len behind → old ≡ front
+    → ends_operand last.kind ≡ true → kinds put ≡ kinds old ++ triple_tokens c → short ≡ put ++ rest
+    → precedence c.sign ≡ 1 → Does names c.first.nesting (kinds (take len behind)) (in_turn c)
+    → StandIn names (kinds (front ++ behind)) (kinds short)
+triple-short names front others behind rest old put short len last c parted dropped copied ends made whole tight does =
+    short-behind names front others behind rest old put short len last (triple_tokens c) parted dropped copied ends made whole
+    (triple-behind names (kinds (take len behind)) c tight does)
 
 -- a triple in place of what it stands for, in the whole
 pub triple-in-place : (names : ℕ → Option ℤ) (tokens front behind : List Token) (short : List Token) (at len : ℕ) (c d : Triple)

@@ -18,10 +18,13 @@ pub mod Heads
 pub mod Loops
 pub mod Parts
 pub mod Placed
+pub mod Counters
+pub mod SourceLoops
 pub mod Worth
 pub mod Triples
 pub mod Products
 pub mod Quotients
+pub mod Remainders
 pub mod Chains
 pub mod Nesting
 pub mod Sums

@@ -102,3 +102,16 @@ pub fn is_made_of(text: &[u8], first: &[u8], end: &[u8]) -> bool
         None => false,
     }
 }
+
+/// Whether two texts in two parts each are the same.
+pub fn are_same_parts(front: &[u8], end: &[u8], other_front: &[u8], other_end: &[u8]) -> bool
+    ensures { result ≡ bytes_eq (front.now ++ end.now) (other_front.now ++ other_end.now) }
+{
+    match other_front.split_at_checked(front.len()) {
+        Some((first, rest)) => front == first && is_made_of(end, rest, other_end),
+        None => match front.split_at_checked(other_front.len()) {
+            Some((first, rest)) => other_front == first && is_made_of(other_end, rest, end),
+            None => false,
+        },
+    }
+}

@@ -24,7 +24,6 @@ fn program_of(reading: Reading<'_>) -> Program
     ensures { result ≡ program_of (reading_of reading.entry) }
 {
     let Reading {
-        loops,
         names,
         equates,
         lines,
@@ -34,8 +33,7 @@ fn program_of(reading: Reading<'_>) -> Program
         asserts,
         ..
     } = reading;
-    // by calls, since their drops in this body are dear to prove
-    drop(loops);
+    // by a call, since its drop in this body is dear to prove
     drop(labels);
     Program {
         names: names.into_table(),
@@ -109,7 +107,7 @@ fn read_source<'a>(
 ///
 /// The time is linear in the length of the source, in the words of the lines that are read, those of a loop once for each
 /// round, and in the replacements in counts, of which each count has at most 65,536. A long run of blanks counts once, and so
-/// does a long number, and a long name up to its first join.
+/// does a long number, and each long part of a name between its joins.
 #[tactic(auto, unfolding(crate::specs::Expansion::expansion))]
 pub fn expand(alloc: Global, bytes: &[u8], names: &PredefinedNames) -> Result<Program, TextFault>
     ensures { Answers (λ program. program) result (expansion (predefined_of names.now) bytes.now) }

@@ -1,12 +1,12 @@
 //! The tokens of a line.
-ghost use Rattle.std.specs.Prelude.{◌≡◌, ◌≤◌, ◌<◌, ◌+◌, ◌^◌, [], drop, length, vec_len, IfOk};
-ghost use Rattle.redcode_text.specs.Code.Runs.{IsKnownStart};
+ghost use Rattle.std.specs.Prelude.{◌≡◌, ◌≤◌, ◌<◌, ◌+◌, ◌^◌, [], drop, length, vec_len, IfOk, OnOk};
 ghost use Rattle.redcode_text.specs.Outcomes.{Answers};
 ghost use Rattle.redcode_text.specs.Views.{scan_of};
-ghost use Rattle.redcode_text.specs.Code.Placed.{IsPart, StandsAt};
+ghost use Rattle.redcode_text.specs.Code.Placed.{IsPart};
 ghost use Rattle.redcode_text.specs.Code.Problems.{Gives};
 ghost use Rattle.redcode_text.specs.Code.Scanning.{found_alone, with_names};
 ghost use Rattle.redcode_text.specs.Code.Scanning.{one_token};
+ghost use Rattle.redcode_text.specs.Code.SourceLoops.{loops_of};
 ghost use Rattle.redcode_text.specs.Tokens.{begins_word, is_blank, scan_from, scanned, sign_token, token_at};
 
 pub mod open_loops;
@@ -15,13 +15,10 @@ mod words;
 
 use crate::characters::{begins_word, is_blank};
 use crate::fault::{TextFault, TextProblem};
-use crate::lexer::open_loops::OpenLoops;
 use crate::lexer::text::Text;
 use crate::lexer::words::read_word;
 use crate::names::NameTable;
-use crate::shortcuts::{
-    Cursor, KnownStart, Seed, SourceNames, known_start, past_blank, run_at, word_of,
-};
+use crate::shortcuts::{Cursor, Seed, SourceNames, past_blank, run_at, word_at};
 use crate::token::{Spelled, Token, TokenKind, one_byte_sign, two_byte_sign};
 use std::alloc::Global;
 
@@ -50,20 +47,23 @@ fn read_sign(bytes: &[u8]) -> Result<Spelled, TextProblem>
     }
 }
 
-/// The token at the front of some bytes, which begin with no blank, and with a word whose front is known.
+/// The token that begins at a place of a text, where no blank stands.
 fn read_token(
     alloc: Global,
-    loops: &OpenLoops,
     names: &mut SourceNames<'_>,
-    bytes: &[u8],
-    known: KnownStart,
+    text: Text<'_>,
+    cursor: Cursor,
 ) -> Result<Spelled, TextProblem>
-    requires known { IsKnownStart known bytes.now }
-    requires placed { StandsAt names.old.source.now known.place bytes.now }
-    ensures value { Gives (with_names names.new.table) result (token_at loops.now names.old.table bytes.now) }
-    ensures len { IfOk result (λ s. (1 ≤ s.len) × (s.len ≤ length bytes.now)) }
+    requires within { cursor.at < length text.bytes.now }
+    requires fits { text.at + length text.bytes.now < 2 ^ 64 }
+    requires part { IsPart names.old.source.now text.at text.bytes.now }
+    ensures value { Gives (with_names names.new.table) result
+        (token_at (loops_of names.old) names.old.table (drop cursor.at text.entry.bytes.now)) }
+    ensures len { IfOk result (λ s. (1 ≤ s.len) × (cursor.at + s.len ≤ length text.entry.bytes.now)) }
     ensures source { names.new.source.now ≡ names.old.source.now }
+    ensures loops { OnOk result (loops_of names.new ≡ loops_of names.old) }
 {
+    let bytes = &text.bytes[cursor.at..];
     let [first, ..] = bytes else {
         return Err(TextProblem::BadToken);
     };
@@ -71,7 +71,7 @@ fn read_token(
         return Err(TextProblem::NotAscii);
     }
     if begins_word(bytes) {
-        return read_word(alloc, loops, names, word_of(bytes, known));
+        return read_word(alloc, names, word_at(text, cursor));
     }
     read_sign(bytes)
 }
@@ -79,7 +79,6 @@ fn read_token(
 /// Reads the token that begins at a place of a text, and says how many bytes it takes.
 fn add_token(
     alloc: Global,
-    loops: &OpenLoops,
     text: Text<'_>,
     cursor: Cursor,
     room: usize,
@@ -90,18 +89,13 @@ fn add_token(
     requires fits { text.at + length text.bytes.now < 2 ^ 64 }
     requires part { IsPart names.old.source.now text.at text.bytes.now }
     ensures value { Gives (λ len. (len, scan_of tokens.new names.new.table)) result
-        (one_token loops.now text.entry.number room (text.entry.at + cursor.at) (drop cursor.at text.entry.bytes.now) (scan_of tokens.old names.old.table)) }
+        (one_token (loops_of names.old) text.entry.number room (text.entry.at + cursor.at) (drop cursor.at text.entry.bytes.now) (scan_of tokens.old names.old.table)) }
     ensures len { IfOk result (λ len. (1 ≤ len) × (cursor.at + len ≤ length text.entry.bytes.now)) }
     ensures room { vec_len tokens.old ≤ room → vec_len tokens.new ≤ room }
     ensures source { names.new.source.now ≡ names.old.source.now }
+    ensures loops { OnOk result (loops_of names.new ≡ loops_of names.old) }
 {
-    let Spelled { kind, len } = match read_token(
-        alloc,
-        loops,
-        names,
-        &text.bytes[cursor.at..],
-        known_start(text, cursor),
-    ) {
+    let Spelled { kind, len } = match read_token(alloc, names, text, cursor) {
         Ok(found) => found,
         Err(problem) => return Err(problem),
     };
@@ -124,7 +118,6 @@ fn add_token(
 /// Reads the tokens of a text behind those that are there, up to so many in all.
 pub fn read_tokens(
     alloc: Global,
-    loops: &OpenLoops,
     text: Text<'_>,
     room: usize,
     names: &mut SourceNames<'_>,
@@ -134,9 +127,10 @@ pub fn read_tokens(
     requires part { IsPart names.old.source.now text.at text.bytes.now }
     requires room { vec_len tokens.old ≤ room }
     ensures value { Gives (λ _. scan_of tokens.new names.new.table) result
-        (scan_from loops.now text.entry.number room text.entry.at 0 text.entry.bytes.now (scan_of tokens.old names.old.table)) }
+        (scan_from (loops_of names.old) text.entry.number room text.entry.at 0 text.entry.bytes.now (scan_of tokens.old names.old.table)) }
     ensures room { vec_len tokens.new ≤ room }
     ensures source { names.new.source.now ≡ names.old.source.now }
+    ensures loops { OnOk result (loops_of names.new ≡ loops_of names.old) }
 {
     let mut at = 0;
     let mut run = 0;
@@ -146,7 +140,7 @@ pub fn read_tokens(
         if is_blank(text.bytes[at]) {
             at = past_blank(text, cursor);
         } else {
-            match add_token(alloc, loops, text, cursor, room, names, tokens) {
+            match add_token(alloc, text, cursor, room, names, tokens) {
                 Ok(len) => at += len,
                 Err(problem) => return Err(problem),
             }
@@ -179,8 +173,7 @@ pub fn scan(alloc: Global, text: &[u8]) -> Result<LineTokens, TextFault>
         bytes: text,
         runs: &[],
     };
-    let loops = OpenLoops::new(alloc);
-    match read_tokens(alloc, &loops, line, text.len(), &mut names, &mut tokens) {
+    match read_tokens(alloc, line, text.len(), &mut names, &mut tokens) {
         Ok(()) => Ok(LineTokens {
             tokens,
             names: names.into_table(),

@@ -1,7 +1,7 @@
 //! The names of a text.
-ghost use Rattle.std.specs.Prelude.{◌≡◌, ◌++◌, length, string_bytes, [], IfOk, IfSome, OnOk, IsAscii};
-ghost use Rattle.std.specs.Str.{str_eq_ignore_ascii_case};
-ghost use Rattle.redcode_text.specs.Code.Parts.{BeginsWith, front_len};
+ghost use Rattle.std.specs.Prelude.{◌≡◌, ◌<◌, ◌++◌, length, string_bytes, [], IfOk, IfSome, OnOk, IsAscii};
+ghost use Rattle.std.specs.Str.{bytes_eq, str_eq_ignore_ascii_case};
+ghost use Rattle.redcode_text.specs.Code.Parts.{BeginsWith, IsIndexOf, front_len};
 ghost use Rattle.redcode_text.specs.Lines.{name_at};
 ghost use Rattle.redcode_text.specs.ShortNames.{word_at};
 ghost use Rattle.redcode_text.specs.Tokens.{name_index, with_name};
@@ -11,7 +11,7 @@ pub mod equates;
 pub mod predefined;
 pub mod set;
 
-use crate::characters::is_word;
+use crate::characters::{are_same_parts, is_word};
 use crate::shortcuts::{PartedNames, Seed};
 use crate::token::Token;
 use std::alloc::{AllocError, Global};
@@ -81,6 +81,14 @@ impl NameTable {
         self.names.index_of_parts(alloc, front, digits, known)
     }
 
+    /// The index of a name, where a name is known that begins with it, and is no longer.
+    pub(crate) fn known_name(&self, name: &[u8], known: Option<usize>) -> Option<usize>
+        requires { IfSome known (BeginsWith self.now name.now) }
+        ensures { IfSome result (IsIndexOf self.now name.now) }
+    {
+        self.names.known_name(name, known)
+    }
+
     /// How many names there are.
     pub fn len(&self) -> usize
         ensures { result ≡ length self.now }
@@ -107,6 +115,23 @@ impl NameTable {
             }
             None => false,
         }
+    }
+
+    /// Whether a name, by its index, is these two parts, one behind the other.
+    pub(crate) fn is_name(&self, index: usize, front: &[u8], end: &[u8]) -> bool
+        ensures { result ≡ bytes_eq (name_at self.now index) (front.now ++ end.now) }
+    {
+        let (first, digits) = self.names.parts(index);
+        are_same_parts(first.as_bytes(), digits.as_bytes(), front, end)
+    }
+
+    /// Whether two names are the same, by their indices.
+    pub(crate) fn are_same(&self, first: usize, second: usize) -> bool
+        requires first { first < length self.now }
+        requires second { second < length self.now }
+        ensures { result ≡ bytes_eq (name_at self.now first) (name_at self.now second) }
+    {
+        self.names.are_same(first, second)
     }
 
     /// A name, by its index, in one piece; empty where there is no such name. Fails for want of memory alone.

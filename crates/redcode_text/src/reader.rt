@@ -17,7 +17,6 @@ mod used_lines;
 
 use crate::characters::is_word;
 use crate::fault::TextProblem;
-use crate::lexer::open_loops::OpenLoops;
 use crate::lexer::read_tokens;
 use crate::lexer::text::Text;
 use crate::limits::{MAX_LINES, MAX_TOKENS};
@@ -33,8 +32,6 @@ use std::alloc::{AllocError, Global};
 /// All that has been read.
 #[derive(Drop)]
 pub struct Reading<'a> {
-    /// The open loops.
-    pub loops: OpenLoops,
     pub names: SourceNames<'a>,
     pub equates: Equates,
     /// Whether an EQU line without a name adds to the last EQU name.
@@ -81,6 +78,7 @@ fn is_operation_word(name: &[u8]) -> bool
 
 impl<'a> Reading<'a> {
     ghost use Rattle.redcode_text.specs.Code.Readings.{reading_of};
+    ghost use Rattle.redcode_text.specs.Code.SourceLoops.{loops_of};
     ghost use Rattle.redcode_text.specs.Expansion.{nothing_read};
     ghost use Rattle.redcode_text.specs.Lines.{is_equate, is_label, is_operation, is_predefined, line_read, row_tokens, tokens_counted};
     ghost use Rattle.redcode_text.specs.Code.Problems.{Gives};
@@ -90,7 +88,7 @@ impl<'a> Reading<'a> {
     /// Nothing, before a source is read.
     pub fn new(alloc: Global, source: &'a [u8]) -> Result<Reading<'a>, AllocError>
         ensures value { IfOk result (λ reading. reading_of reading ≡ nothing_read) }
-        ensures loops { IfOk result (λ reading. reading.loops ≡ []) }
+        ensures loops { IfOk result (λ reading. loops_of reading.names ≡ []) }
         ensures going { IfOk result (λ reading. reading.ended ≡ false) }
         ensures source { IfOk result (λ reading. reading.names.source.now ≡ source.now) }
     {
@@ -98,7 +96,6 @@ impl<'a> Reading<'a> {
         let name = String::from_str(alloc, "Unknown")?;
         let author = String::from_str(alloc, "Anonymous")?;
         Ok(Reading {
-            loops: OpenLoops::new(alloc),
             names: SourceNames::new(alloc, source, seed),
             equates: Equates::new(alloc, seed),
             equate_grows: false,
@@ -167,7 +164,7 @@ impl<'a> Reading<'a> {
         };
         let mut tokens = Vec::new(alloc);
         let room = MAX_TOKENS - self.tokens_read;
-        match read_tokens(alloc, &self.loops, code, room, &mut self.names, &mut tokens) {
+        match read_tokens(alloc, code, room, &mut self.names, &mut tokens) {
             Ok(()) => {
                 self.tokens_read += tokens.len();
                 Ok(tokens)

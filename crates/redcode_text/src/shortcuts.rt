@@ -6,12 +6,12 @@
 //!
 //! - `runs`, `reaches`: a line of thousands of blanks in a loop. Long runs of blanks, and of letters, digits and `_`, are found
 //!   once, and then passed over in one step.
-//! - `words`: a number or a name of thousands of bytes in a loop, with hundreds of joins. Its front isn't gone over again, a long
-//!   name and a number with zeros in front aren't put together with what their joins stand for, and a join of the same counter as
-//!   the last one isn't looked up.
+//! - `words`, `written_words`: a number or a name of thousands of bytes in a loop, with hundreds of joins. No long part of it is gone
+//!   over again, and a long name and a number with zeros in front aren't put together with what their joins stand for.
 //! - `long_names`: long names that a loop makes by joins. A name of 256 bytes and more is two texts, the last digits at its end
 //!   apart.
-//! - `placed_names`: a long name in a loop. It is known by its place in the source, and neither hashed nor compared again.
+//! - `placed_names`: a long name in a loop. It is known by its place in the source, and neither hashed nor compared again, nor
+//!   with the counters, which are known by their indices. A join of the same counter as the last one isn't looked up.
 //! - `values`, `counts`: a loop in a loop, with EQU names in its count that stand for 65,536 tokens, and EQU lines between. The
 //!   value of a count is kept until a name becomes an EQU name that may be among those tokens, or an EQU name gets one line more.
 //! - `shortening`: EQU names that stand for 65,536 tokens, in the operands and counts of a loop, beside its counter, so that no
@@ -20,8 +20,8 @@
 //!   once for all uses where names stand for the same. So a use costs what is written, and not what it stands for.
 //! - `seed`: names that all have the same hash. Hashes begin with the text itself.
 //!
-//! Without them `Text` has no runs, a `Word` is its bytes, `SourceNames` is its table, `NameTable` is a set of texts, a count is
-//! worked out each time, and each EQU name is replaced by all that it stands for.
+//! Without them `Text` has no runs, a `Word` is its bytes, `SourceNames` is its table and the open loops, `NameTable` is a set of
+//! texts, a count is worked out each time, and each EQU name is replaced by all that it stands for.
 //!
 //! What serves speed alone, too, but has no form apart from what it is used in, stands there:
 //!
@@ -41,15 +41,14 @@ mod seed;
 mod shortening;
 mod values;
 mod words;
+mod written_words;
 
-pub use long_names::{PartedNames, is_long_name, len_over};
-pub use placed_names::SourceNames;
+pub use long_names::{LONG, PartedNames, is_long_name, len_over};
+pub use placed_names::{Counter, SourceNames};
 pub use reaches::{Cursor, known_start, past_blank, run_at};
 pub use runs::{LongRun, long_runs, runs_before};
 pub use seed::Seed;
 pub use shortening::{ShortTokens, Shorts, are_linear};
 pub use values::KnownValues;
-pub use words::{
-    Counter, KnownStart, Word, has_joins, kept_len, long_name, past_zeros, round_after,
-    unknown_word, word_of,
-};
+pub use words::{KnownStart, Word, has_joins, kept_len, long_name, past_zeros, unknown_word};
+pub use written_words::{behind, part_end, word_at};

@@ -9,7 +9,7 @@ ghost use Rattle.redcode_asm.specs.Code.Problems.{Gives};
 ghost use Rattle.redcode_asm.specs.Code.Sources.{value_written};
 
 use crate::fault::AsmProblem;
-use crate::sources::{AssertNames, Source};
+use crate::sources::Source;
 use indexmap::IndexMap;
 use redcode_text::{Assert, Token, are_alike, eval};
 use std::alloc::{AllocError, Global};
@@ -90,6 +90,16 @@ impl<'a> Source<'a> {
             .short_value(alloc, tokens, &shorts.fixed, &self.fixed_names())
     }
 
+    /// The value of an assert behind so many instructions whose EQU names stand for many tokens, by what these stand for there.
+    fn short_assert_at(&self, alloc: Global, index: u32, tokens: &[Token]) -> Option<i64>
+        ensures { IfSome result (IsValued self.now.program.now.equates
+            (known_value (predefined_of self.now.predefined.now) self.now.program.now index) tokens.now) }
+    {
+        let names = self.assert_names(index);
+        let shorts = self.program.shorts_among(alloc, tokens, &names);
+        self.program.short_value(alloc, tokens, &shorts, &names)
+    }
+
     /// The value of an assert behind so many instructions whose EQU names stand for many tokens, where it has one, and
     /// whether it is known to be the same behind any others. It is asked only where EQU names were written.
     pub fn short_assert(&self, alloc: Global, index: u32, tokens: &[Token]) -> Option<(i64, bool)>
@@ -104,12 +114,10 @@ impl<'a> Source<'a> {
         if let Some(value) = self.fixed_short_assert(alloc, tokens) {
             return Some((value, true));
         }
-        let names = AssertNames {
-            source: *self,
-            index,
-        };
-        let shorts = self.program.shorts_among(alloc, tokens, &names);
-        match self.program.short_value(alloc, tokens, &shorts, &names) {
+        if let Some(value) = self.line_assert(alloc, index, tokens) {
+            return Some((value, false));
+        }
+        match self.short_assert_at(alloc, index, tokens) {
             Some(value) => Some((value, false)),
             None => None,
         }

@@ -1,38 +1,21 @@
 //! The cells of instructions whose operands lie on a line: what they are worth depends on their place only by labels and CURLINE,
 //! and no more than in proportion. So the value at a place follows from that at the first index and that at the last.
-ghost use Rattle.std.specs.Prelude.{◌≡◌, ◌<◌, ◌+ℤ◌, ◌*ℤ◌, pos, true, Ok, IfSome, option_map};
+ghost use Rattle.std.specs.Prelude.{◌≡◌, ◌<◌, true, Ok, IfSome, option_map};
 ghost use Rattle.mars_cell.specs.Cells.{FitsCore};
 ghost use Rattle.redcode_text.specs.Views.{predefined_of};
 ghost use Rattle.redcode_asm.specs.Assembly.{name_value};
-ghost use Rattle.redcode_asm.specs.Code.OnLines.{IsBetween, IsGivenBetween};
+ghost use Rattle.redcode_asm.specs.Code.OnLines.{IsCellBetween, IsGivenBetween};
 ghost use Rattle.redcode_asm.specs.Code.Sources.{cell_written};
 
 use crate::instruction::whole_cell;
 use crate::operands::{split_mode, split_operands};
+use crate::shortcuts::line_values::value_between;
 use crate::shortcuts::place_shorts::LAST_INDEX;
 use crate::shortcuts::short_cells::Written;
 use crate::sources::Source;
 use mars_cell::{Cell, Mode, residue};
 use redcode_text::{Token, are_linear, eval};
 use std::alloc::Global;
-
-/// What lies at an index on the line that begins so and has this slope. None where it is no 64-bit number.
-fn on_line(first: i64, slope: i64, index: u32) -> Option<i64>
-    ensures { IfSome result (λ value. value ≡ first +ℤ slope *ℤ pos index) }
-{
-    first.checked_add(slope.checked_mul(i64::from(index))?)
-}
-
-/// What lies at an index on the line from a value at the first index to one at the last. None where there is no such line.
-fn value_between(first: i64, end: i64, index: u32) -> Option<i64>
-    ensures { IfSome result (λ value. IsBetween index first value end) }
-{
-    let slope = end.checked_sub(first)? / i64::from(LAST_INDEX);
-    if on_line(first, slope, LAST_INDEX)? != end {
-        return None;
-    }
-    on_line(first, slope, index)
-}
 
 impl<'a> Source<'a> {
     /// The mode and the number at an index of an operand whose tokens in short are these at the first index and at the last. None
@@ -83,6 +66,32 @@ impl<'a> Source<'a> {
         }
     }
 
+    /// The cell at an index of an instruction whose operands in short are these at the first index and at the last. None where one of
+    /// them lies on no line.
+    fn cell_between(
+        &self,
+        core_size: u32,
+        index: u32,
+        written: Written<'_>,
+        first: &[Token],
+        last: &[Token],
+    ) -> Option<Cell>
+        requires { 0 < core_size }
+        ensures value { IfSome result (IsCellBetween (predefined_of self.now.predefined.now) self.now.program.now core_size index
+            written.entry.op written.entry.modifier first.now last.now) }
+        ensures fits { IfSome result (FitsCore core_size) }
+    {
+        let Ok(starts) = split_operands(written.op, first) else {
+            return None;
+        };
+        let Ok(ends) = split_operands(written.op, last) else {
+            return None;
+        };
+        let a = self.given_between(core_size, index, starts.a, ends.a)?;
+        let b = self.given_between(core_size, index, starts.b, ends.b)?;
+        Some(whole_cell(written.op, written.modifier, a, b))
+    }
+
     /// The cell of an instruction at an index, where its operands lie on a line.
     pub fn line_cell(
         &self,
@@ -103,14 +112,6 @@ impl<'a> Source<'a> {
         if !first.is_linear || index > LAST_INDEX {
             return None;
         }
-        let Ok(starts) = split_operands(written.op, &first.tokens) else {
-            return None;
-        };
-        let Ok(ends) = split_operands(written.op, &last.tokens) else {
-            return None;
-        };
-        let a = self.given_between(core_size, index, starts.a, ends.a)?;
-        let b = self.given_between(core_size, index, starts.b, ends.b)?;
-        Some(whole_cell(written.op, written.modifier, a, b))
+        self.cell_between(core_size, index, written, &first.tokens, &last.tokens)
     }
 }

@@ -14,4 +14,8 @@ pub struct PlaceShorts {
     pub first: Shorts,
     /// In the instruction of the last index.
     pub last: Shorts,
+    /// In an assert behind no instruction.
+    pub assert_first: Shorts,
+    /// In an assert behind as many instructions as the last index has before it.
+    pub assert_last: Shorts,
 }

@@ -13,5 +13,5 @@ noted_place zero = None
 noted_place (suc place) = Some place
 
 -- a name's place is where it stands among the EQU names; a name without a place is none of them
-pub record ArePlaced (equates : List Equate) (places : List ℕ) : Type 0 where
+pub record AreNoted (equates : List Equate) (places : List ℕ) : Type 0 where
   pub each : (name : ℕ) → noted_place (slice_index places name) ≡ equate_place equates name

@@ -4,12 +4,13 @@ use Rattle.redcode_text.specs.declared.reader.ordinary.Parts as parts
 use Rattle.redcode_text.specs.declared.reader.Reading as code
 use Rattle.redcode_text.specs.declared.token.Token.{Token}
 use Rattle.redcode_text.specs.Lines.{Parts, Reading}
+use Rattle.redcode_text.specs.Code.SourceLoops.{loops_of}
 use Rattle.redcode_text.specs.Views.{assert_of, line_of}
 
 abbrev pub reading_of : code.Reading → Reading
 reading_of r =
     record {
-      loops = r.loops;
+      loops = loops_of r.names;
       names = r.names.table;
       equates = r.equates;
       equate_grows = r.equate_grows;

@@ -4,7 +4,7 @@ ghost use Rattle.redcode_text.specs.declared.limits.TheConstants.{MAX_REPLACED};
 ghost use Rattle.redcode_text.specs.Equates.{Equate, Replaced, equate_lines, token_lines, one_line, one_more, kept, replaced_name, replaced_token, each_replaced, replacing, depth_limit, each_replaced_at_line, substitution};
 ghost use Rattle.redcode_text.specs.Lines.{with_line};
 ghost use Rattle.redcode_text.specs.Outcomes.{Answers};
-ghost use Rattle.redcode_text.specs.Code.Places.{ArePlaced, equate_place};
+ghost use Rattle.redcode_text.specs.Code.Places.{AreNoted, equate_place};
 ghost use Rattle.redcode_text.specs.Code.Problems.{Gives};
 ghost use Rattle.redcode_text.specs.Shortening.{has_equate};
 ghost use Rattle.redcode_text.specs.Tokens.{at_line};
@@ -30,7 +30,7 @@ pub struct Equates {
 
 impl Model for Equates {
     ghost use Rattle.std.specs.Prelude.{List, map};
-    ghost use Rattle.redcode_text.specs.Code.Places.{ArePlaced};
+    ghost use Rattle.redcode_text.specs.Code.Places.{AreNoted};
     ghost use Rattle.redcode_text.specs.Code.Values.{AreKept};
     ghost use Rattle.redcode_text.specs.Equates.{Equate};
     ghost use Rattle.redcode_text.specs.Views.{equate_of};
@@ -40,15 +40,15 @@ impl Model for Equates {
     ghost view = { λ s. map equate_of s.lines.items };
 
     ghost invariant = { λ s. AreKept (map equate_of s.lines.items) s.known.last s.known.values.items
-        × ArePlaced (map equate_of s.lines.items) s.places.items };
+        × AreNoted (map equate_of s.lines.items) s.places.items };
 }
 
 /// Notes that a name becomes an EQU name, behind so many others.
 fn note_place(places: &mut Vec<usize>, name: usize, place: usize) -> Result<(), AllocError>
     requires { place + 1 < 2 ^ 64 }
     ensures ok { OnOk result ((es : List Equate) (e : Equate) → length es ≡ place → e.name ≡ name → equate_lines es name ≡ None
-        → ArePlaced es places.old.items → ArePlaced (es ++ e ∷ []) places.new.items) }
-    ensures err { OnErr result ((es : List Equate) → ArePlaced es places.old.items → ArePlaced es places.new.items) }
+        → AreNoted es places.old.items → AreNoted (es ++ e ∷ []) places.new.items) }
+    ensures err { OnErr result ((es : List Equate) → AreNoted es places.old.items → AreNoted es places.new.items) }
 {
     if places.len() <= name {
         places.resize(name.saturating_add(1), 0)?;
@@ -66,9 +66,9 @@ fn add_entry(
     places: &mut Vec<usize>,
     entry: EquateLines,
 ) -> Result<(), AllocError>
-    requires placed { ArePlaced (map equate_of entries.old.items) places.old.items }
+    requires placed { AreNoted (map equate_of entries.old.items) places.old.items }
     requires new { equate_lines (map equate_of entries.old.items) entry.name ≡ None }
-    ensures placed { ArePlaced (map equate_of entries.new.items) places.new.items }
+    ensures placed { AreNoted (map equate_of entries.new.items) places.new.items }
     ensures ok { OnOk result (entries.new.items ≡ entries.old.items ++ entry ∷ []) }
     ensures err { OnErr result (entries.new.items ≡ entries.old.items) }
 {

@@ -1,10 +1,13 @@
 //! The items of a source, with the rounds of its loops.
-ghost use Rattle.std.specs.Prelude.{◌≡◌, ◌+◌, ◌<◌, ◌≤◌, ◌^◌, false, length, map, option_map, slice_index, string_bytes, OnOk};
+ghost use Rattle.std.specs.Prelude.{◌≡◌, ◌+◌, ◌<◌, ◌≤◌, ◌^◌, false, length, map, option_map, slice_index, IfOk, OnOk};
 ghost use Rattle.redcode_text.specs.Expansion.{flat, head_line, rof_line, rounds, unpaired_line};
 ghost use Rattle.redcode_text.specs.declared.limits.TheConstants.{MAX_LOOPS};
+ghost use Rattle.redcode_text.specs.Code.Counters.{IsThere};
 ghost use Rattle.redcode_text.specs.Code.Heads.{head_of};
 ghost use Rattle.redcode_text.specs.Views.{predefined_of};
 ghost use Rattle.redcode_text.specs.Code.Readings.{reading_of};
+ghost use Rattle.redcode_text.specs.Code.SourceLoops.{loops_of};
+ghost use Rattle.redcode_text.specs.Lines.{name_at};
 ghost use Rattle.redcode_text.specs.Code.Loops.{IsFor, IsPlain, ReadTo, RowsFit};
 ghost use Rattle.redcode_text.specs.Outcomes.{Answers};
 ghost use Rattle.redcode_text.specs.Code.Placed.{AreParts, IsPart};
@@ -17,7 +20,6 @@ ghost use Rattle.redcode_text.specs.Tokens.{at_line};
 pub mod head;
 
 use crate::fault::{TextFault, TextProblem};
-use crate::lexer::open_loops::OpenLoop;
 use crate::names::predefined::PredefinedNames;
 use crate::reader::Reading;
 use crate::reader::repeat::head::Head;
@@ -57,7 +59,7 @@ fn read_row(
     requires plain { IsPlain rows.now at }
     requires parts { AreParts reading.old.names.source.now rows.now }
     ensures gives { ReadTo (predefined_of names.now) rows.now at (reading_of reading.old) (reading_of reading.new) result }
-    ensures loops { OnOk result (reading.new.loops ≡ reading.old.loops) }
+    ensures loops { OnOk result (loops_of reading.new.names ≡ loops_of reading.old.names) }
     ensures source { reading.new.names.source.now ≡ reading.old.names.source.now }
 {
     let row = rows[at];
@@ -79,8 +81,9 @@ fn read_for_row(
     requires inside { word_at ≤ length row.bytes.now }
     requires word { ForLine word_at ≡ line_kind row.bytes.now }
     requires part { IsPart reading.old.names.source.now row.at row.bytes.now }
-    ensures loops { OnOk result (reading.new.loops ≡ reading.old.loops) }
-    ensures depth { OnOk result (length reading.old.loops < MAX_LOOPS) }
+    ensures loops { OnOk result (loops_of reading.new.names ≡ loops_of reading.old.names) }
+    ensures depth { OnOk result (length (loops_of reading.old.names) < MAX_LOOPS) }
+    ensures there { IfOk result (λ head. IsThere reading.new.names.table head.counter) }
     ensures gives { Answers (head_of (reading_of reading.new)) result
         (at_line row.entry.number (head_line (predefined_of names.now) (row_of row.entry) (reading_of reading.old))) }
     ensures source { reading.new.names.source.now ≡ reading.old.names.source.now }
@@ -95,7 +98,7 @@ fn read_for_row(
 fn read_rof_row(alloc: Global, row: Row<'_>, reading: &mut Reading<'_>) -> Result<(), TextFault>
     requires fits { row.at + length row.bytes.now < 2 ^ 64 }
     requires part { IsPart reading.old.names.source.now row.at row.bytes.now }
-    ensures loops { OnOk result (reading.new.loops ≡ reading.old.loops) }
+    ensures loops { OnOk result (loops_of reading.new.names ≡ loops_of reading.old.names) }
     ensures gives { Answers (λ _. reading_of reading.new) result
         (at_line row.entry.number (rof_line (row_of row.entry) (reading_of reading.old))) }
     ensures source { reading.new.names.source.now ≡ reading.old.names.source.now }
@@ -143,11 +146,11 @@ fn read_items(
 ) -> Result<(), TextFault>
     requires ends { AreEnds source.rows.now source.ends.now }
     requires within { first ≤ length source.rows.now }
-    requires depth { length reading.old.loops ≤ MAX_LOOPS }
+    requires depth { length (loops_of reading.old.names) ≤ MAX_LOOPS }
     requires parts { AreParts reading.old.names.source.now source.rows.now }
     ensures gives { Answers (λ _. reading_of reading.new) result
         (flat (predefined_of names.now) (here_from source.entry.rows.now first) (reading_of reading.old)) }
-    ensures loops { OnOk result (reading.new.loops ≡ reading.old.loops) }
+    ensures loops { OnOk result (loops_of reading.new.names ≡ loops_of reading.old.names) }
     ensures source { reading.new.names.source.now ≡ reading.old.names.source.now }
 {
     let PairedRows { rows, ends } = source;
@@ -184,10 +187,10 @@ fn read_loop(
     requires within { at < length source.rows.now }
     requires closed { slice_index source.ends.now at < length source.rows.now }
     requires word { IsFor source.rows.now at word_at }
-    requires depth { length reading.old.loops ≤ MAX_LOOPS }
+    requires depth { length (loops_of reading.old.names) ≤ MAX_LOOPS }
     requires parts { AreParts reading.old.names.source.now source.rows.now }
     ensures gives { ReadTo (predefined_of names.now) source.entry.rows.now at (reading_of reading.old) (reading_of reading.new) result }
-    ensures loops { OnOk result (reading.new.loops ≡ reading.old.loops) }
+    ensures loops { OnOk result (loops_of reading.new.names ≡ loops_of reading.old.names) }
     ensures source { reading.new.names.source.now ≡ reading.old.names.source.now }
 {
     let PairedRows { rows, ends } = source;
@@ -213,11 +216,12 @@ fn read_rounds(
 ) -> Result<(), TextFault>
     requires ends { AreEnds source.rows.now source.ends.now }
     requires within { first < length source.rows.now }
-    requires depth { length reading.old.loops < MAX_LOOPS }
+    requires depth { length (loops_of reading.old.names) < MAX_LOOPS }
+    requires there { IsThere reading.old.names.table head.counter }
     requires parts { AreParts reading.old.names.source.now source.rows.now }
     ensures gives { Answers (λ _. reading_of reading.new) result
-        (rounds (flat (predefined_of names.now) (here_from source.entry.rows.now first)) (option_map (λ s. string_bytes s) head.counter) 1 head.count (reading_of reading.old)) }
-    ensures loops { OnOk result (reading.new.loops ≡ reading.old.loops) }
+        (rounds (flat (predefined_of names.now) (here_from source.entry.rows.now first)) (option_map (name_at reading.old.names.table) head.counter) 1 head.count (reading_of reading.old)) }
+    ensures loops { OnOk result (loops_of reading.new.names ≡ loops_of reading.old.names) }
     ensures source { reading.new.names.source.now ≡ reading.old.names.source.now }
 {
     let rows = source.rows;
@@ -226,11 +230,11 @@ fn read_rounds(
     }
     let Head { mut counter, count } = head;
     for round in 1..=count {
-        let Ok(()) = reading.loops.push(OpenLoop::new(counter, round)) else {
+        let Ok(()) = reading.names.open_loop(counter, round) else {
             return Err(TextProblem::OutOfMemory.at_line(0));
         };
         read_items(alloc, names, source, first, reading)?;
-        counter = reading.loops.close();
+        counter = reading.names.close_loop();
         if reading.ended {
             return Ok(());
         }
@@ -246,7 +250,7 @@ pub fn read_all(
     reading: &mut Reading<'_>,
 ) -> Result<(), TextFault>
     requires fits { RowsFit rows.now }
-    requires depth { length reading.old.loops ≤ MAX_LOOPS }
+    requires depth { length (loops_of reading.old.names) ≤ MAX_LOOPS }
     requires going { reading.old.ended ≡ false }
     requires parts { AreParts reading.old.names.source.now rows.now }
     ensures { Answers (λ _. reading_of reading.new) result

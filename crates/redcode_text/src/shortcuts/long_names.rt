@@ -2,6 +2,7 @@
 ghost use Rattle.std.specs.Prelude.{◌≡◌, ◌≤◌, ◌<◌, ◌++◌, length, map, take, true, false, [], IfOk, IfSome, OnOk, IsAscii};
 ghost use Rattle.std.specs.Char.{is_ascii_digit};
 ghost use Rattle.std.specs.List.{suffix_len};
+ghost use Rattle.std.specs.Str.{bytes_eq};
 ghost use Rattle.redcode_text.specs.Code.Parts.{AllParts, AreParts, BeginsWith, HasParts, IsFrontOf, IsIndexOf};
 ghost use Rattle.redcode_text.specs.Code.Parts.{front_len, most_digits, name_of, parts_of};
 ghost use Rattle.redcode_text.specs.Lines.{name_at};
@@ -267,7 +268,7 @@ impl PartedNames {
     }
 
     /// The index of a name, where a name is known that begins with it, and is no longer.
-    fn known_name(&self, name: &[u8], known: Option<usize>) -> Option<usize>
+    pub fn known_name(&self, name: &[u8], known: Option<usize>) -> Option<usize>
         requires { IfSome known (BeginsWith self.now name.now) }
         ensures { IfSome result (IsIndexOf self.now name.now) }
     {
@@ -276,6 +277,17 @@ impl PartedNames {
             return None;
         }
         Some(index)
+    }
+
+    /// Whether two names are the same, by their indices. No byte of them is gone over.
+    pub fn are_same(&self, first: usize, second: usize) -> bool
+        requires first { first < length self.now }
+        requires second { second < length self.now }
+        ensures { result ≡ bytes_eq (name_at self.now first) (name_at self.now second) }
+    {
+        // the set says that no name stands twice
+        let _ = self.names.len();
+        first == second
     }
 
     /// The bytes of a name of fewer than 256 bytes, by its index; none of a longer one, and none where there is no such name.

@@ -17,13 +17,13 @@ pub struct Cursor {
 
 /// A run that reaches over a place of a text, up to a place.
 #[derive(Clone, Copy)]
-struct Reach {
-    kind: RunKind,
-    to: usize,
+pub struct Reach {
+    pub kind: RunKind,
+    pub to: usize,
 }
 
 /// How far a run reaches over a place of a text.
-fn reach_of(text: Text<'_>, cursor: Cursor) -> Option<Reach>
+pub fn reach_of(text: Text<'_>, cursor: Cursor) -> Option<Reach>
     requires within { cursor.at < length text.bytes.now }
     requires fits { text.at + length text.bytes.now < 2 ^ 64 }
     ensures on { IfSome result (λ reach. cursor.at < reach.to) }

@@ -11,6 +11,7 @@ mod linear;
 mod operators;
 mod products;
 mod quotients;
+mod remainders;
 mod short;
 mod shorter;
 mod shorts;

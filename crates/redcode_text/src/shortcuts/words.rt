@@ -1,5 +1,5 @@
 //! Long words, which are not gone over byte by byte: what is known of their fronts, and long names that joins make.
-ghost use Rattle.std.specs.Prelude.{◌≡◌, ◌++◌, ◌≤◌, ℕ, List, None, Some, length, not, take, ◌==◌, true, IfOk, IfSome, IsAscii};
+ghost use Rattle.std.specs.Prelude.{◌≡◌, ◌++◌, ◌≤◌, ℕ, List, None, drop, length, not, take, ◌==◌, true, IfOk, OnOk, IsAscii};
 ghost use Rattle.std.specs.Char.{is_ascii_digit};
 ghost use Rattle.std.specs.List.{list_all, list_any, prefix_len};
 ghost use Rattle.std.specs.Str.Parse.{digits_value};
@@ -9,14 +9,14 @@ ghost use Rattle.redcode_text.specs.Code.Placed.{StandsAt};
 ghost use Rattle.redcode_text.specs.Code.Problems.{Gives};
 ghost use Rattle.redcode_text.specs.Code.Runs.{IsKnownStart};
 ghost use Rattle.redcode_text.specs.Code.Scanning.{with_names};
+ghost use Rattle.redcode_text.specs.Code.SourceLoops.{loops_of};
 ghost use Rattle.redcode_text.specs.Tokens.{begins_name, begins_word, round_of, word_found, word_len};
 
 use crate::characters::{part_len, word_len};
 use crate::fault::TextProblem;
-use crate::lexer::open_loops::OpenLoops;
 use crate::shortcuts::long_names::front_len;
 use crate::shortcuts::placed_names::SourceNames;
-use crate::token::{Spelled, TokenKind};
+use crate::token::Spelled;
 use std::alloc::Global;
 
 /// What is known of a word without going over it.
@@ -64,23 +64,6 @@ pub fn unknown_word<'a>(bytes: &'a [u8]) -> Word<'a>
     }
 }
 
-/// The word that some bytes begin with, of whose front this is known.
-pub fn word_of<'a>(bytes: &'a [u8], known: KnownStart) -> Word<'a>
-    requires { IsKnownStart known bytes.now }
-    ensures bytes { result.bytes.now ≡ take (word_len bytes.now) bytes.now }
-    ensures ascii { IsAscii result.bytes.now }
-    ensures front { IsKnownStart result.known result.bytes.now }
-    ensures placed { (source : List ℕ) → StandsAt source known.place bytes.now → StandsAt source result.known.place result.bytes.now }
-    ensures within { length result.bytes.now ≤ length bytes.now }
-    ensures some { begins_word bytes.now ≡ true → 1 ≤ length result.bytes.now }
-{
-    let len = known.plain + word_len(&bytes[known.plain..]);
-    Word {
-        bytes: &bytes[..len],
-        known,
-    }
-}
-
 /// A word without the zeros that are known to stand in front of it.
 pub fn past_zeros<'a>(word: Word<'a>) -> &'a [u8]
     requires { IsKnownStart word.known word.bytes.now }
@@ -120,7 +103,6 @@ pub fn kept_len(word: Word<'_>) -> usize
 /// A long name that ends with digits of joins, of which `len` bytes are written.
 pub fn long_name(
     alloc: Global,
-    loops: &OpenLoops,
     names: &mut SourceNames<'_>,
     front: Word<'_>,
     digits: &[u8],
@@ -132,39 +114,16 @@ pub fn long_name(
     requires parted { front_len (front.bytes.now ++ digits.now) ≡ length front.bytes.now }
     requires placed { StandsAt names.old.source.now front.known.place front.bytes.now }
     ensures value { let bytes = front.entry.bytes.now
-        ++ digits.now in Gives (with_names names.new.table) result (word_found names.old.table len bytes (round_of loops.now bytes)) }
+        ++ digits.now in Gives (with_names names.new.table) result (word_found names.old.table len bytes (round_of (loops_of names.old) bytes)) }
     ensures source { names.new.source.now ≡ names.old.source.now }
+    ensures loops { OnOk result (loops_of names.new ≡ loops_of names.old) }
     ensures len { IfOk result (λ s. s.len ≡ len) }
 {
-    if let Some(round) = loops.round_of_parts(front.bytes, digits) {
-        return Ok(Spelled {
-            kind: TokenKind::Number(i64::from(round)),
-            len,
-        });
-    }
     match names.index_of_parts(alloc, front.bytes, digits, front.known.place) {
         Ok(index) => Ok(Spelled {
-            kind: TokenKind::Name(index),
+            kind: names.kind_at(index),
             len,
         }),
         Err(_) => Err(TextProblem::OutOfMemory),
-    }
-}
-
-/// A counter that a join names, and its round.
-#[derive(Clone, Copy)]
-pub struct Counter<'a> {
-    pub name: &'a [u8],
-    pub round: u32,
-}
-
-/// The round of the loop whose counter has this name: that of the last join, where it has the same.
-pub fn round_after(loops: &OpenLoops, last: Option<Counter<'_>>, name: &[u8]) -> Option<u32>
-    requires { IfSome last (λ c. round_of loops.now c.name.now ≡ Some c.round) }
-    ensures { result ≡ round_of loops.now name.now }
-{
-    match last {
-        Some(counter) if counter.name == name => Some(counter.round),
-        _ => loops.round_of(name),
     }
 }

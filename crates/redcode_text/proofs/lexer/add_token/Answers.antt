@@ -1,28 +1,22 @@
 use Rattle.std.proofs.Common.{◌+◌, ◌∙◌, sym, arith}
-use Rattle.std.proofs.lemmas.List.{take_rest}
-use Rattle.redcode_text.proofs.Placed.{part-back}
 use Rattle.redcode_text.proofs.Scans.{measured, one-fails, one-full, one-ok}
 use Rattle.redcode_text.specs.Views.{scan_of}
+use Rattle.redcode_text.specs.Code.SourceLoops.{loops_of}
 use Rattle.redcode_text.specs.Code.Scanning.{with_names}
 use Rattle.redcode_text.proofs.lexer.add_token.Goals as goal
 
 pub returns-in-Err-clause-value : goal.returns-in-Err-clause-value
 returns-in-Err-clause-value c =
     let text = c.args.text in
-    one-fails c.args.loops.now text.number c.args.room (text.at + c.args.cursor.at) c.args.cursor.at text.bytes.now (scan_of c.args.tokens.now c.args.names.now.table) c.in-Err.problem c.in-Err.ensures.value
+    one-fails (loops_of c.args.names.now) text.number c.args.room (text.at + c.args.cursor.at) c.args.cursor.at text.bytes.now (scan_of c.args.tokens.now c.args.names.now.table) c.in-Err.problem c.in-Err.ensures.value
 
 pub returns-then-len-room-clause-value : goal.returns-then-len-room-clause-value
 returns-then-len-room-clause-value c =
     let text = c.args.text in let tokens = c.args.tokens.now in
-    one-full c.args.loops.now text.number c.args.room (text.at + c.args.cursor.at) c.args.cursor.at text.bytes.now (scan_of tokens c.args.names.now.table) (with_names c.read_token.new.names.table c.in-Ok.found) c.in-Ok.ensures.value (omega (arith, c.if-len-room.true, c.len.ensures, tokens.ok.0))
+    one-full (loops_of c.args.names.now) text.number c.args.room (text.at + c.args.cursor.at) c.args.cursor.at text.bytes.now (scan_of tokens c.args.names.now.table) (with_names c.read_token.new.names.table c.in-Ok.found) c.in-Ok.ensures.value (omega (arith, c.if-len-room.true, c.len.ensures, tokens.ok.0))
 
 pub returns-in-Ok-push-clause-value : goal.returns-in-Ok-push-clause-value
 returns-in-Ok-push-clause-value c =
     let text = c.args.text in let tokens = c.args.tokens.now in
-    one-ok c.args.loops.now text.number c.args.room (text.at + c.args.cursor.at) c.args.cursor.at text.bytes.now (scan_of tokens c.args.names.now.table) (with_names c.read_token.new.names.table c.in-Ok.found) c.in-Ok.ensures.value (omega (arith, c.if-len-room.false, c.len.ensures, tokens.ok.0))
+    one-ok (loops_of c.args.names.now) text.number c.args.room (text.at + c.args.cursor.at) c.args.cursor.at text.bytes.now (scan_of tokens c.args.names.now.table) (with_names c.read_token.new.names.table c.in-Ok.found) c.in-Ok.ensures.value (omega (arith, c.if-len-room.false, c.len.ensures, tokens.ok.0))
     ∙ (λ i. measured c.in-Ok.found.len (record { tokens = sym c.in-Ok-push.ensures.items i; names = c.read_token.new.names.table }))
-
-pub read_token-requires-clause-placed : goal.read_token-requires-clause-placed
-read_token-requires-clause-placed c =
-    let text = c.args.text in let at = c.args.cursor.at in let source = c.args.names.now.source.now in
-    rw (c.known_start.ensures.place, take_rest text.bytes.now at) (part-back source text.at at text.bytes.now c.requires.part)

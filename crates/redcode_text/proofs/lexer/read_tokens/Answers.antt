@@ -1,6 +1,8 @@
-use Rattle.std.proofs.Common.{◌≡◌, ◌+◌, ◌-◌, ◌∙◌, arith, drop, sym, subst}
+use Rattle.std.proofs.Common.{◌≡◌, ◌+◌, ◌-◌, ◌∙◌, ap, arith, drop, sym, subst}
 use Rattle.redcode_text.specs.Views.{scan_of}
+use Rattle.redcode_text.specs.Code.SourceLoops.{loops_of}
 use Rattle.redcode_text.specs.Code.Placed.{IsPart}
+use Rattle.redcode_text.specs.Code.Scanning.{one_token}
 use Rattle.redcode_text.specs.Code.Problems.{Fails}
 use Rattle.redcode_text.specs.Tokens.{scan_from}
 use Rattle.redcode_text.proofs.LongRuns.{scan-blanks}
@@ -13,16 +15,19 @@ loop-at-preserved c =
     record {
       within = c.in-Ok.ensures.len.1;
       same =
-          sym (scan-token c.args.loops.now text.number c.args.room text.at at text.bytes.now (scan_of c.loop-at.tokens c.loop-at.names.table) (scan_of c.add_token.new.tokens c.add_token.new.names.table) c.in-Ok.len c.loop-at-test.true (sym c.is_blank.ensures ∙ c.if-is_blank.false) c.in-Ok.ensures.len.0 c.in-Ok.ensures.value)
+          sym (scan-token (loops_of c.args.names.now) text.number c.args.room text.at at text.bytes.now (scan_of c.loop-at.tokens c.loop-at.names.table) (scan_of c.add_token.new.tokens c.add_token.new.names.table) c.in-Ok.len c.loop-at-test.true (sym c.is_blank.ensures ∙ c.if-is_blank.false) c.in-Ok.ensures.len.0
+          (ap (λ loops. one_token loops text.number c.args.room (text.at + at) (drop at text.bytes.now) (scan_of c.loop-at.tokens c.loop-at.names.table)) (sym c.loop-at.invariant.loops) ∙ c.in-Ok.ensures.value))
           ∙ c.loop-at.invariant.same;
       room = c.in-Ok.ensures.room c.loop-at.invariant.room;
       source = c.in-Ok.ensures.source ∙ c.loop-at.invariant.source;
+      loops = c.in-Ok.ensures.loops ∙ c.loop-at.invariant.loops;
     }
 
 pub returns-in-Err-clause-value : goal.returns-in-Err-clause-value
 returns-in-Err-clause-value c =
     let text = c.args.text in let at = c.loop-at.at in
-    subst (Fails c.in-Err.problem) c.loop-at.invariant.same (scan-fails c.args.loops.now text.number c.args.room text.at at text.bytes.now (scan_of c.loop-at.tokens c.loop-at.names.table) c.in-Err.problem c.loop-at-test.true (sym c.is_blank.ensures ∙ c.if-is_blank.false) c.in-Err.ensures.value)
+    subst (Fails c.in-Err.problem) c.loop-at.invariant.same (scan-fails (loops_of c.args.names.now) text.number c.args.room text.at at text.bytes.now (scan_of c.loop-at.tokens c.loop-at.names.table) c.in-Err.problem c.loop-at-test.true (sym c.is_blank.ensures ∙ c.if-is_blank.false)
+    (subst (λ loops. Fails c.in-Err.problem (one_token loops text.number c.args.room (text.at + at) (drop at text.bytes.now) (scan_of c.loop-at.tokens c.loop-at.names.table))) c.loop-at.invariant.loops c.in-Err.ensures.value))
 
 pub loop-at-preserved-then-is_blank : goal.loop-at-preserved-then-is_blank
 loop-at-preserved-then-is_blank c =
@@ -31,11 +36,12 @@ loop-at-preserved-then-is_blank c =
     record {
       within = c.past_blank-at.ensures.within;
       same =
-          (λ i. scan_from c.args.loops.now text.number c.args.room (text.at + sym there i) 0 (drop (sym there i) text.bytes.now) read)
-          ∙ sym (scan-blanks c.args.loops.now text.number c.args.room text.at at (end - at) text.bytes.now read (omega (arith, there, c.past_blank-at.ensures.within)) (λ k low high. c.past_blank-at.ensures.blank k low (omega (arith, there, high))))
+          (λ i. scan_from (loops_of c.args.names.now) text.number c.args.room (text.at + sym there i) 0 (drop (sym there i) text.bytes.now) read)
+          ∙ sym (scan-blanks (loops_of c.args.names.now) text.number c.args.room text.at at (end - at) text.bytes.now read (omega (arith, there, c.past_blank-at.ensures.within)) (λ k low high. c.past_blank-at.ensures.blank k low (omega (arith, there, high))))
           ∙ c.loop-at.invariant.same;
       room = c.loop-at.invariant.room;
       source = c.loop-at.invariant.source;
+      loops = c.loop-at.invariant.loops;
     }
 
 pub add_token-requires-clause-part : goal.add_token-requires-clause-part

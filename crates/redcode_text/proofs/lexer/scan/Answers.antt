@@ -1,6 +1,7 @@
 use Rattle.std.proofs.Common.{◌≡◌, ◌∙◌, ℕ, List, Ok, length, ap, sym, subst, []}
 use Rattle.redcode_text.proofs.Failing.{fails-at}
 use Rattle.redcode_text.specs.declared.token.Token.{Token}
+use Rattle.redcode_text.specs.Code.SourceLoops.{loops_of}
 use Rattle.redcode_text.specs.Code.Problems.{Fails}
 use Rattle.redcode_text.specs.Views.{scan_of}
 use Rattle.redcode_text.specs.Tokens.{OpenLoop, at_line, scan_from, scanned, tokens}
@@ -15,14 +16,14 @@ start text loops before names l b n = λ i. scan_from (l i) 1 (length text) 0 0 
 pub returns-in-Ok : goal.returns-in-Ok
 unfolding scanned
 returns-in-Ok c =
-    ap (at_line 1) (sym (start c.args.text.now c.new-loops.result c.new-tokens.result.items c.new-names.result.table c.new-loops.ensures c.new-tokens.ensures.items c.new-names.ensures.table) ∙ c.in-Ok.ensures.value)
+    ap (at_line 1) (sym (start c.args.text.now (loops_of c.new-names.result) c.new-tokens.result.items c.new-names.result.table c.new-names.ensures.loops c.new-tokens.ensures.items c.new-names.ensures.table) ∙ c.in-Ok.ensures.value)
     ∙ ap (λ names. Ok (scan_of c.read_tokens.new.tokens names)) (sym c.into_table.ensures)
 
 pub returns-in-Err : goal.returns-in-Err
 unfolding scanned
 returns-in-Err c =
     fails-at 1 c.in-Err.problem c.at_line.result (tokens [] 1 0 (length c.args.text.now) [] c.args.text.now) c.at_line.ensures.problem c.at_line.ensures.line
-    (subst (Fails c.in-Err.problem) (start c.args.text.now c.new-loops.result c.new-tokens.result.items c.new-names.result.table c.new-loops.ensures c.new-tokens.ensures.items c.new-names.ensures.table) c.in-Err.ensures.value)
+    (subst (Fails c.in-Err.problem) (start c.args.text.now (loops_of c.new-names.result) c.new-tokens.result.items c.new-names.result.table c.new-names.ensures.loops c.new-tokens.ensures.items c.new-names.ensures.table) c.in-Err.ensures.value)
 
 pub read_tokens-requires-clause-part : goal.read_tokens-requires-clause-part
 read_tokens-requires-clause-part c = rw c.new-names.ensures.source (part-itself c.args.text.now)

@@ -1,9 +1,10 @@
 //! The head of a loop: its counter and its count.
-ghost use Rattle.std.specs.Prelude.{◌≡◌, ◌<◌, ◌+◌, ◌^◌, length, ◌≤◌, option_map, string_bytes, Ok};
+ghost use Rattle.std.specs.Prelude.{◌≡◌, ◌<◌, ◌+◌, ◌^◌, length, ◌≤◌, Ok, IfOk};
 ghost use Rattle.redcode_text.specs.Equates.{substitution};
 ghost use Rattle.redcode_text.specs.Tokens.{without_line};
-ghost use Rattle.redcode_text.specs.Expansion.{as_count, count_of, has_label, counter_name, head_line};
+ghost use Rattle.redcode_text.specs.Expansion.{as_count, count_of, has_label, head_line};
 ghost use Rattle.redcode_text.specs.Expression.{kinds};
+ghost use Rattle.redcode_text.specs.Code.Counters.{IsThere};
 ghost use Rattle.redcode_text.specs.Code.Heads.{head_of};
 ghost use Rattle.redcode_text.specs.Views.{predefined_of};
 ghost use Rattle.redcode_text.specs.Code.Readings.{reading_of};
@@ -22,10 +23,12 @@ use crate::source::row::Row;
 use crate::token::{Token, TokenKind};
 use std::alloc::Global;
 
-/// The head of a loop: its counter, if it has one, and how often its body is read.
-#[derive(Drop)]
+/// The head of a loop.
+#[derive(Clone, Copy)]
 pub struct Head {
-    pub counter: Option<String>,
+    /// Its counter, by its index among the names, if it has one.
+    pub counter: Option<usize>,
+    /// How often its body is read.
     pub count: u32,
 }
 
@@ -130,19 +133,6 @@ impl Reading<'_> {
 }
 
 impl Reading<'_> {
-    /// The counter of a loop, by its index among the names.
-    fn counter_of(&self, alloc: Global, name: Option<usize>) -> Result<Option<String>, TextProblem>
-        ensures { Gives (λ c. option_map (λ s. string_bytes s) c) result (Ok (counter_name (reading_of self.now) name)) }
-    {
-        let Some(name) = name else {
-            return Ok(None);
-        };
-        match self.names.table.name(alloc, name) {
-            Ok(text) => Ok(Some(text)),
-            Err(_) => Err(TextProblem::OutOfMemory),
-        }
-    }
-
     /// Reads a FOR line, whose word FOR begins at this place of it.
     pub fn read_head(
         &mut self,
@@ -157,19 +147,22 @@ impl Reading<'_> {
         requires word { ForLine word_at ≡ line_kind row.bytes.now }
         ensures value { Gives (head_of (reading_of self.new)) result
             (head_line (predefined_of names.now) (row_of row.entry) (reading_of self.old)) }
+        ensures there { IfOk result (λ head. IsThere self.new.names.table head.counter) }
         ensures source { self.new.names.source.now ≡ self.old.names.source.now }
     {
         self.count_line()?;
         let mut tokens = self.row_tokens(alloc, row, 0)?;
         let at = row.at + word_at;
         let name = name_in_front(&tokens, at)?;
-        if self.loops.len() >= MAX_LOOPS {
+        if self.names.depth() >= MAX_LOOPS {
             return Err(TextProblem::TooLong);
         }
         keep_after(&mut tokens, at);
         let count = self.count_of(alloc, names, &tokens)?;
-        let counter = self.counter_of(alloc, name)?;
         self.equate_grows = false;
-        Ok(Head { counter, count })
+        Ok(Head {
+            counter: name,
+            count,
+        })
     }
 }

@@ -15,58 +15,59 @@ use crate::shortcuts::shortening::worth::{Worth, worth_of};
 use crate::token::{Sign, Token};
 use std::alloc::Global;
 
-/// What positive divisors behind an operand come to.
+/// What divisors behind an operand come to. What the first two leave has a magnitude below 2^63 where the second isn't 1, since -2^63
+/// by -1 is a fault; so each division behind these has a value, and together they are one by the product of the divisors.
 #[derive(Clone, Copy)]
 struct Quotient {
-    /// The first divisor: it alone tells whether the value is in range.
+    /// The first divisor.
     first: i64,
-    /// The product of those behind, but those with which it would be too great.
+    /// The first of those behind it that isn't 1, or 1 where there is none.
+    second: i64,
+    /// The product of those behind the second, or -2^63 where its magnitude isn't below 2^63: either leaves 0.
     rest: i64,
-    /// The product of these, or the greatest number where it would be greater: either leaves 0.
-    more: i64,
     /// How many parentheses are open in them at once.
     nesting: usize,
 }
 
 impl Quotient {
-    /// One divisor. None if it isn't positive.
+    /// One divisor. None if it is 0.
     fn new(first: Worth) -> Option<Quotient>
         ensures { IfSome result (λ quotient. (names : ℕ → Option ℤ) (ys : List TokenKind)
             → IsWorth names 0 first.nesting ys first.value → IsQuotient names (token.Sign Slash ∷ ys) quotient) }
     {
-        if first.value <= 0 {
+        if first.value == 0 {
             return None;
         }
         Some(Quotient {
             first: first.value,
+            second: 1,
             rest: 1,
-            more: 1,
             nesting: first.nesting,
         })
     }
 
-    /// One divisor more. None if it isn't positive.
+    /// One divisor more. None if it is 0.
     fn by(self, divisor: Worth) -> Option<Quotient>
         ensures { IfSome result (λ quotient. (names : ℕ → Option ℤ) (xs ys : List TokenKind) → IsQuotient names xs self
             → IsWorth names 0 divisor.nesting ys divisor.value → IsQuotient names (xs ++ token.Sign Slash ∷ ys) quotient) }
     {
-        if divisor.value <= 0 {
+        if divisor.value == 0 {
             return None;
         }
         let nesting = self.nesting.max(divisor.nesting);
-        if let Some(rest) = self.rest.checked_mul(divisor.value) {
+        if self.second == 1 {
             return Some(Quotient {
-                rest,
+                second: divisor.value,
                 nesting,
                 ..self
             });
         }
-        let more = match self.more.checked_mul(divisor.value) {
-            Some(more) => more,
-            None => i64::MAX,
+        let rest = match self.rest.checked_mul(divisor.value) {
+            Some(rest) => rest,
+            None => i64::MIN,
         };
         Some(Quotient {
-            more,
+            rest,
             nesting,
             ..self
         })
@@ -82,8 +83,8 @@ impl Quotient {
                 value: self.first,
                 nesting: self.nesting,
             },
-            second: self.rest,
-            third: self.more,
+            second: self.second,
+            third: self.rest,
         }
     }
 }
@@ -96,7 +97,7 @@ struct Divisors {
     len: usize,
 }
 
-/// The divisors at the front of tokens, each with a / before it. None where there is none, or where one isn't positive.
+/// The divisors at the front of tokens, each with a / before it. None where there is none, or where one is 0.
 fn divisors_of<E: Env>(tokens: &[Token], env: &E) -> Option<Divisors>
     ensures { IfSome result (λ divisors.
         IsQuotient (E.value_of env.now) (kinds (take divisors.len tokens.now)) divisors.quotient) }
@@ -115,7 +116,7 @@ fn divisors_of<E: Env>(tokens: &[Token], env: &E) -> Option<Divisors>
 }
 
 /// Tokens with the quotient at their front in short: its first operand, and three divisors. None where those aren't fewer, where one
-/// isn't positive or isn't worth a value of its own, or for want of memory.
+/// is 0 or isn't worth a value of its own, or for want of memory.
 pub fn short_quotient<E: Env>(alloc: Global, tokens: &[Token], env: &E) -> Option<Vec<Token>>
     ensures { IfSome result (λ short. StandIn (E.value_of env.now) (kinds tokens.now) (kinds short.items)) }
 {

@@ -12,6 +12,7 @@ use crate::shortcuts::shortening::groups::short_groups;
 use crate::shortcuts::shortening::inside::are_inside;
 use crate::shortcuts::shortening::products::short_product;
 use crate::shortcuts::shortening::quotients::short_quotient;
+use crate::shortcuts::shortening::remainders::short_remainder;
 use crate::shortcuts::shortening::short::Short;
 use crate::shortcuts::shortening::sums::short_sum;
 use crate::token::{Sign, Token, TokenKind};
@@ -47,7 +48,7 @@ fn with_short_sum<E: Env>(alloc: Global, tokens: Vec<Token>, env: &E) -> Vec<Tok
     }
 }
 
-/// Tokens with a product or a quotient in short, if they are one, and are still too many.
+/// Tokens with a product, a quotient or a remainder in short, if they are one, and are still too many.
 fn with_short_product<E: Env>(alloc: Global, tokens: Vec<Token>, env: &E) -> Vec<Token>
     ensures { StandIn (E.value_of env.now) (kinds tokens.items) (kinds result.items) }
 {
@@ -57,7 +58,10 @@ fn with_short_product<E: Env>(alloc: Global, tokens: Vec<Token>, env: &E) -> Vec
     if let Some(short) = short_product(alloc, &tokens, env) {
         return short;
     }
-    match short_quotient(alloc, &tokens, env) {
+    if let Some(short) = short_quotient(alloc, &tokens, env) {
+        return short;
+    }
+    match short_remainder(alloc, &tokens, env) {
         Some(short) => short,
         None => tokens,
     }

@@ -19,4 +19,6 @@ returns c =
       last = subst (λ (e : LineNames). AreKnown equates
           (name_value (predefined_of e.source.predefined.now) e.source.program.now e.origin e.index) c.shorts-3.result)
           c.instruction_names-2.ensures c.shorts-3.ensures;
+      assert_first = c.assert_shorts.ensures;
+      assert_last = c.assert_shorts-2.ensures;
     }

@@ -5,4 +5,4 @@ pub invariant_of-result-clause-few_lines : goal.invariant_of-result-clause-few_l
 invariant_of-result-clause-few_lines c = omega arith
 
 pub invariant_of-result-clause-known_labels : goal.invariant_of-result-clause-known_labels
-invariant_of-result-clause-known_labels c = rw (c.new-5.ensures, c.new-4.ensures.items) (λ n. refl)
+invariant_of-result-clause-known_labels c = rw (c.new-4.ensures, c.new-3.ensures.items) (λ n. refl)

@@ -1,4 +1,4 @@
-use Rattle.std.proofs.Common.{◌≡◌, ◌+◌, ◌-◌, arith, drop, length}
+use Rattle.std.proofs.Common.{◌≡◌, ◌∙◌, ◌+◌, ◌-◌, Ok, arith, drop, length, sym}
 use Rattle.redcode_text.proofs.LongRuns.{part-runs}
 use Rattle.redcode_text.proofs.Placed.{part-back, part-front}
 use Rattle.redcode_text.proofs.RowTokens.{code-is, row-ok, row-fails}
@@ -13,6 +13,7 @@ returns-in-Ok-clause-value c =
     let count : c.len.result ≡ length read.items = omega (arith, c.len.ensures, read.ok.0) in
     row-ok (reading_of c.args.self.now) (row_of c.args.row) c.args.at _ c.new-tokens.result.items (code-is c.args.row.bytes.now c.args.at c.code_len.result c.code_len.ensures.value) c.new-tokens.ensures.items
     (scan_of read c.read_tokens.new.names.table) c.len.result count c.in-Ok.ensures.value
+    ∙ (λ i. Ok (read.items, record (reading_of c.args.self.now) { loops = sym c.in-Ok.ensures.loops i; names = c.read_tokens.new.names.table; tokens_read = c.args.self.now.tokens_read + c.len.result }))
 
 pub returns-in-Err-clause-value : goal.returns-in-Err-clause-value
 returns-in-Err-clause-value c =

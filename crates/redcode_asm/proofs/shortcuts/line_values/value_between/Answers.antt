@@ -1,7 +1,7 @@
 use Rattle.std.proofs.Common.{rules, w64}
 use Rattle.std.proofs.lemmas.Int.{to_z-of_z}
 use Rattle.redcode_asm.proofs.LineCells.{between-from}
-use Rattle.redcode_asm.proofs.shortcuts.line_cells.value_between.Goals as goal
+use Rattle.redcode_asm.proofs.shortcuts.line_values.value_between.Goals as goal
 
 pub returns : goal.returns
 returns c =

@@ -1,0 +1,33 @@
+-- The open loops as the code holds them: a counter is an index among the names.
+use Rattle.std.specs.Prelude.{ℕ, ◌<◌, pos, List, [], ◌∷◌, length, map, reverse, Option, Some, None, option_map}
+use Rattle.std.specs.List.{All}
+use Rattle.std.specs.Option.{ForSome}
+use Rattle.redcode_text.specs.declared.lexer.open_loops.OpenLoop as code
+use Rattle.redcode_text.specs.declared.token.TokenKind.{TokenKind}
+use Rattle.redcode_text.specs.declared.token.TokenKind.TheVariants.{Number, Name}
+use Rattle.redcode_text.specs.Lines.{name_at}
+use Rattle.redcode_text.specs.Tokens.{OpenLoop}
+
+abbrev pub open_loop : List (List ℕ) → code.OpenLoop → OpenLoop
+open_loop names l = record { counter = option_map (name_at names) l.counter; round = l.round }
+
+-- the innermost is the last in the code, and the first here
+abbrev pub open_loops : List (List ℕ) → List code.OpenLoop → List OpenLoop
+open_loops names loops = map (open_loop names) (reverse loops)
+
+-- a counter is among the names
+abbrev pub IsThere : List (List ℕ) → Option ℕ → Type 0
+IsThere names counter = ForSome counter (λ n. n < length names)
+
+abbrev pub AreThere : List (List ℕ) → List code.OpenLoop → Type 0
+AreThere names loops = All (λ l. IsThere names l.counter) loops
+
+-- the counter of the innermost loop
+abbrev pub innermost_counter : List OpenLoop → Option (List ℕ)
+innermost_counter [] = None
+innermost_counter (l ∷ ls) = l.counter
+
+-- what a name is that may be a counter, which then has this round
+abbrev pub round_or_name : Option ℕ → ℕ → TokenKind
+round_or_name (Some round) n = Number (pos round)
+round_or_name None n = Name n
