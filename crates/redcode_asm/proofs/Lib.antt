@@ -5,9 +5,7 @@ pub mod Makes
 pub mod Past
 pub mod Counts
 pub mod Scores
-pub mod Everywhere
 pub mod Alike
-pub mod Words
 pub mod ReadBack
 pub mod FreeNames
 pub mod Unplaced
@@ -22,7 +20,3 @@ pub mod AlikeCells
 pub mod AlikePrograms
 pub mod AlikeSources
 pub mod Parts
-pub mod ShortCells
-pub mod PlaceShorts
-pub mod LineAsserts
-pub mod LineCells

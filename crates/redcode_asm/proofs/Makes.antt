@@ -8,26 +8,18 @@ use Rattle.redcode_text.specs.declared.token.Token.{Token}
 use Rattle.redcode_text.specs.Expansion.{ProgramValue}
 use Rattle.redcode_text.specs.Lines.{Predefined}
 use Rattle.redcode_asm.specs.declared.fault.AsmProblem.{AsmProblem}
-use Rattle.redcode_asm.specs.Code.Sources.{cell_written}
 use Rattle.redcode_asm.specs.Assembly.{Placed, cell_from, cell_of, name_value, opcode_of, replaced, split_modifier, end_operand, end_start, org_start, start_at}
 use Rattle.redcode_asm.proofs.Failing.{bind-ok}
 
--- the cell of an instruction, once its operation and its modifier are read
-pub cell-read : (ps : Predefined) (m : ℕ) (source : ProgramValue) (p : Placed) (o : Op) (rest : Option Modifier × List Token) (r : Result Cell AsmProblem)
-    → opcode_of source.names p.line.operation ≡ Ok o → split_modifier source.names p.line.rest ≡ Ok rest
-    → cell_written source m (name_value ps source p.index p.index) o rest.0 rest.1 ≡ r → cell_of ps m source p ≡ r
-cell-read ps m source p o rest r first second made =
-    bind-ok (opcode_of source.names p.line.operation) o _ first
-    ∙ bind-ok (split_modifier source.names p.line.rest) rest _ second
-    ∙ made
-
--- the same, step by step
+-- the cell of an instruction, step by step
 pub cell-made : (ps : Predefined) (m : ℕ) (source : ProgramValue) (p : Placed) (o : Op) (rest : Option Modifier × List Token) (ts : List Token) (r : Result Cell AsmProblem)
     → opcode_of source.names p.line.operation ≡ Ok o → split_modifier source.names p.line.rest ≡ Ok rest → replaced source rest.1 ≡ Ok ts
     → r ≡ cell_from m (name_value ps source p.index p.index) o rest.0 ts → cell_of ps m source p ≡ r
 cell-made ps m source p o rest ts r first second third made =
-    cell-read ps m source p o rest r first second
-    (bind-ok (replaced source rest.1) ts (cell_from m (name_value ps source p.index p.index) o rest.0) third ∙ sym made)
+    bind-ok (opcode_of source.names p.line.operation) o _ first
+    ∙ bind-ok (split_modifier source.names p.line.rest) rest _ second
+    ∙ bind-ok (replaced source rest.1) ts (cell_from m (name_value ps source p.index p.index) o rest.0) third
+    ∙ sym made
 
 pub org-made : (ps : Predefined) (source : ProgramValue) (count : ℕ) (p : Placed) (ts : List Token) (r : Result ℕ AsmProblem)
     → replaced source p.line.rest ≡ Ok ts → r ≡ start_at ps source count p ts → org_start ps source count p ≡ r

@@ -2,6 +2,3 @@
 pub mod Problems
 pub mod Sources
 pub mod Labels
-pub mod Fixed
-pub mod PlaceShorts
-pub mod OnLines

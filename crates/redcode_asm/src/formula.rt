@@ -50,7 +50,7 @@ impl Env for Variables<'_> {
     ghost value_of = { λ v n. variable_value v.warriors v.survivors (name_at v.names.now n) };
 
     fn value(&self, name: usize) -> Option<i64> {
-        match self.names.word(name) {
+        match self.names.name(name) {
             b"W" => Some(self.warriors),
             b"S" => Some(self.survivors),
             _ => None,
@@ -65,12 +65,11 @@ fn is_variable(name: &[u8]) -> bool
 }
 
 /// Whether a token isn't a name other than W and S.
-#[tactic(auto, using(crate::proofs::Words::variable_short))]
 fn may_occur(names: &NameTable, kind: TokenKind) -> bool
     ensures { result ≡ may_occur names.now kind }
 {
     match kind {
-        TokenKind::Name(index) => is_variable(names.word(index)),
+        TokenKind::Name(index) => is_variable(names.name(index)),
         _ => true,
     }
 }

@@ -9,25 +9,23 @@ use mars_cell::{Cell, Mode, Modifier, Op, default_modifier, read_modifier, read_
 use redcode_text::{Env, NameTable, Sign, Token, TokenKind};
 
 /// The opcode of an operation, by its index among the names.
-#[tactic(auto, using(crate::proofs::Words::opcode_short))]
 pub fn read_opcode(names: &NameTable, operation: Option<usize>) -> Result<Op, AsmProblem>
     ensures { result ≡ opcode_of names.now operation }
 {
     let Some(index) = operation else {
         return Err(AsmProblem::Operation);
     };
-    read_op(names.word(index)).ok_or(AsmProblem::Operation)
+    read_op(names.name(index)).ok_or(AsmProblem::Operation)
 }
 
 /// The modifier behind the `.`.
-#[tactic(auto, using(crate::proofs::Words::modifier_short))]
 fn modifier_of(names: &NameTable, kind: TokenKind) -> Result<Modifier, AsmProblem>
     ensures { result ≡ modifier_in names.now kind }
 {
     let TokenKind::Name(index) = kind else {
         return Err(AsmProblem::Operation);
     };
-    read_modifier(names.word(index)).ok_or(AsmProblem::Operation)
+    read_modifier(names.name(index)).ok_or(AsmProblem::Operation)
 }
 
 /// The modifier that stands first behind an opcode, or none, and what follows.
@@ -52,7 +50,7 @@ pub fn take_modifier<'a>(
 }
 
 /// The cell of an opcode, perhaps a modifier, and the modes and numbers of its operands.
-pub fn whole_cell(op: Op, modifier: Option<Modifier>, a: (Mode, u32), b: (Mode, u32)) -> Cell
+fn whole_cell(op: Op, modifier: Option<Modifier>, a: (Mode, u32), b: (Mode, u32)) -> Cell
     ensures { result ≡ cell_with op modifier a b }
 {
     let (a_mode, a) = a;

@@ -6,7 +6,6 @@
 //! gives the formula of a text, or its first fault, and `Formula::score` its value for so many warriors and survivors,
 //! exactly as `specs/Formula` defines them; a score takes no memory, and is refused for its values alone (`laws`).
 //!
-//! What is there for hostile sources alone stands apart, in `shortcuts`.
 #![tactic(auto)]
 
 mod assembler;
@@ -19,7 +18,6 @@ pub mod laws;
 mod load;
 mod operands;
 mod places;
-mod shortcuts;
 mod sources;
 mod starts;
 mod warriors;

@@ -1,16 +1,14 @@
 //! A source, and what its names stand for.
-ghost use Rattle.std.specs.Prelude.{◌≡◌, [], pos, ◌-ℤ◌, option_map, IfSome};
+ghost use Rattle.std.specs.Prelude.{◌≡◌, [], pos, ◌-ℤ◌, option_map};
 ghost use Rattle.redcode_text.specs.Views.{predefined_of};
 ghost use Rattle.redcode_text.specs.Lines.{is_spelled, name_at, predefined_value, with_current_line};
 ghost use Rattle.redcode_asm.specs.Assembly.{last_where, placed, replaced};
 ghost use Rattle.redcode_asm.specs.Code.Labels.{table_with};
-ghost use Rattle.redcode_asm.specs.Code.PlaceShorts.{ArePlaceShorts};
 ghost use Rattle.redcode_asm.specs.Code.Problems.{Gives};
 ghost use Rattle.redcode_asm.specs.Code.Sources.{placed_of};
 
 use crate::fault::AsmProblem;
 use crate::places::{Labels, Place, last_line};
-use crate::shortcuts::PlaceShorts;
 use redcode_text::{Env, NameTable, PredefinedNames, Program, Token};
 use std::alloc::Global;
 
@@ -20,14 +18,11 @@ pub struct Source<'a> {
     pub program: &'a Program,
     pub labels: &'a Labels,
     pub predefined: &'a PredefinedNames,
-    /// What EQU names stand for in short; none while that is found out.
-    pub shorts: Option<&'a PlaceShorts>,
     ghost table: { labels.now ≡ table_with [] (placed program.now) },
-    ghost known: { ∥ IfSome shorts (λ s. ArePlaceShorts (predefined_of predefined.now) program.now s.now) ∥₁ },
 }
 
 /// What the name of an index stands for behind so many instructions, where it is no label.
-pub fn known_value(
+fn known_value(
     predefined: &PredefinedNames,
     names: &NameTable,
     current_line: u32,
@@ -35,7 +30,7 @@ pub fn known_value(
 ) -> Option<i64>
     ensures { result ≡ predefined_value (with_current_line (predefined_of predefined.now) current_line) (name_at names.now name) }
 {
-    predefined.value_at(current_line, names.word(name))
+    predefined.value_at(current_line, names.name(name))
 }
 
 /// What names stand for in an instruction, an ORG or an END behind so many instructions: labels count from an index on.

@@ -8,7 +8,6 @@ ghost use Rattle.redcode_asm.specs.Code.Sources.{warrior_from};
 
 use crate::fault::{AsmFault, AsmProblem};
 use crate::places::{Labels, check_length};
-use crate::shortcuts::shorts_of_program;
 use crate::sources::Source;
 use mars_cell::{Cell, Params, Warrior};
 use redcode_text::{PredefinedNames, Program};
@@ -79,17 +78,13 @@ pub fn program_warrior<'p>(
     let Ok(labels) = Labels::of_lines(alloc, program.names(), program.lines()) else {
         return Err(AsmFault::out_of_memory());
     };
-    let tables = shorts_of_program(alloc, program, &labels, predefined);
-    let shorts = Some(&tables);
     let source = Source {
         program,
         labels: &labels,
         predefined,
-        shorts,
     };
     let warrior = source.warrior(alloc, params);
-    // by calls, since their drops in this body are dear to prove
-    drop(tables);
+    // by a call, since its drop in this body is dear to prove
     drop(labels);
     warrior
 }

@@ -21,8 +21,7 @@ use Rattle.redcode_text.specs.Lines.{Reading, WithTokens, before_comment, name_i
 use Rattle.redcode_text.specs.Source.{Row}
 use Rattle.redcode_text.specs.Tokens.{Found, OpenLoop, Scanned, begins_name, begins_word, is_blank, joined, look_up, name_found, name_index, number_found, one_byte_signs, round_of, scan_from, sign_found, sign_token, token_at, tokens, two_byte_signs, with_name, with_room, with_token, word_found, word_len, word_token}
 use Rattle.redcode_text.proofs.Named.{IsBelow}
-use Rattle.redcode_text.proofs.NameParts.{with-front}
-use Rattle.redcode_text.proofs.Placed.{with-inside}
+use Rattle.redcode_text.proofs.NamesMore.{with-front, with-inside}
 
 -- what holds of a value, if there is one
 abbrev pub Holds : {A : Type 0} → (A → Type 0) → Result A TextProblem → Type 0

@@ -1,12 +1,8 @@
 -- The names as bytes.
-use Rattle.std.proofs.Common.{◌≡◌, ℕ, List, [], ◌∷◌, ◌++◌, map, Bool, true, false, ◌||◌, cond, refl, ap, sym, ◌∙◌, Some, None, ◌<◌, length, get_or, arith, option_map, unwrap_or}
-use Rattle.std.proofs.lemmas.List.Sums.{position_or_len_is}
-use Rattle.std.proofs.lemmas.Map.Keys.{any_passes_from_place, apart_from_distinct}
-use Rattle.std.proofs.lemmas.Option.{slice_get-get_or, slice_get-map}
+use Rattle.std.proofs.Common.{◌≡◌, ℕ, List, [], ◌∷◌, ◌++◌, map, Bool, true, false, ◌||◌, cond, refl, ap, sym, ◌∙◌, Some, None}
 use Rattle.std.proofs.lemmas.Slice.Eq.{bytes_eq-Decides}
-use Rattle.std.specs.List.{IsDistinct, list_any, position, position_or_len}
+use Rattle.std.specs.List.{list_any, position, position_or_len}
 use Rattle.std.specs.Str.{bytes_eq}
-use Rattle.redcode_text.specs.Lines.{name_at}
 use Rattle.redcode_text.specs.Tokens.{name_index, with_name}
 
 module _ {T : Type 0} (f : T → List ℕ) where
@@ -45,37 +41,3 @@ position-some p keys i e = chosen _ _ e
 
 pub same-itself : (q : List ℕ) → bytes_eq q q ≡ true
 same-itself q = (bytes_eq-Decides q q).1 refl
-
-other-way : (p q : List ℕ) → bytes_eq p q ≡ false → bytes_eq q p ≡ false
-other-way p q e = go (bytes_eq q p) refl
-  where
-    go : (t : Bool) → bytes_eq q p ≡ t → bytes_eq q p ≡ false
-    go false h = h
-    go true h = let c : true ≡ false = sym ((bytes_eq-Decides p q).1 (sym ((bytes_eq-Decides q p).0 h))) ∙ e in cc
-
--- the name of an index is found there
-module _ {T : Type 0} (f : T → List ℕ) (keys : List T) (apart : IsDistinct (λ x y. bytes_eq (f x) (f y)) keys) where
-  place-of : (d : T) (i : ℕ) → i < length keys → name_index (map f keys) (f (get_or keys i d)) ≡ i
-  place-of d i inside =
-      sym (position-map f (f (get_or keys i d)) keys)
-      ∙ position_or_len_is (λ x. bytes_eq (f (get_or keys i d)) (f x)) keys i d (omega (arith, inside))
-      (λ k less. other-way (f (get_or keys k d)) (f (get_or keys i d)) (apart_from_distinct (λ x y. bytes_eq (f x) (f y)) keys k i d apart less inside))
-      (λ _. same-itself (f (get_or keys i d)))
-
-  there-at : (d : T) (i : ℕ) → i < length keys → with_name (map f keys) (f (get_or keys i d)) ≡ map f keys
-  there-at d i inside =
-      present f (f (get_or keys i d)) keys (any_passes_from_place (λ x. bytes_eq (f (get_or keys i d)) (f x)) keys i (get_or keys i d) (slice_get-get_or keys i d inside) (same-itself (f (get_or keys i d))))
-
-  named : (d : T) (i : ℕ) → i < length keys → name_at (map f keys) i ≡ f (get_or keys i d)
-  named d i inside = ap (λ o. unwrap_or o []) (slice_get-map f keys i ∙ ap (option_map f) (slice_get-get_or keys i d inside))
-
-  guessed-place : (d : T) (i : ℕ) (q : List ℕ) → i < length keys → name_at (map f keys) i ≡ q → i ≡ name_index (map f keys) q
-  guessed-place d i q inside e = sym (place-of d i inside) ∙ ap (name_index (map f keys)) (sym (named d i inside) ∙ e)
-
-  guessed-there : (d : T) (i : ℕ) (q : List ℕ) → i < length keys → name_at (map f keys) i ≡ q → with_name (map f keys) q ≡ map f keys
-  guessed-there d i q inside e = ap (with_name (map f keys)) (sym e ∙ named d i inside) ∙ there-at d i inside
-
-pub guessed : {T : Type 0} (f : T → List ℕ) (keys : List T) → IsDistinct (λ x y. bytes_eq (f x) (f y)) keys → (i : ℕ) (q : List ℕ) → i < length keys → name_at (map f keys) i ≡ q
-    → (i ≡ name_index (map f keys) q) × (with_name (map f keys) q ≡ map f keys)
-guessed f [] apart i q inside e = absurd (omega (arith, inside))
-guessed f (x ∷ keys) apart i q inside e = (guessed-place f (x ∷ keys) apart x i q inside e, guessed-there f (x ∷ keys) apart x i q inside e)

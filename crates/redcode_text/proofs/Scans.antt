@@ -2,6 +2,7 @@
 use Rattle.std.proofs.Common.{◌≡◌, ℕ, zero, suc, ◌+◌, ◌-◌, ◌<◌, ◌≤◌, List, [], ◌∷◌, length, drop, take, drop-drop, subst, get_or, Bool, true, false, not, ◌&&◌, cond, Some, None, Option, Result, Ok, Err, refl, ap, sym, ◌∙◌, arith, nat_lt}
 use Rattle.std.proofs.Math.Seq.{drop-cons}
 use Rattle.std.proofs.lemmas.Bool.Decides.{nat_tests}
+use Rattle.std.proofs.lemmas.List.{take_rest}
 use Rattle.std.specs.Char.{is_ascii}
 use Rattle.redcode_text.specs.Results.{◌>>=◌}
 use Rattle.redcode_text.specs.declared.fault.TextProblem.{TextProblem}
@@ -124,16 +125,19 @@ room-some room line at s f h = let e : nat_lt (length s.tokens) room ≡ true = 
 module _ (loops : List OpenLoop) (line room at i : ℕ) (bs : List ℕ) (s : Scanned) where
   -- what the code looks at
   abbrev looked_at : Result Found TextProblem
-  looked_at = token_at loops s.names (drop i bs)
+  looked_at = token_at loops s.names (take (length bs - i) (drop i bs))
+
+  looks : token_at loops s.names (drop i bs) ≡ looked_at
+  looks = ap (token_at loops s.names) (sym (take_rest bs i))
 
   abbrev then_added : Result Found TextProblem → Result (ℕ × Scanned) TextProblem
   then_added r = r >>= λ f. with_room room s line at f >>= measured f.len
 
   pub one-fails : (e : TextProblem) → Fails e looked_at → Fails e (one_token loops line room at (drop i bs) s)
-  one-fails e h = fails-bind e looked_at (λ f. with_room room s line at f >>= measured f.len) h
+  one-fails e h = subst (Fails e) (ap then_added (sym looks)) (fails-bind e looked_at (λ f. with_room room s line at f >>= measured f.len) h)
 
   pub one-full : (f : Found) → looked_at ≡ Ok f → room ≤ length s.tokens → one_token loops line room at (drop i bs) s ≡ Err TooLong
-  one-full f h full = ap then_added h ∙ ap (λ r. r >>= measured f.len) (room-none room line at s f full)
+  one-full f h full = ap then_added (looks ∙ h) ∙ ap (λ r. r >>= measured f.len) (room-none room line at s f full)
 
   pub one-ok : (f : Found) → looked_at ≡ Ok f → length s.tokens < room → one_token loops line room at (drop i bs) s ≡ measured f.len (with_token s line at f)
-  one-ok f h some = ap then_added h ∙ ap (λ r. r >>= measured f.len) (room-some room line at s f some)
+  one-ok f h some = ap then_added (looks ∙ h) ∙ ap (λ r. r >>= measured f.len) (room-some room line at s f some)

@@ -5,7 +5,6 @@ use Rattle.std.specs.List.{All, list_any, onto_first}
 use Rattle.std.specs.Prelude.{⊤}
 use Rattle.redcode_text.specs.declared.source.row.Row as code
 use Rattle.redcode_text.specs.Code.Loops.{RowsFit}
-use Rattle.redcode_text.specs.Code.Placed.{AreParts, IsPart}
 use Rattle.redcode_text.specs.Code.Rows.{row_of}
 use Rattle.redcode_text.specs.Source.{Row, begins_redcode, from_redcode, lines_of, read_rows, rows_from, rows_of}
 
@@ -55,50 +54,3 @@ rows_fit source all rows few e f i d inside =
     let within : Within (length source) (map row_of rows) = subst (Within (length source)) (sym (f ∙ ap read_rows e)) (within-read (length source) (rows_of source) (within-from (length source) 1 0 source (omega arith))) in
     let here = All-get_or (λ row. row.at + length row.bytes.now ≤ length source) rows i d inside (held-within (length source) rows within) in
     omega (arith, here, few)
-
--- ---- each row stands in the source where it says
-
-abbrev AllIn : List ℕ → List Row → Type 0
-AllIn source [] = ⊤
-AllIn source (row ∷ rows) = IsPart source row.at row.bytes × AllIn source rows
-
-in-onto : (source : List ℕ) (number at b : ℕ) (ls : List (List ℕ)) → b ∷ drop (at + 1) source ≡ drop at source → AllIn source (rows_from number (at + 1) ls) → AllIn source (rows_from number at (onto_first b ls))
-in-onto source number at b [] e h = (ap (take 1) e, tt)
-in-onto source number at b (l ∷ ls) e h =
-    let next : at + 1 + length l + 1 ≡ at + suc (length l) + 1 = omega arith in
-    (ap (λ bytes. b ∷ bytes) h.0 ∙ ap (take (suc (length l))) e, subst (λ n. AllIn source (rows_from (number + 1) n ls)) next h.1)
-
-in-from : (source : List ℕ) (number at : ℕ) (bs : List ℕ) → bs ≡ drop at source → AllIn source (rows_from number at (lines_of bs))
-in-from source number at [] e = tt
-in-from source number at (b ∷ bs) e =
-    let rest : bs ≡ drop (at + 1) source = ap (drop 1) e ∙ drop-drop 1 at source in
-    let here : at + 1 ≡ at + 0 + 1 = omega arith in
-    go (b == 10) (in-from source (number + 1) (at + 0 + 1) bs (rest ∙ ap (λ n. drop n source) here)) (in-from source number (at + 1) bs rest) (ap (λ l. b ∷ l) (sym rest) ∙ e)
-  where
-    go : (t : Bool) → AllIn source (rows_from (number + 1) (at + 0 + 1) (lines_of bs)) → AllIn source (rows_from number (at + 1) (lines_of bs)) → b ∷ drop (at + 1) source ≡ drop at source
-        → AllIn source (rows_from number at (elim t as (λ _. List (List ℕ)) [ true ↦ [] ∷ lines_of bs | false ↦ onto_first b (lines_of bs) ]))
-    go true next here first = (refl, next)
-    go false next here first = in-onto source number at b (lines_of bs) first here
-
-in-redcode : (source : List ℕ) (rows : List Row) → AllIn source rows → AllIn source (from_redcode rows)
-in-redcode source [] h = tt
-in-redcode source (row ∷ rows) h = go (begins_redcode row) (in-redcode source rows h.1)
-  where
-    go : (t : Bool) → AllIn source (from_redcode rows) → AllIn source (elim t as (λ _. List Row) [ true ↦ row ∷ rows | false ↦ from_redcode rows ])
-    go true later = h
-    go false later = later
-
-in-read : (source : List ℕ) (rows : List Row) → AllIn source rows → AllIn source (read_rows rows)
-in-read source rows h = go (list_any begins_redcode rows)
-  where
-    go : (t : Bool) → AllIn source (elim t as (λ _. List Row) [ true ↦ from_redcode rows | false ↦ rows ])
-    go true = in-redcode source rows h
-    go false = h
-
-held-in : (source : List ℕ) (rows : List code.Row) → AllIn source (map row_of rows) → (i : ℕ) (d : code.Row) → i < length rows → IsPart source (get_or rows i d).at (get_or rows i d).bytes.now
-held-in source [] h i d less = absurd (omega (arith, less))
-held-in source (row ∷ rows) h zero d less = h.0
-held-in source (row ∷ rows) h (suc i) d less = held-in source rows h.1 i d (omega (arith, less))
-
-pub are_parts : (source : List ℕ) (all rows : List code.Row) → map row_of all ≡ rows_of source → map row_of rows ≡ read_rows (map row_of all) → AreParts source rows
-are_parts source all rows e f = held-in source rows (subst (AllIn source) (sym (f ∙ ap read_rows e)) (in-read source (rows_of source) (in-from source 1 0 source refl)))

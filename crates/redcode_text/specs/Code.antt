@@ -1,10 +1,7 @@
 -- How the code holds and reaches what is defined. All of this serves the proofs alone.
 pub mod Problems
-pub mod Values
-pub mod Places
 pub mod Kinds
 pub mod Rows
-pub mod Runs
 pub mod Pairs
 pub mod Scanning
 pub mod Progress
@@ -16,16 +13,5 @@ pub mod Comments
 pub mod Used
 pub mod Heads
 pub mod Loops
-pub mod Parts
-pub mod Placed
 pub mod Counters
 pub mod SourceLoops
-pub mod Worth
-pub mod Triples
-pub mod Products
-pub mod Quotients
-pub mod Remainders
-pub mod Chains
-pub mod Nesting
-pub mod Sums
-pub mod Shortening

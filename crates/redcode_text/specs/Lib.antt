@@ -11,8 +11,6 @@ pub mod Expansion
 pub mod Alike
 pub mod Programs
 pub mod Views
-pub mod ShortNames
-pub mod Shortening
 pub mod Outcomes
 pub mod Laws
 pub mod Examples

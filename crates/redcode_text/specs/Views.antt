@@ -1,11 +1,9 @@
 -- What a value of the code means.
-use Rattle.std.specs.Prelude.{ℕ, List, [], ◌∷◌, Vec, codes, map}
-use Rattle.redcode_text.specs.declared.names.equate_lines.EquateLines.{EquateLines}
+use Rattle.std.specs.Prelude.{ℕ, List, [], ◌∷◌, Vec, codes}
 use Rattle.redcode_text.specs.declared.names.predefined.PredefinedNames.{PredefinedNames}
 use Rattle.redcode_text.specs.declared.program.Assert as assert
 use Rattle.redcode_text.specs.declared.program.Line as line
 use Rattle.redcode_text.specs.declared.token.Token.{Token}
-use Rattle.redcode_text.specs.Equates.{Equate}
 use Rattle.redcode_text.specs.Lines.{Assert, Line, Predefined}
 use Rattle.redcode_text.specs.Tokens.{Scanned}
 
@@ -20,9 +18,6 @@ line_of l = record { number = l.number; labels = l.labels.items; operation = l.o
 
 abbrev pub assert_of : assert.Assert → Assert
 assert_of a = record { number = a.number; current_line = a.current_line; tokens = a.tokens.items }
-
-abbrev pub equate_of : EquateLines → Equate
-equate_of e = record { name = e.name; lines = map (λ line. line.items) e.lines.items }
 
 -- tokens, and the names that they call
 abbrev pub scan_of : {A : Type 0} → Vec Token A → List (List ℕ) → Scanned

@@ -1,8 +1,8 @@
 //! The bytes of a line: blanks, and those of words.
-ghost use Rattle.std.specs.Prelude.{◌≡◌, ◌≤◌, ◌++◌, ◌==◌, length, not, take, true, IsAscii};
+ghost use Rattle.std.specs.Prelude.{◌≡◌, ◌≤◌, ◌==◌, length, not, take, true, IsAscii};
 ghost use Rattle.std.specs.Char.{is_ascii_digit};
 ghost use Rattle.std.specs.List.{list_all, prefix_len};
-ghost use Rattle.std.specs.Str.{bytes_eq, str_eq_ignore_ascii_case};
+ghost use Rattle.std.specs.Str.{str_eq_ignore_ascii_case};
 ghost use Rattle.redcode_text.specs.Bytes.{ampersand};
 ghost use Rattle.redcode_text.specs.Source.{blank_len};
 ghost use Rattle.redcode_text.specs.Tokens.{is_blank, is_letter, is_word_byte, begins_name, begins_word, word_len};
@@ -91,27 +91,4 @@ pub fn are_digits(bytes: &[u8]) -> bool
     ensures { result ≡ list_all is_ascii_digit bytes.now }
 {
     bytes.iter().all(|byte| byte.is_ascii_digit())
-}
-
-/// Whether a text is two parts, one behind the other.
-pub fn is_made_of(text: &[u8], first: &[u8], end: &[u8]) -> bool
-    ensures { result ≡ bytes_eq text.now (first.now ++ end.now) }
-{
-    match text.split_at_checked(first.len()) {
-        Some((front, rest)) => front == first && rest == end,
-        None => false,
-    }
-}
-
-/// Whether two texts in two parts each are the same.
-pub fn are_same_parts(front: &[u8], end: &[u8], other_front: &[u8], other_end: &[u8]) -> bool
-    ensures { result ≡ bytes_eq (front.now ++ end.now) (other_front.now ++ other_end.now) }
-{
-    match other_front.split_at_checked(front.len()) {
-        Some((first, rest)) => front == first && is_made_of(end, rest, other_end),
-        None => match front.split_at_checked(other_front.len()) {
-            Some((first, rest)) => other_front == first && is_made_of(other_end, rest, end),
-            None => false,
-        },
-    }
 }

@@ -4,7 +4,6 @@ ghost use Rattle.redcode_text.specs.Expansion.{expansion, flat, nothing_read, pr
 ghost use Rattle.redcode_text.specs.Views.{predefined_of};
 ghost use Rattle.redcode_text.specs.Code.Readings.{reading_of};
 ghost use Rattle.redcode_text.specs.Code.Loops.{RowsFit};
-ghost use Rattle.redcode_text.specs.Code.Placed.{AreParts};
 ghost use Rattle.redcode_text.specs.Code.Rows.{row_of};
 ghost use Rattle.redcode_text.specs.Outcomes.{Answers};
 ghost use Rattle.redcode_text.specs.Source.{tree_of, tree_of_rows};
@@ -14,14 +13,13 @@ use crate::names::predefined::PredefinedNames;
 use crate::program::Program;
 use crate::reader::Reading;
 use crate::reader::repeat::read_all;
-use crate::shortcuts::long_runs;
 use crate::source::row::Row;
 use crate::source::{read_rows, rows_of};
 use std::alloc::Global;
 
 /// What is kept of all that was read.
-fn program_of(reading: Reading<'_>) -> Program
-    ensures { result ≡ program_of (reading_of reading.entry) }
+fn program_of(reading: Reading) -> Program
+    ensures { result ≡ program_of (reading_of reading) }
 {
     let Reading {
         names,
@@ -46,18 +44,16 @@ fn program_of(reading: Reading<'_>) -> Program
 }
 
 /// Reads rows of a source, up to END.
-fn read_from_rows<'a>(
+fn read_from_rows(
     alloc: Global,
-    source: &'a [u8],
     rows: &[Row<'_>],
     names: &PredefinedNames,
-) -> Result<Reading<'a>, TextFault>
+) -> Result<Reading, TextFault>
     requires fits { RowsFit rows.now }
-    requires parts { AreParts source.now rows.now }
     ensures { Answers (λ reading. reading_of reading) result
         (flat (predefined_of names.now) (tree_of_rows (map row_of rows.now)) nothing_read) }
 {
-    let Ok(mut reading) = Reading::new(alloc, source) else {
+    let Ok(mut reading) = Reading::new(alloc) else {
         return Err(TextProblem::OutOfMemory.at_line(0));
     };
     match read_all(alloc, names, rows, &mut reading) {
@@ -71,21 +67,14 @@ fn read_from_rows<'a>(
 }
 
 /// Reads a source.
-#[tactic(auto, using(crate::proofs::SourceRows::rows_fit, crate::proofs::SourceRows::are_parts))]
-fn read_source<'a>(
-    alloc: Global,
-    bytes: &'a [u8],
-    names: &PredefinedNames,
-) -> Result<Reading<'a>, TextFault>
+#[tactic(auto, using(crate::proofs::SourceRows::rows_fit))]
+fn read_source(alloc: Global, bytes: &[u8], names: &PredefinedNames) -> Result<Reading, TextFault>
     ensures { Answers (λ reading. reading_of reading) result (flat (predefined_of names.now) (tree_of bytes.now) nothing_read) }
 {
-    let Ok(runs) = long_runs(alloc, bytes) else {
+    let Ok(rows) = rows_of(alloc, bytes) else {
         return Err(TextProblem::OutOfMemory.at_line(0));
     };
-    let Ok(rows) = rows_of(alloc, bytes, &runs) else {
-        return Err(TextProblem::OutOfMemory.at_line(0));
-    };
-    read_from_rows(alloc, bytes, read_rows(&rows), names)
+    read_from_rows(alloc, read_rows(&rows), names)
 }
 
 /// Reads a source, with what FOR and EQU mean done: from its first `;redcode` line on, if it has one, up to END.
@@ -105,9 +94,8 @@ fn read_source<'a>(
 ///
 /// OutOfMemory, with the line 0, comes only where a growth was refused, in place of what would have come later.
 ///
-/// The time is linear in the length of the source, in the words of the lines that are read, those of a loop once for each
-/// round, and in the replacements in counts, of which each count has at most 65,536. A long run of blanks counts once, and so
-/// does a long number, and each long part of a name between its joins.
+/// The time is linear in the bytes of the lines that are read, those of a loop once for each round, and in the replacements in
+/// counts, of which each count has at most 65,536.
 #[tactic(auto, unfolding(crate::specs::Expansion::expansion))]
 pub fn expand(alloc: Global, bytes: &[u8], names: &PredefinedNames) -> Result<Program, TextFault>
     ensures { Answers (λ program. program) result (expansion (predefined_of names.now) bytes.now) }

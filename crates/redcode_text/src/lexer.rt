@@ -2,7 +2,6 @@
 ghost use Rattle.std.specs.Prelude.{◌≡◌, ◌≤◌, ◌<◌, ◌+◌, ◌^◌, [], drop, length, vec_len, IfOk, OnOk};
 ghost use Rattle.redcode_text.specs.Outcomes.{Answers};
 ghost use Rattle.redcode_text.specs.Views.{scan_of};
-ghost use Rattle.redcode_text.specs.Code.Placed.{IsPart};
 ghost use Rattle.redcode_text.specs.Code.Problems.{Gives};
 ghost use Rattle.redcode_text.specs.Code.Scanning.{found_alone, with_names};
 ghost use Rattle.redcode_text.specs.Code.Scanning.{one_token};
@@ -10,15 +9,16 @@ ghost use Rattle.redcode_text.specs.Code.SourceLoops.{loops_of};
 ghost use Rattle.redcode_text.specs.Tokens.{begins_word, is_blank, scan_from, scanned, sign_token, token_at};
 
 pub mod open_loops;
+pub mod source_names;
 pub mod text;
 mod words;
 
-use crate::characters::{begins_word, is_blank};
+use crate::characters::{begins_word, is_blank, word_len};
 use crate::fault::{TextFault, TextProblem};
+use crate::lexer::source_names::SourceNames;
 use crate::lexer::text::Text;
 use crate::lexer::words::read_word;
 use crate::names::NameTable;
-use crate::shortcuts::{Cursor, Seed, SourceNames, past_blank, run_at, word_at};
 use crate::token::{Spelled, Token, TokenKind, one_byte_sign, two_byte_sign};
 use std::alloc::Global;
 
@@ -47,23 +47,12 @@ fn read_sign(bytes: &[u8]) -> Result<Spelled, TextProblem>
     }
 }
 
-/// The token that begins at a place of a text, where no blank stands.
-fn read_token(
-    alloc: Global,
-    names: &mut SourceNames<'_>,
-    text: Text<'_>,
-    cursor: Cursor,
-) -> Result<Spelled, TextProblem>
-    requires within { cursor.at < length text.bytes.now }
-    requires fits { text.at + length text.bytes.now < 2 ^ 64 }
-    requires part { IsPart names.old.source.now text.at text.bytes.now }
-    ensures value { Gives (with_names names.new.table) result
-        (token_at (loops_of names.old) names.old.table (drop cursor.at text.entry.bytes.now)) }
-    ensures len { IfOk result (λ s. (1 ≤ s.len) × (cursor.at + s.len ≤ length text.entry.bytes.now)) }
-    ensures source { names.new.source.now ≡ names.old.source.now }
+/// The token at the front of some bytes, which begin with no blank.
+fn read_token(alloc: Global, names: &mut SourceNames, bytes: &[u8]) -> Result<Spelled, TextProblem>
+    ensures value { Gives (with_names names.new.table) result (token_at (loops_of names.old) names.old.table bytes.now) }
+    ensures len { IfOk result (λ s. (1 ≤ s.len) × (s.len ≤ length bytes.now)) }
     ensures loops { OnOk result (loops_of names.new ≡ loops_of names.old) }
 {
-    let bytes = &text.bytes[cursor.at..];
     let [first, ..] = bytes else {
         return Err(TextProblem::BadToken);
     };
@@ -71,7 +60,7 @@ fn read_token(
         return Err(TextProblem::NotAscii);
     }
     if begins_word(bytes) {
-        return read_word(alloc, names, word_at(text, cursor));
+        return read_word(alloc, names, &bytes[..word_len(bytes)]);
     }
     read_sign(bytes)
 }
@@ -80,29 +69,27 @@ fn read_token(
 fn add_token(
     alloc: Global,
     text: Text<'_>,
-    cursor: Cursor,
+    at: usize,
     room: usize,
-    names: &mut SourceNames<'_>,
+    names: &mut SourceNames,
     tokens: &mut Vec<Token>,
 ) -> Result<usize, TextProblem>
-    requires within { cursor.at < length text.bytes.now }
+    requires within { at < length text.bytes.now }
     requires fits { text.at + length text.bytes.now < 2 ^ 64 }
-    requires part { IsPart names.old.source.now text.at text.bytes.now }
     ensures value { Gives (λ len. (len, scan_of tokens.new names.new.table)) result
-        (one_token (loops_of names.old) text.entry.number room (text.entry.at + cursor.at) (drop cursor.at text.entry.bytes.now) (scan_of tokens.old names.old.table)) }
-    ensures len { IfOk result (λ len. (1 ≤ len) × (cursor.at + len ≤ length text.entry.bytes.now)) }
+        (one_token (loops_of names.old) text.entry.number room (text.entry.at + at) (drop at text.entry.bytes.now) (scan_of tokens.old names.old.table)) }
+    ensures len { IfOk result (λ len. (1 ≤ len) × (at + len ≤ length text.entry.bytes.now)) }
     ensures room { vec_len tokens.old ≤ room → vec_len tokens.new ≤ room }
-    ensures source { names.new.source.now ≡ names.old.source.now }
     ensures loops { OnOk result (loops_of names.new ≡ loops_of names.old) }
 {
-    let Spelled { kind, len } = match read_token(alloc, names, text, cursor) {
+    let Spelled { kind, len } = match read_token(alloc, names, &text.bytes[at..]) {
         Ok(found) => found,
         Err(problem) => return Err(problem),
     };
     if tokens.len() >= room {
         return Err(TextProblem::TooLong);
     }
-    let from = text.at + cursor.at;
+    let from = text.at + at;
     let token = Token {
         kind,
         line: text.number,
@@ -120,27 +107,22 @@ pub fn read_tokens(
     alloc: Global,
     text: Text<'_>,
     room: usize,
-    names: &mut SourceNames<'_>,
+    names: &mut SourceNames,
     tokens: &mut Vec<Token>,
 ) -> Result<(), TextProblem>
     requires fits { text.at + length text.bytes.now < 2 ^ 64 }
-    requires part { IsPart names.old.source.now text.at text.bytes.now }
     requires room { vec_len tokens.old ≤ room }
     ensures value { Gives (λ _. scan_of tokens.new names.new.table) result
         (scan_from (loops_of names.old) text.entry.number room text.entry.at 0 text.entry.bytes.now (scan_of tokens.old names.old.table)) }
     ensures room { vec_len tokens.new ≤ room }
-    ensures source { names.new.source.now ≡ names.old.source.now }
     ensures loops { OnOk result (loops_of names.new ≡ loops_of names.old) }
 {
     let mut at = 0;
-    let mut run = 0;
     while at < text.bytes.len() {
-        run = run_at(text, at, run);
-        let cursor = Cursor { at, run };
         if is_blank(text.bytes[at]) {
-            at = past_blank(text, cursor);
+            at += 1;
         } else {
-            match add_token(alloc, text, cursor, room, names, tokens) {
+            match add_token(alloc, text, at, room, names, tokens) {
                 Ok(len) => at += len,
                 Err(problem) => return Err(problem),
             }
@@ -166,12 +148,11 @@ pub fn scan(alloc: Global, text: &[u8]) -> Result<LineTokens, TextFault>
     ensures { Answers (λ s. scan_of s.tokens s.names) result (scanned text.now) }
 {
     let mut tokens = Vec::new(alloc);
-    let mut names = SourceNames::new(alloc, text, Seed::new(text));
+    let mut names = SourceNames::new(alloc);
     let line = Text {
         number: 1,
         at: 0,
         bytes: text,
-        runs: &[],
     };
     match read_tokens(alloc, line, text.len(), &mut names, &mut tokens) {
         Ok(()) => Ok(LineTokens {

@@ -17,8 +17,6 @@
 //! expression         tokens -> a value
 //! ```
 //!
-//! What is there for hostile sources alone stands apart, in `shortcuts`.
-//!
 //! A caller reads a source, then the lines, then the operands:
 //!
 //! ```text
@@ -35,12 +33,8 @@
 //! - The readers of a `Program` give its parts. It has at most 65,536 lines; its name and its author can be printed.
 //! - `Program::substitute` gives tokens with each EQU name replaced, at most 65,536, or the first fault, exactly as
 //!   `specs/Equates` defines it.
-//! - `Program::shorts` gives a table of what EQU names stand for in short, where they stand for many tokens; with it
-//!   `Program::shortened` gives fewer tokens that are worth the same, and `Program::short_value` the value of such. They answer None
-//!   where they know none. `are_linear` tells whether what tokens are worth is linear in what names stand for. These serve speed alone.
 //! - `PredefinedNames` has the values of the predefined names, `PredefinedNames::value_at` one of them, `NameTable` the names of a text.
 //! - `is_instruction` tells which lines are instructions, and `is_spelled` whether an operation is a word.
-//! - `are_alike` tells whether tokens are of the same kinds, and `NameTable::key_of` gives a number by which such are found again.
 //! - `scan` gives the tokens and the names of a text of one line, or its first fault, exactly as `specs/Tokens` defines
 //!   them.
 //! - `check_shape` tells whether tokens have the shape of an expression, and `eval` gives the value of an expression
@@ -59,7 +53,6 @@ mod limits;
 mod names;
 mod program;
 mod reader;
-mod shortcuts;
 mod source;
 mod token;
 
@@ -71,5 +64,4 @@ pub use lexer::{LineTokens, scan};
 pub use names::NameTable;
 pub use names::predefined::PredefinedNames;
 pub use program::{Assert, Line, Program, is_instruction, is_spelled};
-pub use shortcuts::{ShortTokens, Shorts, are_linear};
-pub use token::{Sign, Token, TokenKind, are_alike};
+pub use token::{Sign, Token, TokenKind};

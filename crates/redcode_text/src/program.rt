@@ -2,11 +2,9 @@
 ghost use Rattle.std.specs.Prelude.{◌≡◌};
 ghost use Rattle.redcode_text.specs.Lines.{is_end, is_instruction, is_spelled};
 
-use crate::expression::Env;
 use crate::fault::TextFault;
 use crate::names::NameTable;
 use crate::names::equates::Equates;
-use crate::shortcuts::{ShortTokens, Shorts};
 use crate::token::Token;
 use std::alloc::Global;
 use std::marker::Model;
@@ -76,8 +74,7 @@ impl Model for Program {
 }
 
 impl Program {
-    ghost use Rattle.std.specs.Prelude.{◌≡◌, ◌≤◌, ℕ, ℤ, Option, IfOk, IfSome, length, map, option_map, vec_len};
-    ghost use Rattle.redcode_text.specs.Shortening.{AreKnown, IsValued, Shortened, has_equate};
+    ghost use Rattle.std.specs.Prelude.{◌≡◌, ◌≤◌, IfOk, length, map, option_map, vec_len};
     ghost use Rattle.redcode_text.specs.Equates.{equate_lines, limit, substitution};
     ghost use Rattle.redcode_text.specs.Views.{assert_of, line_of};
     ghost use Rattle.redcode_text.specs.Outcomes.{Answers};
@@ -129,13 +126,6 @@ impl Program {
         self.equates.lines_of(name)
     }
 
-    /// Whether an EQU name is among tokens.
-    pub fn has_equate(&self, tokens: &[Token]) -> bool
-        ensures { result ≡ has_equate self.now.equates tokens.now }
-    {
-        self.equates.has_name(tokens)
-    }
-
     /// Tokens with each EQU name replaced by its line, and the names in it in turn.
     ///
     /// The answer has at most 65,536 tokens. The first fault from the left is EquDepth where replacements nest more
@@ -146,45 +136,6 @@ impl Program {
         ensures few { IfOk result (λ made. vec_len made ≤ limit) }
     {
         self.equates.substitute(alloc, tokens)
-    }
-
-    /// What the EQU names of the program stand for in short, under what names stand for: those of which it can be found out. The
-    /// table is empty where none of them stands for many tokens.
-    pub fn shorts<E: Env>(&self, alloc: Global, env: &E) -> Shorts
-        ensures { AreKnown self.now.equates (E.value_of env.now) result }
-    {
-        self.equates.shorts(alloc, env)
-    }
-
-    /// The same of the EQU names among tokens alone, as long as few tokens are read for that.
-    pub fn shorts_among<E: Env>(&self, alloc: Global, tokens: &[Token], env: &E) -> Shorts
-        ensures { AreKnown self.now.equates (E.value_of env.now) result }
-    {
-        self.equates.shorts_among(alloc, tokens, env)
-    }
-
-    /// Tokens with each EQU name replaced, in short: by fewer tokens, with which an expression has the same value or none, and of
-    /// whose numbers some may be negative. None where the EQU names stand for few tokens, where one of them isn't in the table,
-    /// where `substitute` gives a fault, and for want of memory.
-    pub fn shortened(&self, alloc: Global, tokens: &[Token], shorts: &Shorts) -> Option<ShortTokens>
-        ensures { IfSome result (λ short. (names : ℕ → Option ℤ) → AreKnown self.now.equates names shorts.now
-            → Shortened self.now.equates names tokens.now short.tokens.items short.is_linear) }
-    {
-        self.equates.shortened(alloc, tokens, shorts)
-    }
-
-    /// The value of an expression in short, if it has one. The table has to be of the same names. None as for `shortened`.
-    pub fn short_value<E: Env>(
-        &self,
-        alloc: Global,
-        tokens: &[Token],
-        shorts: &Shorts,
-        env: &E,
-    ) -> Option<i64>
-        ensures { IfSome result (λ value. AreKnown self.now.equates (E.value_of env.now) shorts.now
-            → IsValued self.now.equates (E.value_of env.now) tokens.now value) }
-    {
-        self.equates.short_value(alloc, tokens, shorts, env)
     }
 }
 

@@ -1,7 +1,6 @@
 //! All that has been read of a source: what a line adds to it, and what a name is to it.
 ghost use Rattle.std.specs.Prelude.{◌≡◌, ◌≤◌, ◌<◌, ◌+◌, ◌^◌, length, string_bytes, vec_len, [], false, IfOk, OnOk, ◌∷◌, MatchOption};
 ghost use Rattle.redcode_text.specs.Code.Labels.{AreLabels};
-ghost use Rattle.redcode_text.specs.Code.Placed.{IsPart};
 ghost use Rattle.redcode_text.specs.Programs.{IsPrinted};
 ghost use Rattle.redcode_text.specs.declared.limits.TheConstants.{MAX_LINES, MAX_TOKENS};
 ghost use Rattle.std.specs.List.{list_any};
@@ -18,21 +17,21 @@ mod used_lines;
 use crate::characters::is_word;
 use crate::fault::TextProblem;
 use crate::lexer::read_tokens;
+use crate::lexer::source_names::SourceNames;
 use crate::lexer::text::Text;
 use crate::limits::{MAX_LINES, MAX_TOKENS};
 use crate::names::equates::Equates;
 use crate::names::predefined::PredefinedNames;
 use crate::names::set::NameSet;
 use crate::program::{Assert, Line};
-use crate::shortcuts::{Seed, SourceNames};
 use crate::source::row::Row;
 use crate::token::{Sign, Token, TokenKind};
 use std::alloc::{AllocError, Global};
 
 /// All that has been read.
 #[derive(Drop)]
-pub struct Reading<'a> {
-    pub names: SourceNames<'a>,
+pub struct Reading {
+    pub names: SourceNames,
     pub equates: Equates,
     /// Whether an EQU line without a name adds to the last EQU name.
     pub equate_grows: bool,
@@ -76,7 +75,7 @@ fn is_operation_word(name: &[u8]) -> bool
     is_among(name, &OPERATIONS)
 }
 
-impl<'a> Reading<'a> {
+impl Reading {
     ghost use Rattle.redcode_text.specs.Code.Readings.{reading_of};
     ghost use Rattle.redcode_text.specs.Code.SourceLoops.{loops_of};
     ghost use Rattle.redcode_text.specs.Expansion.{nothing_read};
@@ -86,18 +85,16 @@ impl<'a> Reading<'a> {
     ghost use Rattle.redcode_text.specs.Views.{predefined_of};
 
     /// Nothing, before a source is read.
-    pub fn new(alloc: Global, source: &'a [u8]) -> Result<Reading<'a>, AllocError>
+    pub fn new(alloc: Global) -> Result<Reading, AllocError>
         ensures value { IfOk result (λ reading. reading_of reading ≡ nothing_read) }
         ensures loops { IfOk result (λ reading. loops_of reading.names ≡ []) }
         ensures going { IfOk result (λ reading. reading.ended ≡ false) }
-        ensures source { IfOk result (λ reading. reading.names.source.now ≡ source.now) }
     {
-        let seed = Seed::new(source);
         let name = String::from_str(alloc, "Unknown")?;
         let author = String::from_str(alloc, "Anonymous")?;
         Ok(Reading {
-            names: SourceNames::new(alloc, source, seed),
-            equates: Equates::new(alloc, seed),
+            names: SourceNames::new(alloc),
+            equates: Equates::new(alloc),
             equate_grows: false,
             lines: Vec::new(alloc),
             labels: NameSet::new(alloc),
@@ -116,7 +113,6 @@ impl<'a> Reading<'a> {
         ensures value { Gives (λ _. reading_of self.new) result (line_read (reading_of self.old)) }
         ensures equates { self.new.equates ≡ self.old.equates }
         ensures room { OnOk result (vec_len self.new.lines < self.new.lines_read) }
-        ensures source { self.new.names.source.now ≡ self.old.names.source.now }
     {
         if self.lines_read >= MAX_LINES {
             return Err(TextProblem::TooLong);
@@ -131,7 +127,6 @@ impl<'a> Reading<'a> {
         ensures equates { self.new.equates ≡ self.old.equates }
         ensures lines { vec_len self.new.lines ≡ vec_len self.old.lines }
         ensures lines_read { self.new.lines_read ≡ self.old.lines_read }
-        ensures source { self.new.names.source.now ≡ self.old.names.source.now }
     {
         if tokens.len() > MAX_TOKENS - self.tokens_read {
             return Err(TextProblem::TooLong);
@@ -149,18 +144,15 @@ impl<'a> Reading<'a> {
     ) -> Result<Vec<Token>, TextProblem>
         requires within { at ≤ length row.bytes.now }
         requires fits { row.at + length row.bytes.now < 2 ^ 64 }
-        requires part { IsPart self.old.names.source.now row.at row.bytes.now }
         ensures value { Gives (λ tokens. (tokens.items, reading_of self.new)) result
             (row_tokens (row_of row.entry) at (reading_of self.old)) }
         ensures lines { vec_len self.new.lines ≡ vec_len self.old.lines }
         ensures lines_read { self.new.lines_read ≡ self.old.lines_read }
-        ensures source { self.new.names.source.now ≡ self.old.names.source.now }
     {
         let code = Text {
             number: row.number,
             at: row.at + at,
             bytes: &row.bytes[at..at + row.code_len(at)],
-            runs: row.runs,
         };
         let mut tokens = Vec::new(alloc);
         let room = MAX_TOKENS - self.tokens_read;
@@ -192,14 +184,14 @@ impl<'a> Reading<'a> {
     pub fn is_predefined(&self, names: &PredefinedNames, name: usize) -> bool
         ensures { result ≡ is_predefined (predefined_of names.now) (reading_of self.now) name }
     {
-        names.value_at(0, self.names.table.word(name)).is_some()
+        names.value_at(0, self.names.table.name(name)).is_some()
     }
 
     /// Whether a name is an operation.
     pub fn is_operation(&self, name: usize) -> bool
         ensures { result ≡ is_operation (reading_of self.now) name }
     {
-        self.is_equate(name) || is_operation_word(self.names.table.word(name))
+        self.is_equate(name) || is_operation_word(self.names.table.name(name))
     }
 }
 

@@ -2,7 +2,6 @@
 ghost use Rattle.std.specs.Prelude.{◌≡◌, ◌≤◌, ◌==◌, length, map, not, IfOk, ℕ, ◌+◌, ◌<◌, slice_index, vec_len};
 ghost use Rattle.std.specs.List.{prefix_len};
 ghost use Rattle.redcode_text.specs.Bytes.{line_feed};
-ghost use Rattle.redcode_text.specs.Code.Runs.{AreRuns};
 ghost use Rattle.redcode_text.specs.Code.Rows.{row_of};
 ghost use Rattle.redcode_text.specs.Source.{read_rows, rows_of};
 ghost use Rattle.redcode_text.specs.Code.Pairs.{AreEnds, EndsAt};
@@ -10,7 +9,6 @@ ghost use Rattle.redcode_text.specs.Code.Pairs.{AreEnds, EndsAt};
 pub mod directives;
 pub mod row;
 
-use crate::shortcuts::{LongRun, runs_before};
 use crate::source::directives::has_directive;
 use crate::source::row::{LineKind, Row};
 use std::alloc::{AllocError, Global};
@@ -23,29 +21,21 @@ fn line_len(bytes: &[u8]) -> usize
     bytes.iter().take_while(|byte| **byte != b'\n').count()
 }
 
-/// The lines of a source, whose long runs these are.
-pub fn rows_of<'a>(
-    alloc: Global,
-    source: &'a [u8],
-    runs: &'a [LongRun],
-) -> Result<Vec<Row<'a>>, AllocError>
-    requires { AreRuns 0 runs.now source.now }
+/// The lines of a source.
+pub fn rows_of<'a>(alloc: Global, source: &'a [u8]) -> Result<Vec<Row<'a>>, AllocError>
     ensures { IfOk result (λ rows. map row_of rows.items ≡ rows_of source.now) }
 {
     let mut rows = Vec::new(alloc);
     let mut number = 1;
     let mut at = 0;
-    let mut first = 0;
     while at < source.len() {
         let end = at + line_len(&source[at..]);
-        let count = runs_before(&runs[first..], end);
-        let row = Row::new(number, at, &source[at..end], &runs[first..first + count]);
+        let row = Row::new(number, at, &source[at..end]);
         let Ok(()) = rows.push(row) else {
             return Err(AllocError);
         };
         number += 1;
         at = end + 1;
-        first += count;
     }
     Ok(rows)
 }

@@ -1,6 +1,5 @@
 //! The tokens of a line, and the signs that bytes spell.
-ghost use Rattle.std.specs.Prelude.{◌≡◌, true, [], ◌∷◌};
-ghost use Rattle.redcode_text.specs.Expression.{kinds};
+ghost use Rattle.std.specs.Prelude.{◌≡◌, [], ◌∷◌};
 ghost use Rattle.redcode_text.specs.Tokens.{look_up, one_byte_signs, two_byte_signs};
 
 /// A sign of one or two bytes.
@@ -84,32 +83,6 @@ pub struct Token {
 pub struct Spelled {
     pub kind: TokenKind,
     pub len: usize,
-}
-
-fn is_same_kind(kind: TokenKind, other: TokenKind) -> bool
-    ensures { result ≡ true → kind ≡ other }
-{
-    match (kind, other) {
-        (TokenKind::Number(value), TokenKind::Number(other)) => value == other,
-        (TokenKind::Name(name), TokenKind::Name(other)) => name == other,
-        (TokenKind::Sign(sign), TokenKind::Sign(other)) => sign == other,
-        _ => false,
-    }
-}
-
-/// Whether tokens are of the same kinds, wherever they stand.
-pub fn are_alike(tokens: &[Token], others: &[Token]) -> bool
-    ensures { result ≡ true → kinds tokens.now ≡ kinds others.now }
-{
-    if tokens.len() != others.len() {
-        return false;
-    }
-    for at in 0..tokens.len() {
-        if !is_same_kind(tokens[at].kind, others[at].kind) {
-            return false;
-        }
-    }
-    true
 }
 
 /// The sign that two bytes spell.

@@ -66,6 +66,14 @@ fn push_word(text: &mut String, word: &str) -> Result<(), Fail> {
     Ok(())
 }
 
+/// A name, by its index, with a blank behind.
+fn push_named(text: &mut String, names: &NameTable, name: usize) -> Result<(), Fail> {
+    match str::from_utf8(names.name(name)) {
+        Ok(word) => push_word(text, word),
+        Err(_) => Err("name".into()),
+    }
+}
+
 /// Tokens, with blanks behind each.
 fn push_tokens(
     alloc: Global,
@@ -76,7 +84,7 @@ fn push_tokens(
     for token in tokens {
         match token.kind {
             TokenKind::Number(number) => push_word(text, &format!(in alloc; "{number}")?)?,
-            TokenKind::Name(name) => push_word(text, &names.name(alloc, name)?)?,
+            TokenKind::Name(name) => push_named(text, names, name)?,
             TokenKind::Sign(Sign::Comma) => push_word(text, ",")?,
             TokenKind::Sign(Sign::Plus) => push_word(text, "+")?,
             TokenKind::Sign(Sign::Dot) => push_word(text, ".")?,
@@ -92,11 +100,11 @@ fn shown(alloc: Global, names: &NameTable, line: &Line) -> Result<String, Fail> 
     let number = line.number;
     let mut text = format!(in alloc; "{number} ")?;
     for label in &line.labels {
-        push_word(&mut text, &names.name(alloc, *label)?)?;
+        push_named(&mut text, names, *label)?;
         push_word(&mut text, ":")?;
     }
     if let Some(operation) = line.operation {
-        push_word(&mut text, &names.name(alloc, operation)?)?;
+        push_named(&mut text, names, operation)?;
     }
     push_word(&mut text, "|")?;
     push_tokens(alloc, &mut text, names, &line.rest)?;
@@ -600,13 +608,8 @@ JMP ",
 }
 
 /// Puts a name of a program behind a text, and a blank.
-fn push_name(
-    alloc: Global,
-    names: &NameTable,
-    name: usize,
-    text: &mut Vec<u8>,
-) -> Result<(), Fail> {
-    text.extend_from_slice(names.name(alloc, name)?.as_bytes())?;
+fn push_name(names: &NameTable, name: usize, text: &mut Vec<u8>) -> Result<(), Fail> {
+    text.extend_from_slice(names.name(name))?;
     text.push(b' ')?;
     Ok(())
 }
@@ -616,11 +619,11 @@ fn names_of_lines(alloc: Global, names: &NameTable, lines: &[Line]) -> Result<Ve
     let mut text = Vec::new(alloc);
     for line in lines {
         for label in &line.labels {
-            push_name(alloc, names, *label, &mut text)?;
+            push_name(names, *label, &mut text)?;
         }
         for token in &line.rest {
             if let TokenKind::Name(name) = token.kind {
-                push_name(alloc, names, name, &mut text)?;
+                push_name(names, name, &mut text)?;
             }
         }
     }

@@ -101,7 +101,7 @@ const NO_COUNTER: &[u8] = b"j FOR 12\nFOR 3\ni FOR 1\nDAT &i&x\nROF\nROF\nROF\n"
 /// A token is this name.
 fn check_name(rt: &impl Abort, names: &NameTable, token: &Token, name: &[u8]) {
     let found = match token.kind {
-        TokenKind::Name(index) => names.word(index),
+        TokenKind::Name(index) => names.name(index),
         _ => b"".as_slice(),
     };
     assert_eq!(rt; found, name);
@@ -135,8 +135,8 @@ fn joins_and_counters(rt: HostRuntime) -> Result<(), Fail> {
 }
 
 fn check_read(rt: &impl Abort, read: &LineTokens) {
-    assert_eq!(rt; read.names.word(0), b"ab".as_slice());
-    assert_eq!(rt; read.names.word(1), b"".as_slice());
+    assert_eq!(rt; read.names.name(0), b"ab".as_slice());
+    assert_eq!(rt; read.names.name(1), b"".as_slice());
     let last = Token {
         kind: TokenKind::Number(12),
         line: 1,

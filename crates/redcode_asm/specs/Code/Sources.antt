@@ -1,17 +1,13 @@
 -- Lines, operands and cells as the code holds them.
-use Rattle.std.specs.Prelude.{◌++◌, ℕ, ℤ, List, Option, Result, Ok, filter, option_map}
+use Rattle.std.specs.Prelude.{◌++◌, ℕ, List, Result, Ok, filter, option_map}
 use Rattle.mars_cell.specs.declared.instruction.Cell.{Cell}
-use Rattle.mars_cell.specs.declared.instruction.Modifier.{Modifier}
-use Rattle.mars_cell.specs.declared.instruction.Op.{Op}
 use Rattle.mars_cell.specs.Warriors.{WarriorValue}
 use Rattle.redcode_text.specs.Results.{◌>>=◌}
-use Rattle.redcode_text.specs.declared.token.Token.{Token}
 use Rattle.redcode_text.specs.Expansion.{ProgramValue}
 use Rattle.redcode_text.specs.Lines.{Line, Predefined, is_instruction}
 use Rattle.redcode_text.specs.Views.{line_of}
-use Rattle.redcode_asm.specs.Assembly.{Operands, Placed, cell_from, cells_of, placed_from, replaced, value_in}
+use Rattle.redcode_asm.specs.Assembly.{Operands, Placed, cells_of, placed_from}
 use Rattle.redcode_asm.specs.declared.fault.AsmFault.{AsmFault}
-use Rattle.redcode_asm.specs.declared.fault.AsmProblem.{AsmProblem}
 use Rattle.redcode_asm.specs.declared.operands.Operands.{Operands as OperandSlices}
 use Rattle.redcode_asm.specs.declared.places.Place.{Place}
 
@@ -21,14 +17,6 @@ operands_in slices = record { a = option_map (λ tokens. tokens.now) slices.a; b
 -- a line as the code holds it
 abbrev pub placed_of : Place → Placed
 placed_of place = record { index = place.index; line = line_of place.line.now }
-
--- the cell of an opcode, perhaps a modifier, and operands whose EQU names are to be replaced
-abbrev pub cell_written : ProgramValue → ℕ → (ℕ → Option ℤ) → Op → Option Modifier → List Token → Result Cell AsmProblem
-cell_written source m names o given rest = replaced source rest >>= cell_from m names o given
-
--- the value of an expression whose EQU names are to be replaced
-abbrev pub value_written : ProgramValue → (ℕ → Option ℤ) → List Token → Result ℤ AsmProblem
-value_written source names tokens = replaced source tokens >>= value_in names
 
 -- cells, and those of a result behind them
 abbrev pub behind_cells : List Cell → Result (List Cell) AsmFault → Result (List Cell) AsmFault

@@ -1,6 +1,6 @@
 -- The open loops that stand beside the names of a source.
 use Rattle.std.specs.Prelude.{List}
-use Rattle.redcode_text.specs.declared.shortcuts.placed_names.SourceNames as code
+use Rattle.redcode_text.specs.declared.lexer.source_names.SourceNames as code
 use Rattle.redcode_text.specs.Code.Counters.{open_loops}
 use Rattle.redcode_text.specs.Tokens.{OpenLoop}
 

@@ -1,7 +1,4 @@
 //! The part of a line that is read as tokens.
-ghost use Rattle.redcode_text.specs.Code.Runs.{AreRuns};
-
-use crate::shortcuts::LongRun;
 
 /// The part of a line that is read as tokens.
 #[derive(Clone, Copy)]
@@ -11,7 +8,4 @@ pub struct Text<'a> {
     /// The index of its first byte in the source.
     pub at: usize,
     pub bytes: &'a [u8],
-    /// Long runs, by their places in the source, in order.
-    pub runs: &'a [LongRun],
-    ghost are_runs: { AreRuns at runs.now bytes.now },
 }

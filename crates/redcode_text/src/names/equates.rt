@@ -1,134 +1,50 @@
 //! EQU names, and tokens with EQU names replaced.
-ghost use Rattle.std.specs.Prelude.{◌≡◌, ◌+◌, ◌<◌, ◌≤◌, ◌^◌, ◌++◌, [], ◌∷◌, List, length, map, None, Ok, Err, MatchResult, option_map, vec_len, IfOk, OnOk, OnErr};
+ghost use Rattle.std.specs.Prelude.{◌≡◌, ◌≤◌, [], ◌∷◌, ◌++◌, map, None, Ok, Err, IfOk, MatchResult, option_map, vec_len};
 ghost use Rattle.redcode_text.specs.declared.limits.TheConstants.{MAX_REPLACED};
-ghost use Rattle.redcode_text.specs.Equates.{Equate, Replaced, equate_lines, token_lines, one_line, one_more, kept, replaced_name, replaced_token, each_replaced, replacing, depth_limit, each_replaced_at_line, substitution};
+ghost use Rattle.redcode_text.specs.Equates.{Replaced, equate_lines, token_lines, one_line, one_more, kept, replaced_name, replaced_token, each_replaced, replacing, depth_limit, each_replaced_at_line, substitution};
 ghost use Rattle.redcode_text.specs.Lines.{with_line};
 ghost use Rattle.redcode_text.specs.Outcomes.{Answers};
-ghost use Rattle.redcode_text.specs.Code.Places.{AreNoted, equate_place};
 ghost use Rattle.redcode_text.specs.Code.Problems.{Gives};
-ghost use Rattle.redcode_text.specs.Shortening.{has_equate};
 ghost use Rattle.redcode_text.specs.Tokens.{at_line};
-ghost use Rattle.redcode_text.specs.Views.{equate_of};
 
 use crate::fault::{TextFault, TextProblem};
 use crate::limits::{MAX_NESTING, MAX_REPLACED, MAX_REPLACEMENTS};
-use crate::names::equate_lines::EquateLines;
-use crate::shortcuts::{KnownValues, Seed};
 use crate::token::{Token, TokenKind};
-use std::alloc::{AllocError, Global};
+use indexmap::IndexMap;
+use std::alloc::Global;
 use std::marker::Model;
 
 /// The EQU names, in the order of their definitions, each with its lines.
 #[derive(Drop)]
 pub struct Equates {
-    pub(crate) lines: Vec<EquateLines>,
-    /// Where each name stands among them, by its index: from 1, with 0 for one that is no EQU name. Names past the end are none, too.
-    places: Vec<usize>,
-    /// Values that were worked out, and are the same with the lines that came since.
-    pub known: KnownValues,
+    lines: IndexMap<usize, Vec<Vec<Token>>>,
 }
 
 impl Model for Equates {
     ghost use Rattle.std.specs.Prelude.{List, map};
-    ghost use Rattle.redcode_text.specs.Code.Places.{AreNoted};
-    ghost use Rattle.redcode_text.specs.Code.Values.{AreKept};
     ghost use Rattle.redcode_text.specs.Equates.{Equate};
-    ghost use Rattle.redcode_text.specs.Views.{equate_of};
 
     ghost Value = { List Equate };
 
-    ghost view = { λ s. map equate_of s.lines.items };
-
-    ghost invariant = { λ s. AreKept (map equate_of s.lines.items) s.known.last s.known.values.items
-        × AreNoted (map equate_of s.lines.items) s.places.items };
-}
-
-/// Notes that a name becomes an EQU name, behind so many others.
-fn note_place(places: &mut Vec<usize>, name: usize, place: usize) -> Result<(), AllocError>
-    requires { place + 1 < 2 ^ 64 }
-    ensures ok { OnOk result ((es : List Equate) (e : Equate) → length es ≡ place → e.name ≡ name → equate_lines es name ≡ None
-        → AreNoted es places.old.items → AreNoted (es ++ e ∷ []) places.new.items) }
-    ensures err { OnErr result ((es : List Equate) → AreNoted es places.old.items → AreNoted es places.new.items) }
-{
-    if places.len() <= name {
-        places.resize(name.saturating_add(1), 0)?;
-    }
-    let Some(noted) = places.get_mut(name) else {
-        return Err(AllocError);
-    };
-    *noted = place + 1;
-    Ok(())
-}
-
-/// Puts an EQU name behind the others.
-fn add_entry(
-    entries: &mut Vec<EquateLines>,
-    places: &mut Vec<usize>,
-    entry: EquateLines,
-) -> Result<(), AllocError>
-    requires placed { AreNoted (map equate_of entries.old.items) places.old.items }
-    requires new { equate_lines (map equate_of entries.old.items) entry.name ≡ None }
-    ensures placed { AreNoted (map equate_of entries.new.items) places.new.items }
-    ensures ok { OnOk result (entries.new.items ≡ entries.old.items ++ entry ∷ []) }
-    ensures err { OnErr result (entries.new.items ≡ entries.old.items) }
-{
-    entries.reserve(1)?;
-    note_place(places, entry.name, entries.len())?;
-    entries.push_reserved(entry);
-    Ok(())
-}
-
-/// Puts a line behind those of the last EQU name.
-fn add_to_last(entries: &mut Vec<EquateLines>, line: Vec<Token>) -> Result<(), AllocError>
-    ensures ok { OnOk result (map equate_of entries.new.items ≡ with_line (map equate_of entries.old.items) line.items) }
-    ensures err { OnErr result (map equate_of entries.new.items ≡ map equate_of entries.old.items) }
-{
-    let Some(last) = entries.last_mut() else {
-        return Ok(());
-    };
-    let Ok(()) = last.lines.push(line) else {
-        return Err(AllocError);
-    };
-    Ok(())
+    ghost view = { λ s. map (λ e. record { name = e.0; lines = map (λ line. line.items) e.1.items }) s.lines.entries };
 }
 
 impl Equates {
     /// No EQU name.
-    pub fn new(alloc: Global, seed: Seed) -> Self
+    pub fn new(alloc: Global) -> Self
         ensures { result ≡ [] }
     {
         Equates {
-            lines: Vec::new(alloc),
-            places: Vec::new(alloc),
-            known: KnownValues::new(alloc, seed),
+            lines: IndexMap::new(alloc),
         }
-    }
-
-    /// Where a name stands among the EQU names.
-    fn place_of(&self, name: usize) -> Option<usize>
-        ensures { result ≡ equate_place self.now name }
-    {
-        let place = *self.places.get(name)?;
-        place.checked_sub(1)
     }
 
     /// The lines of an EQU name, by its index among the names.
     pub fn lines_of(&self, name: usize) -> Option<&[Vec<Token>]>
         ensures { option_map (λ lines. map (λ line. line.items) lines.now) result ≡ equate_lines self.now name }
     {
-        let place = self.place_of(name)?;
-        let entry = self.lines.get(place)?;
-        Some(&entry.lines)
-    }
-
-    /// Whether an EQU name is among tokens.
-    pub fn has_name(&self, tokens: &[Token]) -> bool
-        ensures { result ≡ has_equate self.now tokens.now }
-    {
-        tokens.iter().any(|token| match token.kind {
-            TokenKind::Name(name) => self.lines_of(name).is_some(),
-            _ => false,
-        })
+        let lines = self.lines.get(&name)?;
+        Some(lines)
     }
 }
 
@@ -175,7 +91,7 @@ impl Replaced {
 }
 
 /// The one line of an EQU name.
-pub(crate) fn only_line(lines: &[Vec<Token>]) -> Result<&[Token], TextProblem>
+fn only_line(lines: &[Vec<Token>]) -> Result<&[Token], TextProblem>
     ensures { let defined = one_line (map (λ line. line.items) lines.now) in MatchResult result (λ line. defined ≡ Ok line.now)
         (λ problem. defined ≡ Err problem) }
 {
@@ -287,14 +203,12 @@ impl Equates {
         requires { equate_lines self.old name ≡ None }
         ensures { Gives (λ _. self.new) result (Ok (self.old ++ record { name = name; lines = line.items ∷ [] } ∷ [])) }
     {
-        self.known.make_way(name, &line);
         let mut lines = Vec::new(alloc);
         let Ok(()) = lines.push(line) else {
             return Err(TextProblem::OutOfMemory);
         };
-        let entry = EquateLines { name, lines };
-        match add_entry(&mut self.lines, &mut self.places, entry) {
-            Ok(()) => Ok(()),
+        match self.lines.insert(name, lines) {
+            Ok(_) => Ok(()),
             Err(_) => Err(TextProblem::OutOfMemory),
         }
     }
@@ -303,9 +217,14 @@ impl Equates {
     pub fn add_line(&mut self, line: Vec<Token>) -> Result<(), TextProblem>
         ensures { Gives (λ _. self.new) result (Ok (with_line self.old line.items)) }
     {
-        self.known.clear();
-        match add_to_last(&mut self.lines, line) {
-            Ok(()) => Ok(()),
+        let Some((name, mut lines)) = self.lines.pop() else {
+            return Ok(());
+        };
+        let Ok(()) = lines.push(line) else {
+            return Err(TextProblem::OutOfMemory);
+        };
+        match self.lines.insert(name, lines) {
+            Ok(_) => Ok(()),
             Err(_) => Err(TextProblem::OutOfMemory),
         }
     }

@@ -1,6 +1,5 @@
 //! Comment lines, among them directives.
 ghost use Rattle.std.specs.Prelude.{◌≡◌, ◌≤◌, ◌<◌, ◌+◌, ◌^◌, length, Ok};
-ghost use Rattle.redcode_text.specs.Code.Placed.{IsPart};
 ghost use Rattle.redcode_text.specs.Code.Comments.{assert_at, with_author_text, with_name_text};
 ghost use Rattle.redcode_text.specs.Code.Readings.{reading_of};
 ghost use Rattle.redcode_text.specs.Lines.{comment_line};
@@ -14,13 +13,11 @@ use crate::source::directives::{Comment, directive_value};
 use crate::source::row::Row;
 use std::alloc::Global;
 
-impl Reading<'_> {
+impl Reading {
     /// Reads a comment line: `;name`, `;author`, `;assert`, or nothing.
     pub fn read_comment(&mut self, alloc: Global, row: Row<'_>) -> Result<(), TextProblem>
         requires fits { row.at + length row.bytes.now < 2 ^ 64 }
-        requires part { IsPart self.old.names.source.now row.at row.bytes.now }
         ensures value { Gives (λ _. reading_of self.new) result (comment_line (row_of row.entry) (reading_of self.old)) }
-        ensures source { self.new.names.source.now ≡ self.old.names.source.now }
     {
         match row.comment() {
             Comment::Name(text) => self.take_name(alloc, text),
@@ -33,7 +30,6 @@ impl Reading<'_> {
     /// Takes the text of `;name`, without the blanks at both ends.
     fn take_name(&mut self, alloc: Global, text: &[u8]) -> Result<(), TextProblem>
         ensures value { Gives (λ _. reading_of self.new) result (Ok (with_name_text text.now (reading_of self.old))) }
-        ensures source { self.new.names.source.now ≡ self.old.names.source.now }
     {
         let name = directive_value(alloc, text)?;
         if !name.is_empty() {
@@ -45,7 +41,6 @@ impl Reading<'_> {
     /// Takes the text of `;author`, without the blanks at both ends.
     fn take_author(&mut self, alloc: Global, text: &[u8]) -> Result<(), TextProblem>
         ensures value { Gives (λ _. reading_of self.new) result (Ok (with_author_text text.now (reading_of self.old))) }
-        ensures source { self.new.names.source.now ≡ self.old.names.source.now }
     {
         let author = directive_value(alloc, text)?;
         if !author.is_empty() {
@@ -58,9 +53,7 @@ impl Reading<'_> {
     fn read_assert(&mut self, alloc: Global, row: Row<'_>, at: usize) -> Result<(), TextProblem>
         requires within { at ≤ length row.bytes.now }
         requires fits { row.at + length row.bytes.now < 2 ^ 64 }
-        requires part { IsPart self.old.names.source.now row.at row.bytes.now }
         ensures value { Gives (λ _. reading_of self.new) result (assert_at (row_of row.entry) at (reading_of self.old)) }
-        ensures source { self.new.names.source.now ≡ self.old.names.source.now }
     {
         let tokens = match self.row_tokens(alloc, row, at) {
             Ok(tokens) => tokens,

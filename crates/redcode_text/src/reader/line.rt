@@ -3,7 +3,6 @@ ghost use Rattle.std.specs.Prelude.{◌≡◌, ◌≤◌, ◌<◌, ◌+◌, ◌^
 ghost use Rattle.redcode_text.specs.Views.{predefined_of};
 ghost use Rattle.redcode_text.specs.Code.Readings.{reading_of};
 ghost use Rattle.redcode_text.specs.Lines.{plain_line, tokens_line, equ_line};
-ghost use Rattle.redcode_text.specs.Code.Placed.{IsPart};
 ghost use Rattle.redcode_text.specs.Code.Problems.{Gives};
 ghost use Rattle.redcode_text.specs.Code.Kinds.{kind_of, word_place};
 ghost use Rattle.redcode_text.specs.Code.Rows.{row_of};
@@ -16,7 +15,7 @@ use crate::source::row::{LineKind, Row};
 use crate::token::Token;
 use std::alloc::Global;
 
-impl Reading<'_> {
+impl Reading {
     /// Reads the tokens of an EQU line, whose word EQU begins at this byte of the source.
     pub fn read_equ(
         &mut self,
@@ -26,7 +25,6 @@ impl Reading<'_> {
         mut tokens: Vec<Token>,
     ) -> Result<(), TextProblem>
         ensures value { Gives (λ _. reading_of self.new) result (equ_line (predefined_of names.now) at tokens.items (reading_of self.old)) }
-        ensures source { self.new.names.source.now ≡ self.old.names.source.now }
     {
         let name = name_in_front(&tokens, at)?;
         keep_after(&mut tokens, at);
@@ -58,7 +56,6 @@ impl Reading<'_> {
         requires inside { word_place kind ≤ length row.bytes.now }
         ensures value { Gives (λ _. reading_of self.new) result
             (tokens_line (predefined_of names.now) (kind_of kind) (row_of row.entry) tokens.items (reading_of self.old)) }
-        ensures source { self.new.names.source.now ≡ self.old.names.source.now }
     {
         if tokens.is_empty() {
             return Ok(());
@@ -77,10 +74,8 @@ impl Reading<'_> {
         row: Row<'_>,
     ) -> Result<(), TextProblem>
         requires fits { row.at + length row.bytes.now < 2 ^ 64 }
-        requires part { IsPart self.old.names.source.now row.at row.bytes.now }
         ensures value { Gives (λ _. reading_of self.new) result
             (plain_line (predefined_of names.now) (row_of row.entry) (reading_of self.old)) }
-        ensures source { self.new.names.source.now ≡ self.old.names.source.now }
     {
         self.count_line()?;
         if row.is_comment() {

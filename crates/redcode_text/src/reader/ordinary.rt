@@ -40,7 +40,7 @@ fn colons(tokens: &[Token]) -> usize
     }
 }
 
-impl Reading<'_> {
+impl Reading {
     /// Whether a name may be a label of a line that has these labels so far.
     fn may_label(&self, names: &PredefinedNames, labels: &NameSet, name: usize) -> bool
         ensures { result ≡ may_label (predefined_of names.now) (reading_of self.now) labels.now name }
@@ -127,7 +127,7 @@ fn add_labelled(lines: &mut Vec<Line>, labels: &mut NameSet, line: Line) -> Resu
     Ok(())
 }
 
-impl Reading<'_> {
+impl Reading {
     /// A line whose operation is no EQU name.
     fn add_line(&mut self, line: Line) -> Result<(), TextProblem>
         requires { vec_len self.old.lines < self.old.lines_read }
@@ -136,7 +136,6 @@ impl Reading<'_> {
             (Ok (line_added line.number
             (record { labels = line.labels.items; label_tokens = []; operation = line.operation; rest = line.rest.items })
             (reading_of self.old))) }
-        ensures source { self.new.names.source.now ≡ self.old.names.source.now }
     {
         let counts = is_instruction(&self.names.table, line.operation, &line.rest);
         let ends = is_end(&self.names.table, line.operation);
@@ -176,7 +175,7 @@ fn on_line(alloc: Global, number: usize, tokens: &[Token]) -> Result<Vec<Token>,
     Ok(made)
 }
 
-impl Reading<'_> {
+impl Reading {
     /// The lines of an operation that is an EQU name.
     fn operation_lines(&self, operation: Option<usize>) -> Option<&[Vec<Token>]>
         ensures { option_map (λ lines. map (λ line. line.items) lines.now) result ≡ operation_lines (reading_of self.now) operation }
@@ -209,7 +208,6 @@ impl Reading<'_> {
         ensures equates { self.new.equates ≡ self.old.equates }
         ensures value { Gives (λ _. reading_of self.new) result
             (Ok (line_added number (record { labels = parts.labels.items; label_tokens = []; operation = parts.operation; rest = on_line number rest.now }) (reading_of self.old))) }
-        ensures source { self.new.names.source.now ≡ self.old.names.source.now }
     {
         let rest = on_line(alloc, number, rest)?;
         let Parts {
@@ -240,7 +238,6 @@ impl Reading<'_> {
         ensures value { Gives (λ _. reading_of self.new) result
             (ordinary_line (predefined_of names.now) number depth tokens.now (reading_of self.old)) }
         ensures equates { self.new.equates ≡ self.old.equates }
-        ensures source { self.new.names.source.now ≡ self.old.names.source.now }
     {
         let parts = match self.parts_of(alloc, names, tokens) {
             Ok(parts) => parts,
@@ -274,7 +271,6 @@ impl Reading<'_> {
         ensures value { Gives (λ _. reading_of self.new) result
             (read_one (ordinary_line (predefined_of names.now) number depth) line.now (reading_of self.old)) }
         ensures equates { self.new.equates ≡ self.old.equates }
-        ensures source { self.new.names.source.now ≡ self.old.names.source.now }
     {
         self.count_line()?;
         self.count_tokens(line)?;
@@ -294,7 +290,6 @@ impl Reading<'_> {
         ensures value { Gives (λ _. reading_of self.new) result
             (each_line (ordinary_line (predefined_of names.now) number depth) (used operation.entry.before.now (lines_under (reading_of self.old) operation.entry.name) operation.entry.behind.now) (reading_of self.old)) }
         ensures equates { self.new.equates ≡ self.old.equates }
-        ensures source { self.new.names.source.now ≡ self.old.names.source.now }
     {
         let Operation {
             name,

@@ -10,7 +10,6 @@ ghost use Rattle.redcode_text.specs.Code.SourceLoops.{loops_of};
 ghost use Rattle.redcode_text.specs.Lines.{name_at};
 ghost use Rattle.redcode_text.specs.Code.Loops.{IsFor, IsPlain, ReadTo, RowsFit};
 ghost use Rattle.redcode_text.specs.Outcomes.{Answers};
-ghost use Rattle.redcode_text.specs.Code.Placed.{AreParts, IsPart};
 ghost use Rattle.redcode_text.specs.Code.Problems.{Gives};
 ghost use Rattle.redcode_text.specs.Code.Rows.{row_of};
 ghost use Rattle.redcode_text.specs.Code.Pairs.{AreEnds, here_from};
@@ -27,13 +26,11 @@ use crate::source::row::{LineKind, Row};
 use crate::source::{end_from, ends_of};
 use std::alloc::Global;
 
-impl Reading<'_> {
+impl Reading {
     /// Reads the line of a ROF, whose tokens mean nothing.
     pub fn read_rof(&mut self, alloc: Global, row: Row<'_>) -> Result<(), TextProblem>
         requires fits { row.at + length row.bytes.now < 2 ^ 64 }
-        requires part { IsPart self.old.names.source.now row.at row.bytes.now }
         ensures value { Gives (λ _. reading_of self.new) result (rof_line (row_of row.entry) (reading_of self.old)) }
-        ensures source { self.new.names.source.now ≡ self.old.names.source.now }
     {
         self.count_line()?;
         match self.row_tokens(alloc, row, 0) {
@@ -52,15 +49,13 @@ fn read_row(
     names: &PredefinedNames,
     rows: &[Row<'_>],
     at: usize,
-    reading: &mut Reading<'_>,
+    reading: &mut Reading,
 ) -> Result<usize, TextFault>
     requires fits { RowsFit rows.now }
     requires within { at < length rows.now }
     requires plain { IsPlain rows.now at }
-    requires parts { AreParts reading.old.names.source.now rows.now }
     ensures gives { ReadTo (predefined_of names.now) rows.now at (reading_of reading.old) (reading_of reading.new) result }
     ensures loops { OnOk result (loops_of reading.new.names ≡ loops_of reading.old.names) }
-    ensures source { reading.new.names.source.now ≡ reading.old.names.source.now }
 {
     let row = rows[at];
     match reading.read_plain(alloc, names, row) {
@@ -75,18 +70,16 @@ fn read_for_row(
     names: &PredefinedNames,
     row: Row<'_>,
     word_at: usize,
-    reading: &mut Reading<'_>,
+    reading: &mut Reading,
 ) -> Result<Head, TextFault>
     requires fits { row.at + length row.bytes.now < 2 ^ 64 }
     requires inside { word_at ≤ length row.bytes.now }
     requires word { ForLine word_at ≡ line_kind row.bytes.now }
-    requires part { IsPart reading.old.names.source.now row.at row.bytes.now }
     ensures loops { OnOk result (loops_of reading.new.names ≡ loops_of reading.old.names) }
     ensures depth { OnOk result (length (loops_of reading.old.names) < MAX_LOOPS) }
     ensures there { IfOk result (λ head. IsThere reading.new.names.table head.counter) }
     ensures gives { Answers (head_of (reading_of reading.new)) result
         (at_line row.entry.number (head_line (predefined_of names.now) (row_of row.entry) (reading_of reading.old))) }
-    ensures source { reading.new.names.source.now ≡ reading.old.names.source.now }
 {
     match reading.read_head(alloc, names, row, word_at) {
         Ok(head) => Ok(head),
@@ -95,13 +88,11 @@ fn read_for_row(
 }
 
 /// Reads the row of a ROF.
-fn read_rof_row(alloc: Global, row: Row<'_>, reading: &mut Reading<'_>) -> Result<(), TextFault>
+fn read_rof_row(alloc: Global, row: Row<'_>, reading: &mut Reading) -> Result<(), TextFault>
     requires fits { row.at + length row.bytes.now < 2 ^ 64 }
-    requires part { IsPart reading.old.names.source.now row.at row.bytes.now }
     ensures loops { OnOk result (loops_of reading.new.names ≡ loops_of reading.old.names) }
     ensures gives { Answers (λ _. reading_of reading.new) result
         (at_line row.entry.number (rof_line (row_of row.entry) (reading_of reading.old))) }
-    ensures source { reading.new.names.source.now ≡ reading.old.names.source.now }
 {
     match reading.read_rof(alloc, row) {
         Ok(()) => Ok(()),
@@ -113,11 +104,10 @@ fn read_rof_row(alloc: Global, row: Row<'_>, reading: &mut Reading<'_>) -> Resul
 fn refuse_unpaired(
     row: Row<'_>,
     problem: TextProblem,
-    reading: &mut Reading<'_>,
+    reading: &mut Reading,
 ) -> Result<(), TextFault>
     ensures gives { Answers (λ _. reading_of reading.new) result
         (at_line row.entry.number (unpaired_line problem (reading_of reading.old))) }
-    ensures source { reading.new.names.source.now ≡ reading.old.names.source.now }
 {
     match reading.count_line() {
         Ok(()) => Err(problem.at_line(row.number)),
@@ -142,16 +132,14 @@ fn read_items(
     names: &PredefinedNames,
     source: PairedRows<'_>,
     first: usize,
-    reading: &mut Reading<'_>,
+    reading: &mut Reading,
 ) -> Result<(), TextFault>
     requires ends { AreEnds source.rows.now source.ends.now }
     requires within { first ≤ length source.rows.now }
     requires depth { length (loops_of reading.old.names) ≤ MAX_LOOPS }
-    requires parts { AreParts reading.old.names.source.now source.rows.now }
     ensures gives { Answers (λ _. reading_of reading.new) result
         (flat (predefined_of names.now) (here_from source.entry.rows.now first) (reading_of reading.old)) }
     ensures loops { OnOk result (loops_of reading.new.names ≡ loops_of reading.old.names) }
-    ensures source { reading.new.names.source.now ≡ reading.old.names.source.now }
 {
     let PairedRows { rows, ends } = source;
     let mut at = first;
@@ -181,17 +169,15 @@ fn read_loop(
     source: PairedRows<'_>,
     at: usize,
     word_at: usize,
-    reading: &mut Reading<'_>,
+    reading: &mut Reading,
 ) -> Result<usize, TextFault>
     requires ends { AreEnds source.rows.now source.ends.now }
     requires within { at < length source.rows.now }
     requires closed { slice_index source.ends.now at < length source.rows.now }
     requires word { IsFor source.rows.now at word_at }
     requires depth { length (loops_of reading.old.names) ≤ MAX_LOOPS }
-    requires parts { AreParts reading.old.names.source.now source.rows.now }
     ensures gives { ReadTo (predefined_of names.now) source.entry.rows.now at (reading_of reading.old) (reading_of reading.new) result }
     ensures loops { OnOk result (loops_of reading.new.names ≡ loops_of reading.old.names) }
-    ensures source { reading.new.names.source.now ≡ reading.old.names.source.now }
 {
     let PairedRows { rows, ends } = source;
     let last = ends[at];
@@ -212,17 +198,15 @@ fn read_rounds(
     source: PairedRows<'_>,
     first: usize,
     head: Head,
-    reading: &mut Reading<'_>,
+    reading: &mut Reading,
 ) -> Result<(), TextFault>
     requires ends { AreEnds source.rows.now source.ends.now }
     requires within { first < length source.rows.now }
     requires depth { length (loops_of reading.old.names) < MAX_LOOPS }
     requires there { IsThere reading.old.names.table head.counter }
-    requires parts { AreParts reading.old.names.source.now source.rows.now }
     ensures gives { Answers (λ _. reading_of reading.new) result
         (rounds (flat (predefined_of names.now) (here_from source.entry.rows.now first)) (option_map (name_at reading.old.names.table) head.counter) 1 head.count (reading_of reading.old)) }
     ensures loops { OnOk result (loops_of reading.new.names ≡ loops_of reading.old.names) }
-    ensures source { reading.new.names.source.now ≡ reading.old.names.source.now }
 {
     let rows = source.rows;
     if let LineKind::Rof = rows[first].kind() {
@@ -247,12 +231,11 @@ pub fn read_all(
     alloc: Global,
     names: &PredefinedNames,
     rows: &[Row<'_>],
-    reading: &mut Reading<'_>,
+    reading: &mut Reading,
 ) -> Result<(), TextFault>
     requires fits { RowsFit rows.now }
     requires depth { length (loops_of reading.old.names) ≤ MAX_LOOPS }
     requires going { reading.old.ended ≡ false }
-    requires parts { AreParts reading.old.names.source.now rows.now }
     ensures { Answers (λ _. reading_of reading.new) result
         (flat (predefined_of names.now) (tree_of_rows (map row_of rows.now)) (reading_of reading.old)) }
 {

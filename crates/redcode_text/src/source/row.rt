@@ -2,13 +2,11 @@
 ghost use Rattle.std.specs.Prelude.{◌≡◌, ◌≤◌, ◌<◌, ◌+◌, ◌==◌, not, drop, length, IfSome};
 ghost use Rattle.std.specs.List.{prefix_len};
 ghost use Rattle.redcode_text.specs.Bytes.{semicolon};
-ghost use Rattle.redcode_text.specs.Code.Runs.{AreRuns};
 ghost use Rattle.redcode_text.specs.Code.Comments.{assert_place, said, said_of};
 ghost use Rattle.redcode_text.specs.Code.Kinds.{IsKind, kind_of, word_place};
 ghost use Rattle.redcode_text.specs.Source.{blank_len, is_comment, first_word_at, has_word, leading_word_at, line_kind, past_blanks, past_colon, past_word, second_word_at};
 
 use crate::characters::{blank_len, is_word, word_len};
-use crate::shortcuts::LongRun;
 use crate::source::directives::{Comment, comment_of};
 
 /// What a line is, with the place of its word FOR or EQU.
@@ -134,8 +132,6 @@ pub struct Row<'a> {
     /// The index of its first byte in the source.
     pub at: usize,
     pub bytes: &'a [u8],
-    /// The long runs in it, by their places in the source.
-    pub runs: &'a [LongRun],
     kind: LineKind,
     /// How many blanks stand in front.
     indent: usize,
@@ -145,7 +141,6 @@ pub struct Row<'a> {
     comment_len: usize,
     /// What the line says, if it is a comment.
     comment: Comment<'a>,
-    ghost are_runs: { AreRuns at runs.now bytes.now },
     ghost kind_is: { IsKind kind bytes.now },
     ghost indent_is: { indent ≡ blank_len bytes.now },
     ghost indented: { indent ≤ length bytes.now },
@@ -160,9 +155,8 @@ pub struct Row<'a> {
 impl<'a> Row<'a> {
     ghost use Rattle.redcode_text.specs.Code.Rows.{row_of};
 
-    /// The line of this number, whose first byte has this index in the source, with its long runs.
-    pub fn new(number: usize, at: usize, bytes: &'a [u8], runs: &'a [LongRun]) -> Self
-        requires { AreRuns at runs.now bytes.now }
+    /// The line of this number, whose first byte has this index in the source.
+    pub fn new(number: usize, at: usize, bytes: &'a [u8]) -> Self
         ensures { row_of result ≡ record { number = number; at = at; bytes = bytes.now } }
     {
         let indent = blank_len(bytes);
@@ -171,7 +165,6 @@ impl<'a> Row<'a> {
             number,
             at,
             bytes,
-            runs,
             kind: line_kind(bytes),
             indent,
             code_len,

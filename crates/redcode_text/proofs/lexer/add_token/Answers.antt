@@ -8,15 +8,15 @@ use Rattle.redcode_text.proofs.lexer.add_token.Goals as goal
 pub returns-in-Err-clause-value : goal.returns-in-Err-clause-value
 returns-in-Err-clause-value c =
     let text = c.args.text in
-    one-fails (loops_of c.args.names.now) text.number c.args.room (text.at + c.args.cursor.at) c.args.cursor.at text.bytes.now (scan_of c.args.tokens.now c.args.names.now.table) c.in-Err.problem c.in-Err.ensures.value
+    one-fails (loops_of c.args.names.now) text.number c.args.room (text.at + c.args.at) c.args.at text.bytes.now (scan_of c.args.tokens.now c.args.names.now.table) c.in-Err.problem c.in-Err.ensures.value
 
 pub returns-then-len-room-clause-value : goal.returns-then-len-room-clause-value
 returns-then-len-room-clause-value c =
     let text = c.args.text in let tokens = c.args.tokens.now in
-    one-full (loops_of c.args.names.now) text.number c.args.room (text.at + c.args.cursor.at) c.args.cursor.at text.bytes.now (scan_of tokens c.args.names.now.table) (with_names c.read_token.new.names.table c.in-Ok.found) c.in-Ok.ensures.value (omega (arith, c.if-len-room.true, c.len.ensures, tokens.ok.0))
+    one-full (loops_of c.args.names.now) text.number c.args.room (text.at + c.args.at) c.args.at text.bytes.now (scan_of tokens c.args.names.now.table) (with_names c.read_token.new.names.table c.in-Ok.found) c.in-Ok.ensures.value (omega (arith, c.if-len-room.true, c.len.ensures, tokens.ok.0))
 
 pub returns-in-Ok-push-clause-value : goal.returns-in-Ok-push-clause-value
 returns-in-Ok-push-clause-value c =
     let text = c.args.text in let tokens = c.args.tokens.now in
-    one-ok (loops_of c.args.names.now) text.number c.args.room (text.at + c.args.cursor.at) c.args.cursor.at text.bytes.now (scan_of tokens c.args.names.now.table) (with_names c.read_token.new.names.table c.in-Ok.found) c.in-Ok.ensures.value (omega (arith, c.if-len-room.false, c.len.ensures, tokens.ok.0))
+    one-ok (loops_of c.args.names.now) text.number c.args.room (text.at + c.args.at) c.args.at text.bytes.now (scan_of tokens c.args.names.now.table) (with_names c.read_token.new.names.table c.in-Ok.found) c.in-Ok.ensures.value (omega (arith, c.if-len-room.false, c.len.ensures, tokens.ok.0))
     ∙ (λ i. measured c.in-Ok.found.len (record { tokens = sym c.in-Ok-push.ensures.items i; names = c.read_token.new.names.table }))

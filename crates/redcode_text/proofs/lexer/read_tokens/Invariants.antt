@@ -10,7 +10,6 @@ invariant-loop-at l = record {
   same : scan_from (loops_of l.fn.names) l.text.number l.room (l.text.at + l.at) 0 (drop l.at l.text.bytes.now) (scan_of l.tokens l.names.table)
       ≡ scan_from (loops_of l.fn.names) l.text.number l.room l.text.at 0 l.text.bytes.now (scan_of l.fn.tokens l.fn.names.table);
   room : vec_len l.tokens ≤ l.room;
-  source : l.names.source.now ≡ l.fn.names.source.now;
   loops : loops_of l.names ≡ loops_of l.fn.names;
 }
 

@@ -5,7 +5,6 @@ use Rattle.redcode_text.specs.Code.SourceLoops.{loops_of}
 use Rattle.redcode_text.specs.Code.Problems.{Fails}
 use Rattle.redcode_text.specs.Views.{scan_of}
 use Rattle.redcode_text.specs.Tokens.{OpenLoop, at_line, scan_from, scanned, tokens}
-use Rattle.redcode_text.proofs.Placed.{part-itself}
 use Rattle.redcode_text.proofs.lexer.scan.Goals as goal
 
 -- nothing is read before, and no loop is open
@@ -24,6 +23,3 @@ unfolding scanned
 returns-in-Err c =
     fails-at 1 c.in-Err.problem c.at_line.result (tokens [] 1 0 (length c.args.text.now) [] c.args.text.now) c.at_line.ensures.problem c.at_line.ensures.line
     (subst (Fails c.in-Err.problem) (start c.args.text.now (loops_of c.new-names.result) c.new-tokens.result.items c.new-names.result.table c.new-names.ensures.loops c.new-tokens.ensures.items c.new-names.ensures.table) c.in-Err.ensures.value)
-
-pub read_tokens-requires-clause-part : goal.read_tokens-requires-clause-part
-read_tokens-requires-clause-part c = rw c.new-names.ensures.source (part-itself c.args.text.now)

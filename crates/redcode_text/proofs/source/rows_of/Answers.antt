@@ -3,7 +3,6 @@ use Rattle.std.proofs.lemmas.List.{take_rest}
 use Rattle.redcode_text.specs.Code.Rows.{row_of}
 use Rattle.redcode_text.specs.Source.{lines_of, rows_from}
 use Rattle.redcode_text.proofs.SourceLines.{map-snoc, row-step}
-use Rattle.redcode_text.proofs.LongRuns.{row-runs}
 use Rattle.redcode_text.proofs.source.rows_of.Goals as goal
 
 pub loop-at-preserved : goal.loop-at-preserved
@@ -12,7 +11,6 @@ loop-at-preserved c =
     record {
       within = omega (arith, simp (take_rest, length-drop) at c.line_len.ensures.within);
       few = omega arith;
-      among = omega (arith, simp (take_rest, length-drop) at c.runs_before-count.ensures);
       same =
           ap (λ l. map row_of l ++ rows_from (c.loop-at.number + 1) (at + p + 1) (lines_of (drop (at + p + 1) source))) c.in-Ok.ensures.items
           ∙ map-snoc row_of c.loop-at.rows.items c.new-row.result (rows_from (c.loop-at.number + 1) (at + p + 1) (lines_of (drop (at + p + 1) source)))
@@ -20,10 +18,3 @@ loop-at-preserved c =
           ∙ ap (λ l. map row_of c.loop-at.rows.items ++ l) (sym (row-step source c.loop-at.number at p c.loop-at-test.true c.line_len.ensures.value c.line_len.ensures.within))
           ∙ c.loop-at.invariant.same;
     }
-
-pub new-row-requires : goal.new-row-requires
-new-row-requires c =
-    let source = c.args.source.now in let at = c.loop-at.at in
-    row-runs c.args.runs.now source c.loop-at.first c.runs_before-count.result at c.line_len.result c.requires
-    (omega (arith, c.loop-at.invariant.among, simp (take_rest, length-drop) at c.runs_before-count.ensures))
-    (omega (arith, simp (take_rest, length-drop) at c.line_len.ensures.within, c.loop-at-test.true))

@@ -7,7 +7,6 @@ abbrev pub invariant-loop-at : goal.invariant-loop-at
 invariant-loop-at l = record {
   within : l.at ≤ length l.source + 1;
   few : l.number ≤ l.at + 1;
-  among : l.first ≤ length l.runs;
   same : map row_of l.rows.items ++ rows_from l.number l.at (lines_of (drop l.at l.source)) ≡ rows_of l.source;
 }
 

@@ -8,7 +8,6 @@ ghost use Rattle.redcode_text.specs.Code.Counters.{IsThere};
 ghost use Rattle.redcode_text.specs.Code.Heads.{head_of};
 ghost use Rattle.redcode_text.specs.Views.{predefined_of};
 ghost use Rattle.redcode_text.specs.Code.Readings.{reading_of};
-ghost use Rattle.redcode_text.specs.Code.Placed.{IsPart};
 ghost use Rattle.redcode_text.specs.Code.Problems.{Gives};
 ghost use Rattle.redcode_text.specs.Code.Rows.{row_of};
 ghost use Rattle.redcode_text.specs.Source.{ForLine, line_kind};
@@ -34,7 +33,7 @@ pub struct Head {
 
 /// What names stand for in a count.
 #[derive(Clone, Copy)]
-pub struct CountNames<'a> {
+struct CountNames<'a> {
     pub predefined: &'a PredefinedNames,
     pub names: &'a NameTable,
     pub current_line: u32,
@@ -48,12 +47,12 @@ impl<'a> Env for CountNames<'a> {
 
     fn value(&self, name: usize) -> Option<i64> {
         self.predefined
-            .value_at(self.current_line, self.names.word(name))
+            .value_at(self.current_line, self.names.name(name))
     }
 }
 
 /// A count is a value from 0 to 10,000.
-pub fn as_count(value: Result<i64, ExprFault>) -> Result<u32, TextProblem>
+fn as_count(value: Result<i64, ExprFault>) -> Result<u32, TextProblem>
     ensures { result ≡ as_count value }
 {
     match value {
@@ -63,7 +62,7 @@ pub fn as_count(value: Result<i64, ExprFault>) -> Result<u32, TextProblem>
     }
 }
 
-impl Reading<'_> {
+impl Reading {
     /// Whether a name that isn't predefined is among the tokens.
     fn has_label(&self, names: &PredefinedNames, tokens: &[Token]) -> bool
         ensures { result ≡ has_label (predefined_of names.now) (reading_of self.now) (kinds tokens.now) }
@@ -79,7 +78,7 @@ impl Reading<'_> {
     }
 
     /// What names stand for in a count here.
-    pub fn count_names<'a>(&'a self, predefined: &'a PredefinedNames) -> CountNames<'a>
+    fn count_names<'a>(&'a self, predefined: &'a PredefinedNames) -> CountNames<'a>
         ensures predefined { result.predefined.now ≡ predefined.now }
         ensures names { result.names.now ≡ self.now.names.table }
         ensures line { result.current_line ≡ self.now.instructions }
@@ -109,30 +108,23 @@ impl Reading<'_> {
 
     /// How often the body of a loop is read.
     #[tactic(auto, using(crate::proofs::Failing::fails_bare))]
-    pub fn count_of(
-        &mut self,
+    fn count_of(
+        &self,
         alloc: Global,
         names: &PredefinedNames,
         tokens: &[Token],
     ) -> Result<u32, TextProblem>
-        ensures value { Gives (λ count. count) result (count_of (predefined_of names.now) (reading_of self.old) tokens.now) }
-        ensures same { reading_of self.new ≡ reading_of self.old }
-        ensures source { self.new.names.source.now ≡ self.old.names.source.now }
+        ensures { Gives (λ count. count) result (count_of (predefined_of names.now) (reading_of self.now) tokens.now) }
     {
-        if let Some(count) = self.known_count(alloc, names, tokens) {
-            return count;
-        }
         let replaced = match self.equates.substitute(alloc, tokens) {
             Ok(replaced) => replaced,
             Err(fault) => return Err(fault.problem),
         };
-        let count = self.replaced_count(names, tokens, &replaced)?;
-        self.keep_count(alloc, names, tokens, &replaced)?;
-        Ok(count)
+        self.replaced_count(names, tokens, &replaced)
     }
 }
 
-impl Reading<'_> {
+impl Reading {
     /// Reads a FOR line, whose word FOR begins at this place of it.
     pub fn read_head(
         &mut self,
@@ -142,13 +134,11 @@ impl Reading<'_> {
         word_at: usize,
     ) -> Result<Head, TextProblem>
         requires fits { row.at + length row.bytes.now < 2 ^ 64 }
-        requires part { IsPart self.old.names.source.now row.at row.bytes.now }
         requires inside { word_at ≤ length row.bytes.now }
         requires word { ForLine word_at ≡ line_kind row.bytes.now }
         ensures value { Gives (head_of (reading_of self.new)) result
             (head_line (predefined_of names.now) (row_of row.entry) (reading_of self.old)) }
         ensures there { IfOk result (λ head. IsThere self.new.names.table head.counter) }
-        ensures source { self.new.names.source.now ≡ self.old.names.source.now }
     {
         self.count_line()?;
         let mut tokens = self.row_tokens(alloc, row, 0)?;

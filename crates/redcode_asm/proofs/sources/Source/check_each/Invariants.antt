@@ -1,12 +1,8 @@
 use Rattle.std.proofs.Common.{◌≡◌, drop, map}
 use Rattle.redcode_text.specs.Views.{assert_of, predefined_of}
 use Rattle.redcode_asm.specs.Assembly.{asserts_hold}
-use Rattle.redcode_asm.specs.Code.Fixed.{AreHeld}
 use Rattle.redcode_asm.proofs.sources.Source.check_each.Given as goal
 
 abbrev pub invariant-loop-assert : goal.invariant-loop-assert
-invariant-loop-assert l = record {
-  held : AreHeld (predefined_of l.self.predefined.now) l.self.program.now l.held.asserts.items;
-  same : asserts_hold (predefined_of l.self.predefined.now) l.self.program.now (map assert_of (drop l.assert-index l.asserts))
-      ≡ asserts_hold (predefined_of l.self.predefined.now) l.self.program.now (map assert_of l.asserts);
-}
+invariant-loop-assert l = asserts_hold (predefined_of l.self.predefined.now) l.self.program.now (map assert_of (drop l.assert-index l.asserts))
+    ≡ asserts_hold (predefined_of l.self.predefined.now) l.self.program.now (map assert_of l.asserts)

@@ -54,7 +54,6 @@ read_used-loop-at-preserved t c =
     record {
       same = line-done (ordinary_line ps c.args.number c.args.depth) (used before under behind) at c.deref.result.now (reading_of c.loop-at.self) _ (reading_of c.read_line.new.self) inside found c.loop-at.invariant.same c.in_ok-read_line.ensures.value c.if-self.false;
       equates = c.read_line.ensures.equates ∙ c.loop-at.invariant.equates;
-      source = c.read_line.ensures.source ∙ c.loop-at.invariant.source;
     }
 
 pub read_used-returns-clause-value : goal.read_used-returns-clause-value

@@ -19,5 +19,4 @@ invariant-read_used-loop-at l = record {
   same : each_line (ordinary_line (predefined_of l.names) l.number l.depth) (drop l.at (used l.before (lines_under (reading_of l.initial.self) l.name) l.behind)) (reading_of l.self)
       ≡ each_line (ordinary_line (predefined_of l.names) l.number l.depth) (used l.before (lines_under (reading_of l.initial.self) l.name) l.behind) (reading_of l.initial.self);
   equates : l.self.equates ≡ l.initial.self.equates;
-  source : l.self.names.source.now ≡ l.initial.self.names.source.now;
 }

@@ -10,6 +10,5 @@ use Rattle.redcode_text.proofs.reader.Reading.read_head.Goals as goal
 pub returns-clause-there : goal.returns-clause-there
 returns-clause-there c =
     let row = c.args.row in let at = row.at + c.args.word_at in let tokens = c.in_ok-tokens.tokens.items in
-    subst (λ names. IsThere names c.in_ok-name.name) (sym (ap (λ (st : Reading). st.names) c.count_of.ensures.same))
     (counter-there (row_of row) 0 (reading_of c.count_line.new.self) (reading_of c.row_tokens.new.self) tokens at c.in_ok-name.name c.in_ok-tokens.ensures.value
     (ap (λ ts. name_in_front (kinds (tokens_before at ts))) (sym c.deref.ensures.value) ∙ sym c.name_in_front.ensures ∙ c.in_ok-name.was))

@@ -1,6 +1,4 @@
-use Rattle.std.proofs.Common.{◌≡◌, ◌∙◌, ◌+◌, ◌-◌, Ok, arith, drop, length, sym}
-use Rattle.redcode_text.proofs.LongRuns.{part-runs}
-use Rattle.redcode_text.proofs.Placed.{part-back, part-front}
+use Rattle.std.proofs.Common.{◌≡◌, ◌∙◌, ◌+◌, Ok, arith, length, sym}
 use Rattle.redcode_text.proofs.RowTokens.{code-is, row-ok, row-fails}
 use Rattle.redcode_text.specs.Code.Readings.{reading_of}
 use Rattle.redcode_text.specs.Views.{scan_of}
@@ -19,12 +17,3 @@ pub returns-in-Err-clause-value : goal.returns-in-Err-clause-value
 returns-in-Err-clause-value c =
     row-fails (reading_of c.args.self.now) (row_of c.args.row) c.args.at _ c.new-tokens.result.items (code-is c.args.row.bytes.now c.args.at c.code_len.result c.code_len.ensures.value) c.new-tokens.ensures.items
     c.in-Err.problem c.in-Err.ensures.value
-
-pub invariant_of-code : goal.invariant_of-code
-invariant_of-code c =
-    let row = c.args.row in record { are_runs = part-runs row.runs.now row.bytes.now row.at c.args.at c.code_len.result row.are_runs c.code_len.ensures.within }
-
-pub read_tokens-requires-clause-part : goal.read_tokens-requires-clause-part
-read_tokens-requires-clause-part c =
-    let row = c.args.row in let source = c.args.self.now.names.source.now in
-    part-front source (row.at + c.args.at) (c.args.at + c.code_len.result - c.args.at) (drop c.args.at row.bytes.now) (part-back source row.at c.args.at row.bytes.now c.requires.part)

@@ -60,7 +60,6 @@ read_rounds-returns-in_err-read_items t c =
     rw (p.1, p.2) (record {
       gives = round-fails body counter c.args.head.count c.loop-round.round st next whole (omega arith) c.loop-round.invariant.same opened _ c.in_err-read_items.ensures.gives;
       loops = tt;
-      source = c.in_err-read_items.ensures.source ∙ c.in-Ok.ensures.source ∙ c.loop-round.invariant.source;
     })
 
 pub read_rounds-returns-then-reading : goal.read_rounds-returns-then-reading
@@ -79,7 +78,6 @@ read_rounds-returns-then-reading t c =
     record {
       gives = round-ended body counter c.args.head.count c.loop-round.round st next whole (omega arith) c.loop-round.invariant.same opened read last c.in_ok-read_items.ensures.gives closed c.if-reading.true;
       loops = loops ∙ c.loop-round.invariant.loops;
-      source = c.close_loop-counter.ensures.source ∙ c.in_ok-read_items.ensures.source ∙ c.in-Ok.ensures.source ∙ c.loop-round.invariant.source;
     }
 
 pub read_rounds-loop-round-preserved : goal.read_rounds-loop-round-preserved
@@ -100,7 +98,6 @@ read_rounds-loop-round-preserved t c =
       counter = c.close_loop-counter.ensures.counter ∙ ap innermost_counter (c.in_ok-read_items.ensures.loops ∙ loop);
       there = c.close_loop-counter.ensures.there;
       loops = loops ∙ c.loop-round.invariant.loops;
-      source = c.close_loop-counter.ensures.source ∙ c.in_ok-read_items.ensures.source ∙ c.in-Ok.ensures.source ∙ c.loop-round.invariant.source;
     }
 
 pub read_rounds-returns-in-Rof-clause-gives : goal.read_rounds-returns-in-Rof-clause-gives

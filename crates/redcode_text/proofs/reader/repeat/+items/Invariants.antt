@@ -22,7 +22,6 @@ invariant-read_items-loop-at l = record {
   within : l.at ≤ length l.source.rows.now;
   same : flat (predefined_of l.names) (here_from l.source.rows.now l.at) (reading_of l.reading) ≡ flat (predefined_of l.names) (here_from l.source.rows.now l.fn.first) (reading_of l.fn.reading);
   loops : loops_of l.reading.names ≡ loops_of l.fn.reading.names;
-  source : l.reading.names.source.now ≡ l.fn.reading.names.source.now;
 }
 
 abbrev pub decreases-read_items-loop-at : goal.decreases-read_items-loop-at
@@ -36,5 +35,4 @@ invariant-read_rounds-loop-round l = record {
   counter : option_map (name_at l.reading.names.table) l.counter ≡ option_map (name_at l.fn.reading.names.table) l.fn.head.counter;
   there : IsThere l.reading.names.table l.counter;
   loops : loops_of l.reading.names ≡ loops_of l.fn.reading.names;
-  source : l.reading.names.source.now ≡ l.fn.reading.names.source.now;
 }

@@ -1,19 +1,13 @@
-use Rattle.std.proofs.Common.{◌∙◌, ◌++◌, ◌∷◌, [], ap, map, subst, sym}
-use Rattle.redcode_text.specs.Code.Values.{AreKept}
-use Rattle.redcode_text.specs.Views.{equate_of}
-use Rattle.redcode_text.proofs.EquatePlaces.{kept-more}
+use Rattle.std.proofs.Common.{◌∙◌, ◌++◌, ◌∷◌, [], ap, map, sym, Ok}
+use Rattle.redcode_text.specs.Equates.{equate_lines}
+use Rattle.redcode_text.proofs.EquateLookup.{equates, insert-equate}
 use Rattle.redcode_text.proofs.names.equates.Equates.define.Goals as goal
 
-pub invariant_of-self : goal.invariant_of-self
-invariant_of-self c = (c.make_way.ensures.same _ c.self.invariant.0, c.self.invariant.1)
-
-pub invariant_of-self-2 : goal.invariant_of-self-2
-invariant_of-self-2 c =
-    let entries = c.self.inside.lines.items in let known = c.make_way.new.self in (
-      kept-more equate_of c.add_entry.result entries c.add_entry.new.entries.items (record { name = c.args.name; lines = c.push.new.self }) known.last known.values.items
-          c.add_entry.ensures.ok c.add_entry.ensures.err (c.make_way.ensures.same _ c.self.invariant.0)
-          (subst (λ lines. AreKept (map equate_of entries ++ record { name = c.args.name; lines = lines } ∷ []) known.last known.values.items)
-          (sym (ap (map (λ line. line.items)) (c.in-Ok.ensures.items ∙ ap (λ l. l ++ c.args.line ∷ []) c.new-lines.ensures.items) ∙ ap (λ line. line ∷ []) (sym c.deref.ensures.value)))
-          (c.make_way.ensures.more _ c.self.invariant.0)),
-      c.add_entry.ensures.placed,
-    )
+pub returns-in-Ok-insert : goal.returns-in-Ok-insert
+returns-in-Ok-insert c =
+    let entries = c.self.inside.lines.entries in
+    ap Ok (sym (
+    ap (equates (λ lines. map (λ line. line.items) lines.items)) c.in-Ok-insert.ensures.entries
+    ∙ insert-equate (λ lines. map (λ line. line.items) lines.items) c.args.name c.push.new.self entries (ap (λ es. equate_lines es c.args.name) c.self.view_is ∙ c.requires)
+    ∙ (λ i. c.self.view_is i ++ record { name = c.args.name; lines = map (λ line. line.items) ((c.in-Ok.ensures.items ∙ ap (λ l. l ++ c.args.line ∷ []) c.new-lines.ensures.items) i) } ∷ [])
+    ))

@@ -1,0 +1,93 @@
+//! The names of a source that is being read, and the loops that are open.
+ghost use Rattle.std.specs.Prelude.{◌≡◌, ◌∷◌, length, drop, option_map, [], IfOk, OnOk, IsAscii};
+ghost use Rattle.redcode_text.specs.Code.Counters.{AreThere, IsThere, innermost_counter};
+ghost use Rattle.redcode_text.specs.Lines.{name_at};
+ghost use Rattle.redcode_text.specs.Tokens.{name_index, round_of, with_name};
+
+use crate::lexer::open_loops::{OpenLoop, find_round};
+use crate::names::NameTable;
+use std::alloc::{AllocError, Global};
+
+/// The names of a source that is being read, and the open loops, whose counters are among them; the innermost last.
+#[derive(Drop)]
+pub struct SourceNames {
+    pub table: NameTable,
+    loops: Vec<OpenLoop>,
+    ghost are_there: { AreThere table loops.items },
+}
+
+impl SourceNames {
+    ghost use Rattle.redcode_text.specs.Code.SourceLoops.{loops_of};
+
+    /// No name and no loop.
+    pub fn new(alloc: Global) -> Self
+        ensures table { result.table ≡ [] }
+        ensures loops { loops_of result ≡ [] }
+    {
+        SourceNames {
+            table: NameTable::new(alloc),
+            loops: Vec::new(alloc),
+        }
+    }
+
+    /// The names without the loops.
+    pub fn into_table(self) -> NameTable
+        ensures { result ≡ self.table }
+    {
+        let SourceNames { table, .. } = self;
+        table
+    }
+
+    /// The index of a name; it is added where it is new.
+    pub fn index_of(&mut self, alloc: Global, name: &[u8]) -> Result<usize, AllocError>
+        requires ascii { IsAscii name.now }
+        ensures index { IfOk result (λ n. n ≡ name_index self.old.table name.now) }
+        ensures names { OnOk result (self.new.table ≡ with_name self.old.table name.now) }
+        ensures loops { OnOk result (loops_of self.new ≡ loops_of self.old) }
+    {
+        let Ok(index) = self.table.index_of(alloc, name) else {
+            // the names may have changed, and where memory is wanting nothing more is read
+            self.loops.clear();
+            return Err(AllocError);
+        };
+        Ok(index)
+    }
+
+    /// How many loops are open.
+    pub fn depth(&self) -> usize
+        ensures { result ≡ length (loops_of self.now) }
+    {
+        self.loops.len()
+    }
+
+    /// One more loop is open, the innermost now.
+    pub fn open_loop(&mut self, counter: Option<usize>, round: u32) -> Result<(), AllocError>
+        requires there { IsThere self.old.table counter }
+        ensures loops { OnOk result (loops_of self.new
+            ≡ record { counter = option_map (name_at self.old.table) counter; round = round } ∷ loops_of self.old) }
+        ensures table { self.new.table ≡ self.old.table }
+    {
+        self.loops.push(OpenLoop { counter, round })?;
+        Ok(())
+    }
+
+    /// Closes the innermost loop, and gives its counter.
+    pub fn close_loop(&mut self) -> Option<usize>
+        ensures counter { option_map (name_at self.new.table) result ≡ innermost_counter (loops_of self.old) }
+        ensures there { IsThere self.new.table result }
+        ensures loops { loops_of self.new ≡ drop 1 (loops_of self.old) }
+        ensures table { self.new.table ≡ self.old.table }
+    {
+        match self.loops.pop() {
+            Some(innermost) => innermost.counter,
+            None => None,
+        }
+    }
+
+    /// The round of the loop whose counter has this name.
+    pub fn round_of(&self, name: &[u8]) -> Option<u32>
+        ensures { result ≡ round_of (loops_of self.now) name.now }
+    {
+        find_round(&self.table, &self.loops, name)
+    }
+}
