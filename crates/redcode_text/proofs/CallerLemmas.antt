@@ -2,20 +2,14 @@
 -- another, and programs that are the same, name for name, whose definitions they don't see into.
 use Rattle.std.specs.Bool.{⊤}
 use Rattle.std.proofs.lemmas.List.{length-map, map-append}
-use Rattle.std.proofs.Common.{◌≡◌, ◌∙◌, ℕ, zero, suc, ◌+◌, ℤ, pos, List, [], ◌∷◌, ◌++◌, length, Bool, true, false, nat_le, Option, Some, None, Result, Ok, Err, refl, ap, sym, subst, arith}
+use Rattle.std.proofs.Common.{◌≡◌, ◌∙◌, ℕ, zero, suc, ◌+◌, List, [], ◌∷◌, ◌++◌, length, Bool, true, false, nat_le, Option, Some, None, Result, Ok, Err, refl, ap, sym, subst, arith}
 use Rattle.redcode_text.specs.Results.{◌>>=◌}
-use Rattle.redcode_text.specs.declared.token.TokenKind.{TokenKind}
-use Rattle.redcode_text.specs.declared.token.TokenKind.TheVariants.{Number, Name}
-use Rattle.redcode_text.specs.declared.token.TokenKind.TheVariants as token
-use Rattle.redcode_text.specs.declared.fault.ExprFault.{ExprFault}
 use Rattle.redcode_text.specs.declared.fault.TextProblem.{TextProblem}
 use Rattle.redcode_text.specs.declared.fault.TextProblem.TheVariants.{TooLong}
 use Rattle.redcode_text.specs.declared.token.Token.{Token}
 use Rattle.redcode_text.specs.Equates.{Equate, Replaced, Replacing, depth_limit, each_replaced, kept, limit, one_line, one_more, replaced_name, replaced_token, replacing, substitution, token_lines}
 use Rattle.redcode_text.specs.Tokens.{without_line}
-use Rattle.redcode_text.specs.Expression.{kinds, known, shape, start, value_of}
-use Rattle.redcode_text.specs.Code.Climbing.{State, move, operand, run, wants}
-use Rattle.redcode_text.proofs.Evaluates.{evaluates, value_of-misshapen}
+use Rattle.redcode_text.specs.Expression.{kinds}
 pub use Rattle.redcode_text.proofs.ForLaws.PrintedNames.{program-printed}
 pub use Rattle.redcode_text.proofs.ForLaws.Moved.{kinds-moved, moved_tokens, substitution-moved}
 use Rattle.redcode_text.proofs.ForLaws.Moved.{only_tokens, only-tokens, without-lines}

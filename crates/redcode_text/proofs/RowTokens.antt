@@ -1,6 +1,5 @@
 -- The tokens of a row, as the code reads them.
-use Rattle.std.proofs.Common.{◌≡◌, ℕ, zero, suc, ◌+◌, ◌-◌, ◌<◌, ◌≤◌, List, [], ◌∷◌, length, drop, take, Bool, true, false, not, ◌==◌, cond, Result, Ok, refl, ap, sym, ◌∙◌, arith, subst}
-use Rattle.std.proofs.lemmas.List.{drop-drop}
+use Rattle.std.proofs.Common.{◌≡◌, ℕ, suc, ◌+◌, ◌-◌, List, [], ◌∷◌, length, drop, take, Bool, true, false, not, ◌==◌, cond, Result, Ok, refl, ap, sym, ◌∙◌, arith, subst}
 use Rattle.std.specs.List.{prefix_len}
 use Rattle.redcode_text.specs.Results.{◌>>=◌}
 use Rattle.redcode_text.specs.declared.fault.TextProblem.{TextProblem}
