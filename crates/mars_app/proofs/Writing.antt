@@ -1,4 +1,5 @@
 -- What several writes, one after the other, did, where a text broke off.
+-- Want of memory and a failed write have one statement (`BreaksOff`), and three lemmas: broken in the first of two texts, in the second, in a list.
 use Rattle.std.proofs.Common.{◌≡◌, ℕ, ◌+◌, ◌<◌, List, ◌++◌, length, take, get_or, Option, Result, Ok, Err, IfErr, inl, inr, arith, length-append}
 use Rattle.std.specs.List.{flat_map}
 use Rattle.std.proofs.Math.Seq.{take-append-add}

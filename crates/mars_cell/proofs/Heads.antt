@@ -1,4 +1,6 @@
 -- The head of a load file, line after line.
+-- `read_header` cites `header_made` by `using`, with no file of answers: an edit that moves one of its steps is then refused by a goal of a clause.
+-- So the lemma shows all its variables, and its premises are the clauses of the steps word for word.
 use Rattle.std.proofs.Common.{◌≡◌, refl, ℕ, zero, suc, ◌<◌, true, List, [], ◌∷◌, drop, Some, Result, Ok, Err, ap, arith}
 use Rattle.std.specs.Prelude.{codes, option_and_then, option_map, slice_get, IsUtf8, IsAscii, MatchResult}
 use Rattle.std.specs.List.{list_all}

@@ -117,7 +117,7 @@ impl Warrior {
         self.start
     }
 
-    /// The same warrior once more. Only want of memory refuses it.
+    /// The same warrior once more, by the allocator of its own texts and cells. Only want of memory refuses it.
     pub fn copy(&self) -> Result<Warrior, AllocError>
         ensures { IfOk result (λ w. w ≡ self.now) }
     {

@@ -1,4 +1,6 @@
 -- Cells on one address, by the distances between the starts.
+-- The definition says that an address stands twice in the list of all loaded ones; the code compares distances. The lemmas go over residues, by
+-- cases on which is greater. `omega` closes each case, but applies an implication only where its premise follows, so `cases_lt` splits first.
 use Rattle.std.proofs.Common.{◌≡◌, ◌≢◌, ℕ, zero, suc, ◌+◌, ◌-◌, ◌<◌, ◌≤◌, ◌%◌, Bool, true, false, List, [], ◌∷◌, ◌++◌, length, drop, get_or, refl, ap, sym, ◌∙◌, arith, add-one, inl, inr}
 use Rattle.std.specs.Prelude.{◌||◌, ◌⊎◌, ◌==◌, nat_lt}
 use Rattle.std.specs.List.{list_any}

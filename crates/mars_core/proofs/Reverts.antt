@@ -1,4 +1,7 @@
 -- What a record that leads to a state tells the code that reverts it.
+-- `revert` asks that the record leads here from some state, a pair that the caller gives, and leaves each such state (`one_before`: there is one).
+-- What the code needs of it is a statement by cases on the work (`CanRestore`), drawn from `Leads` once. A queue is changed by a function of one
+-- queue (`with_queue`), so that all works have one index.
 use Rattle.std.proofs.Common.{◌≡◌, ℕ, ◌+◌, ◌-◌, ◌<◌, ◌≤◌, List, [], ◌∷◌, length, set, drop, inl, inr, sym, subst, arith, false, cond, Option, Some, None}
 use Rattle.std.specs.Prelude.{◌==◌, not, remove}
 use Rattle.std.proofs.lemmas.List.{length-set, length-append, length-drop}

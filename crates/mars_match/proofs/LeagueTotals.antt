@@ -1,4 +1,6 @@
 -- The tallies of all matches are the sums over each warrior's rows.
+-- The definition lists all pairs, plays each, and sums up each warrior's rows; the tallies along that list serve the proof alone. Both loops keep
+-- `after_matches` of the pairs that are left, over `drop i` and `drop j`. Their bound is linear in both counters, so that `omega` is enough.
 use Rattle.std.proofs.Common.{◌≡◌, refl, sym, ◌∙◌, ap, ℕ, zero, suc, ◌+◌, ◌<◌, ◌+ℤ◌, List, [], ◌∷◌, ◌++◌, length, replicate, Option, true, false, nat_eq, Result, Ok, Err, arith}
 use Rattle.std.specs.Prelude.{sum_by}
 use Rattle.std.proofs.lemmas.Int.{ints}

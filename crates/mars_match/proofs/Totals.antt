@@ -1,4 +1,6 @@
 -- The tallies of all rounds are the sums over the rounds.
+-- The definition is a list of rounds, and a sum for each warrior; the code adds as it goes. Its loop keeps that the rounds that are left lead to the
+-- tallies of all; that these are the sums is said here, apart from the code.
 use Rattle.std.proofs.Common.{◌≡◌, refl, sym, ◌∙◌, ap, ℕ, zero, suc, ◌+◌, ℤ, ◌+ℤ◌, cond, List, [], ◌∷◌, length, replicate, Option, Some, None, Result, Ok, Err, arith}
 use Rattle.std.specs.Prelude.{count_by, MatchOption, IsOk}
 use Rattle.std.proofs.lemmas.Int.{ints}

@@ -12,6 +12,7 @@ use std::marker::Model;
 /// How one warrior fared in a match or a league.
 #[derive(Debug, Drop)]
 pub struct Row {
+    // In place, so that a table takes memory once.
     name: ArrayString<60>,
     author: ArrayString<60>,
     points: i64,

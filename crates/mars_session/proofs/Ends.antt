@@ -1,4 +1,6 @@
 -- How many turns the ends of a tape of records have.
+-- They are kept beside the list, and the invariant says so of the history that is seen. Each method says already which history it leaves, so one
+-- lemma for each of back, forward, marked, cut and append keeps them; only forgetting looks at a record.
 use Rattle.std.proofs.Common.{◌≡◌, ℕ, zero, suc, ◌+◌, ◌-◌, ◌<◌, ◌≤◌, Bool, true, false, List, [], ◌∷◌, ◌++◌, length, set, take, refl, ap, sym, ◌∙◌, arith, add-one, nat_lt, if◌then◌else◌}
 use Rattle.std.proofs.lemmas.List.{length_push}
 use Rattle.std.proofs.lemmas.Bool.{ltb-true, ltb-false}

@@ -1,4 +1,6 @@
 -- Turns never fall along a tape, and rise by at most one a place.
+-- Each tape draws it from its invariant and says it in two readers (`position`, `last_turns`). It lets `goto` stop early: what its small questions
+-- (`may_lie_before`, `is_met`) answer for the definition follows from it, so the walk itself needs no lemma.
 use Rattle.std.proofs.Common.{◌≡◌, ℕ, zero, suc, ◌+◌, ◌-◌, ◌<◌, ◌≤◌, inl, inr, Bool, List, length, refl, ap, sym, subst, ◌∙◌, arith, add-one}
 use Rattle.mars_core.specs.State.{State}
 use Rattle.mars_core.specs.Leads.{Leads}

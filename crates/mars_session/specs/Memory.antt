@@ -1,4 +1,6 @@
 -- How many places are kept, and what is forgotten.
+-- It stands beside the history and not in it: where all places are kept (`never`) each definition computes to what it is without it. Functions of it
+-- match on it first, for that.
 use Rattle.std.specs.Prelude.{ℕ, Bool, false, ◌||◌, nat_lt, List, take, Option, Some, None}
 use Rattle.mars_session.specs.History.{Place, History, position_of}
 

@@ -174,7 +174,8 @@ Answers old call reply new =
     × (new.state.limit ≡ old.state.limit)
     × (reply ≡ Err OutOfMemory → old.room < bound_of call old.state.history.present.state)
 
--- calls one after another, each of which finds what the one before it left
+-- Calls one after another, each of which finds what the one before it left. What room a call leaves isn't said, so that memory is wanting only below the
+-- bound is said of the first alone.
 abbrev pub EachAnswers : SessionValue → List Call → List (Result Standing Refusal) → SessionValue → Type 0
 EachAnswers old [] [] new = new ≡ old
 EachAnswers old (call ∷ calls) (reply ∷ replies) new = (next : SessionValue) × Answers old call reply next × EachAnswers next calls replies new

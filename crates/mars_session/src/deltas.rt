@@ -34,7 +34,8 @@ impl Model for DeltaTape {
 }
 
 impl DeltaTape {
-    /// A tape at the one, marked place of a battle. It takes no memory yet, and so is never refused.
+    /// A tape at the one, marked place of a battle. It takes no memory yet, and so is never refused; it answers a `Result` as each
+    /// tape's `new` does, so that one can stand for another.
     pub fn new(alloc: Global, battle: Battle) -> Result<Self, Battle>
         ensures history { MatchResult result (λ t. t.history ≡ beginning battle) (λ b. b ≡ battle) }
         ensures never { IsOk result }
@@ -61,6 +62,7 @@ impl DeltaTape {
     }
 }
 
+// What each method does, and its clauses, stand in `Tape`.
 impl Tape for DeltaTape {
     const FORGETS: bool = false;
 

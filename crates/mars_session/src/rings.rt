@@ -44,6 +44,7 @@ impl RingTape {
     }
 }
 
+// What each method does, and its clauses, stand in `Tape`.
 impl Tape for RingTape {
     const FORGETS: bool = true;
 

@@ -42,7 +42,7 @@ impl<T: Tape> Session<T> {
         Session { tape, limit }
     }
 
-    /// The tape of all places.
+    /// The tape of all places: what a tape alone can tell, as [`crate::DeltaTape::atom`], is asked of it.
     pub fn tape(&self) -> &T
         ensures history { T.history result.now ≡ self.now.state.history }
         ensures memory { T.memory result.now ≡ self.now.state.memory }
@@ -191,8 +191,8 @@ impl<T: Tape> Session<T> {
     }
 
     /// Makes each call in order and appends its reply. Room for all replies is made first, and it fails only where that is
-    /// wanting and refused; nothing is done then. A call finds memory wanting only where the tape has less room than that call
-    /// may need.
+    /// wanting and refused; nothing is done then. The first call finds memory wanting only where the tape has less room than that
+    /// call may need; how much room a call leaves isn't said.
     pub fn apply_all(&mut self, calls: &[Call], out: &mut Vec<Reply>) -> Result<(), AllocError>
         ensures ok { OnOk result ((replies : List (Result Standing Refusal)) × (out.new.items ≡ out.old.items ++ replies)
             × ScriptAnswers self.old.state calls.now replies self.new.state × EachAnswers self.old calls.now replies self.new) }

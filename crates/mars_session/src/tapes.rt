@@ -66,7 +66,7 @@ pub trait Tape {
         ensures room { room self.old ≤ room self.new };
 
     /// Makes room for so many places after the present one. It fails only where there is less room, and memory for the
-    /// rest is refused; the room then stays as it is.
+    /// rest is refused; the room then stays as it is. A command over places that are there already so takes no memory.
     fn reserve(&mut self, n: u64) -> Result<(), AllocError>
         ensures memory { memory self.new ≡ memory self.old }
         ensures places { history self.new ≡ history self.old }

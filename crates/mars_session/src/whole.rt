@@ -15,7 +15,7 @@ use mars_core::{Battle, Edit};
 use std::alloc::{AllocError, Global};
 use std::marker::Model;
 
-/// A tape that keeps a copy of each place's battle, and copies to spare.
+/// A tape that keeps a copy of each place's battle, and copies to spare. It is the plainest tape; tests hold the others beside it.
 #[derive(Drop)]
 pub struct WholeTape {
     alloc: Global,
@@ -134,6 +134,7 @@ impl WholeTape {
     }
 }
 
+// What each method does, and its clauses, stand in `Tape`.
 impl Tape for WholeTape {
     const FORGETS: bool = false;
 

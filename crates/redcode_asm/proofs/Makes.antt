@@ -1,4 +1,5 @@
 -- Steps one after another, and the lines that are left.
+-- An equation for each step, over plain variables; the premises close by `search rules`.
 use Rattle.std.proofs.Common.{◌≡◌, ◌∙◌, ℕ, ◌==◌, false, List, [], ◌∷◌, length, Option, Result, Ok, sym, refl}
 use Rattle.std.proofs.lemmas.Bool.{eqb-false}
 use Rattle.mars_cell.specs.declared.instruction.Cell.{Cell}

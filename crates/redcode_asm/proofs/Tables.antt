@@ -1,4 +1,6 @@
 -- A label in the table is the label among the lines.
+-- A `Source` holds the program and a table, and a ghost field says that the table is that of the program: so what names stand for is the definition
+-- itself, and one lemma on looking up is enough.
 use Rattle.std.proofs.Common.{◌≡◌, ◌∙◌, ℕ, List, [], ◌∷◌, ◌++◌, ap, Option, None, Some, Bool, true, false, ◌||◌, cond, nat_eq, ◌==◌, is_some, refl, subst, arith}
 use Rattle.std.proofs.lemmas.Bool.{eqb-true}
 use Rattle.std.specs.List.{list_any}

@@ -1,4 +1,5 @@
 -- Lines leave the open loops as they are.
+-- Contracts give values alone, so `Kept f x` says by the definition that a step leaves a part of the reading as it is.
 use Rattle.std.proofs.Common.{◌≡◌, ◌∙◌, ℕ, zero, suc, ◌+◌, ◌-◌, ◌<◌, List, [], ◌∷◌, ◌++◌, length, drop, Bool, true, false, Option, Some, None, Result, Ok, Err, ap, refl, arith, nat_le, nat_lt}
 use Rattle.redcode_text.specs.Results.{◌>>=◌}
 use Rattle.redcode_text.specs.declared.fault.TextProblem.{TextProblem}

@@ -1,4 +1,5 @@
 -- The rules that `clap` has for the words of the tables.
+-- That they are the rules of the definition is closed by computation. What `clap` asks of the command then computes (`clap_on_literals`).
 use Rattle.std.specs.Prelude.{ℕ, None, Option, Some, pos}
 use Rattle.std.specs.Borrow.{Bor}
 use Rattle.clap.specs.Simple.{new_rule}

@@ -1,4 +1,5 @@
 -- Numbers by value.
+-- A file of version 1 counts as written for the core that reads it, so there is one grammar; at equal sizes nothing has changed (`value_is_residue`).
 use Rattle.std.proofs.Common.{◌≡◌, refl, ℕ, ℤ, pos, negsuc, ◌/◌, ◌<◌, ◌≤◌, true, false, ◌∙◌, ap, nat_le, arith}
 use Rattle.std.proofs.lemmas.Int.{int_rem_euclid_is, ints}
 use Rattle.std.specs.Prelude.{◌+ℤ◌, ◌-ℤ◌, ◌*◌}

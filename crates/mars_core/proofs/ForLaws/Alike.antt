@@ -1,4 +1,6 @@
 -- Instructions at two places, in cores that are alike wherever they reach: they do the same.
+-- It goes through an execution once, over a map of addresses, what is near, and what has to hold of them (`Corresponds`). A battle that is moved,
+-- and a core with other far cells, are two instances.
 use Rattle.std.proofs.Common.{◌≡◌, ℕ, ◌<◌, Bool, true, false, cond, List, [], ◌∷◌, length, map, set, refl, ap, sym, ◌∙◌, inl, inr, Option, None, Some}
 use Rattle.std.proofs.lemmas.Bool.{cases_eq}
 use Rattle.std.proofs.lemmas.List.{length-set, get_or-set_same, get_or-set_other, map-append}

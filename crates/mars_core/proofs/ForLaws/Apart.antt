@@ -1,4 +1,6 @@
 -- A warrior that keeps to a part of the core which the others leave to it fights alike in all battles.
+-- `fights_alike` goes by the turns of the first battle, and hands its recursive call to a lemma by the turns of the second (`meets`), which passes
+-- over those of the others until both have their own turn. So neither the clocks nor the numbers of warriors have to be the same.
 use Rattle.std.proofs.Common.{◌≡◌, ◌≢◌, ℕ, zero, suc, ◌+◌, ◌<◌, Bool, true, false, cond, List, [], ◌∷◌, length, All, refl, ap, sym, ◌∙◌, subst, arith, inl, inr}
 use Rattle.std.specs.Prelude.{◌==◌, if◌then◌else◌}
 use Rattle.std.proofs.lemmas.Bool.{cases_eq, cases_lt}

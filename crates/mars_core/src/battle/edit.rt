@@ -56,7 +56,8 @@ pub enum EditFault {
 }
 
 impl Battle {
-    /// The first reason for which an edit would be refused, `None` if it would be made. It takes no memory and changes nothing.
+    /// The first reason for which an edit would be refused, `None` if it would be made. It takes no memory and changes nothing, so
+    /// that a session can refuse a command before it reserves room.
     #[tactic(auto, unfolding(crate::specs::Edit::edit_fault))]
     pub fn edit_fault(&self, edit: Edit) -> Option<EditFault>
         ensures value { result ≡ spec_edit_fault self.now edit }

@@ -1,4 +1,6 @@
 -- What scripts of undos and redos make of the end of a script of commands.
+-- A law over scripts comes from one over moves by cases on whether a call was accepted (`one_reached`), and undo and redo share a lemma that takes
+-- what `outcome` is of the call (`all_moved`).
 use Rattle.std.proofs.Common.{◌≡◌, ℕ, zero, suc, Bool, List, [], ◌∷◌, replicate, Option, Some, None, Result, Ok, Err, refl, ap, sym, ◌⊎◌, inl, inr}
 use Rattle.std.specs.Prelude.{option_and_then, IsOk, IsErr, IsTrue, is_ok}
 use Rattle.std.specs.List.{list_all}

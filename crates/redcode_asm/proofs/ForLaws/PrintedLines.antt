@@ -1,4 +1,6 @@
 -- The lines of a load file, read as lines of a source: that of a cell, and that of the start.
+-- `CellRead` has what a line of a cell gives: the next reading, written out as a term of the one before, and what holds of its parts. So the
+-- recursion over the lines has the reading before as a variable, and only what grows needs a lemma: names keep their indices, limits are sums.
 use Rattle.std.proofs.Common.{◌≡◌, ◌∙◌, refl, ap, sym, subst, ℕ, ◌+◌, ◌-◌, ◌^◌, ◌<◌, ◌≤◌, pos, true, false, List, [], ◌∷◌, ◌++◌, length, decimal, codes, Some, Ok, arith, append-nil, length-append}
 use Rattle.std.proofs.lemmas.List.{length-map}
 use Rattle.std.specs.List.{list_any}

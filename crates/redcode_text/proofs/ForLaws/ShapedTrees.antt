@@ -1,4 +1,6 @@
 -- The shape of an expression is that of a tree, and its fault that of the first token that makes none.
+-- The fault of a shape: from any state there is an end (`begun`), so the tokens before the first refusal begin an expression, and with the one that is
+-- refused they don't; nothing has to be counted.
 use Rattle.std.proofs.Common.{◌≡◌, ◌∙◌, refl, ap, sym, subst, ℕ, zero, suc, ◌+◌, ◌-◌, ◌<◌, pos, List, [], ◌∷◌, ◌++◌, length, append-nil, append_assoc, add-one, Bool, true, false, ◌&&◌, ◌==◌, cond, eqb, leb, ◌⊎◌, inl, inr, ⊎_elim, Result, Ok, Err, arith}
 use Rattle.std.proofs.lemmas.Bool.Decides.{nat_tests}
 use Rattle.redcode_text.specs.Results.{◌>>=◌}

@@ -1,4 +1,7 @@
 -- What a relation between two readings must keep, so that a loop may be read in one and its lines, written out, in the other.
+-- Line by line, so that the lines of a relation, the trees of any relation and what is assembled are proved apart. At the ends programs are compared
+-- with their names spelled out, in between by indices of one name (`SameName`), which a recursion along both lists can take apart; where a step may
+-- be refused, by results that agree. That a name stands once follows from the same relation of a reading to itself.
 use Rattle.std.specs.Prelude.{◌≡◌, ◌<◌, ◌^◌, ℕ, List, ◌++◌, true, Option, None, IfSome, Ok, codes, decimal}
 use Rattle.redcode_text.specs.Expansion.{Head, head_line, in_round, rof_line}
 use Rattle.redcode_text.specs.Lines.{Reading, Predefined, plain_line}
