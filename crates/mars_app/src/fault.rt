@@ -1,5 +1,5 @@
 //! What ends a run, and with which status.
-ghost use Rattle.std.specs.Prelude.{◌≡◌, ◌≤◌};
+ghost use Rattle.std.specs.Prelude.{◌≡◌, ◌≤◌, None};
 
 use mars_cell::{LoadFault, ParamFault};
 use mars_core::BattleFault;
