@@ -1,5 +1,5 @@
 //! Where the warriors of a round are laid: drawn, or at a fixed position.
-ghost use Rattle.std.specs.Prelude.{◌≡◌, ◌≤◌, length, IfOk, IfSome, MatchResult, Ok, Err, Vec, vec_len};
+ghost use Rattle.std.specs.Prelude.{◌≡◌, ◌≤◌, ℕ, length, IfOk, IfSome, MatchResult, Ok, Err, Vec, vec_len};
 ghost use Rattle.std.specs.Global.{Global};
 ghost use Rattle.mars_core.specs.Limits.{most_warriors};
 ghost use Rattle.mars_match.specs.Answers.{IsAnswer};
