@@ -1,4 +1,4 @@
-"""The settings of known hills, those of docs/PMARS.md, as words of mars."""
+"""The settings of known hills, those of docs/play/PMARS.md, as words of mars."""
 from program import Fault
 
 # The first one's are those that mars takes by itself.

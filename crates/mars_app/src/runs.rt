@@ -194,6 +194,8 @@ impl Settings {
         requires few { length warriors.now ≤ most_warriors }
         requires position { FitsTwo self.now.params (length warriors.now) options.now.fixed }
         requires history { IsBetween 1 longest_history options.now.history }
+
+        // What the options ask for was written, or a beginning of it.
         ensures ok { OnOk result (PlaysWell options.now self.now.params self.now.plan.formula warriors.now (R.remaining input.old)
             (R.remaining input.new) (W.contents output.old) (W.contents output.new)) }
         ensures err { IfErr result (PlaysInPart options.now self.now.params self.now.plan.formula warriors.now

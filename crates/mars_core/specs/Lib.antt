@@ -13,6 +13,7 @@ pub mod Start
 pub mod Shape
 pub mod Leads
 pub mod Record
+-- what the laws speak of, and no contract of a call
 pub mod Moved
 pub mod Reach
 pub mod Apart

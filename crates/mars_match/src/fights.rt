@@ -192,6 +192,8 @@ pub fn fight_round(
     ensures survivors { IsAnswer (λ (battle : State). in_load_order (round % length lineup.now) battle)
         (fought params.now lineup.now starts.now round) result }
     ensures room { IfOk result (λ battle. HasRoom params.now (length lineup.now) battle) }
+
+    // In the memory of a last battle none is asked for.
     ensures no_memory { IfSome last (λ _. IfErr result (λ fault. fault ≢ MatchFault.OutOfMemory)) }
 {
     let mut battle = start_round(alloc, params, lineup, starts, round, last)?;

@@ -117,10 +117,16 @@ pub fn place(
 ) -> Result<(Vec<u32>, u32), PlaceFault>
     requires some { 1 ≤ warriors }
     requires few { warriors ≤ most_warriors }
+
+    // Refused exactly for the defined fault, or for memory.
     ensures fault { IfSome (place_fault params.now warriors seed) (λ fault. result ≡ Err fault) }
     ensures only_memory { place_fault params.now warriors seed ≡ None → IfErr result (λ fault. fault ≡ PlaceFault.OutOfMemory) }
+
+    // Else the defined starts and the seed that is left.
     ensures starts { IfOk result (λ placed. placed.0.items ≡ starts_of params.now warriors seed) }
     ensures seed { IfOk result (λ placed. placed.1 ≡ next_seed warriors seed) }
+
+    // What callers need of them.
     ensures many { IfOk result (λ placed. length placed.0.items ≡ warriors) }
     ensures spaced { IfOk result (λ placed. IsSpaced params.now.core_size params.now.distance placed.0.items) }
 {

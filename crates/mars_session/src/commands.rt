@@ -35,9 +35,13 @@ pub fn standing<T: Tape>(tape: &T) -> Standing
 /// where the room is below the bound.
 fn prepare<T: Tape>(tape: &mut T, limit: u64, bound: u64) -> Result<(), Refusal>
     requires { 1 ≤ bound }
+
+    // Whether there is room, by the definition; memory is wanting only where the tape has less.
     ensures room { OnOk result (no_room (T.memory tape.old) limit bound false (T.history tape.old) ≡ None) }
     ensures refused { IfErr result (λ r. no_room (T.memory tape.old) limit bound (is_memory r) (T.history tape.old) ≡ Some r) }
     ensures memory { result ≡ Err Refusal.OutOfMemory → T.room tape.old < bound }
+
+    // The place is marked and what followed is dropped, or all is as it was.
     ensures ok { OnOk result (T.history tape.new ≡ cut (marked (T.history tape.old))) }
     ensures reserved { OnOk result (bound ≤ T.room tape.new) }
     ensures kept { T.memory tape.new ≡ T.memory tape.old }

@@ -110,6 +110,8 @@ impl Records {
         requires few { self.old.ring.capacity ≤ longest_history }
         requires within { length self.old.ring.items ≤ self.old.ring.capacity }
         requires turns { self.old.first_turns + spec_turns_of (entry_at self.old.ring.items 0).0.work ≤ turns }
+
+        // The oldest record falls out where the ring is full: then the place's number stays, and the first place is the next one.
         ensures ring { self.new.ring ≡ buffer
             (keep_last self.old.ring.capacity (self.old.ring.items ++ (atom, false) ∷ [])) self.old.ring.capacity }
         ensures at { self.new.at ≡ (if nat_lt self.old.at self.old.ring.capacity then self.old.at + 1 else self.old.at) }

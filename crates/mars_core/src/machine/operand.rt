@@ -42,9 +42,13 @@ pub fn evaluate<const LIMITED: bool>(
     requires unlimited { LIMITED ≡ false → IsUnlimited params.now }
     requires pc { pc < params.now.core_size }
     requires number { number < params.now.core_size }
+
+    // The evaluated operand, and the one cell that it changes.
     ensures written { noted core.new result.change ≡ (evaluated params.now (unwritten core.old) pc mode number).written }
     ensures operand { result.operand ≡ addressed params.now.core_size pc
         (evaluated params.now (unwritten core.old) pc mode number).operand }
+
+    // What callers need of it.
     ensures core { IsCore params.now.core_size core.new }
     ensures fits { IsAddressed params.now.core_size result.operand }
 {

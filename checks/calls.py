@@ -1,0 +1,99 @@
+#!/usr/bin/env python3
+"""Prints each public call with its contract: the table behind docs/carry/THEOREMS.md.
+
+usage: checks/calls.py [CRATE..]
+
+A line for each call of the seven libraries and of the library for C: the call, where it stands, the labels of its clauses (a
+contract with one clause may have none), and the definitions of specs/ that they cite, as FILE.NAME.
+"""
+import glob, os, re, sys
+from dataclasses import dataclass
+
+TOP = os.path.dirname(os.path.dirname(os.path.abspath(__file__)))
+CRATES = ["mars_cell", "redcode_text", "redcode_asm", "mars_core", "mars_session", "mars_match", "mars_app", "mars_c"]
+BLOCK = re.compile(r"^(?:impl(?:<[^>]*>)?|pub trait) (\w+)(?:<[^>]*>)? \{\n(.*?)^\}", re.M | re.S)
+HEAD = re.compile(r'^( *)(?:pub )?(?:const )?(?:extern "C" )?fn (\w+)[<(].*?(?:^\1\{|;$)', re.M | re.S)
+CLAUSE = re.compile(r"^ +ensures(?: (\w+))? \{", re.M)
+CITED = re.compile(r"ghost use Rattle\.(\w+)\.specs\.([\w.]+)\.\{(.*?)\};", re.S)
+
+
+@dataclass
+class Call:
+    """A public call, and what its head says."""
+    name: str
+    place: str
+    head: str
+    ensures: bool
+    labels: list
+    definitions: list
+
+
+def cited(text):
+    """The definitions of our crates that a file brings in, each under the name that it has there."""
+    found = {}
+    for crate, file, names in CITED.findall(text):
+        if crate in CRATES and not file.startswith("declared"):
+            for name in names.split(","):
+                own, _, alias = name.strip().partition(" as ")
+                found[alias or own] = f"{file}.{own}"
+    return found
+
+
+def calls_of(path, text, block, start, owner, wanted=None):
+    """The calls of a block of a file, or those of these names."""
+    names = cited(text)
+    for head in HEAD.finditer(block):
+        public = "pub " in head[0].split("fn ")[0] or wanted is None
+        if not public or wanted is not None and head[2] not in wanted:
+            continue
+        line = text.count("\n", 0, start + head.start()) + 1
+        contract = head[0]
+        used = sorted({names[word] for word in re.findall(r"[\w']+", contract) if word in names})
+        labels = [label for label in CLAUSE.findall(contract) if label]
+        yield Call(f"{owner}{head[2]}", f"{path}:{line}", contract, "ensures" in contract, labels, used)
+
+
+def sources(crate):
+    """The source files of a crate, each with its text."""
+    folder = os.path.join(TOP, "crates", crate)
+    for path in sorted(glob.glob(os.path.join(folder, "src", "**", "*.rt"), recursive=True)):
+        yield os.path.relpath(path, folder), open(path).read()
+
+
+def exported(crate):
+    """The names that a crate hands out; those of a library for C are its exports."""
+    lib = dict(sources(crate))["src/lib.rt"]
+    named = {name: module.replace("::", "/") for module, names in re.findall(r"^pub use ([\w:]+)::(\{[^}]*\}|\w+);", lib, re.M) for name in re.findall(r"\w+", names)}
+    return named | {"laws": "laws"} if "pub mod laws;" in lib else named
+
+
+def public_calls(crate):
+    """Each public call of a crate: its functions, and the methods of its types and traits."""
+    names = exported(crate)
+    for path, text in sources(crate):
+        module = path[len("src/"):-len(".rt")]
+        if module == "laws" or module == "exports":
+            wanted, owner = {name for _, name in re.findall(r"^(pub )(?:extern \"C\" )?fn (\w+)", text, re.M)}, "laws::" if module == "laws" else ""
+        else:
+            wanted, owner = {name for name, home in names.items() if home == module}, ""
+        yield from calls_of(path, text, re.sub(r"^    .*fn ", lambda found: found[0].replace("fn ", "__ "), text, flags=re.M), 0, owner, wanted)
+        for block in BLOCK.finditer(text):
+            if block[1] in names:
+                is_trait = block[0].startswith("pub trait")
+                for call in calls_of(path, text, block[2], block.start(2), f"{block[1]}::"):
+                    if is_trait or "pub " in call.head.split("fn ")[0]:
+                        yield call
+
+
+def main():
+    crates = sys.argv[1:] or CRATES
+    if set(crates) - set(CRATES):
+        sys.exit(__doc__)
+    for crate in crates:
+        print(crate)
+        for call in public_calls(crate):
+            print(f"  {call.name}  {call.place}  {', '.join(call.labels) or '-'}  {', '.join(call.definitions) or '-'}")
+
+
+if __name__ == "__main__":
+    main()
