@@ -1,7 +1,7 @@
 -- A position that fits the words fits the battle.
 use Rattle.std.proofs.Common.{◌≡◌, ℕ, Option, Some, None, IfSome, vec_len, arith}
 use Rattle.mars_cell.specs.Parameters.{Parameters}
-use Rattle.mars_app.specs.Loading.{FitsTwo}
+use Rattle.mars_match.specs.Placement.{FitsTwo}
 use Rattle.mars_app.specs.Code.Allowed.{HaveFittingPosition, IsFittingPosition}
 use Rattle.mars_app.specs.declared.options.Options.{Options}
 

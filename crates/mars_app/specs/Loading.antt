@@ -18,10 +18,6 @@ use Rattle.mars_app.specs.declared.files.FileFault.TheVariants.{CannotRead, OutO
 abbrev pub AllFit : ℕ → List WarriorValue → Type 0
 AllFit core_size warriors = All (λ (w : WarriorValue). All (FitsCore core_size) w.cells) warriors
 
--- a position that is given is that of the second of two warriors, far enough from the first
-abbrev pub FitsTwo : Parameters → ℕ → Option ℕ → Type 0
-FitsTwo p warriors fixed = IfSome fixed (λ position. (warriors ≡ 2) × (p.distance ≤ position) × (position ≤ p.core_size - p.distance))
-
 -- a file's name in the line of a fault: each control character is ?, so that the fault stays one line
 abbrev pub shown_character : ℕ → ℕ
 shown_character c = if is_control c then 63 else c

@@ -11,7 +11,8 @@ ghost use Rattle.mars_match.specs.declared.table.Table.{Table};
 ghost use Rattle.mars_cell.specs.Output.{CutShort};
 ghost use Rattle.mars_app.specs.Code.Plans.{planned};
 ghost use Rattle.mars_app.specs.Contests.{BreaksOff, ContestFails, fault_of, listed, listing, listing_head};
-ghost use Rattle.mars_app.specs.Loading.{AllFit, FitsTwo};
+ghost use Rattle.mars_app.specs.Loading.{AllFit};
+ghost use Rattle.mars_match.specs.Placement.{FitsTwo};
 ghost use Rattle.mars_core.specs.Limits.{most_warriors};
 
 use crate::fault::RunFault;

@@ -1,15 +1,16 @@
 //! What ends a run, and with which status.
-ghost use Rattle.std.specs.Prelude.{◌≡◌, ◌≤◌};
+ghost use Rattle.std.specs.Prelude.{◌≡◌, ◌≤◌, None};
 
 use mars_cell::{LoadFault, ParamFault};
 use mars_core::BattleFault;
 use mars_match::PlaceFault;
 use redcode_asm::{AsmFault, FormulaFault};
 use redcode_text::ExprFault;
+use std::fmt::{self, Debug, Formatter};
 use thiserror::Error;
 
 /// Why a run ends with another status than 0. It is displayed as the line for it.
-#[derive(Debug, Drop, Error)]
+#[derive(Drop, Error)]
 pub enum RunFault {
     #[error("mars: bad words")]
     Words,
@@ -37,6 +38,15 @@ pub enum RunFault {
     Output,
     #[error("mars: cannot read the commands")]
     Commands,
+}
+
+// As its line: a derive is dear to prove, and `Error` alone asks for this.
+impl Debug for RunFault {
+    ghost debug_output = { λ _. None };
+
+    fn fmt<W: fmt::Write>(&self, f: &mut Formatter<W>) -> fmt::Result {
+        write!(f, "{self}")
+    }
 }
 
 impl RunFault {

@@ -206,7 +206,7 @@ fn load_fault(alloc: Global, name: &str, fault: LoadFault) -> RunFault
 fn assembly_fault(alloc: Global, name: &str, fault: AsmFault) -> RunFault
     ensures { IsAssemblyFault name.now fault result }
 {
-    if let AsmProblem::OutOfMemory = fault.problem {
+    if fault.problem == AsmProblem::OutOfMemory {
         return RunFault::OutOfMemory;
     }
     match shown_name(alloc, name) {

@@ -1,14 +1,13 @@
 //! The program `mars`, over files and streams that are handed in.
-ghost use Rattle.std.specs.Prelude.{◌≡◌, ◌≢◌, ◌≤◌, ◌⊎◌, ℕ, IfErr, IfOk, List, Ok, OnOk, Vec, length, map, string_bytes, vec_len};
+ghost use Rattle.std.specs.Prelude.{◌≡◌, ◌≢◌, ◌≤◌, ◌⊎◌, ℕ, IfErr, IfOk, List, Ok, OnOk, length, map, string_bytes, vec_len};
 ghost use Rattle.std.specs.Global.{Global};
 ghost use Rattle.std.specs.Io.KnownBytes.{Appends, Keeps};
 ghost use Rattle.mars_core.specs.State.{State};
-ghost use Rattle.mars_match.specs.Answers.{IsAnswer};
-ghost use Rattle.mars_match.specs.Rounds.{placed_for};
 ghost use Rattle.mars_cell.specs.Output.{CutShort};
 ghost use Rattle.mars_app.specs.Contests.{contest_size};
 ghost use Rattle.mars_app.specs.Debugging.{DebugsInPart, DebugsWell, StartsNothing, Untouched, first_round, session_at};
-ghost use Rattle.mars_app.specs.Loading.{AllFit, FitsTwo, IsLoadFileOf};
+ghost use Rattle.mars_app.specs.Loading.{AllFit, IsLoadFileOf};
+ghost use Rattle.mars_match.specs.Placement.{FitsTwo};
 ghost use Rattle.mars_app.specs.Code.Allowed.{AreInRange, IsBetween};
 ghost use Rattle.mars_app.specs.Code.Settings.{AreSettingsOf, IsRefused, PlaysInPart, PlaysWell};
 ghost use Rattle.mars_app.specs.Options.{Ask, parameters_of, value_of};
@@ -28,7 +27,7 @@ use crate::loading::{Contest, load_file_of, load_warriors};
 use crate::options::{Options, WordsFault, read_options};
 use mars_cell::{ParamFault, Params, Warrior};
 use mars_core::Battle;
-use mars_match::{MatchFault, PlaceFault, Plan, place};
+use mars_match::{MatchFault, Plan, round_starts};
 use mars_session::{RingTape, Session};
 use redcode_asm::{Formula, FormulaFault};
 use std::alloc::Global;
@@ -275,40 +274,14 @@ fn debug_round<R: Read, W: Write>(
         ⊎ ((s : State) × (first_round options.now params.now warriors.now ≡ Ok s)
         × DebugsInPart fault (session_at options.now.history s) s.params.core_size (R.remaining input.old) (R.remaining input.new) (W.contents output.old) (W.contents output.new))) }
 {
-    let (starts, _seed) = match place_first(alloc, options, params, warriors.len() as u32) {
+    let count = warriors.len() as u32;
+    let (starts, _seed) = match round_starts(alloc, params, count, options.fixed, options.seed) {
         Ok(placed) => placed,
         Err(fault) => return Err(match_fault(fault)),
     };
     match Battle::new(alloc, params, warriors, &starts) {
         Ok(battle) => debug_battle(alloc, battle, options.history, input, output),
         Err(fault) => Err(match_fault(MatchFault::Battle(fault))),
-    }
-}
-
-/// Where the warriors of round 0 are laid, and the seed that is left.
-fn place_first(
-    alloc: Global,
-    options: &Options,
-    params: &Params,
-    warriors: u32,
-) -> Result<(Vec<u32>, u32), MatchFault>
-    requires some { 1 ≤ warriors }
-    requires few { warriors ≤ most_warriors }
-    requires position { FitsTwo params.now warriors options.now.fixed }
-    ensures value { IsAnswer (λ (placed : Vec ℕ Global × ℕ). (placed.0.items, placed.1))
-        (placed_for params.now warriors options.now.fixed options.now.seed) result }
-    ensures many { IfOk result (λ placed. vec_len placed.0 ≡ warriors) }
-{
-    let Some(position) = options.fixed else {
-        return match place(alloc, params, warriors, options.seed) {
-            Ok(placed) => Ok(placed),
-            Err(PlaceFault::OutOfMemory) => Err(MatchFault::OutOfMemory),
-            Err(fault) => Err(MatchFault::Place(fault)),
-        };
-    };
-    match vec![in alloc; 0, position] {
-        Ok(starts) => Ok((starts, options.seed)),
-        Err(_) => Err(MatchFault::OutOfMemory),
     }
 }
 

@@ -1,10 +1,7 @@
+pub mod CallerLemmas
 pub mod Digits
 pub mod FirstLine
+pub mod ForLaws
 pub mod Heads
 pub mod Listings
 pub mod PartsOf
-pub mod RoundTrip
-pub mod Values
-pub mod WrittenLines
-pub mod CutShort
-pub mod CallerLemmas

@@ -1,5 +1,5 @@
 -- Where the warriors of a battle are laid.
-use Rattle.std.specs.Prelude.{ℕ, zero, suc, ◌+◌, ◌-◌, ◌*◌, ◌%◌, ◌<◌, ◌≤◌, ◌≢◌, ◌&&◌, not, nat_lt, nat_le, if◌then◌else◌, List, [], ◌∷◌, length, Option, None, Some, swap, slice_index_or}
+use Rattle.std.specs.Prelude.{◌≡◌, ℕ, zero, suc, ◌+◌, ◌-◌, ◌*◌, ◌%◌, ◌<◌, ◌≤◌, ◌≢◌, ◌&&◌, not, nat_lt, nat_le, if◌then◌else◌, List, [], ◌∷◌, length, Option, None, Some, IfSome, swap, slice_index_or}
 use Rattle.mars_cell.specs.Parameters.{Parameters}
 use Rattle.mars_match.specs.declared.placement.PlaceFault.{PlaceFault}
 use Rattle.mars_match.specs.declared.placement.PlaceFault.TheVariants.{NoRoom, BadSeed}
@@ -77,3 +77,7 @@ pub record AreApart (core_size distance a b : ℕ) : Type 0 where
 pub record IsSpaced (core_size distance : ℕ) (starts : List ℕ) : Type 0 where
   pub inside : (i : ℕ) → i < length starts → slice_index_or starts i 0 < core_size
   pub apart : (i j : ℕ) → i ≢ j → i < length starts → j < length starts → AreApart core_size distance (slice_index_or starts i 0) (slice_index_or starts j 0)
+
+-- a position that is given is that of the second of two warriors, far enough from the first both ways round the core
+abbrev pub FitsTwo : Parameters → ℕ → Option ℕ → Type 0
+FitsTwo p warriors fixed = IfSome fixed (λ position. (warriors ≡ 2) × (p.distance ≤ position) × (position ≤ p.core_size - p.distance))

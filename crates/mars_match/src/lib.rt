@@ -1,7 +1,8 @@
 //! Matches: where warriors are laid, the battle of a round, the rounds of a match, and the text of results.
 //!
 //! The layers above may use: `place` gives exactly the defined starts and next seed (`specs/Placement`), or its first
-//! fault; any two of the starts lie at least the least distance apart, both ways round the core. `fight` tells who survives a
+//! fault; any two of the starts lie at least the least distance apart, both ways round the core. `round_starts` is that, or a fixed
+//! position of the second of two. `fight` tells who survives a
 //! round (`specs/Battles`), `rounds` gives the table of a match (`specs/Rounds`), and `league` that of a league
 //! (`specs/Leagues`), each or its first fault, or want of memory (`specs/Answers`). `write_results` writes exactly the
 //! defined text of a table (`specs/Results`), or, where the writer fails, a beginning of it; it takes no memory. What
@@ -14,6 +15,7 @@ pub mod laws;
 mod matches;
 mod placement;
 mod report;
+mod starts;
 mod table;
 
 pub use fault::MatchFault;
@@ -21,4 +23,5 @@ pub use fights::fight;
 pub use matches::{Plan, league, rounds};
 pub use placement::{GREATEST_SEED, PlaceFault, place};
 pub use report::write_results;
+pub use starts::round_starts;
 pub use table::{Row, Table};

@@ -4,7 +4,8 @@ ghost use Rattle.mars_core.specs.State.{State};
 ghost use Rattle.mars_match.specs.Answers.{IsAnswer};
 ghost use Rattle.mars_match.specs.Battles.{lives, count_fault};
 ghost use Rattle.mars_match.specs.Code.Lineups.{HasRoom};
-ghost use Rattle.mars_match.specs.Rounds.{placed_for, round_score, ended, fits_in_64, checked_rows, table_of};
+ghost use Rattle.mars_match.specs.Placement.{FitsTwo};
+ghost use Rattle.mars_match.specs.Rounds.{round_score, ended, fits_in_64, checked_rows, table_of};
 ghost use Rattle.mars_match.specs.declared.table.Table.{Table};
 ghost use Rattle.mars_match.specs.Tables.{RowValue};
 ghost use Rattle.mars_match.specs.Code.Tallies.{no_rounds as spec_no_rounds, most_before, most_rounds, most_row, outcome_by, tallied, IsOf, row_with, rows_with};
@@ -16,7 +17,7 @@ ghost use Rattle.mars_match.specs.declared.table.Tally.{Tally};
 
 use crate::fault::MatchFault;
 use crate::fights::{Lineup, check_count, fight_round};
-use crate::placement::{find_fault, place_all};
+use crate::starts::place_round;
 use crate::table::{Row, Table, Tally, add_round, no_rounds};
 use mars_cell::{Params, Warrior};
 use mars_core::Battle;
@@ -36,30 +37,6 @@ pub struct Plan {
     pub fixed: Option<u32>,
     /// What each survivor of a round gets.
     pub formula: Formula,
-}
-
-/// The starts of a round. Gives the seed that is left.
-fn place_round(
-    params: &Params,
-    fixed: Option<u32>,
-    seed: u32,
-    starts: &mut [u32],
-) -> Result<u32, MatchFault>
-    requires some { 1 ≤ length starts.old }
-    requires few { length starts.old ≤ most_warriors }
-    requires fixed { IfSome fixed (λ position. length starts.old ≡ 2) }
-    ensures { MatchResult result (λ left. placed_for params.now (length starts.old) fixed seed ≡ Ok (starts.new, left))
-        (λ fault. placed_for params.now (length starts.old) fixed seed ≡ Err fault) }
-{
-    if let Some(position) = fixed {
-        starts[0] = 0;
-        starts[1] = position;
-        return Ok(seed);
-    }
-    if let Some(fault) = find_fault(params, starts.len() as u32, seed) {
-        return Err(MatchFault::Place(fault));
-    }
-    Ok(place_all(params, seed, starts))
 }
 
 /// What each survivor of a battle gets.
@@ -206,9 +183,7 @@ pub fn rounds(
     warriors: &[Warrior],
     plan: &Plan,
 ) -> Result<Table, MatchFault>
-    requires fixed { IfSome plan.now.fixed
-        (λ position. (length warriors.now ≡ 2) × (params.now.distance ≤ position)
-        × (position ≤ params.now.core_size - params.now.distance)) }
+    requires fixed { FitsTwo params.now (length warriors.now) plan.now.fixed }
     ensures count { IfSome (count_fault (length warriors.now)) (λ fault. result ≡ Err (MatchFault.Battle fault)) }
     ensures table { IsAnswer (λ (table : Table). table.rows.items)
         (table_of params.now warriors.now plan.now.formula plan.now.fixed plan.now.rounds plan.now.seed) result }
@@ -336,9 +311,7 @@ pub fn league(
     plan: &Plan,
 ) -> Result<Table, MatchFault>
     requires few { length warriors.now ≤ most_of_league }
-    requires fixed { IfSome plan.now.fixed
-        (λ position. (length warriors.now ≡ 2) × (params.now.distance ≤ position)
-        × (position ≤ params.now.core_size - params.now.distance)) }
+    requires fixed { FitsTwo params.now (length warriors.now) plan.now.fixed }
     ensures table { IsAnswer (λ (table : Table). table.rows.items)
         (league_of params.now warriors.now plan.now.formula plan.now.fixed plan.now.rounds plan.now.seed) result }
 {

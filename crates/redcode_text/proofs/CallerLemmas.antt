@@ -2,37 +2,31 @@
 -- another, and programs that are the same, name for name, whose definitions they don't see into.
 use Rattle.std.specs.Bool.{⊤}
 use Rattle.std.proofs.lemmas.List.{length-map, map-append}
-use Rattle.std.proofs.Common.{◌≡◌, ◌∙◌, ℕ, zero, suc, ◌+◌, ℤ, pos, List, [], ◌∷◌, ◌++◌, length, Bool, true, false, nat_le, Option, Some, None, Result, Ok, Err, refl, ap, sym, subst, arith}
+use Rattle.std.proofs.Common.{◌≡◌, ◌∙◌, ℕ, zero, suc, ◌+◌, List, [], ◌∷◌, ◌++◌, length, Bool, true, false, nat_le, Option, Some, None, Result, Ok, Err, refl, ap, sym, subst, arith}
 use Rattle.redcode_text.specs.Results.{◌>>=◌}
-use Rattle.redcode_text.specs.declared.token.TokenKind.{TokenKind}
-use Rattle.redcode_text.specs.declared.token.TokenKind.TheVariants.{Number, Name}
-use Rattle.redcode_text.specs.declared.token.TokenKind.TheVariants as token
-use Rattle.redcode_text.specs.declared.fault.ExprFault.{ExprFault}
 use Rattle.redcode_text.specs.declared.fault.TextProblem.{TextProblem}
 use Rattle.redcode_text.specs.declared.fault.TextProblem.TheVariants.{TooLong}
 use Rattle.redcode_text.specs.declared.token.Token.{Token}
 use Rattle.redcode_text.specs.Equates.{Equate, Replaced, Replacing, depth_limit, each_replaced, kept, limit, one_line, one_more, replaced_name, replaced_token, replacing, substitution, token_lines}
 use Rattle.redcode_text.specs.Tokens.{without_line}
-use Rattle.redcode_text.specs.Expression.{kinds, known, shape, start, value_of}
-use Rattle.redcode_text.specs.Code.Climbing.{State, move, operand, run, wants}
-use Rattle.redcode_text.proofs.Evaluates.{evaluates, value_of-misshapen}
-pub use Rattle.redcode_text.proofs.PrintedNames.{program-printed}
-pub use Rattle.redcode_text.proofs.Moved.{kinds-moved, moved_tokens, substitution-moved}
-use Rattle.redcode_text.proofs.Moved.{only_tokens, only-tokens, without-lines}
-pub use Rattle.redcode_text.proofs.HeadLines.{author-read, code-whole, load-read, name-read, start-kind}
-pub use Rattle.redcode_text.proofs.KeptNames.{KeepNames, named-with, with-keeps}
-pub use Rattle.redcode_text.proofs.LineRead.{line_more, operation-read, operation_more}
-pub use Rattle.redcode_text.proofs.PlainRows.{IsPlain, all-read, each_row, ended, plain-tree, row-read}
-pub use Rattle.redcode_text.proofs.TokensRead.{Leads, Seen, blank-leads, decimal-is, end-leads, name-leads, number-leads, token-leads}
+use Rattle.redcode_text.specs.Expression.{kinds}
+pub use Rattle.redcode_text.proofs.ForLaws.PrintedNames.{program-printed}
+pub use Rattle.redcode_text.proofs.ForLaws.Moved.{kinds-moved, moved_tokens, substitution-moved}
+use Rattle.redcode_text.proofs.ForLaws.Moved.{only_tokens, only-tokens, without-lines}
+pub use Rattle.redcode_text.proofs.ForLaws.HeadLines.{author-read, code-whole, load-read, name-read, start-kind}
+pub use Rattle.redcode_text.proofs.ForLaws.KeptNames.{KeepNames, named-with, with-keeps}
+pub use Rattle.redcode_text.proofs.ForLaws.LineRead.{line_more, operation-read, operation_more}
+pub use Rattle.redcode_text.proofs.ForLaws.PlainRows.{IsPlain, all-read, each_row, ended, plain-tree, row-read}
+pub use Rattle.redcode_text.proofs.ForLaws.TokensRead.{Leads, Seen, blank-leads, decimal-is, end-leads, name-leads, number-leads, token-leads}
 pub use Rattle.redcode_text.specs.Trees.{spelling, is_prefix, IsLevelled}
 pub use Rattle.redcode_text.proofs.Trees.{rank-≤5}
 pub use Rattle.redcode_text.proofs.Shapes.{shaped}
 pub use Rattle.redcode_text.proofs.Splits.{tree-spelled}
-pub use Rattle.redcode_text.proofs.Agreement.{Agree, AgreeOption, Pairwise, Same, agree-after, agree-bind, agree-same, agree-value, pairwise-filter, pairwise-last, pairwise-length}
-pub use Rattle.redcode_text.proofs.AlikeValues.{substitution-same, value-same}
+pub use Rattle.redcode_text.proofs.ForLaws.Agreement.{Agree, AgreeOption, Pairwise, Same, agree-after, agree-bind, agree-same, agree-value, pairwise-filter, pairwise-last, pairwise-length}
+pub use Rattle.redcode_text.proofs.ForLaws.AlikeValues.{substitution-same, value-same}
 pub use Rattle.redcode_text.proofs.Named.{AreDistinct, IsNamed}
-pub use Rattle.redcode_text.proofs.SameNames.{SameAssert, SameEquate, SameKind, SameLine, SameName, SameToken, SameTokens, asserts-same, equates-same, index-same, lines-same}
-pub use Rattle.redcode_text.proofs.SourcePrograms.{loops-written-out, source-named}
+pub use Rattle.redcode_text.proofs.ForLaws.SameNames.{SameAssert, SameEquate, SameKind, SameLine, SameName, SameToken, SameTokens, asserts-same, equates-same, index-same, lines-same}
+pub use Rattle.redcode_text.proofs.ForLaws.SourcePrograms.{loops-written-out, source-named}
 
 -- ---- tokens of the same kinds, wherever they stand
 

@@ -1,10 +1,8 @@
 -- The joins of a word, one further.
-use Rattle.std.proofs.Common.{◌≤◌, Option, Result, zero, append_assoc, ◌≡◌, ℕ, suc, ◌+◌, ◌-◌, ◌<◌, List, [], ◌∷◌, ◌++◌, length, drop, take, Bool, true, false, not, ◌==◌, ◌||◌, cond, Some, None, Ok, Err, refl, ap, sym, ◌∙◌, arith, add-one, drop-drop}
-use Rattle.std.proofs.Math.Seq.{drop-cons, take-add}
-use Rattle.std.proofs.lemmas.List.{take-append-drop}
+use Rattle.std.proofs.Common.{◌≡◌, ℕ, suc, ◌+◌, ◌-◌, ◌<◌, List, [], ◌∷◌, ◌++◌, length, drop, take, Bool, true, false, not, ◌==◌, ◌||◌, cond, Some, None, Ok, Err, refl, ap, sym, ◌∙◌, arith, add-one, drop-drop}
+use Rattle.std.proofs.Math.Seq.{drop-cons}
 use Rattle.std.specs.List.{onto_first, prefix_len, list_any}
 use Rattle.redcode_text.specs.Results.{◌>>=◌}
-use Rattle.redcode_text.specs.declared.fault.TextProblem.{TextProblem}
 use Rattle.redcode_text.specs.declared.fault.TextProblem.TheVariants.{BadToken}
 use Rattle.redcode_text.specs.Tokens.{OpenLoop, round_of, round_or_bad, round_digits, parts_at_joins, join_counters, join_parts, joined}
 

@@ -1,6 +1,5 @@
 -- The tokens of a row, as the code reads them.
-use Rattle.std.proofs.Common.{◌≡◌, ℕ, zero, suc, ◌+◌, ◌-◌, ◌<◌, ◌≤◌, List, [], ◌∷◌, length, drop, take, Bool, true, false, not, ◌==◌, cond, Result, Ok, refl, ap, sym, ◌∙◌, arith, subst}
-use Rattle.std.proofs.lemmas.List.{drop-drop}
+use Rattle.std.proofs.Common.{◌≡◌, ℕ, suc, ◌+◌, ◌-◌, List, [], ◌∷◌, length, drop, take, Bool, true, false, not, ◌==◌, cond, Result, Ok, refl, ap, sym, ◌∙◌, arith, subst}
 use Rattle.std.specs.List.{prefix_len}
 use Rattle.redcode_text.specs.Results.{◌>>=◌}
 use Rattle.redcode_text.specs.declared.fault.TextProblem.{TextProblem}
@@ -12,10 +11,11 @@ use Rattle.redcode_text.specs.Source.{Row}
 use Rattle.redcode_text.specs.Tokens.{Scanned, scan_from, tokens}
 use Rattle.redcode_text.proofs.Failing.{fails-bind}
 
+-- whether a byte begins no comment
 abbrev no_comment : ℕ → Bool
 no_comment b = not (b == 59)
 
-comment-first : (bs : List ℕ) → take (prefix_len no_comment bs) bs ≡ before_comment bs
+pub comment-first : (bs : List ℕ) → take (prefix_len no_comment bs) bs ≡ before_comment bs
 comment-first [] = refl
 comment-first (b ∷ bs) = go (b == 59) (comment-first bs)
   where
@@ -23,32 +23,6 @@ comment-first (b ∷ bs) = go (b == 59) (comment-first bs)
         → take (cond (not t) (1 + prefix_len no_comment bs) 0) (b ∷ bs) ≡ elim t as (λ _. List ℕ) [ true ↦ [] | false ↦ b ∷ before_comment bs ]
     go true h = refl
     go false h = let e : 1 + prefix_len no_comment bs ≡ suc (prefix_len no_comment bs) = omega arith in rw e (ap (λ l. b ∷ l) h)
-
--- how many bytes stand before a comment from a place on that stands before it
-pub behind-prefix : (bs : List ℕ) (at : ℕ) → at ≤ prefix_len no_comment bs → prefix_len no_comment (drop at bs) ≡ prefix_len no_comment bs - at
-behind-prefix bs zero e = omega arith
-behind-prefix [] (suc at) e = omega arith
-behind-prefix (b ∷ bs) (suc at) e = go (b == 59) e (behind-prefix bs at)
-  where
-    go : (t : Bool) → suc at ≤ cond (not t) (1 + prefix_len no_comment bs) 0 → (at ≤ prefix_len no_comment bs → prefix_len no_comment (drop at bs) ≡ prefix_len no_comment bs - at)
-        → prefix_len no_comment (drop at bs) ≡ cond (not t) (1 + prefix_len no_comment bs) 0 - suc at
-    go true h on = absurd (omega (arith, h))
-    go false h on = omega (arith, on (omega (arith, h)))
-
--- the same behind the first `;`
-pub behind-comment : (bs : List ℕ) (at code comment : ℕ) → code < at → comment ≡ prefix_len no_comment (drop (code + 1) bs) → at - code - 1 ≤ comment
-    → comment - (at - code - 1) ≡ prefix_len no_comment (drop at bs)
-behind-comment bs at code comment less e within =
-    let there : code + 1 + (at - code - 1) ≡ at = omega (arith, less) in
-    ap (λ n. n - (at - code - 1)) e
-    ∙ sym (behind-prefix (drop (code + 1) bs) (at - code - 1) (omega (arith, e, within)))
-    ∙ ap (prefix_len no_comment) (drop-drop (at - code - 1) (code + 1) bs ∙ ap (λ n. drop n bs) there)
-
--- what is read, from a place on up to a comment
-pub code-is : (bs : List ℕ) (at k : ℕ) → k ≡ prefix_len no_comment (drop at bs) → take (at + k - at) (drop at bs) ≡ before_comment (drop at bs)
-code-is bs at k e =
-    let n : at + k - at ≡ k = omega arith in
-    ap (λ n. take n (drop at bs)) (n ∙ e) ∙ comment-first (drop at bs)
 
 module _ (st : Reading) (row : Row) (at : ℕ) (code : List ℕ) (before : List Token) (is : code ≡ before_comment (drop at row.bytes)) (none : before ≡ []) where
   abbrev read : Result Scanned TextProblem

@@ -3,24 +3,31 @@ ghost use Rattle.std.specs.Prelude.{◌≡◌, ◌≤◌, ◌<◌, ◌+◌, ◌^
 ghost use Rattle.redcode_text.specs.Outcomes.{Answers};
 ghost use Rattle.redcode_text.specs.Views.{scan_of};
 ghost use Rattle.redcode_text.specs.Code.Problems.{Gives};
-ghost use Rattle.redcode_text.specs.Code.Scanning.{found_alone, with_names};
-ghost use Rattle.redcode_text.specs.Code.Scanning.{one_token};
+ghost use Rattle.redcode_text.specs.Code.Scanning.{found_alone, one_token, with_names};
 ghost use Rattle.redcode_text.specs.Code.SourceLoops.{loops_of};
 ghost use Rattle.redcode_text.specs.Tokens.{begins_word, is_blank, scan_from, scanned, sign_token, token_at};
 
 pub mod open_loops;
 pub mod source_names;
-pub mod text;
 mod words;
 
 use crate::characters::{begins_word, is_blank, word_len};
 use crate::fault::{TextFault, TextProblem};
 use crate::lexer::source_names::SourceNames;
-use crate::lexer::text::Text;
 use crate::lexer::words::read_word;
 use crate::names::NameTable;
 use crate::token::{Spelled, Token, TokenKind, one_byte_sign, two_byte_sign};
 use std::alloc::Global;
+
+/// The part of a line that is read as tokens.
+#[derive(Clone, Copy)]
+pub struct Text<'a> {
+    /// The number of its line, from 1.
+    pub number: usize,
+    /// The index of its first byte in the source.
+    pub at: usize,
+    pub bytes: &'a [u8],
+}
 
 /// The sign at the front of some bytes: one of two bytes goes before one of one byte.
 fn read_sign(bytes: &[u8]) -> Result<Spelled, TextProblem>

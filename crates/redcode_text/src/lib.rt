@@ -13,7 +13,7 @@
 //!     reader/ordinary    labels, operation, rest; where the operation is an EQU name, its lines (reader/used_lines) in its place
 //! reader             all that has been read so far, within `limits`; what a name is
 //! expansion          what is kept of it: a `program`
-//! names/equates      later, for each operand: EQU names -> their tokens
+//! equates            later, for each operand: EQU names -> their tokens
 //! expression         tokens -> a value
 //! ```
 //!
@@ -44,6 +44,7 @@
 #![tactic(auto)]
 
 mod characters;
+mod equates;
 mod expansion;
 mod expression;
 mod fault;

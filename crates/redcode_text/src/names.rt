@@ -4,7 +4,6 @@ ghost use Rattle.std.specs.Str.{str_eq_ignore_ascii_case};
 ghost use Rattle.redcode_text.specs.Lines.{name_at};
 ghost use Rattle.redcode_text.specs.Tokens.{name_index, with_name};
 
-pub mod equates;
 pub mod predefined;
 pub mod set;
 

@@ -2,9 +2,9 @@
 ghost use Rattle.std.specs.Prelude.{◌≡◌};
 ghost use Rattle.redcode_text.specs.Lines.{is_end, is_instruction, is_spelled};
 
+use crate::equates::Equates;
 use crate::fault::TextFault;
 use crate::names::NameTable;
-use crate::names::equates::Equates;
 use crate::token::Token;
 use std::alloc::Global;
 use std::marker::Model;

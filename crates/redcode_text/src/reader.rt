@@ -15,16 +15,15 @@ pub mod repeat;
 mod used_lines;
 
 use crate::characters::is_word;
+use crate::equates::Equates;
 use crate::fault::TextProblem;
-use crate::lexer::read_tokens;
 use crate::lexer::source_names::SourceNames;
-use crate::lexer::text::Text;
+use crate::lexer::{Text, read_tokens};
 use crate::limits::{MAX_LINES, MAX_TOKENS};
-use crate::names::equates::Equates;
 use crate::names::predefined::PredefinedNames;
 use crate::names::set::NameSet;
 use crate::program::{Assert, Line};
-use crate::source::row::Row;
+use crate::source::row::{Row, before_comment};
 use crate::token::{Sign, Token, TokenKind};
 use std::alloc::{AllocError, Global};
 
@@ -152,7 +151,7 @@ impl Reading {
         let code = Text {
             number: row.number,
             at: row.at + at,
-            bytes: &row.bytes[at..at + row.code_len(at)],
+            bytes: before_comment(&row.bytes[at..]),
         };
         let mut tokens = Vec::new(alloc);
         let room = MAX_TOKENS - self.tokens_read;

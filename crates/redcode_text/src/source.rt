@@ -45,7 +45,7 @@ pub fn read_rows<'r, 'a>(rows: &'r [Row<'a>]) -> &'r [Row<'a>]
     ensures { map row_of result.now ≡ read_rows (map row_of rows.now) }
 {
     for at in 0..rows.len() {
-        if has_directive(b";redcode", rows[at].bytes, rows[at].indent()) {
+        if has_directive(b";redcode", rows[at].bytes) {
             return &rows[at..];
         }
     }

@@ -9,7 +9,7 @@ ghost use Rattle.redcode_text.specs.Code.Rows.{row_of};
 use crate::fault::TextProblem;
 use crate::program::Assert;
 use crate::reader::Reading;
-use crate::source::directives::{Comment, directive_value};
+use crate::source::directives::{Comment, comment_of, directive_value};
 use crate::source::row::Row;
 use std::alloc::Global;
 
@@ -19,7 +19,7 @@ impl Reading {
         requires fits { row.at + length row.bytes.now < 2 ^ 64 }
         ensures value { Gives (λ _. reading_of self.new) result (comment_line (row_of row.entry) (reading_of self.old)) }
     {
-        match row.comment() {
+        match comment_of(row.bytes) {
             Comment::Name(text) => self.take_name(alloc, text),
             Comment::Author(text) => self.take_author(alloc, text),
             Comment::Assert(at) => self.read_assert(alloc, row, at),

@@ -13,34 +13,29 @@ use crate::fault::TextProblem;
 use crate::limits::MAX_NAME;
 use std::alloc::Global;
 
-/// Whether a line begins, behind so many blanks, with these bytes in either case.
-pub fn has_directive(directive: &[u8], bytes: &[u8], indent: usize) -> bool
-    requires indent { indent ≡ blank_len bytes.now }
-    requires inside { indent ≤ length bytes.now }
-    requires low { str_to_ascii_lowercase directive.now ≡ directive.now }
+/// Whether a line begins, behind blanks, with these bytes in either case.
+pub fn has_directive(directive: &[u8], bytes: &[u8]) -> bool
+    requires { str_to_ascii_lowercase directive.now ≡ directive.now }
     ensures value { result ≡ starts_with nat_eq (str_to_ascii_lowercase (without_blanks bytes.now)) directive.now }
     ensures within { result ≡ true → blank_len bytes.now + length directive.now ≤ length bytes.now }
 {
-    let text = &bytes[indent..];
+    let text = &bytes[blank_len(bytes)..];
     if text.len() < directive.len() {
         return false;
     }
     is_word(directive, &text[..directive.len()])
 }
 
-/// Where the text of a directive begins, where a line, which so many blanks begin, is that directive: a blank or nothing stands
-/// behind its word.
-fn directive_text_at(directive: &[u8], bytes: &[u8], indent: usize) -> Option<usize>
-    requires indent { indent ≡ blank_len bytes.now }
-    requires inside { indent ≤ length bytes.now }
-    requires low { str_to_ascii_lowercase directive.now ≡ directive.now }
+/// Where the text of a directive begins, where a line is that directive: a blank or nothing stands behind its word.
+fn directive_text_at(directive: &[u8], bytes: &[u8]) -> Option<usize>
+    requires { str_to_ascii_lowercase directive.now ≡ directive.now }
     ensures value { result ≡ text_found directive.now bytes.now }
     ensures within { IfSome result (λ at. at ≤ length bytes.now) }
 {
-    if !has_directive(directive, bytes, indent) {
+    if !has_directive(directive, bytes) {
         return None;
     }
-    let at = indent + directive.len();
+    let at = blank_len(bytes) + directive.len();
     match &bytes[at..] {
         [first, ..] if !is_blank(*first) => None,
         _ => Some(at),
@@ -115,20 +110,18 @@ pub enum Comment<'a> {
     Other,
 }
 
-/// What a line says that so many blanks begin, as a comment.
-pub fn comment_of<'a>(bytes: &'a [u8], indent: usize) -> Comment<'a>
-    requires indent { indent ≡ blank_len bytes.now }
-    requires inside { indent ≤ length bytes.now }
+/// What a line says, as a comment.
+pub fn comment_of(bytes: &[u8]) -> Comment<'_>
     ensures value { said_of result ≡ said bytes.now }
     ensures inside { assert_place result ≤ length bytes.now }
 {
-    if let Some(at) = directive_text_at(b";name", bytes, indent) {
+    if let Some(at) = directive_text_at(b";name", bytes) {
         return Comment::Name(trimmed(&bytes[at..]));
     }
-    if let Some(at) = directive_text_at(b";author", bytes, indent) {
+    if let Some(at) = directive_text_at(b";author", bytes) {
         return Comment::Author(trimmed(&bytes[at..]));
     }
-    match directive_text_at(b";assert", bytes, indent) {
+    match directive_text_at(b";assert", bytes) {
         Some(at) => Comment::Assert(at),
         None => Comment::Other,
     }

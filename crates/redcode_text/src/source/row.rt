@@ -1,13 +1,12 @@
 //! A line of a source, and what kind it is of.
-ghost use Rattle.std.specs.Prelude.{◌≡◌, ◌≤◌, ◌<◌, ◌+◌, ◌==◌, not, drop, length, IfSome};
+ghost use Rattle.std.specs.Prelude.{◌≡◌, ◌≤◌, ◌==◌, length, not, IfSome};
 ghost use Rattle.std.specs.List.{prefix_len};
 ghost use Rattle.redcode_text.specs.Bytes.{semicolon};
-ghost use Rattle.redcode_text.specs.Code.Comments.{assert_place, said, said_of};
 ghost use Rattle.redcode_text.specs.Code.Kinds.{IsKind, kind_of, word_place};
-ghost use Rattle.redcode_text.specs.Source.{blank_len, is_comment, first_word_at, has_word, leading_word_at, line_kind, past_blanks, past_colon, past_word, second_word_at};
+ghost use Rattle.redcode_text.specs.Lines.{before_comment};
+ghost use Rattle.redcode_text.specs.Source.{is_comment, first_word_at, has_word, leading_word_at, line_kind, past_blanks, past_colon, past_word, second_word_at};
 
 use crate::characters::{blank_len, is_word, word_len};
-use crate::source::directives::{Comment, comment_of};
 
 /// What a line is, with the place of its word FOR or EQU.
 #[derive(Clone, Copy, PartialEq, Eq)]
@@ -111,20 +110,15 @@ fn code_len(bytes: &[u8]) -> usize
     bytes.iter().take_while(|byte| **byte != b';').count()
 }
 
-/// How many bytes behind the first `;`, which stands at a place, stand before the next one.
-fn comment_len(bytes: &[u8], at: usize) -> usize
-    requires { at ≤ length bytes.now }
-    ensures value { result ≡ prefix_len (λ b. not (b == semicolon)) (drop (at + 1) bytes.now) }
-    ensures within { at < length bytes.now → at + 1 + result ≤ length bytes.now }
+/// The bytes before a comment.
+pub fn before_comment(bytes: &[u8]) -> &[u8]
+    ensures value { result.now ≡ before_comment bytes.now }
+    ensures within { length result.now ≤ length bytes.now }
 {
-    match &bytes[at..] {
-        [_, comment @ ..] => code_len(comment),
-        [] => 0,
-    }
+    &bytes[..code_len(bytes)]
 }
 
-/// A line of a source, without its LF. What is found out by going over its bytes is kept, since a line of a loop is read again
-/// in each round.
+/// A line of a source, without its LF.
 #[derive(Clone, Copy)]
 pub struct Row<'a> {
     /// The number of the line, from 1.
@@ -132,24 +126,9 @@ pub struct Row<'a> {
     /// The index of its first byte in the source.
     pub at: usize,
     pub bytes: &'a [u8],
+    /// Kept, since a line of a loop is read again in each round.
     kind: LineKind,
-    /// How many blanks stand in front.
-    indent: usize,
-    /// How many bytes stand before a comment.
-    code_len: usize,
-    /// How many bytes behind the first `;` stand before the next one.
-    comment_len: usize,
-    /// What the line says, if it is a comment.
-    comment: Comment<'a>,
     ghost kind_is: { IsKind kind bytes.now },
-    ghost indent_is: { indent ≡ blank_len bytes.now },
-    ghost indented: { indent ≤ length bytes.now },
-    ghost code_len_is: { code_len ≡ prefix_len (λ b. not (b == semicolon)) bytes.now },
-    ghost code_inside: { code_len ≤ length bytes.now },
-    ghost comment_len_is: { comment_len ≡ prefix_len (λ b. not (b == semicolon)) (drop (code_len + 1) bytes.now) },
-    ghost comment_inside: { code_len < length bytes.now → code_len + 1 + comment_len ≤ length bytes.now },
-    ghost comment_is: { said_of comment ≡ said bytes.now },
-    ghost assert_inside: { assert_place comment ≤ length bytes.now },
 }
 
 impl<'a> Row<'a> {
@@ -159,60 +138,22 @@ impl<'a> Row<'a> {
     pub fn new(number: usize, at: usize, bytes: &'a [u8]) -> Self
         ensures { row_of result ≡ record { number = number; at = at; bytes = bytes.now } }
     {
-        let indent = blank_len(bytes);
-        let code_len = code_len(bytes);
         Row {
             number,
             at,
             bytes,
             kind: line_kind(bytes),
-            indent,
-            code_len,
-            comment_len: comment_len(bytes, code_len),
-            comment: comment_of(bytes, indent),
         }
-    }
-
-    /// How many blanks stand in front.
-    pub fn indent(&self) -> usize
-        ensures value { result ≡ blank_len self.now.bytes.now }
-        ensures within { result ≤ length self.now.bytes.now }
-    {
-        self.indent
     }
 
     /// Whether the line is a comment alone.
     pub fn is_comment(&self) -> bool
         ensures { result ≡ is_comment self.now.bytes.now }
     {
-        match &self.bytes[self.indent..] {
+        match &self.bytes[blank_len(self.bytes)..] {
             [b';', ..] => true,
             _ => false,
         }
-    }
-
-    /// How many bytes from a place on stand before a comment.
-    pub fn code_len(&self, at: usize) -> usize
-        requires { at ≤ length self.now.bytes.now }
-        ensures value { result ≡ prefix_len (λ b. not (b == semicolon)) (drop at self.now.bytes.now) }
-        ensures within { at + result ≤ length self.now.bytes.now }
-    {
-        if at <= self.code_len {
-            return self.code_len - at;
-        }
-        let behind = at - self.code_len - 1;
-        if behind <= self.comment_len {
-            return self.comment_len - behind;
-        }
-        code_len(&self.bytes[at..])
-    }
-
-    /// What the line says, if it is a comment.
-    pub fn comment(&self) -> Comment<'a>
-        ensures value { said_of result ≡ said self.now.bytes.now }
-        ensures inside { assert_place result ≤ length self.now.bytes.now }
-    {
-        self.comment
     }
 
     /// What kind the line is of.

@@ -1,5 +1,5 @@
 use Rattle.std.proofs.Common.{arith}
-use Rattle.mars_cell.proofs.WrittenLines.{load-written}
+use Rattle.mars_cell.proofs.ForLaws.WrittenLines.{load-written}
 use Rattle.mars_cell.proofs.laws.load_file_is_carried.Goals as goal
 
 pub returns : goal.returns

@@ -1,5 +1,5 @@
 use Rattle.std.proofs.Common.{◌∙◌, Ok, ap, arith}
-use Rattle.mars_cell.proofs.WrittenLines.{cells-same, load-written}
+use Rattle.mars_cell.proofs.ForLaws.WrittenLines.{cells-same, load-written}
 use Rattle.mars_cell.proofs.laws.load_file_is_read.Goals as goal
 
 pub returns : goal.returns

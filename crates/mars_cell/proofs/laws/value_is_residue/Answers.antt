@@ -1,4 +1,4 @@
-use Rattle.mars_cell.proofs.Values.{by_value-same}
+use Rattle.mars_cell.proofs.ForLaws.Values.{by_value-same}
 use Rattle.mars_cell.proofs.laws.value_is_residue.Goals as goal
 
 pub returns : goal.returns

@@ -1,4 +1,4 @@
-use Rattle.mars_core.proofs.Near.{far_cells}
+use Rattle.mars_core.proofs.ForLaws.Near.{far_cells}
 use Rattle.mars_core.proofs.laws.far_cells_do_not_matter.Goals as goal
 
 pub returns : goal.returns

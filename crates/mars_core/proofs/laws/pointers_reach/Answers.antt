@@ -1,4 +1,4 @@
-use Rattle.mars_core.proofs.Near.{pointers_reach}
+use Rattle.mars_core.proofs.ForLaws.Near.{pointers_reach}
 use Rattle.mars_core.proofs.laws.pointers_reach.Goals as goal
 
 pub returns : goal.returns

@@ -1,4 +1,4 @@
-use Rattle.mars_core.proofs.MovedStart.{fault_moved, start_moved}
+use Rattle.mars_core.proofs.ForLaws.MovedStart.{fault_moved, start_moved}
 use Rattle.mars_core.proofs.laws.starts_are_relative.Goals as goal
 
 pub returns : goal.returns

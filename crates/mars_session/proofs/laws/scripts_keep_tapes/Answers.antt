@@ -1,4 +1,4 @@
-use Rattle.mars_session.proofs.Keeping.{scripts_keep_tapes}
+use Rattle.mars_session.proofs.ForLaws.Keeping.{scripts_keep_tapes}
 use Rattle.mars_session.proofs.laws.scripts_keep_tapes.Goals as goal
 
 pub returns : goal.returns

@@ -1,4 +1,4 @@
-use Rattle.redcode_asm.proofs.ReadBack.{read-back}
+use Rattle.redcode_asm.proofs.ForLaws.ReadBack.{read-back}
 use Rattle.redcode_asm.proofs.laws.assembled_load_is_read.Goals as goal
 
 pub returns : goal.returns

@@ -1,4 +1,4 @@
-use Rattle.redcode_asm.proofs.InFront.{nothing-moved}
+use Rattle.redcode_asm.proofs.ForLaws.InFront.{nothing-moved}
 use Rattle.redcode_asm.proofs.laws.instructions_in_front_move_nothing.Goals as goal
 
 pub returns : goal.returns

@@ -1,4 +1,4 @@
-use Rattle.redcode_asm.proofs.LoadAssembled.{load-source}
+use Rattle.redcode_asm.proofs.ForLaws.LoadAssembled.{load-source}
 use Rattle.redcode_asm.proofs.laws.load_file_is_source.Goals as goal
 
 pub returns : goal.returns

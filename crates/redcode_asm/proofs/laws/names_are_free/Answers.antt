@@ -1,4 +1,4 @@
-use Rattle.redcode_asm.proofs.FreeNames.{warrior-same}
+use Rattle.redcode_asm.proofs.ForLaws.FreeNames.{warrior-same}
 use Rattle.redcode_asm.proofs.laws.names_are_free.Goals as goal
 
 pub returns : goal.returns

@@ -1,6 +1,6 @@
 use Rattle.std.proofs.Common.{ap}
 use Rattle.redcode_text.specs.Source.{tree_of_rows}
-use Rattle.redcode_text.proofs.Unread.{read-behind}
+use Rattle.redcode_text.proofs.ForLaws.Unread.{read-behind}
 use Rattle.redcode_text.proofs.laws.lines_before_redcode_are_unread.Goals as goal
 
 pub returns : goal.returns

@@ -1,4 +1,4 @@
-use Rattle.redcode_text.proofs.ShapedTrees.{has-shape, own-tree}
+use Rattle.redcode_text.proofs.ForLaws.ShapedTrees.{has-shape, own-tree}
 use Rattle.redcode_text.proofs.laws.trees_have_shapes.Goals as goal
 
 pub returns : goal.returns

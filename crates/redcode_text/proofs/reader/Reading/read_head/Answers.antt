@@ -1,9 +1,8 @@
-use Rattle.std.proofs.Common.{◌∙◌, ◌+◌, ap, subst, sym}
-use Rattle.redcode_text.specs.Code.Counters.{IsThere}
+use Rattle.std.proofs.Common.{◌∙◌, ◌+◌, ap, sym}
 use Rattle.redcode_text.specs.Code.Readings.{reading_of}
 use Rattle.redcode_text.specs.Code.Rows.{row_of}
 use Rattle.redcode_text.specs.Expression.{kinds}
-use Rattle.redcode_text.specs.Lines.{Reading, name_in_front, tokens_before}
+use Rattle.redcode_text.specs.Lines.{name_in_front, tokens_before}
 use Rattle.redcode_text.proofs.BelowNames.{counter-there}
 use Rattle.redcode_text.proofs.reader.Reading.read_head.Goals as goal
 

@@ -9,6 +9,6 @@ pub returns-clause-value : goal.returns-clause-value
 returns-clause-value c =
     let bytes = c.args.bytes.now in let directive = c.args.directive.now in
     c.is_word.ensures
-    ∙ ap (λ l. str_eq_ignore_ascii_case directive (take (length directive) l)) (take_rest bytes c.args.indent)
-    ∙ starts-word (drop c.args.indent bytes) directive c.requires.low
-    ∙ ap (λ n. starts_with nat_eq (str_to_ascii_lowercase (drop n bytes)) directive) c.requires.indent
+    ∙ ap (λ l. str_eq_ignore_ascii_case directive (take (length directive) l)) (take_rest bytes c.blank_len.result)
+    ∙ starts-word (drop c.blank_len.result bytes) directive c.requires
+    ∙ ap (λ n. starts_with nat_eq (str_to_ascii_lowercase (drop n bytes)) directive) c.blank_len.ensures.value

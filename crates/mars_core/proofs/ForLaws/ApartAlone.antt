@@ -1,0 +1,118 @@
+-- A warrior apart fights as it would alone.
+use Rattle.std.proofs.Common.{◌≡◌, ◌≢◌, ℕ, zero, suc, ◌+◌, ◌<◌, ◌≤◌, Bool, true, false, cond, List, [], ◌∷◌, length, Option, None, Some, refl, ap, sym, ◌∙◌, subst, arith, inl, inr}
+use Rattle.std.specs.Prelude.{◌⊎◌, ◌==◌, ◌&&◌, ◌||◌, nat_le, if◌then◌else◌}
+use Rattle.std.proofs.lemmas.Bool.{cases_eq}
+use Rattle.std.proofs.lemmas.Bool.Decides.{nat_tests}
+use Rattle.std.proofs.lemmas.List.Sums.{sum_by-cons}
+use Rattle.mars_cell.specs.Parameters.{Parameters}
+use Rattle.mars_core.specs.State.{State, queue_of, is_empty, live_from, survivors_of, is_over_of, ends, moved_clock, advanced, clock_of}
+use Rattle.mars_core.specs.Turn.{executed, turn_of, after_turns}
+use Rattle.mars_core.specs.Apart.{KeepsTo, IsLeftTo, own_turns, AgreesOn}
+use Rattle.mars_core.specs.Validity.{IsValid}
+use Rattle.mars_core.specs.declared.machine.clock.Clock.{Clock}
+use Rattle.mars_core.proofs.ForLaws.Apart.{StaysIn, LeavesAlone, own_counts, other_counts, own_turn, other_turn, turn_first, before_first, before_later, own_cells_left}
+use Rattle.mars_core.proofs.CallerLemmas.{shape-turn_of, cycle-turn_of}
+use Rattle.mars_core.proofs.Clocks.{live_from_is, somebody}
+use Rattle.mars_core.proofs.Fights.{next_lives}
+use Rattle.mars_core.proofs.Turns.{running, turn_valid, filled_one}
+
+-- a later one has its turn in the same cycle, or a cycle is added
+abbrev StepsOn : Clock → Clock → Type 0
+StepsOn clock after = ((after.cycle ≡ clock.cycle) × (clock.next < after.next)) ⊎ (after.cycle ≡ clock.cycle + 1)
+
+clock_steps : (qs : List (List ℕ)) (clock : Clock) (o z : Option ℕ) → live_from qs (clock.next + 1) ≡ o → live_from qs 0 ≡ z → 1 ≤ survivors_of qs → StepsOn clock (moved_clock clock o z)
+clock_steps qs clock (Some k) z e f alive = let h = live_from_is qs (clock.next + 1) k e in inl (refl, omega (arith, h.above))
+clock_steps qs clock None (Some k) e f alive = inr refl
+clock_steps qs clock None None e f alive = absurd (let s = (somebody qs alive).1 in cc)
+
+turn_steps : (s : State) → IsValid s → is_over_of s ≡ false → is_over_of (turn_of s) ≡ false → StepsOn (clock_of s) (clock_of (turn_of s))
+unfolding turn_of executed advanced
+turn_steps s v over on =
+    let after = turn_valid s v over in
+    let alive = (running s.params.cycles (turn_of s).cycle (turn_of s).queues after.some on).alive in
+    clock_steps (executed s).queues (clock_of s) _ _ refl refl alive
+
+-- the lone warrior isn't ahead: it has had a turn more only where the warrior has had its turn of the cycle
+abbrev IsNotAhead : ℕ → State → State → Type 0
+IsNotAhead w s t = is_over_of s ≡ false → (s.next ≤ w → t.cycle ≤ s.cycle) × (t.cycle ≤ s.cycle + 1)
+
+own_behind : (w : ℕ) (s t : State) → IsValid s → is_over_of s ≡ false → s.next ≡ w → IsNotAhead w s t → IsNotAhead w (turn_of s) (turn_of t)
+own_behind w s t v over own behind on =
+    let before = (behind over).0 (omega (arith, own)) in
+    let more = (cycle-turn_of t).1 in
+    elim (turn_steps s v over on) [
+      | inl same ↦ (λ h. absurd (omega (arith, h, same.1, own)), omega (arith, same.0, before, more))
+      | inr next ↦ (λ h. omega (arith, next, before, more), omega (arith, next, before, more))
+    ]
+
+other_behind : (w : ℕ) (s t : State) → IsValid s → is_over_of s ≡ false → IsNotAhead w s t → IsNotAhead w (turn_of s) t
+other_behind w s t v over behind on =
+    let before = behind over in
+    let later = before.1 in
+    elim (turn_steps s v over on) [
+      | inl same ↦ (λ h. (let early = before.0 (omega (arith, h, same.1)) in omega (arith, early, same.0)), omega (arith, same.0, later))
+      | inr next ↦ (λ h. omega (arith, next, later), omega (arith, next, later))
+    ]
+
+one_lives : (qs : List (List ℕ)) → length qs ≡ 1 → queue_of qs 0 ≢ [] → 1 ≤ survivors_of qs
+one_lives [] one lives = absurd (omega (arith, one))
+one_lives (q ∷ []) one lives =
+    let sum = sum_by-cons (λ (q : List ℕ). cond (is_empty q) 0 1) q [] in
+    let this = filled_one q lives in
+    omega (arith, sum, this)
+one_lives (q ∷ r ∷ qs) one lives = absurd (omega (arith, one))
+
+lone_runs : (cycles cycle n alive : ℕ) → n ≡ 1 → cycle < cycles → 1 ≤ alive → ((cycle == cycles) || (nat_le 2 n && nat_le alive 1) || (n == 1 && alive == 0)) ≡ false
+lone_runs cycles cycle n alive one less lives = grind (arith, nat_tests)
+
+-- the lone warrior has a turn wherever the warrior has one
+lone_goes_on : (part : ℕ → Bool) (s t : State) → IsValid s → is_over_of s ≡ false → length t.queues ≡ 1 → t.cycle ≤ s.cycle → AgreesOn part s.next s 0 t → is_over_of t ≡ false
+unfolding ends
+lone_goes_on part s t v over one behind g =
+    let run = running s.params.cycles s.cycle s.queues v.some over in
+    let cycles = ap (λ (p : Parameters). p.cycles) g.params in
+    let lives = one_lives t.queues one (λ e. next_lives s v over (g.processes ∙ e)) in
+    lone_runs t.params.cycles t.cycle (length t.queues) (survivors_of t.queues) one (omega (arith, v.clock.cycle, run.cycles_left, behind, cycles)) lives
+
+module _ (part : ℕ → Bool) (w : ℕ) where
+  lone_turn : (s t : State) → IsValid s → IsValid t → is_over_of s ≡ false → s.next ≡ w → length t.queues ≡ 1 → AgreesOn part w s 0 t → StaysIn part w s → AgreesOn part w (turn_of s) 0 (turn_of t)
+  lone_turn s t v u over own one g keeps =
+      let only : t.next ≡ 0 = omega (arith, u.clock.next, one) in
+      let here : AgreesOn part s.next s t.next t = subst (λ x. AgreesOn part x s t.next t) (sym own) (subst (λ y. AgreesOn part w s y t) (sym only) g) in
+      let there = own_turn part s t v u over here (keeps own) in
+      subst (λ x. AgreesOn part x (turn_of s) 0 (turn_of t)) own (subst (λ y. AgreesOn part s.next (turn_of s) y (turn_of t)) only there)
+
+  alone : (n : ℕ) (s t : State) → IsValid s → IsValid t → length t.queues ≡ 1 → IsNotAhead w s t → AgreesOn part w s 0 t → KeepsTo part w n s → IsLeftTo part w n s → AgreesOn part w (after_turns n s) 0 (after_turns (own_turns w n s) t)
+  alone zero s t v u one behind g keeps left = g
+  alone (suc n) s t v u one behind g keeps left =
+      elim (is_over_of s) as (λ b. is_over_of s ≡ b → AgreesOn part w (if b then s else after_turns n (turn_of s)) 0 (after_turns (if b then 0 else cond (s.next == w) 1 0 + own_turns w n (turn_of s)) t)) [
+        | true ↦ λ e. g
+        | false ↦ λ e. (
+            let j = own_turns w n (turn_of s) in
+            let valid = turn_valid s v e in
+            let keeps_later = before_later n (StaysIn part w) s e keeps in
+            let left_later = before_later n (LeavesAlone part w) s e left in
+            elim (cases_eq s.next w) [
+              | inl own ↦ (
+                  let mine : AgreesOn part s.next s 0 t = subst (λ x. AgreesOn part x s 0 t) (sym own) g in
+                  let runs = lone_goes_on part s t v e one ((behind e).0 (omega (arith, own))) mine in
+                  let next = lone_turn s t v u e own one g (before_first n (StaysIn part w) s e keeps) in
+                  let last = alone n (turn_of s) (turn_of t) valid (turn_valid t u runs) ((shape-turn_of t).warriors ∙ one) (own_behind w s t v e own behind) next keeps_later left_later in
+                  subst (λ k. AgreesOn part w (after_turns n (turn_of s)) 0 (after_turns k t)) (sym (own_counts w s.next j own))
+                  (subst (λ x. AgreesOn part w (after_turns n (turn_of s)) 0 x) (sym (turn_first j t runs)) last)
+                  )
+              | inr other ↦ (
+                  let next = other_turn part w 0 s t (λ same. other (sym same)) g (before_first n (LeavesAlone part w) s e left other) in
+                  let last = alone n (turn_of s) t valid u one (other_behind w s t v e behind) next keeps_later left_later in
+                  subst (λ k. AgreesOn part w (after_turns n (turn_of s)) 0 (after_turns k t)) (sym (other_counts w s.next j other)) last
+                  )
+            ]
+            )
+      ] refl
+
+pub fights_alone : (part : ℕ → Bool) (w n : ℕ) (s t : State) → IsValid s → IsValid t → length t.queues ≡ 1 → t.cycle ≤ s.cycle → AgreesOn part w s 0 t → KeepsTo part w n s → IsLeftTo part w n s → AgreesOn part w (after_turns n s) 0 (after_turns (own_turns w n s) t)
+fights_alone part w n s t v u one early g keeps left = alone part w n s t v u one (λ e. (λ h. early, omega (arith, early))) g keeps left
+
+pub out_of_reach : (owner : ℕ → ℕ) (w n : ℕ) (s t : State) → IsValid s → IsValid t → length t.queues ≡ 1 → t.cycle ≤ s.cycle → AgreesOn (λ a. owner a == w) w s 0 t → ((v : ℕ) → KeepsTo (λ a. owner a == v) v n s) → AgreesOn (λ a. owner a == w) w (after_turns n s) 0 (after_turns (own_turns w n s) t)
+out_of_reach owner w n s t v u one early g keeps =
+    fights_alone (λ a. owner a == w) w n s t v u one early g (keeps w) (own_cells_left owner n s v keeps w)

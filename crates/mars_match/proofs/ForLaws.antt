@@ -1,0 +1,3 @@
+-- What laws and the crates above stand on, and no function of this crate.
+pub mod FullCores
+pub mod RoundCounts

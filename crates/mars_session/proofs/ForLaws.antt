@@ -1,0 +1,8 @@
+-- What laws and the crates above stand on, and no function of this crate.
+pub mod Arriving
+pub mod Few
+pub mod Keeping
+pub mod Limits
+pub mod Scripted
+pub mod Valid
+pub mod Wanting
