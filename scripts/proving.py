@@ -88,11 +88,11 @@ class FromNothing:
     """Proves each crate from nothing over what those below it state, as `rt ci` does, and leaves what it states in the place where that does."""
 
     def __init__(self, lines):
-        self.lines, self.kit = lines, toolchain()
+        self.lines, self.kit, self.most = lines, toolchain(), at_a_time(MEMORY_OF_A_JOB)
 
     def jobs(self, at_once):
         """The jobs of a crate of so many that are proved at once: they are at work all the time, so each crate has its part."""
-        return max(1, at_a_time(MEMORY_OF_A_JOB) // at_once)
+        return max(1, self.most // at_once)
 
     def proved(self):
         """What needn't be proved: nothing has changed since the program or the archive was built, or since the crate was proved in this way."""
@@ -158,11 +158,11 @@ class Kept:
     below it, so each is proved in a room of its own, to which they are linked; what it made is moved out of there."""
 
     def __init__(self, lines, rooms):
-        self.lines, self.rooms = lines, rooms
+        self.lines, self.rooms, self.most = lines, rooms, at_a_time(MEMORY_OF_A_JOB)
 
     def jobs(self, _at_once):
         """Each has all jobs, since a check begins and ends with one at work: what it leaves idle, another takes."""
-        return at_a_time(MEMORY_OF_A_JOB)
+        return self.most
 
     def proved(self):
         """What needn't be built again: nothing has changed since, and all work is there. Of the crates below `rt` itself knows what has changed."""
