@@ -57,8 +57,8 @@ class Progress:
         """Tells what is under way, where it is time for that."""
         if time.monotonic() - self.told >= (1 if self.is_terminal else SILENCE):
             seconds = time.monotonic() - self.begun
-            parts = [f"{len(self.proved)} of {self.count} crates proved", f"{' and '.join(at_work)} under way", clock(seconds), *self.time_left(seconds)]
-            self.tell(f"mars: {', '.join(parts)}")
+            parts = [f"mars: {len(self.proved)} of {self.count} crates proved in {clock(seconds)}", *self.time_left(seconds)]
+            self.tell(f"{', '.join(parts)}; {' and '.join(at_work)} under way")
 
     def time_left(self, seconds):
         left = self.reckoning.left(self.proved, seconds) if self.reckoning else 0

@@ -62,7 +62,12 @@ def is_newer(made, names):
     when = time_of(made)
     folders = [os.path.join(folder_of(name), part) for name in names for part in ("src", "specs", "proofs")]
     files = [os.path.join(here, file) for folder in folders for here, _, found in os.walk(folder) for file in found]
-    return when is not None and all(time_of(path) < when for path in (os.path.join(TOP, "crates.txt"), *files))
+    return when is not None and all((time_of(path) or 0) < when for path in (os.path.join(TOP, "crates.txt"), *files))
+
+
+def built_anew(lines):
+    """What is newer than all its sources, of the program and the archive."""
+    return {name for name in BUILT.keys() & lines.keys() if is_newer(BUILT[name], [name, *all_below(name, lines)])}
 
 
 def builder_of(library):
@@ -83,15 +88,15 @@ class FromNothing:
     """Proves each crate from nothing over what those below it state, as `rt ci` does, and leaves what it states in the place where that does."""
 
     def __init__(self, lines):
-        self.lines, self.kit = lines, toolchain()
+        self.lines, self.kit, self.most = lines, toolchain(), at_a_time(MEMORY_OF_A_JOB)
 
     def jobs(self, at_once):
         """The jobs of a crate of so many that are proved at once: they are at work all the time, so each crate has its part."""
-        return max(1, at_a_time(MEMORY_OF_A_JOB) // at_once)
+        return max(1, self.most // at_once)
 
     def proved(self):
         """What needn't be proved: nothing has changed since the program or the archive was built, or since the crate was proved in this way."""
-        found = {name for name in BUILT.keys() & self.lines.keys() if is_newer(BUILT[name], [name, *all_below(name, self.lines)])}
+        found = built_anew(self.lines)
         for name in self.lines:
             made, below = made_of(name), [one for one in self.lines[name] if one in self.lines]
             if name not in BUILT and found.issuperset(below) and self.is_stated(name) and all(time_of(made_of(one)) <= time_of(made) for one in below):
@@ -153,15 +158,15 @@ class Kept:
     below it, so each is proved in a room of its own, to which they are linked; what it made is moved out of there."""
 
     def __init__(self, lines, rooms):
-        self.lines, self.rooms = lines, rooms
+        self.lines, self.rooms, self.most = lines, rooms, at_a_time(MEMORY_OF_A_JOB)
 
     def jobs(self, _at_once):
         """Each has all jobs, since a check begins and ends with one at work: what it leaves idle, another takes."""
-        return at_a_time(MEMORY_OF_A_JOB)
+        return self.most
 
     def proved(self):
-        """`rt` itself knows what has changed."""
-        return set()
+        """What needn't be built again: nothing has changed since, and all work is there. Of the crates below `rt` itself knows what has changed."""
+        return {name for name in built_anew(self.lines) if all(map(has_work, (name, *all_below(name, self.lines))))}
 
     def prove(self, name, jobs):
         """Proves a crate over those below it in so many jobs, and keeps what that made."""
