@@ -1,4 +1,4 @@
-/* The Core War kit as a library: an assembler, matches, leagues, populations and the debugger.
+/* The Core War kit as a library: an assembler, matches, leagues, populations, the debugger, and records of turns.
  *
  * Each call answers 0 where it has done what it was asked for, else one of the numbers of MARS_DONE and so on; the same
  * number, and more, stands in *fault. Where the answer isn't 0, rows and buffers are as they were.
@@ -24,7 +24,7 @@ extern "C" {
 enum {
     MARS_DONE = 0,
     MARS_OUT_OF_MEMORY = 1,
-    /* 1 rounds, 2 seed, 3 position, 4 how many warriors, 5 lengths and load files differ, 6 history, 7 how many rows */
+    /* 1 rounds, 2 seed, 3 position, 4 how many warriors, 5 lengths and load files differ, 6 history, 7 how many rows, 8 round */
     MARS_SETTINGS = 2,
     /* 1 CoreSize, 2 Processes, 3 Cycles, 4 Limit, 5 Length, 6 Distance */
     MARS_PARAMETERS = 3,
@@ -40,7 +40,7 @@ enum {
     MARS_BATTLE = 8,
     /* as for a formula */
     MARS_SCORE = 9,
-    /* the buffer is shorter than what is to be written; *length says how long that is */
+    /* a buffer is shorter than what is to be written; *length, or *standing, says how long that is */
     MARS_ROOM = 10
 };
 
@@ -65,6 +65,56 @@ typedef struct {
     uint64_t ties;   /* rounds survived with others */
     uint64_t losses; /* rounds not survived */
 } MarsRow;
+
+/* A cell of the core. The numbers of its parts count from 0:
+ * op        DAT MOV ADD SUB MUL DIV MOD JMP JMZ JMN DJN SEQ SNE SLT SPL NOP
+ * modifier  A B AB BA F X I
+ * mode      # $ * @ { < } > */
+typedef struct {
+    uint8_t op;
+    uint8_t modifier;
+    uint8_t a_mode;
+    uint8_t b_mode;
+    uint32_t a; /* both numbers are addresses, relative to the cell, from 0 to the core size less 1 */
+    uint32_t b;
+} MarsCell;
+
+/* A write of a cell. A turn that raises, lowers or copies to the same cell more than once has a write for each time. */
+typedef struct {
+    uint32_t address;
+    MarsCell before;
+    MarsCell after; /* may be the same */
+} MarsChange;
+
+/* What a turn did; what doesn't apply is 0. Warriors count from 0, in the order of their turns: in round K that is load file K
+ * modulo the warriors, then those behind it, then those before it. */
+typedef struct {
+    uint32_t warrior;     /* whose turn it was */
+    uint32_t address;     /* where its process stood */
+    uint32_t next;        /* whose turn is next */
+    uint32_t cycle;       /* how many cycles are complete then */
+    uint32_t died;        /* 1 where the warrior died */
+    uint32_t changes;     /* how many writes of cells, 0 to 3 */
+    uint32_t queued;      /* how many processes were queued, 0 to 2 */
+    MarsChange change[3]; /* the writes, in the order of execution */
+    uint32_t process[2];  /* where the processes stand that were queued */
+} MarsRecord;
+
+/* A death: which warrior, and how many turns had been made by all then, its last one among them. */
+typedef struct {
+    uint32_t warrior;
+    uint32_t turns;
+} MarsDeath;
+
+/* Where a battle stands. */
+typedef struct {
+    uint32_t turns;   /* that were made by all warriors together */
+    uint32_t cycle;   /* how many cycles are complete */
+    uint32_t next;    /* whose turn is next */
+    uint32_t over;    /* 1 where no turn is left */
+    size_t processes; /* of all warriors together */
+    size_t deaths;
+} MarsStanding;
 
 /* Why a call wasn't done; what doesn't apply is 0. */
 typedef struct {
@@ -107,6 +157,28 @@ uint32_t mars_debug(const MarsSettings *settings,
                     const uint8_t *loads, size_t loads_length, const size_t *lengths, size_t warriors,
                     uint32_t history, const uint8_t *lines, size_t lines_length,
                     uint8_t *buffer, size_t buffer_length, size_t *length, MarsFault *fault);
+
+/* Records turns. The battle of a round, from 0 to the rounds less 1, is debugged by the lines, as mars_debug does; what the
+ * debugger answers is dropped. From where the lines lead it (none: from its start) it is played on: the first `first` turns aren't
+ * recorded, and then row k gets turn first + k, counted from 0, as long as there are rows and turns. *count is how many turns
+ * there are from `first` on to the end, so as many rows are written as the lesser of *count and row_count; the others stay as they
+ * were. With no row it tells that alone. Where the answer isn't 0, *count is as it was, too. */
+uint32_t mars_record(const MarsSettings *settings,
+                     const uint8_t *loads, size_t loads_length, const size_t *lengths, size_t warriors,
+                     uint32_t round, uint32_t history, const uint8_t *lines, size_t lines_length,
+                     uint32_t first, MarsRecord *rows, size_t row_count, size_t *count, MarsFault *fault);
+
+/* Shows where the same battle stands `turns` turns further on, or at its end, where there are fewer: each cell of the core; how
+ * many processes each warrior has; where these stand, one queue behind the other, the front of each first; and the deaths in
+ * order. Each buffer begins with these, and goes on as it was. There are as many cells as the core has, as many counts as
+ * warriors, at most as many deaths; processes and deaths are counted in *standing, also where the answer is MARS_ROOM, which comes
+ * where one of the buffers is too short. */
+uint32_t mars_state(const MarsSettings *settings,
+                    const uint8_t *loads, size_t loads_length, const size_t *lengths, size_t warriors,
+                    uint32_t round, uint32_t history, const uint8_t *lines, size_t lines_length, uint32_t turns,
+                    MarsCell *cells, size_t cell_count, size_t *counts, size_t count_count,
+                    uint32_t *processes, size_t process_count, MarsDeath *deaths, size_t death_count,
+                    MarsStanding *standing, MarsFault *fault);
 
 #ifdef __cplusplus
 }

@@ -15,20 +15,24 @@ from __future__ import annotations
 
 import ctypes
 import ctypes.util
+import itertools
 import os
 from dataclasses import dataclass
 from typing import Sequence
 
-__all__ = ["Fault", "Row", "Settings", "Warrior", "Battle", "match", "league", "population", "debug", "NANO", "TINY"]
+__all__ = ["Fault", "Row", "Settings", "Warrior", "Cell", "Change", "Turn", "State", "Battle", "match", "league", "population", "debug", "record", "state", "NANO", "TINY"]
 
 FORMULA = "(W*W-1)/S"
 ROOM = 10
 EXPRESSIONS = ["Syntax", "Unknown", "DivideByZero", "Range", "Depth"]
 PROBLEMS = ["NotAscii", "BadToken", "UnclosedFor", "RofAlone", "BadCount", "LabelInCount", "Duplicate", "EquDepth", "TooLong", "Expression"]
+OPCODES = "DAT MOV ADD SUB MUL DIV MOD JMP JMZ JMN DJN SEQ SNE SLT SPL NOP".split()
+MODIFIERS = "A B AB BA F X I".split()
+MODES = "#$*@{<}>"
 # What each answer but 0 is called, and its numbers from 1 on.
 FAULTS: dict[int, tuple[str, list[str]]] = {
     1: ("out of memory", []),
-    2: ("settings", ["Rounds", "Seed", "Position", "Warriors", "Lengths", "History", "Rows"]),
+    2: ("settings", ["Rounds", "Seed", "Position", "Warriors", "Lengths", "History", "Rows", "Round"]),
     3: ("parameters", ["CoreSize", "Processes", "Cycles", "Limit", "Length", "Distance"]),
     4: ("formula", EXPRESSIONS),
     5: ("assembly", ["Text", "Operation", "Operand", "Expression", "AssertFailed", "BadOrigin", "Empty", "TooLong"]),
@@ -50,6 +54,26 @@ class _Row(ctypes.Structure):
 
 class _Fault(ctypes.Structure):
     _fields_ = [(name, ctypes.c_uint32) for name in ("code", "number", "problem", "expression")] + [("line", ctypes.c_uint64), ("warrior", ctypes.c_uint64)]
+
+
+class _Cell(ctypes.Structure):
+    _fields_ = [(name, ctypes.c_uint8) for name in ("op", "modifier", "a_mode", "b_mode")] + [("a", ctypes.c_uint32), ("b", ctypes.c_uint32)]
+
+
+class _Change(ctypes.Structure):
+    _fields_ = [("address", ctypes.c_uint32), ("before", _Cell), ("after", _Cell)]
+
+
+class _Record(ctypes.Structure):
+    _fields_ = [(name, ctypes.c_uint32) for name in ("warrior", "address", "next", "cycle", "died", "changes", "queued")] + [("change", _Change * 3), ("process", ctypes.c_uint32 * 2)]
+
+
+class _Death(ctypes.Structure):
+    _fields_ = [("warrior", ctypes.c_uint32), ("turns", ctypes.c_uint32)]
+
+
+class _Standing(ctypes.Structure):
+    _fields_ = [(name, ctypes.c_uint32) for name in ("turns", "cycle", "next", "over")] + [("processes", ctypes.c_size_t), ("deaths", ctypes.c_size_t)]
 
 
 class Fault(Exception):
@@ -111,6 +135,53 @@ class Row:
 
 
 @dataclass(frozen=True)
+class Cell:
+    """A cell of the core. Its numbers are addresses relative to it, from 0 to the core size less 1."""
+    op: str
+    modifier: str
+    a_mode: str
+    a: int
+    b_mode: str
+    b: int
+
+    def __str__(self) -> str:
+        return f"{self.op}.{self.modifier} {self.a_mode}{self.a}, {self.b_mode}{self.b}"
+
+
+@dataclass(frozen=True)
+class Change:
+    """A write of a cell, which may leave it as it was."""
+    address: int
+    before: Cell
+    after: Cell
+
+
+@dataclass(frozen=True)
+class Turn:
+    """What a turn did: whose it was and where its process stood, the writes in order, where processes were queued, whose turn is
+    next, the complete cycles then, and whether the warrior died. Warriors count from 0 in the order of their turns."""
+    warrior: int
+    address: int
+    changes: tuple[Change, ...]
+    queued: tuple[int, ...]
+    next: int
+    cycle: int
+    died: bool
+
+
+@dataclass(frozen=True)
+class State:
+    """Where a battle stands: the cells, the queue of each warrior with its front first, the deaths as (warrior, turns) in order."""
+    cells: list[Cell]
+    queues: list[list[int]]
+    deaths: list[tuple[int, int]]
+    turns: int
+    cycle: int
+    next: int
+    over: bool
+
+
+@dataclass(frozen=True)
 class Warrior:
     """A warrior, by its load file of either version."""
     load: bytes
@@ -149,10 +220,34 @@ def population(candidates: Sequence[Warrior], opponents: Sequence[Warrior], roun
 
 def debug(warriors: Sequence[Warrior], lines: str | Sequence[str], seed: int = 1, settings: Settings = Settings(), position: int = 0, history: int = 200000) -> str:
     """What the debugger answers to its lines over the battle of the first round."""
-    text = _bytes(lines if isinstance(lines, str) else "".join(f"{line}\n" for line in lines))
+    text = _lines(lines)
     held, loads, lengths = settings._held(1, seed, position), *_loads(warriors)
     call = lambda *room: _library().mars_debug(ctypes.byref(held), loads, _size(loads), lengths, _size(lengths), ctypes.c_uint32(history), text, _size(text), *room)
     return _text(call, 65536).decode("latin-1")
+
+
+def record(warriors: Sequence[Warrior], lines: str | Sequence[str] = "", first: int = 0, most: int = 100000, round: int = 0, seed: int = 1, settings: Settings = Settings(), position: int = 0, history: int = 200000) -> list[Turn]:
+    """The turns of the battle of a round from where the debugger's lines lead it: at most so many, without the first `first`."""
+    asked, rows, count, fault = _asked(warriors, lines, round, seed, settings, position, history), (_Record * most)(), ctypes.c_size_t(), _Fault()
+    if _library().mars_record(*asked, ctypes.c_uint32(first), rows, _size(rows), ctypes.byref(count), ctypes.byref(fault)):
+        raise Fault(fault)
+    return [_turn(row) for row in rows[:count.value]]
+
+
+def state(warriors: Sequence[Warrior], lines: str | Sequence[str] = "", turns: int = 0, round: int = 0, seed: int = 1, settings: Settings = Settings(), position: int = 0, history: int = 200000) -> State:
+    """Where the battle of a round stands, so many turns from where the debugger's lines lead it."""
+    asked, standing, fault = _asked(warriors, lines, round, seed, settings, position, history), _Standing(), _Fault()
+    cells, counts, deaths = (_Cell * settings.core)(), (ctypes.c_size_t * len(warriors))(), (_Death * len(warriors))()
+    for room in (4096, None):
+        processes = (ctypes.c_uint32 * (room or standing.processes))()
+        answer = _library().mars_state(*asked, ctypes.c_uint32(turns), cells, _size(cells), counts, _size(counts), processes, _size(processes), deaths, _size(deaths), ctypes.byref(standing), ctypes.byref(fault))
+        if answer != ROOM:
+            break
+    if answer:
+        raise Fault(fault)
+    ends = list(itertools.accumulate(counts, initial=0))
+    queues = [processes[begin:end] for begin, end in zip(ends, ends[1:])]
+    return State([_cell(cell) for cell in cells], queues, [(death.warrior, death.turns) for death in deaths[:standing.deaths]], standing.turns, standing.cycle, standing.next, bool(standing.over))
 
 
 class Battle:
@@ -174,6 +269,14 @@ class Battle:
         """The lines that `show`, `queue W` or `list A N` writes here."""
         before = len(self._answers(self.commands)) if self.commands else 0
         return self._answers([*self.commands, reading])[before:]
+
+    def turns(self, first: int = 0, most: int = 100000) -> list[Turn]:
+        """The turns from here on, as if no further command came: at most so many, without the first `first`."""
+        return record(lines=self.commands, first=first, most=most, **self._asked)
+
+    def state(self, turns: int = 0) -> State:
+        """Where the battle stands so many turns from here."""
+        return state(lines=self.commands, turns=turns, **self._asked)
 
     def _answers(self, lines: list[str]) -> list[str]:
         return debug(lines=lines, **self._asked).splitlines()
@@ -208,6 +311,26 @@ def _loads(warriors: Sequence[Warrior]) -> tuple[bytes, ctypes.Array]:
     """The load files one behind the other, and the length of each."""
     files = [warrior.load for warrior in warriors]
     return b"".join(files), (ctypes.c_size_t * len(files))(*map(len, files))
+
+
+def _lines(lines: str | Sequence[str]) -> bytes:
+    """The debugger's lines, each with its end."""
+    return _bytes(lines if isinstance(lines, str) else "".join(f"{line}\n" for line in lines))
+
+
+def _asked(warriors: Sequence[Warrior], lines: str | Sequence[str], round: int, seed: int, settings: Settings, position: int, history: int) -> tuple[object, ...]:
+    """What a call on the battle of a round is given first."""
+    held, text, (loads, lengths) = settings._held(round + 1, seed, position), _lines(lines), _loads(warriors)
+    return ctypes.byref(held), loads, _size(loads), lengths, _size(lengths), ctypes.c_uint32(round), ctypes.c_uint32(history), text, _size(text)
+
+
+def _cell(cell: _Cell) -> Cell:
+    return Cell(OPCODES[cell.op], MODIFIERS[cell.modifier], MODES[cell.a_mode], cell.a, MODES[cell.b_mode], cell.b)
+
+
+def _turn(row: _Record) -> Turn:
+    changes = tuple(Change(change.address, _cell(change.before), _cell(change.after)) for change in row.change[:row.changes])
+    return Turn(row.warrior, row.address, changes, tuple(row.process[:row.queued]), row.next, row.cycle, bool(row.died))
 
 
 def _rows(name: str, held: _Settings, formula: str, warriors: Sequence[Warrior], count: int) -> list[Row]:

@@ -48,6 +48,12 @@ typedef struct {
     uint8_t text[2048];
     size_t length;
     MarsRow rows[3];
+    MarsRecord records[9];
+    MarsCell cells[800];
+    size_t counts[3];
+    uint32_t processes[20];
+    MarsDeath deaths[3];
+    MarsStanding standing;
     MarsFault fault;
     uint32_t answer;
 } Left;
@@ -61,10 +67,13 @@ static void call(int which, Left *got) {
     if (which == 2) got->answer = mars_league(&SETTINGS, formula, bytes, loads, all, lengths, 3, got->rows, 3, &got->fault);
     if (which == 3) got->answer = mars_population(&SETTINGS, formula, bytes, loads, all, lengths, 3, got->rows, 2, &got->fault);
     if (which == 4) got->answer = mars_debug(&SETTINGS, loads, all, lengths, 3, 50, (const uint8_t *)LINES, strlen(LINES), got->text, sizeof got->text, &got->length, &got->fault);
+    if (which == 5) got->answer = mars_record(&SETTINGS, loads, all, lengths, 3, 2, 50, (const uint8_t *)LINES, strlen(LINES), 4, got->records, 9, &got->length, &got->fault);
+    if (which == 6) got->answer = mars_state(&SETTINGS, loads, all, lengths, 3, 2, 50, (const uint8_t *)LINES, strlen(LINES), 4, got->cells, 800, got->counts, 3, got->processes, 20, got->deaths, 3, &got->standing, &got->fault);
 }
 
 static int is_kept(const Left *got, const Left *blank) {
-    return memcmp(got->text, blank->text, sizeof got->text) == 0 && memcmp(got->rows, blank->rows, sizeof got->rows) == 0;
+    const char *from = (const char *)got->rows, *upto = (const char *)&got->standing;
+    return memcmp(got->text, blank->text, sizeof got->text) == 0 && memcmp(from, blank->rows, upto - from) == 0;
 }
 
 static int holds(int which, long each) {
@@ -93,7 +102,7 @@ int main(void) {
         lengths[i] = first.length;
         all += first.length;
     }
-    for (int which = 0; which < 5; which++)
+    for (int which = 0; which < 7; which++)
         for (long each = 0; each < 2; each++) {
             int is_so = holds(which, each);
             passed += is_so, failed += !is_so;

@@ -30,6 +30,10 @@ position_of position = if position == 0 then None else Some position
 abbrev pub FitsPosition : Parameters → ℕ → Option ℕ → Type 0
 FitsPosition p warriors fixed = IfSome fixed (λ position. (warriors ≡ 2) × (p.distance ≤ position) × (position ≤ p.core_size - p.distance))
 
+-- how many rounds a match may have, and from which seeds on
+abbrev pub AreAllowed : ℕ → ℕ → Type 0
+AreAllowed rounds seed = (1 ≤ rounds) × (rounds ≤ 100000) × (1 ≤ seed) × (seed ≤ 2147483646)
+
 -- what settings and a formula come to
 pub record AreTerms (s : MarsSettings) (text : List ℕ) (t : Terms) : Type 0 where
   pub params : checked_parameters (asked s) ≡ Ok t.params
@@ -37,3 +41,4 @@ pub record AreTerms (s : MarsSettings) (text : List ℕ) (t : Terms) : Type 0 wh
   pub rounds : t.plan.rounds ≡ s.rounds
   pub seed : t.plan.seed ≡ s.seed
   pub fixed : t.plan.fixed ≡ position_of s.position
+  pub allowed : AreAllowed s.rounds s.seed

@@ -1,13 +1,20 @@
 //! What C calls.
 ghost use Rattle.std.specs.Prelude.{◌≡◌, ◌≢◌, IfOk, OnErr, OnOk};
-ghost use Rattle.mars_c.specs.Contests.{BeginsWith, HoldsLeague, HoldsLoadFile, HoldsMatch, HoldsSums, HoldsTranscript, IsLoadFile};
+ghost use Rattle.mars_c.specs.Contests.{BeginsWith, HoldsLeague, HoldsLoadFile, HoldsMatch, HoldsSums, IsLoadFile};
+ghost use Rattle.mars_c.specs.Debugging.{HoldsRecords, HoldsState, HoldsTranscript};
+ghost use Rattle.mars_c.specs.States.{AreKept};
 
+use crate::battles::battle_of;
+use crate::cells::MarsCell;
 use crate::contests::{league_into, match_into};
 use crate::debugging::transcript;
 use crate::faults::{MarsFault, Refusal, outcome};
+use crate::playing::{give_records, play_on};
 use crate::population::population_into;
+use crate::records::MarsRecord;
 use crate::rows::MarsRow;
 use crate::settings::{MarsSettings, parameters};
+use crate::states::{MarsDeath, MarsStanding, give_state};
 use redcode_asm::assemble_load;
 use std::alloc::Global;
 
@@ -72,6 +79,53 @@ fn debug_into(
 {
     let text = transcript(alloc, settings, loads, lengths, history, lines)?;
     give_text(&text, buffer, length)
+}
+
+/// Gives the records of turns to the caller.
+fn record_into(
+    alloc: Global,
+    settings: &MarsSettings,
+    loads: &[u8],
+    lengths: &[usize],
+    round: u32,
+    history: u32,
+    lines: &[u8],
+    first: u32,
+    rows: &mut [MarsRecord],
+    count: &mut usize,
+) -> Result<(), Refusal>
+    ensures ok { OnOk result (HoldsRecords settings.now loads.now lengths.now round history lines.now first count.new rows.old rows.new) }
+    ensures err { OnErr result (rows.new ≡ rows.old) }
+    ensures uncounted { OnErr result (count.new ≡ count.old) }
+{
+    let battle = battle_of(alloc, settings, loads, lengths, round, history, lines)?;
+    give_records(battle, first, rows, count);
+    Ok(())
+}
+
+/// Gives to the caller where the battle stands.
+fn state_into(
+    alloc: Global,
+    settings: &MarsSettings,
+    loads: &[u8],
+    lengths: &[usize],
+    round: u32,
+    history: u32,
+    lines: &[u8],
+    turns: u32,
+    cells: &mut [MarsCell],
+    counts: &mut [usize],
+    processes: &mut [u32],
+    deaths: &mut [MarsDeath],
+    standing: &mut MarsStanding,
+) -> Result<(), Refusal>
+    ensures ok { OnOk result (HoldsState settings.now loads.now lengths.now round history lines.now turns
+        cells.old cells.new counts.old counts.new processes.old processes.new deaths.old deaths.new standing.new) }
+    ensures err { OnErr result (AreKept cells.old cells.new counts.old counts.new processes.old processes.new deaths.old deaths.new) }
+{
+    let mut battle = battle_of(alloc, settings, loads, lengths, round, history, lines)?;
+    play_on(&mut battle, turns);
+    give_state(alloc, &battle, cells, counts, processes, deaths, standing)
 }
 
 /// Assembles a source to its load file.
@@ -169,6 +223,62 @@ pub extern "C" fn mars_debug(
 {
     *fault = outcome(debug_into(
         alloc, settings, loads, lengths, history, lines, buffer, length,
+    ));
+    fault.code
+}
+
+/// Records the turns of the battle of a round, from where the debugger's lines lead it.
+#[unsafe(no_mangle)]
+pub extern "C" fn mars_record(
+    alloc: Global,
+    settings: &MarsSettings,
+    loads: &[u8],
+    lengths: &[usize],
+    round: u32,
+    history: u32,
+    lines: &[u8],
+    first: u32,
+    rows: &mut [MarsRecord],
+    count: &mut usize,
+    fault: &mut MarsFault,
+) -> u32
+    ensures told { result ≡ fault.new.code }
+    ensures done { result ≡ 0 → HoldsRecords settings.now loads.now lengths.now round history lines.now first count.new rows.old rows.new }
+    ensures kept { result ≢ 0 → rows.new ≡ rows.old }
+    ensures uncounted { result ≢ 0 → count.new ≡ count.old }
+{
+    *fault = outcome(record_into(
+        alloc, settings, loads, lengths, round, history, lines, first, rows, count,
+    ));
+    fault.code
+}
+
+/// Shows where the battle of a round stands, so many turns from where the debugger's lines lead it.
+#[unsafe(no_mangle)]
+pub extern "C" fn mars_state(
+    alloc: Global,
+    settings: &MarsSettings,
+    loads: &[u8],
+    lengths: &[usize],
+    round: u32,
+    history: u32,
+    lines: &[u8],
+    turns: u32,
+    cells: &mut [MarsCell],
+    counts: &mut [usize],
+    processes: &mut [u32],
+    deaths: &mut [MarsDeath],
+    standing: &mut MarsStanding,
+    fault: &mut MarsFault,
+) -> u32
+    ensures told { result ≡ fault.new.code }
+    ensures done { result ≡ 0 → HoldsState settings.now loads.now lengths.now round history lines.now turns
+        cells.old cells.new counts.old counts.new processes.old processes.new deaths.old deaths.new standing.new }
+    ensures kept { result ≢ 0 → AreKept cells.old cells.new counts.old counts.new processes.old processes.new deaths.old deaths.new }
+{
+    *fault = outcome(state_into(
+        alloc, settings, loads, lengths, round, history, lines, turns, cells, counts, processes,
+        deaths, standing,
     ));
     fault.code
 }

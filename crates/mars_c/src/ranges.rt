@@ -17,6 +17,8 @@ pub enum SettingsFault {
     History,
     /// There isn't a row for each warrior.
     Rows,
+    /// The round isn't one of the match.
+    Round,
 }
 
 impl SettingsFault {
@@ -30,6 +32,7 @@ impl SettingsFault {
             SettingsFault::Lengths => 5,
             SettingsFault::History => 6,
             SettingsFault::Rows => 7,
+            SettingsFault::Round => 8,
         }
     }
 }

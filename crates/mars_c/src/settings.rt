@@ -1,8 +1,8 @@
 //! Settings, and what they come to.
-ghost use Rattle.std.specs.Prelude.{◌≡◌, ◌≤◌, IfOk, IsErr, MatchResult, Ok, OnOk};
+ghost use Rattle.std.specs.Prelude.{◌≡◌, IfOk, IsErr, MatchResult, Ok, OnOk};
 ghost use Rattle.redcode_asm.specs.Formula.{formula_of as spec_formula_of};
 ghost use Rattle.mars_cell.specs.ParameterFaults.{checked_parameters};
-ghost use Rattle.mars_c.specs.Asked.{AreTerms, FitsPosition, asked, limit_of, position_of};
+ghost use Rattle.mars_c.specs.Asked.{AreAllowed, AreTerms, FitsPosition, asked, limit_of, position_of};
 
 use crate::faults::Refusal;
 use crate::ranges::SettingsFault;
@@ -77,8 +77,7 @@ pub fn parameters(settings: &MarsSettings) -> Result<Params, Refusal>
 
 /// Judges the rounds and the seed.
 fn check_numbers(settings: &MarsSettings) -> Result<(), Refusal>
-    ensures { OnOk result ((1 ≤ settings.now.rounds) × (settings.now.rounds ≤ 100000) × (1 ≤ settings.now.seed)
-        × (settings.now.seed ≤ 2147483646)) }
+    ensures { OnOk result (AreAllowed settings.now.rounds settings.now.seed) }
 {
     if settings.rounds < 1 || settings.rounds > MOST_ROUNDS {
         return Err(Refusal::Settings(SettingsFault::Rounds));
