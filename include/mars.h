@@ -1,14 +1,19 @@
 /* The Core War kit as a library: an assembler, matches, leagues, populations, the debugger, and records of turns.
  *
  * Each call answers 0 where it has done what it was asked for, else one of the numbers of MARS_DONE and so on; the same
- * number, and more, stands in *fault. Where the answer isn't 0, rows and buffers are as they were.
+ * number, and more, stands in *fault. Where the answer isn't 0, rows and buffers are as they were. A mistake has the same number
+ * in each call, and of several the first is told: how many warriors, rows and places of the history there are; the parameters;
+ * rounds, seed and position; the formula; the load files in order, and what is left over of their bytes; the round; then what
+ * only the fight shows.
  *
  * Nothing outlives a call and nothing is shared: threads may call at once, each with rows, buffers and faults of its own.
- * Memory comes from malloc and goes back to free within the call. No call is made from a signal handler, or from the forked
- * child of a process with threads.
+ * Memory comes from malloc and goes back to free within the call; these and realloc are of one allocator, and align as C asks.
+ * 64 KiB of stack are enough for a call: none that was tried took more than 40. No call is made from a signal handler, or from the
+ * forked child of a process with threads.
  *
- * The caller owes that each pointer leads to as many readable (const) or writable values as the length behind it says, that
- * what is written overlaps nothing else that is handed in, and that no pointer is null, one with the length 0 too.
+ * The caller owes that each pointer leads to as many readable (const) or writable values as the length behind it says, aligned as
+ * C aligns their type, and that what is written overlaps nothing else that is handed in. A pointer with the length 0 may be null;
+ * no other one is. What is written needn't hold anything before.
  */
 #ifndef MARS_H
 #define MARS_H
@@ -19,6 +24,13 @@
 #ifdef __cplusplus
 extern "C" {
 #endif
+
+/* The version of this header: 1000 for each major version, and the minor one. A minor version adds to what is there, a major one
+ * changes it. */
+#define MARS_VERSION 1000
+
+/* The version of the library that is called. */
+uint32_t mars_version(void);
 
 /* What calls answer, and what `number` in a fault is then. */
 enum {
@@ -36,7 +48,7 @@ enum {
     MARS_LOAD = 6,
     /* 1 NoRoom, 2 BadSeed */
     MARS_PLACEMENT = 7,
-    /* 1 NoWarrior, 2 TooMany, 3 Overlap, 4 StartOutside, 5 FieldOutside */
+    /* 3 Overlap, 4 StartOutside, 5 FieldOutside */
     MARS_BATTLE = 8,
     /* as for a formula */
     MARS_SCORE = 9,
@@ -140,7 +152,8 @@ uint32_t mars_match(const MarsSettings *settings, const uint8_t *formula, size_t
                     const uint8_t *loads, size_t loads_length, const size_t *lengths, size_t warriors,
                     MarsRow *rows, size_t row_count, MarsFault *fault);
 
-/* Fights a league of up to 65536 warriors: a match of every two. There is a row for each, and no position. */
+/* Fights a league of up to 65536 warriors: a match of every two. There is a row for each, and no position; one warrior, or none,
+ * fights nothing. */
 uint32_t mars_league(const MarsSettings *settings, const uint8_t *formula, size_t formula_length,
                      const uint8_t *loads, size_t loads_length, const size_t *lengths, size_t warriors,
                      MarsRow *rows, size_t row_count, MarsFault *fault);
@@ -152,7 +165,8 @@ uint32_t mars_population(const MarsSettings *settings, const uint8_t *formula, s
                          MarsRow *rows, size_t row_count, MarsFault *fault);
 
 /* Debugs the battle of the first round: `lines` are what the debugger reads, and the buffer gets what it answers. `history` is
- * how many places can be gone back, 1 to 1000000. *length is the length of the answers, also where the answer is MARS_ROOM. */
+ * how many places can be gone back, 1 to 1000000, and takes 160 bytes for each, whether turns are made or not. `rounds` is
+ * judged, though one round is debugged. *length is the length of the answers, also where the answer is MARS_ROOM. */
 uint32_t mars_debug(const MarsSettings *settings,
                     const uint8_t *loads, size_t loads_length, const size_t *lengths, size_t warriors,
                     uint32_t history, const uint8_t *lines, size_t lines_length,

@@ -1,5 +1,5 @@
 -- What settings ask for.
-use Rattle.std.specs.Prelude.{◌≡◌, ◌≤◌, ◌-◌, ◌==◌, ℕ, if◌then◌else◌, IfSome, List, None, Ok, Option, Some}
+use Rattle.std.specs.Prelude.{◌≡◌, ◌≤◌, ◌==◌, ℕ, if◌then◌else◌, List, None, Ok, Option, Some}
 use Rattle.mars_cell.specs.Parameters.{Parameters}
 use Rattle.mars_cell.specs.ParameterFaults.{checked_parameters}
 use Rattle.redcode_asm.specs.Formula.{formula_of}
@@ -25,10 +25,6 @@ asked s = record {
 -- a position of 0 is none
 abbrev pub position_of : ℕ → Option ℕ
 position_of position = if position == 0 then None else Some position
-
--- a position is for two warriors, and leaves each the least distance
-abbrev pub FitsPosition : Parameters → ℕ → Option ℕ → Type 0
-FitsPosition p warriors fixed = IfSome fixed (λ position. (warriors ≡ 2) × (p.distance ≤ position) × (position ≤ p.core_size - p.distance))
 
 -- how many rounds a match may have, and from which seeds on
 abbrev pub AreAllowed : ℕ → ℕ → Type 0

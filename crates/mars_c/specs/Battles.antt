@@ -3,6 +3,7 @@ use Rattle.std.specs.Prelude.{◌≡◌, ◌<◌, ◌≤◌, ℕ, zero, suc, cod
 use Rattle.mars_cell.specs.Parameters.{Parameters}
 use Rattle.mars_cell.specs.Warriors.{WarriorValue}
 use Rattle.mars_core.specs.State.{State}
+use Rattle.mars_core.specs.Turn.{after_turns}
 use Rattle.mars_match.specs.Battles.{started}
 use Rattle.mars_match.specs.Rounds.{placed_for}
 use Rattle.mars_match.specs.declared.fault.MatchFault.{MatchFault}
@@ -10,7 +11,8 @@ use Rattle.redcode_text.specs.Results.{◌>>=◌}
 use Rattle.mars_session.specs.Script.{SessionState}
 use Rattle.mars_app.specs.Debugger.Transcript.{Completes}
 use Rattle.mars_app.specs.Debugging.{session_at}
-use Rattle.mars_c.specs.Asked.{AreTerms, FitsPosition}
+use Rattle.mars_match.specs.Placement.{FitsTwo}
+use Rattle.mars_c.specs.Asked.{AreTerms}
 use Rattle.mars_c.specs.Contests.{AreLoads}
 use Rattle.mars_c.specs.declared.settings.MarsSettings.{MarsSettings}
 use Rattle.mars_c.specs.declared.settings.Terms.{Terms}
@@ -28,7 +30,7 @@ IsRound t ws round s = (starts : List ℕ) × (placed_in t.params (length ws) t.
 -- the battle of a round of these load files, as it starts
 abbrev pub IsStart : MarsSettings → List ℕ → List ℕ → ℕ → State → Type 0
 IsStart s loads lengths round start = (t : Terms) × (ws : List WarriorValue)
-    × AreTerms s (codes "0") t × AreLoads t.params loads lengths ws × FitsPosition t.params (length ws) t.plan.fixed × (round < s.rounds)
+    × AreTerms s (codes "0") t × AreLoads t.params loads lengths ws × FitsTwo t.params (length ws) t.plan.fixed × (round < s.rounds)
     × IsRound t ws round start
 
 -- how many places a history may keep
@@ -47,3 +49,7 @@ IsLed start history lines s = (session : SessionState) × (text : List ℕ) × I
 -- where the debugger's lines lead the battle of a round of these load files
 abbrev pub IsAsked : MarsSettings → List ℕ → List ℕ → ℕ → ℕ → List ℕ → State → Type 0
 IsAsked s loads lengths round history lines state = (start : State) × IsHistory history × IsStart s loads lengths round start × IsLed start history lines state
+
+-- the state so many turns after where the lines lead
+abbrev pub IsPlayed : MarsSettings → List ℕ → List ℕ → ℕ → ℕ → List ℕ → ℕ → State → Type 0
+IsPlayed s loads lengths round history lines turns state = (from : State) × IsAsked s loads lengths round history lines from × (state ≡ after_turns turns from)

@@ -1,9 +1,13 @@
--- Worked examples, as theorems: cells and records as numbers, where the warriors of a later round are laid, and when a battle has one turn left.
+-- Worked examples, as theorems: faults, cells and records as numbers, where the warriors of a later round are laid, and when a battle has one turn left.
 use Rattle.std.specs.Prelude.{◌≡◌, refl, true, false, [], ◌∷◌, None, Some, Ok}
 use Rattle.std.specs.List.{concat}
 use Rattle.mars_cell.specs.declared.instruction.Op.TheVariants.{Djn, Spl}
 use Rattle.mars_cell.specs.declared.instruction.Modifier.TheVariants.{B, Ba}
 use Rattle.mars_cell.specs.declared.instruction.Mode.TheVariants.{Immediate, Direct, APredecrement, BPostincrement}
+use Rattle.mars_cell.specs.declared.fault.LoadFault.TheVariants.{Syntax}
+use Rattle.redcode_asm.specs.declared.fault.AsmProblem.TheVariants.{Text}
+use Rattle.redcode_text.specs.declared.fault.ExprFault.TheVariants.{DivideByZero}
+use Rattle.redcode_text.specs.declared.fault.TextProblem.TheVariants.{Expression}
 use Rattle.mars_core.specs.State.{is_over_of}
 use Rattle.mars_core.specs.Turn.{after_turns}
 use Rattle.mars_core.specs.Examples.{the_machine, cell_of, imp, of_eight, eight, lone}
@@ -11,8 +15,18 @@ use Rattle.mars_match.specs.Placement.{drawn, starts_of, next_seed}
 use Rattle.mars_match.specs.Examples.Placements.{sizes}
 use Rattle.mars_c.specs.Battles.{placed_in}
 use Rattle.mars_c.specs.Cells.{plain_cell}
+use Rattle.mars_c.specs.Codes.{fault_of}
 use Rattle.mars_c.specs.Records.{change_of, turn_row}
-use Rattle.mars_c.specs.States.{counts_of}
+use Rattle.mars_c.specs.States.{counts_of, fits_in}
+use Rattle.mars_c.specs.declared.faults.Refusal.TheVariants.{Assembly, Load}
+
+-- line 3 of the second load file
+pub load_file_is_told : fault_of (Load 1 (Syntax 3)) ≡ record { code = 6; number = 1; problem = 0; expression = 0; line = 3; warrior = 1 }
+load_file_is_told = refl
+
+-- the count of a loop in line 2 divides by zero
+pub source_is_told : fault_of (Assembly (record { line = 2; problem = Text (Expression DivideByZero) })) ≡ record { code = 5; number = 1; problem = 10; expression = 3; line = 2; warrior = 0 }
+source_is_told = refl
 
 -- DJN.BA >7, {3
 pub parts_have_their_numbers : plain_cell (cell_of Djn Ba BPostincrement 7 APredecrement 3) ≡ record { op = 10; modifier = 3; a_mode = 7; b_mode = 4; a = 7; b = 3 }
@@ -89,3 +103,12 @@ queues_lie_one_behind_the_other = refl
 
 pub each_queue_is_counted : counts_of ((4 ∷ 5 ∷ []) ∷ [] ∷ (7 ∷ []) ∷ []) ≡ 2 ∷ 0 ∷ 1 ∷ []
 each_queue_is_counted = refl
+
+-- a core of eight cells, one warrior with two processes, no death
+pub state_fits : fits_in (lone of_eight (eight []) (6 ∷ 7 ∷ [])) 8 1 2 0 ≡ true
+unfolding the_machine
+state_fits = refl
+
+pub processes_do_not_fit : fits_in (lone of_eight (eight []) (6 ∷ 7 ∷ [])) 9 9 1 9 ≡ false
+unfolding the_machine
+processes_do_not_fit = refl

@@ -8,4 +8,5 @@ pub mod Contests
 pub mod Debugging
 pub mod Examples
 pub mod Records
+pub mod Refusals
 pub mod States

@@ -1,5 +1,5 @@
 -- Where a battle stands, as numbers.
-use Rattle.std.specs.Prelude.{◌≡◌, ◌≤◌, ℕ, if◌then◌else◌, List, ◌++◌, drop, length, map}
+use Rattle.std.specs.Prelude.{◌≡◌, ◌≤◌, ℕ, Bool, ◌&&◌, if◌then◌else◌, List, ◌++◌, drop, length, map, nat_le}
 use Rattle.std.specs.List.{concat}
 use Rattle.mars_core.specs.State.{State, is_over_of}
 use Rattle.mars_core.specs.declared.deaths.Death.{Death}
@@ -26,6 +26,11 @@ plain_standing s = record {
   processes = length (concat s.queues);
   deaths = length s.deaths;
 }
+
+-- buffers of these lengths are long enough for the cells, the counts, the processes and the deaths of a state
+abbrev pub fits_in : State → ℕ → ℕ → ℕ → ℕ → Bool
+fits_in s cells counts processes deaths =
+    nat_le (length s.core) cells && nat_le (length s.queues) counts && nat_le (length (concat s.queues)) processes && nat_le (length s.deaths) deaths
 
 -- a buffer begins with values, and goes on as it was
 abbrev pub Begins : {X : Type 0} → List X → List X → List X → Type 0

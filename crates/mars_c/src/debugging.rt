@@ -1,8 +1,9 @@
 //! The debugger over the first round's battle.
-ghost use Rattle.std.specs.Prelude.{IfOk};
+ghost use Rattle.std.specs.Prelude.{codes, IfErr, IfOk};
 ghost use Rattle.mars_c.specs.Debugging.{Debugs};
+ghost use Rattle.mars_c.specs.Refusals.{Refuses};
 
-use crate::battles::{check_asked, debugged, start_of};
+use crate::battles::{asked_fault, debugged, start_of};
 use crate::faults::Refusal;
 use crate::settings::MarsSettings;
 use std::alloc::Global;
@@ -16,12 +17,17 @@ pub fn transcript(
     history: u32,
     lines: &[u8],
 ) -> Result<Vec<u8>, Refusal>
-    ensures { IfOk result (λ text. Debugs settings.now loads.now lengths.now history lines.now text.items) }
+    ensures told { IfOk result (λ text. Debugs settings.now loads.now lengths.now history lines.now text.items) }
+    ensures refused { IfErr result (Refuses settings.now (codes "0") loads.now lengths.now) }
 {
-    check_asked(lengths.len(), history)?;
+    if let Some(fault) = asked_fault(lengths.len(), history) {
+        return Err(Refusal::Settings(fault));
+    }
     let battle = start_of(alloc, settings, loads, lengths, 0)?;
     let mut transcript = Vec::new(alloc);
-    let session = debugged(alloc, battle, history, lines, &mut transcript)?;
-    drop(session);
+    match debugged(alloc, battle, history, lines, &mut transcript) {
+        Some(session) => drop(session),
+        None => return Err(Refusal::OutOfMemory),
+    }
     Ok(transcript)
 }

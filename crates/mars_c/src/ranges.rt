@@ -1,4 +1,6 @@
 //! Which of a caller's numbers is out of its range.
+ghost use Rattle.std.specs.Prelude.{◌≡◌};
+ghost use Rattle.mars_c.specs.Codes.{settings_number};
 
 /// Which setting is out of its range.
 #[derive(Clone, Copy)]
@@ -23,7 +25,9 @@ pub enum SettingsFault {
 
 impl SettingsFault {
     /// Its number in `include/mars.h`.
-    pub fn number(self) -> u32 {
+    pub fn number(self) -> u32
+        ensures { result ≡ settings_number self }
+    {
         match self {
             SettingsFault::Rounds => 1,
             SettingsFault::Seed => 2,
