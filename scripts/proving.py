@@ -52,9 +52,12 @@ def has_work(name):
 
 
 def time_of(path):
-    """When a file was written, or what is most like it of a folder; None where there is none."""
-    path = os.path.join(path, "format") if os.path.isdir(path) else path
-    return os.stat(path).st_mtime if os.path.exists(path) else None
+    """When a file was written, or what a crate states, which is a folder; there it is when its proof began, where a mark tells that.
+    None where there is none."""
+    written, mark = (os.path.join(path, "format"), os.path.join(os.path.dirname(path), MARK)) if os.path.isdir(path) else (path, "")
+    if not os.path.exists(written):
+        return None
+    return os.stat(mark if os.path.exists(mark) else written).st_mtime
 
 
 def is_newer(made, names):
