@@ -1,10 +1,11 @@
-#!/usr/bin/env python3
+#!/usr/bin/python3
 """Evolves a warrior for the nano settings against a few opponents, and prints its load file.
 
 usage: examples/evolver.py [SECONDS [SEED]]      60 seconds and seed 1 if left out
 
-It needs the library: scripts/library builds it into build/, where python/mars.py finds it. In each generation the best warriors
-stay, children of theirs with changed cells take the place of the others, and one call fights all of them against all opponents.
+It needs Debian's python3-cffi and python3-numpy, and the library: scripts/library builds it into build/, where python/mars.py finds
+it. In each generation the best warriors stay, children of theirs with changed cells take the place of the others, and one call
+fights all of them against all opponents.
 """
 import os
 import random
@@ -15,8 +16,8 @@ from dataclasses import dataclass
 sys.path.insert(0, os.path.join(os.path.dirname(os.path.realpath(__file__)), "..", "python"))
 try:
     import mars  # noqa: E402
-except ImportError:
-    sys.exit("evolver: there is no mars.py: it is in the kit's folder python/, and can be copied beside this file")
+except ImportError as fault:
+    sys.exit(f"evolver: {fault}: mars.py is in the kit's folder python/, and needs Debian's python3-cffi and python3-numpy")
 
 OPPONENTS = [
     "MOV 0, 1",

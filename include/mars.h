@@ -1,14 +1,19 @@
-/* The Core War kit as a library: an assembler, matches, leagues, populations and the debugger.
+/* The Core War kit as a library: an assembler, matches, leagues, populations, the debugger, and records of turns.
  *
  * Each call answers 0 where it has done what it was asked for, else one of the numbers of MARS_DONE and so on; the same
- * number, and more, stands in *fault. Where the answer isn't 0, rows and buffers are as they were.
+ * number, and more, stands in *fault. Where the answer isn't 0, rows and buffers are as they were. A mistake has the same number
+ * in each call, and of several the first is told: how many warriors, rows and places of the history there are; the parameters;
+ * rounds, seed and position; the formula; the load files in order, and what is left over of their bytes; the round; then what
+ * only the fight shows.
  *
  * Nothing outlives a call and nothing is shared: threads may call at once, each with rows, buffers and faults of its own.
- * Memory comes from malloc and goes back to free within the call. No call is made from a signal handler, or from the forked
- * child of a process with threads.
+ * Memory comes from malloc and goes back to free within the call; these and realloc are of one allocator, and align as C asks.
+ * 64 KiB of stack are enough for a call: none that was tried took more than 40. No call is made from a signal handler, or from the
+ * forked child of a process with threads.
  *
- * The caller owes that each pointer leads to as many readable (const) or writable values as the length behind it says, that
- * what is written overlaps nothing else that is handed in, and that no pointer is null, one with the length 0 too.
+ * The caller owes that each pointer leads to as many readable (const) or writable values as the length behind it says, aligned as
+ * C aligns their type, and that what is written overlaps nothing else that is handed in. A pointer with the length 0 may be null;
+ * no other one is. What is written needn't hold anything before.
  */
 #ifndef MARS_H
 #define MARS_H
@@ -20,11 +25,18 @@
 extern "C" {
 #endif
 
+/* The version of this header: 1000 for each major version, and the minor one. A minor version adds to what is there, a major one
+ * changes it. */
+#define MARS_VERSION 1000
+
+/* The version of the library that is called. */
+uint32_t mars_version(void);
+
 /* What calls answer, and what `number` in a fault is then. */
 enum {
     MARS_DONE = 0,
     MARS_OUT_OF_MEMORY = 1,
-    /* 1 rounds, 2 seed, 3 position, 4 how many warriors, 5 lengths and load files differ, 6 history, 7 how many rows */
+    /* 1 rounds, 2 seed, 3 position, 4 how many warriors, 5 lengths and load files differ, 6 history, 7 how many rows, 8 round */
     MARS_SETTINGS = 2,
     /* 1 CoreSize, 2 Processes, 3 Cycles, 4 Limit, 5 Length, 6 Distance */
     MARS_PARAMETERS = 3,
@@ -36,11 +48,11 @@ enum {
     MARS_LOAD = 6,
     /* 1 NoRoom, 2 BadSeed */
     MARS_PLACEMENT = 7,
-    /* 1 NoWarrior, 2 TooMany, 3 Overlap, 4 StartOutside, 5 FieldOutside */
+    /* 3 Overlap, 4 StartOutside, 5 FieldOutside */
     MARS_BATTLE = 8,
     /* as for a formula */
     MARS_SCORE = 9,
-    /* the buffer is shorter than what is to be written; *length says how long that is */
+    /* a buffer is shorter than what is to be written; *length, or *standing, says how long that is */
     MARS_ROOM = 10
 };
 
@@ -66,6 +78,56 @@ typedef struct {
     uint64_t losses; /* rounds not survived */
 } MarsRow;
 
+/* A cell of the core. The numbers of its parts count from 0:
+ * op        DAT MOV ADD SUB MUL DIV MOD JMP JMZ JMN DJN SEQ SNE SLT SPL NOP
+ * modifier  A B AB BA F X I
+ * mode      # $ * @ { < } > */
+typedef struct {
+    uint8_t op;
+    uint8_t modifier;
+    uint8_t a_mode;
+    uint8_t b_mode;
+    uint32_t a; /* both numbers are addresses, relative to the cell, from 0 to the core size less 1 */
+    uint32_t b;
+} MarsCell;
+
+/* A write of a cell. A turn that raises, lowers or copies to the same cell more than once has a write for each time. */
+typedef struct {
+    uint32_t address;
+    MarsCell before;
+    MarsCell after; /* may be the same */
+} MarsChange;
+
+/* What a turn did; what doesn't apply is 0. Warriors count from 0, in the order of their turns: in round K that is load file K
+ * modulo the warriors, then those behind it, then those before it. */
+typedef struct {
+    uint32_t warrior;     /* whose turn it was */
+    uint32_t address;     /* where its process stood */
+    uint32_t next;        /* whose turn is next */
+    uint32_t cycle;       /* how many cycles are complete then */
+    uint32_t died;        /* 1 where the warrior died */
+    uint32_t changes;     /* how many writes of cells, 0 to 3 */
+    uint32_t queued;      /* how many processes were queued, 0 to 2 */
+    MarsChange change[3]; /* the writes, in the order of execution */
+    uint32_t process[2];  /* where the processes stand that were queued */
+} MarsRecord;
+
+/* A death: which warrior, and how many turns had been made by all then, its last one among them. */
+typedef struct {
+    uint32_t warrior;
+    uint32_t turns;
+} MarsDeath;
+
+/* Where a battle stands. */
+typedef struct {
+    uint32_t turns;   /* that were made by all warriors together */
+    uint32_t cycle;   /* how many cycles are complete */
+    uint32_t next;    /* whose turn is next */
+    uint32_t over;    /* 1 where no turn is left */
+    size_t processes; /* of all warriors together */
+    size_t deaths;
+} MarsStanding;
+
 /* Why a call wasn't done; what doesn't apply is 0. */
 typedef struct {
     uint32_t code;       /* the call's answer */
@@ -90,7 +152,8 @@ uint32_t mars_match(const MarsSettings *settings, const uint8_t *formula, size_t
                     const uint8_t *loads, size_t loads_length, const size_t *lengths, size_t warriors,
                     MarsRow *rows, size_t row_count, MarsFault *fault);
 
-/* Fights a league of up to 65536 warriors: a match of every two. There is a row for each, and no position. */
+/* Fights a league of up to 65536 warriors: a match of every two. There is a row for each, and no position; one warrior, or none,
+ * fights nothing. */
 uint32_t mars_league(const MarsSettings *settings, const uint8_t *formula, size_t formula_length,
                      const uint8_t *loads, size_t loads_length, const size_t *lengths, size_t warriors,
                      MarsRow *rows, size_t row_count, MarsFault *fault);
@@ -102,11 +165,34 @@ uint32_t mars_population(const MarsSettings *settings, const uint8_t *formula, s
                          MarsRow *rows, size_t row_count, MarsFault *fault);
 
 /* Debugs the battle of the first round: `lines` are what the debugger reads, and the buffer gets what it answers. `history` is
- * how many places can be gone back, 1 to 1000000. *length is the length of the answers, also where the answer is MARS_ROOM. */
+ * how many places can be gone back, 1 to 1000000, and takes 160 bytes for each, whether turns are made or not. `rounds` is
+ * judged, though one round is debugged. *length is the length of the answers, also where the answer is MARS_ROOM. */
 uint32_t mars_debug(const MarsSettings *settings,
                     const uint8_t *loads, size_t loads_length, const size_t *lengths, size_t warriors,
                     uint32_t history, const uint8_t *lines, size_t lines_length,
                     uint8_t *buffer, size_t buffer_length, size_t *length, MarsFault *fault);
+
+/* Records turns. The battle of a round, from 0 to the rounds less 1, is debugged by the lines, as mars_debug does; what the
+ * debugger answers is dropped. From where the lines lead it (none: from its start) it is played on: the first `first` turns aren't
+ * recorded, and then row k gets turn first + k, counted from 0, as long as there are rows and turns. *count is how many turns
+ * there are from `first` on to the end, so as many rows are written as the lesser of *count and row_count; the others stay as they
+ * were. With no row it tells that alone. Where the answer isn't 0, *count is as it was, too. */
+uint32_t mars_record(const MarsSettings *settings,
+                     const uint8_t *loads, size_t loads_length, const size_t *lengths, size_t warriors,
+                     uint32_t round, uint32_t history, const uint8_t *lines, size_t lines_length,
+                     uint32_t first, MarsRecord *rows, size_t row_count, size_t *count, MarsFault *fault);
+
+/* Shows where the same battle stands `turns` turns further on, or at its end, where there are fewer: each cell of the core; how
+ * many processes each warrior has; where these stand, one queue behind the other, the front of each first; and the deaths in
+ * order. Each buffer begins with these, and goes on as it was. There are as many cells as the core has, as many counts as
+ * warriors, at most as many deaths; processes and deaths are counted in *standing, also where the answer is MARS_ROOM, which comes
+ * where one of the buffers is too short. */
+uint32_t mars_state(const MarsSettings *settings,
+                    const uint8_t *loads, size_t loads_length, const size_t *lengths, size_t warriors,
+                    uint32_t round, uint32_t history, const uint8_t *lines, size_t lines_length, uint32_t turns,
+                    MarsCell *cells, size_t cell_count, size_t *counts, size_t count_count,
+                    uint32_t *processes, size_t process_count, MarsDeath *deaths, size_t death_count,
+                    MarsStanding *standing, MarsFault *fault);
 
 #ifdef __cplusplus
 }

@@ -14,6 +14,7 @@ import tempfile
 from dataclasses import dataclass, field
 
 from hills import settings_of
+from limits import Limit, source_limit, started
 from program import NAME, Fault, find_program  # noqa: F401  (find_program serves the scripts)
 from settings import NUMBERS
 
@@ -115,6 +116,7 @@ class ScriptParser(argparse.ArgumentParser):
         self.add_argument("-h", "--help", action="store_true")
         self.add_argument("--program")
         self.add_argument("--hill")
+        self.add_argument("--source-limit", type=source_limit, default=Limit())
         self.hint = ""
 
     def read(self, arguments):
@@ -189,8 +191,9 @@ def listed(listing):
     return warriors
 
 
-def fight(program, words):
-    """Fights the match: its warriors, and the table of its results."""
+def fight(program, words, limit=Limit()):
+    """Fights the match: its warriors, and the table of its results. Before that its sources are read once within the limit."""
+    warriors_of(program, words, limit)
     done = subprocess.run([program, *words.as_list()], capture_output=True, text=True, errors="replace")
     if done.returncode:
         raise told(done.stderr, done.returncode)
@@ -198,16 +201,43 @@ def fight(program, words):
     return listed(listing), [Row(*map(int, line.split()[:4])) for line in results.splitlines()]
 
 
-def warriors_of(program, words):
-    """The warriors of the match, by the listing that mars writes before it fights; the fight is ended there."""
-    with subprocess.Popen([program, *words.as_list()], stdout=subprocess.PIPE, stderr=subprocess.PIPE, text=True,
-                          errors="replace") as process:
+def listing_of(command, count, limit, **how):
+    """The status, the listing and the fault of a match of so many warriors, which is ended where it begins to fight. The status is None
+    where its sources take more than the limit."""
+    try:
+        process, held = started(command, limit.times(count), stdout=subprocess.PIPE, stderr=subprocess.PIPE, text=True, errors="replace", **how)
+    except OSError as fault:
+        return 2, "", f"{fault.filename}: {fault.strerror}"
+    with process:
         # an empty line stands behind each warrior; where a file has a fault there is no listing
-        parts = ["".join(itertools.takewhile(str.strip, process.stdout)) for _ in words.files]
-        if not parts[0]:
-            raise told(process.stderr.read(), process.wait())
-        process.kill()
-    return listed("\n".join(parts))
+        parts = ["".join(itertools.takewhile(str.strip, process.stdout)) for _ in range(count)]
+        if parts[0]:
+            process.kill()
+            return 0, "\n".join(parts), ""
+        fault = process.stderr.read().strip()
+    overrun = held.overrun(process.returncode, fault)
+    return (None, "", overrun) if overrun else (process.returncode, "", fault)
+
+
+def warriors_of(program, words, limit=Limit()):
+    """The warriors of the match, by the listing that mars writes before it fights. A source that takes more than the limit is a fault."""
+    status, listing, fault = listing_of([program, *words.as_list()], len(words.files), limit)
+    if status is None:
+        raise overrun_of(program, words, limit) or Fault(f"the sources together: {fault}")
+    if not listing:
+        raise told(fault, status)
+    return listed(listing)
+
+
+def overrun_of(program, words, limit):
+    """The fault of the first file whose source takes more than the limit by itself."""
+    for path in words.files:
+        process, held = started([program, "--load", *Words([path], words.numbers).as_list()], limit, stdout=subprocess.DEVNULL, stderr=subprocess.PIPE)
+        fault = process.communicate()[1].decode("utf-8", "replace")
+        overrun = held.overrun(process.returncode, fault)
+        if overrun:
+            return Fault(as_given(f"mars: {path}: {overrun}"))
+    return None
 
 
 def next_seed(seed):

@@ -1,8 +1,15 @@
-"""What a machine has for proofs: its processors, and the memory that is free."""
-import os, re
+"""What a machine has for proofs: the toolchain, its processors, and the memory that is free."""
+import os, re, shutil, subprocess
 
 # The limit of a control group and what it uses, of either version; without a limit the first is no number, or a huge one.
 GROUPS = [("memory.max", "memory.current"), ("memory/memory.limit_in_bytes", "memory/memory.usage_in_bytes")]
+
+
+def toolchain():
+    """The folder of the Rattle toolchain, which has the guide that `rt doc` names; None where there is no `rt`."""
+    if not shutil.which("rt"):
+        return None
+    return os.path.dirname(subprocess.run(["rt", "doc"], capture_output=True, text=True).stdout.strip())
 
 
 def number_in(name, pattern=r"(\d+)\s*$"):

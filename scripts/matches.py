@@ -5,14 +5,16 @@ Each file is read once and assembled once, and fights as a load file: so /dev/st
 import argparse
 import os
 import re
+import subprocess
 import sys
 import time
 from concurrent.futures import ThreadPoolExecutor
 from contextlib import contextmanager
 from dataclasses import dataclass
 
-from battles import Fault, Words as BattleWords, is_stream, split_words, taken
+from battles import Fault, Words as BattleWords, is_stream, listing_of, split_words, taken
 from hills import settings_of
+from limits import Limit, source_limit
 from places import Contest, cluster, digest_of, passing_folder, read_file, threads, write_file
 from program import find_program
 from results import Results
@@ -61,9 +63,10 @@ def load_file_of(contest, file, entry, text):
     the text has that word, the load file is cut out of the listing of the warrior's match with itself.
     """
     if b"WARRIORS" in text:
-        answer = contest.run([word for word in contest.words if not word.startswith("--score=")], [entry, entry])
+        words = [word for word in contest.words if not word.startswith("--score=")]
+        answer = listing_of([contest.program, *words, "--", entry, entry], 2, contest.source_limit, cwd=contest.folder, stdin=subprocess.DEVNULL)
     else:
-        answer = contest.run(["--load", *(word for word in contest.words if not word.startswith("-F="))], [entry])
+        answer = contest.load([word for word in contest.words if not word.startswith("-F=")], entry)
     found = LOAD_FILE.search(checked(answer, file, entry))
     if not found:
         raise Fault(f"{contest.program} writes no load file")
@@ -182,7 +185,7 @@ def arena(given):
     """The files of a script's words, entered."""
     program = find_program(given.program)
     with passing_folder() as folder:
-        contest = Contest(program, words_of(given), given.time_limit, folder)
+        contest = Contest(program, words_of(given), given.time_limit, given.source_limit, folder)
         if given.scheduler:
             opened = cluster(contest, given.scheduler, given.worker_program or "mars")
         else:
@@ -228,6 +231,7 @@ class Words(argparse.ArgumentParser):
         self.add_argument("--hill", default="94nop")
         self.add_argument("--jobs", type=count, default=os.cpu_count() or 1)
         self.add_argument("--time-limit", type=positive)
+        self.add_argument("--source-limit", type=source_limit, default=Limit())
         self.add_argument("--results")
         self.add_argument("--program")
         self.add_argument("--scheduler")

@@ -18,6 +18,7 @@ from dataclasses import dataclass
 from itertools import islice
 
 from battles import Fault
+from limits import Limit
 
 # Matches that a scheduler hands on as one, since each such costs some milliseconds; and how many such it has at most.
 BUNDLE = 8
@@ -52,20 +53,27 @@ def passing_folder():
         remover.communicate()
 
 
-def run(program, words, folder, files, time_limit):
+def run(program, words, folder, files, time_limit, hold=None):
     """Starts the program in a folder, on words and files. Gives its status, its output and its fault.
 
-    The status is None where the limit of time ended it, and 2 where it can't be started.
+    The status is None where a limit ended it, and 2 where it can't be started. `hold` holds a process to a limit and gives that.
     """
+    command, streams = [program, *words, "--", *files], {"stdin": subprocess.DEVNULL, "stdout": subprocess.PIPE, "stderr": subprocess.PIPE}
     try:
-        done = subprocess.run([program, *words, "--", *files], cwd=folder, stdin=subprocess.DEVNULL,
-                              capture_output=True, timeout=time_limit)
+        with subprocess.Popen(command, cwd=folder, **streams) as process:
+            try:
+                limit = hold(process.pid) if hold else None
+                output, fault = (text.decode("utf-8", "replace") for text in process.communicate(timeout=time_limit))
+            finally:
+                process.kill()
     except subprocess.TimeoutExpired:
         return None, "", f"more than {time_limit:g} seconds"
     except OSError as error:
         return 2, "", f"{error.filename}: {error.strerror}"
-    output, fault = (text.decode("utf-8", "replace") for text in (done.stdout, done.stderr))
-    return done.returncode, output, fault.strip() or f"the program ended with status {done.returncode}"
+    overrun = limit.overrun(process.returncode, fault) if limit else None
+    if overrun:
+        return None, "", overrun
+    return process.returncode, output, fault.strip() or f"the program ended with status {process.returncode}"
 
 
 def run_there(program, digest, words, texts, bundle, time_limit):
@@ -82,14 +90,20 @@ def run_there(program, digest, words, texts, bundle, time_limit):
 
 @dataclass
 class Contest:
-    """What all matches have in common: the program, its words, the seconds that a match may take, and the folder of the files."""
+    """What all matches have in common: the program, its words, the seconds that a match may take, what a source may take, and the folder
+    of the files."""
     program: str
     words: list
     time_limit: float
+    source_limit: Limit
     folder: str
 
     def run(self, words, files):
         return run(self.program, words, self.folder, files, self.time_limit)
+
+    def load(self, words, file):
+        """The answer of `run` where a source is assembled, within its limit."""
+        return run(self.program, ["--load", *words], self.folder, [file], self.time_limit, self.source_limit.hold)
 
     def fight(self, bundle):
         return [self.run(["-b", *self.words], files) for files in bundle]

@@ -12,7 +12,7 @@ SCRIPTS = os.path.dirname(os.path.dirname(os.path.realpath(__file__)))
 sys.path.insert(0, SCRIPTS)
 from program import TOP, NoProgram, find_program  # noqa: E402,F401  (TOP serves the tests)
 
-counts = {"passed": 0, "failed": 0, "skipped": 0}
+counts = {"passed": 0, "failed": 0}
 
 
 def program_of(usage):
@@ -40,10 +40,9 @@ def holds(is_so, *told):
         print(*told)
 
 
-def skip(name, why):
-    """Tells what can't be tried on this machine."""
-    counts["skipped"] += 1
-    print(f"skipped: {name}: {why}")
+def skip(name, why, package=None):
+    """Tells what can't be tried on this machine, and the package of Debian's by which it could be. Without one the gate counts it as failed."""
+    print(f"skipped: {name}: {why}" + (f" (package {package})" if package else ""))
 
 
 def finish():

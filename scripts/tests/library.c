@@ -1,6 +1,6 @@
 /* Calls each export with ample memory, and then with each request for memory refused, alone and with all from it on. Each answer
- * is that with ample memory, or want of memory, which leaves rows and buffers as they were; and all memory is given back.
- * It is linked with --wrap for malloc, realloc and free. Prints `N passed, M failed`. */
+ * is that with ample memory, or want of memory, which leaves rows and buffers as they were; and all memory is given back. Null
+ * pointers are taken where the length is 0, and of several mistakes the first is told. It is linked with --wrap for malloc, realloc and free. Prints `N passed, M failed`. */
 #include <mars.h>
 #include <stdio.h>
 #include <stdlib.h>
@@ -41,13 +41,19 @@ static const char SOURCE[] = ";name Loops\nstep EQU 4\ni FOR 3\nx&i ADD #step, x
 static const char LINES[] = "step\nrun 5\nundo\nshow\nlist 0 5\nquit\n";
 static const char FORMULA[] = "(W*W-1)/S";
 static uint8_t loads[4096];
-static size_t lengths[3], all;
+static size_t lengths[17], all;
 
 /* What a call left. */
 typedef struct {
     uint8_t text[2048];
     size_t length;
     MarsRow rows[3];
+    MarsRecord records[9];
+    MarsCell cells[800];
+    size_t counts[3];
+    uint32_t processes[20];
+    MarsDeath deaths[3];
+    MarsStanding standing;
     MarsFault fault;
     uint32_t answer;
 } Left;
@@ -61,10 +67,13 @@ static void call(int which, Left *got) {
     if (which == 2) got->answer = mars_league(&SETTINGS, formula, bytes, loads, all, lengths, 3, got->rows, 3, &got->fault);
     if (which == 3) got->answer = mars_population(&SETTINGS, formula, bytes, loads, all, lengths, 3, got->rows, 2, &got->fault);
     if (which == 4) got->answer = mars_debug(&SETTINGS, loads, all, lengths, 3, 50, (const uint8_t *)LINES, strlen(LINES), got->text, sizeof got->text, &got->length, &got->fault);
+    if (which == 5) got->answer = mars_record(&SETTINGS, loads, all, lengths, 3, 2, 50, (const uint8_t *)LINES, strlen(LINES), 4, got->records, 9, &got->length, &got->fault);
+    if (which == 6) got->answer = mars_state(&SETTINGS, loads, all, lengths, 3, 2, 50, (const uint8_t *)LINES, strlen(LINES), 4, got->cells, 800, got->counts, 3, got->processes, 20, got->deaths, 3, &got->standing, &got->fault);
 }
 
 static int is_kept(const Left *got, const Left *blank) {
-    return memcmp(got->text, blank->text, sizeof got->text) == 0 && memcmp(got->rows, blank->rows, sizeof got->rows) == 0;
+    const char *from = (const char *)got->rows, *upto = (const char *)&got->standing;
+    return memcmp(got->text, blank->text, sizeof got->text) == 0 && memcmp(from, blank->rows, upto - from) == 0;
 }
 
 static int holds(int which, long each) {
@@ -84,6 +93,49 @@ static int holds(int which, long each) {
     }
 }
 
+/* Null pointers with the length 0. */
+static int are_nulls_taken(void) {
+    Left got;
+    size_t none = 0;
+    memset(&got, 0, sizeof got);
+    const MarsSettings *settings = &SETTINGS;
+    const uint8_t *source = (const uint8_t *)SOURCE, *formula = (const uint8_t *)FORMULA;
+    return mars_assemble(settings, 2, NULL, 0, NULL, 0, &got.length, &got.fault) == MARS_ASSEMBLY && got.fault.number == 7
+        && mars_assemble(settings, 2, source, strlen(SOURCE), NULL, 0, &got.length, &got.fault) == MARS_ROOM && got.length == lengths[0]
+        && mars_match(settings, NULL, 0, loads, all, lengths, 3, got.rows, 3, &got.fault) == MARS_FORMULA && got.fault.number == 1
+        && mars_match(settings, formula, strlen(FORMULA), NULL, 0, &none, 1, got.rows, 1, &got.fault) == MARS_LOAD && got.fault.number == 3
+        && mars_league(settings, formula, strlen(FORMULA), NULL, 0, NULL, 0, NULL, 0, &got.fault) == MARS_DONE
+        && mars_population(settings, formula, strlen(FORMULA), loads, all, lengths, 3, NULL, 0, &got.fault) == MARS_DONE
+        && mars_debug(settings, loads, all, lengths, 3, 9, NULL, 0, NULL, 0, &got.length, &got.fault) == MARS_DONE && got.length == 0
+        && mars_record(settings, loads, all, lengths, 3, 0, 9, NULL, 0, 0, NULL, 0, &got.length, &got.fault) == MARS_DONE && got.length > 9
+        && mars_state(settings, loads, all, lengths, 3, 0, 9, NULL, 0, 0, NULL, 0, NULL, 0, NULL, 0, NULL, 0, &got.standing, &got.fault) == MARS_ROOM
+        && got.standing.processes == 3;
+}
+
+/* Whether these calls are refused for this setting, whatever else is wrong. */
+static int is_refused_for(uint32_t number, const MarsSettings *settings, size_t warriors, size_t rows, uint32_t history) {
+    Left got;
+    const uint8_t *wrong = (const uint8_t *)"W+";
+    uint32_t contests = mars_match(settings, wrong, 2, loads, all, lengths, warriors, got.rows, rows, &got.fault);
+    int is_so = contests == MARS_SETTINGS && got.fault.number == number;
+    if (number == 7) return is_so && mars_league(settings, wrong, 2, loads, all, lengths, warriors, got.rows, rows, &got.fault) == contests && got.fault.number == 7;
+    uint32_t debugger = mars_debug(settings, loads, all - 1, lengths, warriors, history, NULL, 0, got.text, 0, &got.length, &got.fault);
+    return is_so && debugger == MARS_SETTINGS && got.fault.number == number;
+}
+
+/* A mistake has the same number in each call, before the parameters, or behind them and before the formula and the load files. */
+static int are_mistakes_told_in_order(void) {
+    MarsSettings bad = SETTINGS, placed = SETTINGS, both = SETTINGS;
+    bad.core = 0, placed.position = 1, both.position = 1, both.distance = 0;
+    MarsRow rows[3];
+    MarsFault fault;
+    const uint8_t *wrong = (const uint8_t *)"W+";
+    return is_refused_for(4, &bad, 0, 0, 0) && is_refused_for(4, &bad, 17, 3, 0) && is_refused_for(7, &bad, 3, 2, 9) && is_refused_for(3, &placed, 3, 3, 9)
+        && mars_league(&both, wrong, 2, loads, all, lengths, 3, rows, 3, &fault) == MARS_PARAMETERS && fault.number == 6
+        && mars_league(&placed, wrong, 2, loads, all, lengths, 3, rows, 3, &fault) == MARS_SETTINGS && fault.number == 3
+        && mars_match(&SETTINGS, wrong, 2, loads, all - 1, lengths, 3, rows, 3, &fault) == MARS_FORMULA;
+}
+
 int main(void) {
     int passed = 0, failed = 0;
     Left first;
@@ -93,12 +145,17 @@ int main(void) {
         lengths[i] = first.length;
         all += first.length;
     }
-    for (int which = 0; which < 5; which++)
+    for (int which = 0; which < 7; which++)
         for (long each = 0; each < 2; each++) {
             int is_so = holds(which, each);
             passed += is_so, failed += !is_so;
             if (!is_so) printf("call %d, %s refused\n", which, each ? "all from one on" : "one");
         }
+    int others[] = {mars_version() == MARS_VERSION, are_nulls_taken(), are_mistakes_told_in_order()};
+    for (size_t i = 0; i < sizeof others / sizeof *others; i++) {
+        passed += others[i], failed += !others[i];
+        if (!others[i]) printf("%s\n", (const char *[]){"the version", "null pointers", "the order of mistakes"}[i]);
+    }
     printf("%d passed, %d failed\n", passed, failed);
     return failed != 0;
 }

@@ -1,5 +1,5 @@
 -- What settings ask for.
-use Rattle.std.specs.Prelude.{◌≡◌, ◌≤◌, ◌-◌, ◌==◌, ℕ, if◌then◌else◌, IfSome, List, None, Ok, Option, Some}
+use Rattle.std.specs.Prelude.{◌≡◌, ◌≤◌, ◌==◌, ℕ, if◌then◌else◌, List, None, Ok, Option, Some}
 use Rattle.mars_cell.specs.Parameters.{Parameters}
 use Rattle.mars_cell.specs.ParameterFaults.{checked_parameters}
 use Rattle.redcode_asm.specs.Formula.{formula_of}
@@ -26,9 +26,9 @@ asked s = record {
 abbrev pub position_of : ℕ → Option ℕ
 position_of position = if position == 0 then None else Some position
 
--- a position is for two warriors, and leaves each the least distance
-abbrev pub FitsPosition : Parameters → ℕ → Option ℕ → Type 0
-FitsPosition p warriors fixed = IfSome fixed (λ position. (warriors ≡ 2) × (p.distance ≤ position) × (position ≤ p.core_size - p.distance))
+-- how many rounds a match may have, and from which seeds on
+abbrev pub AreAllowed : ℕ → ℕ → Type 0
+AreAllowed rounds seed = (1 ≤ rounds) × (rounds ≤ 100000) × (1 ≤ seed) × (seed ≤ 2147483646)
 
 -- what settings and a formula come to
 pub record AreTerms (s : MarsSettings) (text : List ℕ) (t : Terms) : Type 0 where
@@ -37,3 +37,4 @@ pub record AreTerms (s : MarsSettings) (text : List ℕ) (t : Terms) : Type 0 wh
   pub rounds : t.plan.rounds ≡ s.rounds
   pub seed : t.plan.seed ≡ s.seed
   pub fixed : t.plan.fixed ≡ position_of s.position
+  pub allowed : AreAllowed s.rounds s.seed

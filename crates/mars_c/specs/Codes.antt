@@ -1,16 +1,130 @@
--- The number that a call answers for each refusal.
+-- What a caller is told of each refusal: the answer, and the fault's numbers as the program prints them.
 use Rattle.std.specs.Prelude.{ℕ}
+use Rattle.mars_cell.specs.declared.fault.LoadFault.{LoadFault}
+use Rattle.mars_cell.specs.declared.fault.LoadFault.TheVariants as load
+use Rattle.mars_cell.specs.declared.parameters.ParamFault.{ParamFault}
+use Rattle.mars_cell.specs.declared.parameters.ParamFault.TheVariants as parameter
+use Rattle.mars_core.specs.declared.battle.start.BattleFault.{BattleFault}
+use Rattle.mars_core.specs.declared.battle.start.BattleFault.TheVariants as battle
+use Rattle.mars_match.specs.declared.placement.PlaceFault.{PlaceFault}
+use Rattle.mars_match.specs.declared.placement.PlaceFault.TheVariants as place
+use Rattle.redcode_asm.specs.declared.fault.AsmProblem.{AsmProblem}
+use Rattle.redcode_asm.specs.declared.fault.AsmProblem.TheVariants as assembly
+use Rattle.redcode_text.specs.declared.fault.ExprFault.{ExprFault}
+use Rattle.redcode_text.specs.declared.fault.ExprFault.TheVariants as expression
+use Rattle.redcode_text.specs.declared.fault.TextProblem.{TextProblem}
+use Rattle.redcode_text.specs.declared.fault.TextProblem.TheVariants as text
+use Rattle.mars_c.specs.declared.faults.MarsFault.{MarsFault}
 use Rattle.mars_c.specs.declared.faults.Refusal.{Refusal}
-use Rattle.mars_c.specs.declared.faults.Refusal.TheVariants.{OutOfMemory, Settings, Parameters, Formula, Assembly, Load, Placement, Battle, Score, Room}
+use Rattle.mars_c.specs.declared.faults.Refusal.TheVariants.{OutOfMemory, Settings, Parameters, Formula, Assembly, Load, Placement, Battle, Score}
+use Rattle.mars_c.specs.declared.ranges.SettingsFault.{SettingsFault}
+use Rattle.mars_c.specs.declared.ranges.SettingsFault.TheVariants as settings
 
-abbrev pub code_of : Refusal → ℕ
-code_of OutOfMemory = 1
-code_of (Settings fault) = 2
-code_of (Parameters fault) = 3
-code_of (Formula fault) = 4
-code_of (Assembly fault) = 5
-code_of (Load index fault) = 6
-code_of (Placement fault) = 7
-code_of (Battle fault) = 8
-code_of (Score fault) = 9
-code_of Room = 10
+abbrev pub settings_number : SettingsFault → ℕ
+settings_number settings.Rounds = 1
+settings_number settings.Seed = 2
+settings_number settings.Position = 3
+settings_number settings.Warriors = 4
+settings_number settings.Lengths = 5
+settings_number settings.History = 6
+settings_number settings.Rows = 7
+settings_number settings.Round = 8
+
+abbrev pub parameter_number : ParamFault → ℕ
+parameter_number parameter.CoreSize = 1
+parameter_number parameter.Processes = 2
+parameter_number parameter.Cycles = 3
+parameter_number parameter.Limit = 4
+parameter_number parameter.Length = 5
+parameter_number parameter.Distance = 6
+
+abbrev pub expression_number : ExprFault → ℕ
+expression_number expression.Syntax = 1
+expression_number expression.Unknown = 2
+expression_number expression.DivideByZero = 3
+expression_number expression.Range = 4
+expression_number expression.Depth = 5
+
+abbrev pub load_number : LoadFault → ℕ
+load_number (load.Syntax line) = 1
+load_number load.TooLong = 2
+load_number load.Empty = 3
+load_number load.BadOrigin = 4
+load_number load.OutOfMemory = 5
+load_number load.Version = 6
+
+-- the line of a load file's fault; 0 where it has none
+abbrev pub load_line : LoadFault → ℕ
+load_line (load.Syntax line) = line
+load_line fault = 0
+
+abbrev pub placement_number : PlaceFault → ℕ
+placement_number place.NoRoom = 1
+placement_number place.BadSeed = 2
+placement_number place.OutOfMemory = 3
+
+abbrev pub battle_number : BattleFault → ℕ
+battle_number battle.NoWarrior = 1
+battle_number battle.TooMany = 2
+battle_number battle.Overlap = 3
+battle_number battle.StartOutside = 4
+battle_number battle.FieldOutside = 5
+battle_number battle.OutOfMemory = 6
+
+abbrev pub assembly_number : AsmProblem → ℕ
+assembly_number (assembly.Text problem) = 1
+assembly_number assembly.Operation = 2
+assembly_number assembly.Operand = 3
+assembly_number (assembly.Expression fault) = 4
+assembly_number assembly.AssertFailed = 5
+assembly_number assembly.BadOrigin = 6
+assembly_number assembly.Empty = 7
+assembly_number assembly.TooLong = 8
+assembly_number assembly.OutOfMemory = 9
+
+abbrev pub text_number : TextProblem → ℕ
+text_number text.NotAscii = 1
+text_number text.BadToken = 2
+text_number text.UnclosedFor = 3
+text_number text.RofAlone = 4
+text_number text.BadCount = 5
+text_number text.LabelInCount = 6
+text_number text.Duplicate = 7
+text_number text.EquDepth = 8
+text_number text.TooLong = 9
+text_number (text.Expression fault) = 10
+text_number text.OutOfMemory = 11
+
+-- the expression's fault within a text's problem; 0 where there is none
+abbrev pub text_expression : TextProblem → ℕ
+text_expression (text.Expression fault) = expression_number fault
+text_expression problem = 0
+
+-- the text's problem and the expression's fault within an assembly's; 0 where there is none
+abbrev pub problem_numbers : AsmProblem → ℕ × ℕ
+problem_numbers (assembly.Text problem) = (text_number problem, text_expression problem)
+problem_numbers (assembly.Expression fault) = (0, expression_number fault)
+problem_numbers problem = (0, 0)
+
+-- an answer with a number; what doesn't apply is 0
+abbrev pub numbered : ℕ → ℕ → MarsFault
+numbered code number = record { code = code; number = number; problem = 0; expression = 0; line = 0; warrior = 0 }
+
+-- what a caller is told of a refusal
+abbrev pub fault_of : Refusal → MarsFault
+fault_of OutOfMemory = numbered 1 0
+fault_of (Settings fault) = numbered 2 (settings_number fault)
+fault_of (Parameters fault) = numbered 3 (parameter_number fault)
+fault_of (Formula fault) = numbered 4 (expression_number fault)
+fault_of (Assembly fault) = record {
+  code = 5;
+  number = assembly_number fault.problem;
+  problem = (problem_numbers fault.problem).0;
+  expression = (problem_numbers fault.problem).1;
+  line = fault.line;
+  warrior = 0;
+}
+fault_of (Load index fault) = record { code = 6; number = load_number fault; problem = 0; expression = 0; line = load_line fault; warrior = index }
+fault_of (Placement fault) = numbered 7 (placement_number fault)
+fault_of (Battle fault) = numbered 8 (battle_number fault)
+fault_of (Score fault) = numbered 9 (expression_number fault)

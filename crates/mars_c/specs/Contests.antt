@@ -1,17 +1,14 @@
 -- What contests of load files come to.
-use Rattle.std.specs.Prelude.{◌≡◌, ◌≤◌, ℕ, ◌+◌, pos, ◌+ℤ◌, ◌∷◌, [], ◌++◌, codes, drop, List, map, Ok, Option, Some, take, ⊤, length}
+use Rattle.std.specs.Prelude.{◌≡◌, ◌≤◌, ◌<◌, ℕ, ◌+◌, pos, ◌+ℤ◌, ◌∷◌, [], ◌++◌, drop, List, map, None, Ok, take, ⊤, length}
 use Rattle.mars_cell.specs.Load.{load}
 use Rattle.mars_cell.specs.Parameters.{Parameters}
 use Rattle.mars_cell.specs.Warriors.{WarriorValue}
 use Rattle.mars_match.specs.Leagues.{league_of}
 use Rattle.mars_match.specs.Rounds.{table_of}
 use Rattle.mars_match.specs.Tables.{RowValue}
-use Rattle.mars_app.specs.Debugging.{DebugsWell, session_at}
 use Rattle.mars_cell.specs.ParameterFaults.{checked_parameters}
-use Rattle.mars_core.specs.Start.{start_state}
-use Rattle.mars_core.specs.State.{State}
-use Rattle.mars_match.specs.Rounds.{placed_for}
 use Rattle.redcode_asm.specs.LoadFiles.{assembled_load}
+use Rattle.mars_match.specs.Placement.{FitsTwo}
 use Rattle.mars_c.specs.Asked.{AreTerms, asked}
 use Rattle.mars_c.specs.declared.rows.MarsRow.{MarsRow}
 use Rattle.mars_c.specs.declared.settings.MarsSettings.{MarsSettings}
@@ -35,14 +32,14 @@ AreLoads p bytes lengths ws = Reads p bytes lengths ws []
 -- the rows of a match of these load files
 abbrev pub IsMatch : MarsSettings → List ℕ → List ℕ → List ℕ → List RowValue → Type 0
 IsMatch s text loads lengths rows = (t : Terms) × (ws : List WarriorValue)
-    × AreTerms s text t × AreLoads t.params loads lengths ws
+    × AreTerms s text t × AreLoads t.params loads lengths ws × FitsTwo t.params (length ws) t.plan.fixed
     × (table_of t.params ws t.plan.formula t.plan.fixed t.plan.rounds t.plan.seed ≡ Ok rows)
 
--- the rows of a league of these load files
+-- the rows of a league of these load files, which has no position
 abbrev pub IsLeague : MarsSettings → List ℕ → List ℕ → List ℕ → List RowValue → Type 0
 IsLeague s text loads lengths rows = (t : Terms) × (ws : List WarriorValue)
-    × AreTerms s text t × AreLoads t.params loads lengths ws
-    × (league_of t.params ws t.plan.formula t.plan.fixed t.plan.rounds t.plan.seed ≡ Ok rows)
+    × AreTerms s text t × AreLoads t.params loads lengths ws × (t.plan.fixed ≡ None)
+    × (league_of t.params ws t.plan.formula None t.plan.rounds t.plan.seed ≡ Ok rows)
 
 -- the rows of the caller hold those of a match, or of a league
 abbrev pub HoldsMatch : MarsSettings → List ℕ → List ℕ → List ℕ → List MarsRow → Type 0
@@ -59,26 +56,17 @@ IsLoadFile s warriors source text = (p : Parameters) × (checked_parameters (ask
 abbrev pub BeginsWith : List ℕ → ℕ → List ℕ → List ℕ → Type 0
 BeginsWith text count before after = (count ≡ length text) × (count ≤ length before) × (after ≡ text ++ drop count before)
 
+-- a text of this length is longer than the buffer
+abbrev pub Overflows : List ℕ → ℕ → List ℕ → Type 0
+Overflows text count buffer = (count ≡ length text) × (length buffer < count)
+
 -- the buffer holds the load file of a source
 abbrev pub HoldsLoadFile : MarsSettings → ℕ → List ℕ → ℕ → List ℕ → List ℕ → Type 0
 HoldsLoadFile s warriors source count before after = (text : List ℕ) × IsLoadFile s warriors source text × BeginsWith text count before after
 
--- the battle of the first round, as the debugger begins with it
-abbrev pub IsFirstBattle : Terms → List WarriorValue → State → Type 0
-IsFirstBattle t ws s = (starts : List ℕ) × (left : ℕ) × (placed_for t.params (length ws) t.plan.fixed t.plan.seed ≡ Ok (starts, left)) × (s ≡ start_state t.params ws starts)
-
--- what the debugger answers to lines over a battle
-abbrev pub IsTranscript : State → ℕ → List ℕ → List ℕ → Type 0
-IsTranscript s history lines text = (left : Option (List ℕ)) × DebugsWell (session_at history s) s.params.core_size (Some lines) left (Some []) (Some text)
-
--- what the debugger answers to lines over the first round of these load files
-abbrev pub Debugs : MarsSettings → List ℕ → List ℕ → ℕ → List ℕ → List ℕ → Type 0
-Debugs s loads lengths history lines text = (t : Terms) × (ws : List WarriorValue) × (battle : State)
-    × AreTerms s (codes "0") t × AreLoads t.params loads lengths ws × IsFirstBattle t ws battle × IsTranscript battle history lines text
-
--- the buffer holds the debugger's answers
-abbrev pub HoldsTranscript : MarsSettings → List ℕ → List ℕ → ℕ → List ℕ → ℕ → List ℕ → List ℕ → Type 0
-HoldsTranscript s loads lengths history lines count before after = (text : List ℕ) × Debugs s loads lengths history lines text × BeginsWith text count before after
+-- the load file of a source is longer than the buffer
+abbrev pub OverflowsLoadFile : MarsSettings → ℕ → List ℕ → ℕ → List ℕ → Type 0
+OverflowsLoadFile s warriors source count buffer = (text : List ℕ) × IsLoadFile s warriors source text × Overflows text count buffer
 
 -- what a candidate got in its match with an opponent
 abbrev pub IsMet : Terms → WarriorValue → WarriorValue → MarsRow → Type 0
@@ -107,5 +95,5 @@ AreSums t opponents (candidate ∷ candidates) (sum ∷ sums) = SumsTo t candida
 -- the sums of as many candidates as there are rows, which come before the opponents
 abbrev pub HoldsSums : MarsSettings → List ℕ → List ℕ → List ℕ → List MarsRow → Type 0
 HoldsSums s text loads lengths place = (t : Terms) × (ws : List WarriorValue)
-    × AreTerms s text t × AreLoads t.params loads lengths ws
+    × AreTerms s text t × AreLoads t.params loads lengths ws × FitsTwo t.params 2 t.plan.fixed
     × AreSums t (drop (length place) ws) (take (length place) ws) place

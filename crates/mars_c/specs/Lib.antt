@@ -1,3 +1,12 @@
+-- What a reader of the contracts has to believe, in this order; Examples has worked examples of it, and Code serves the proofs alone.
 pub mod Asked
+pub mod Battles
+pub mod Cells
+pub mod Code
 pub mod Codes
 pub mod Contests
+pub mod Debugging
+pub mod Examples
+pub mod Records
+pub mod Refusals
+pub mod States

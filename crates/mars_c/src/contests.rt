@@ -1,12 +1,14 @@
 //! Matches and leagues of load files.
-ghost use Rattle.std.specs.Prelude.{◌≡◌, IfOk, OnErr, OnOk};
+ghost use Rattle.std.specs.Prelude.{◌≡◌, ◌≤◌, IfErr, IfOk, OnErr, OnOk, length};
+ghost use Rattle.mars_match.specs.Leagues.{most_of_league};
 ghost use Rattle.mars_c.specs.Contests.{HoldsLeague, HoldsMatch, IsLeague, IsMatch};
+ghost use Rattle.mars_c.specs.Refusals.{Refuses};
 
-use crate::faults::Refusal;
-use crate::loading::read_all;
+use crate::faults::{Refusal, refused_fight};
+use crate::loading::enter;
 use crate::ranges::SettingsFault;
 use crate::rows::{MarsRow, give_rows};
-use crate::settings::{MarsSettings, make_terms};
+use crate::settings::{MarsSettings, warriors_fault};
 use mars_match::{Table, league, rounds};
 use std::alloc::Global;
 
@@ -21,16 +23,20 @@ fn match_table(
     loads: &[u8],
     lengths: &[usize],
 ) -> Result<Table, Refusal>
-    ensures { IfOk result (λ table. IsMatch settings.now formula.now loads.now lengths.now table.rows.items) }
+    ensures table { IfOk result (λ table. IsMatch settings.now formula.now loads.now lengths.now table.rows.items) }
+    ensures refused { IfErr result (Refuses settings.now formula.now loads.now lengths.now) }
 {
-    let terms = make_terms(alloc, settings, formula, lengths.len())?;
-    let warriors = read_all(alloc, &terms.params, loads, lengths)?;
-    let table = rounds(alloc, &terms.params, &warriors, &terms.plan);
-    drop(warriors);
-    drop(terms);
+    let entry = enter(alloc, settings, formula, loads, lengths, lengths.len())?;
+    let table = rounds(
+        alloc,
+        &entry.terms.params,
+        &entry.warriors,
+        &entry.terms.plan,
+    );
+    drop(entry);
     match table {
         Ok(table) => Ok(table),
-        Err(fault) => Err(Refusal::from(fault)),
+        Err(fault) => Err(refused_fight(fault)),
     }
 }
 
@@ -42,22 +48,22 @@ fn league_table(
     loads: &[u8],
     lengths: &[usize],
 ) -> Result<Table, Refusal>
-    ensures { IfOk result (λ table. IsLeague settings.now formula.now loads.now lengths.now table.rows.items) }
+    requires { length lengths.now ≤ most_of_league }
+    ensures table { IfOk result (λ table. IsLeague settings.now formula.now loads.now lengths.now table.rows.items) }
+    ensures refused { IfErr result (Refuses settings.now formula.now loads.now lengths.now) }
 {
-    if lengths.len() > MOST_OF_A_LEAGUE {
-        return Err(Refusal::Settings(SettingsFault::Warriors));
-    }
-    if settings.position != 0 {
-        return Err(Refusal::Settings(SettingsFault::Position));
-    }
-    let terms = make_terms(alloc, settings, formula, lengths.len())?;
-    let warriors = read_all(alloc, &terms.params, loads, lengths)?;
-    let table = league(alloc, &terms.params, &warriors, &terms.plan);
-    drop(warriors);
-    drop(terms);
+    // A league has no position: one is judged as if there were no warriors.
+    let entry = enter(alloc, settings, formula, loads, lengths, 0)?;
+    let table = league(
+        alloc,
+        &entry.terms.params,
+        &entry.warriors,
+        &entry.terms.plan,
+    );
+    drop(entry);
     match table {
         Ok(table) => Ok(table),
-        Err(fault) => Err(Refusal::from(fault)),
+        Err(fault) => Err(refused_fight(fault)),
     }
 }
 
@@ -72,9 +78,19 @@ pub fn match_into(
 ) -> Result<(), Refusal>
     ensures ok { OnOk result (HoldsMatch settings.now formula.now loads.now lengths.now place.new) }
     ensures err { OnErr result (place.new ≡ place.old) }
+    ensures refused { IfErr result (Refuses settings.now formula.now loads.now lengths.now) }
 {
+    if let Some(fault) = warriors_fault(lengths.len()) {
+        return Err(Refusal::Settings(fault));
+    }
+    if place.len() != lengths.len() {
+        return Err(Refusal::Settings(SettingsFault::Rows));
+    }
     let table = match_table(alloc, settings, formula, loads, lengths)?;
-    give_rows(alloc, &table.rows, place)
+    match give_rows(alloc, &table.rows, place) {
+        Ok(()) => Ok(()),
+        Err(fault) => Err(refused_fight(fault)),
+    }
 }
 
 /// Gives the rows of a league to the caller.
@@ -88,7 +104,17 @@ pub fn league_into(
 ) -> Result<(), Refusal>
     ensures ok { OnOk result (HoldsLeague settings.now formula.now loads.now lengths.now place.new) }
     ensures err { OnErr result (place.new ≡ place.old) }
+    ensures refused { IfErr result (Refuses settings.now formula.now loads.now lengths.now) }
 {
+    if lengths.len() > MOST_OF_A_LEAGUE {
+        return Err(Refusal::Settings(SettingsFault::Warriors));
+    }
+    if place.len() != lengths.len() {
+        return Err(Refusal::Settings(SettingsFault::Rows));
+    }
     let table = league_table(alloc, settings, formula, loads, lengths)?;
-    give_rows(alloc, &table.rows, place)
+    match give_rows(alloc, &table.rows, place) {
+        Ok(()) => Ok(()),
+        Err(fault) => Err(refused_fight(fault)),
+    }
 }

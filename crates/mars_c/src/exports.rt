@@ -1,27 +1,45 @@
 //! What C calls.
-ghost use Rattle.std.specs.Prelude.{◌≡◌, ◌≢◌, IfOk, OnErr, OnOk};
-ghost use Rattle.mars_c.specs.Contests.{BeginsWith, HoldsLeague, HoldsLoadFile, HoldsMatch, HoldsSums, HoldsTranscript, IsLoadFile};
+ghost use Rattle.std.specs.Prelude.{◌≡◌, ◌≢◌, ◌≤◌, codes, IfErr, IfOk, false, true};
+ghost use Rattle.mars_c.specs.Contests.{BeginsWith, HoldsLeague, HoldsLoadFile, HoldsMatch, HoldsSums, IsLoadFile, Overflows, OverflowsLoadFile};
+ghost use Rattle.mars_c.specs.Debugging.{HoldsRecords, HoldsState, HoldsTranscript, OverflowsState, OverflowsTranscript};
+ghost use Rattle.mars_c.specs.Refusals.{RefusesSource, Tells, TellsSource};
+ghost use Rattle.mars_c.specs.States.{AreKept};
 
+use crate::battles::{battle_of, state_of};
+use crate::cells::MarsCell;
 use crate::contests::{league_into, match_into};
 use crate::debugging::transcript;
-use crate::faults::{MarsFault, Refusal, outcome};
+use crate::faults::{MarsFault, Refusal, given, refused_source, told};
+use crate::playing::give_records;
 use crate::population::population_into;
+use crate::records::MarsRecord;
 use crate::rows::MarsRow;
 use crate::settings::{MarsSettings, parameters};
+use crate::states::{MarsDeath, MarsStanding, give_state};
 use redcode_asm::assemble_load;
 use std::alloc::Global;
 
-/// Writes a text to the front of a buffer, where it fits, and tells its length.
-fn give_text(text: &[u8], buffer: &mut [u8], length: &mut usize) -> Result<(), Refusal>
-    ensures ok { OnOk result (BeginsWith text.now length.new buffer.old buffer.new) }
-    ensures err { OnErr result (buffer.new ≡ buffer.old) }
+/// Writes a text to the front of a buffer, where it fits. Tells its length, and whether it fits.
+fn give_text(text: &[u8], buffer: &mut [u8], length: &mut usize) -> bool
+    ensures fits { result ≡ true → BeginsWith text.now length.new buffer.old buffer.new }
+    ensures short { result ≡ false → Overflows text.now length.new buffer.old }
+    ensures kept { result ≡ false → buffer.new ≡ buffer.old }
 {
     *length = text.len();
     if text.len() > buffer.len() {
-        return Err(Refusal::Room);
+        return false;
     }
     buffer[..text.len()].copy_from_slice(text);
-    Ok(())
+    true
+}
+
+/// Tells the caller a fault, whose code is the call's answer.
+fn answer(place: &mut MarsFault, fault: MarsFault) -> u32
+    ensures fault { place.new ≡ fault }
+    ensures code { result ≡ fault.code }
+{
+    *place = fault;
+    place.code
 }
 
 /// The load file of a source.
@@ -31,47 +49,28 @@ fn load_file(
     warriors: u32,
     source: &[u8],
 ) -> Result<Vec<u8>, Refusal>
-    ensures { IfOk result (λ text. IsLoadFile settings.now warriors source.now text.items) }
+    ensures made { IfOk result (λ text. IsLoadFile settings.now warriors source.now text.items) }
+    ensures refused { IfErr result (RefusesSource settings.now warriors source.now) }
 {
-    let params = parameters(settings)?;
+    let params = match parameters(settings) {
+        Ok(params) => params,
+        Err(fault) => return Err(Refusal::Parameters(fault)),
+    };
     match assemble_load(alloc, source, &params, settings.rounds, warriors) {
         Ok(text) => Ok(text),
-        Err(fault) => Err(Refusal::from(fault)),
+        Err(fault) => Err(refused_source(fault)),
     }
 }
 
-/// Gives the load file of a source to the caller.
-fn assemble_into(
-    alloc: Global,
-    settings: &MarsSettings,
-    warriors: u32,
-    source: &[u8],
-    buffer: &mut [u8],
-    length: &mut usize,
-) -> Result<(), Refusal>
-    ensures ok { OnOk result (HoldsLoadFile settings.now warriors source.now length.new buffer.old buffer.new) }
-    ensures err { OnErr result (buffer.new ≡ buffer.old) }
-{
-    let text = load_file(alloc, settings, warriors, source)?;
-    give_text(&text, buffer, length)
-}
+/// The version: 1,000 for each major one, and the minor one. It is MARS_VERSION of `include/mars.h`.
+const VERSION: u32 = 1000;
 
-/// Gives the answers of the debugger to the caller.
-fn debug_into(
-    alloc: Global,
-    settings: &MarsSettings,
-    loads: &[u8],
-    lengths: &[usize],
-    history: u32,
-    lines: &[u8],
-    buffer: &mut [u8],
-    length: &mut usize,
-) -> Result<(), Refusal>
-    ensures ok { OnOk result (HoldsTranscript settings.now loads.now lengths.now history lines.now length.new buffer.old buffer.new) }
-    ensures err { OnErr result (buffer.new ≡ buffer.old) }
+/// Tells the version of the library.
+#[unsafe(no_mangle)]
+pub extern "C" fn mars_version() -> u32
+    ensures { result ≡ 1000 }
 {
-    let text = transcript(alloc, settings, loads, lengths, history, lines)?;
-    give_text(&text, buffer, length)
+    VERSION
 }
 
 /// Assembles a source to its load file.
@@ -87,10 +86,15 @@ pub extern "C" fn mars_assemble(
 ) -> u32
     ensures told { result ≡ fault.new.code }
     ensures done { result ≡ 0 → HoldsLoadFile settings.now warriors source.now length.new buffer.old buffer.new }
+    ensures refused { 1 ≤ result → result ≤ 9 → TellsSource settings.now warriors source.now fault.new }
+    ensures room { result ≡ 10 → OverflowsLoadFile settings.now warriors source.now length.new buffer.old }
     ensures kept { result ≢ 0 → buffer.new ≡ buffer.old }
+    ensures few { result ≤ 10 }
 {
-    *fault = outcome(assemble_into(alloc, settings, warriors, source, buffer, length));
-    fault.code
+    match load_file(alloc, settings, warriors, source) {
+        Ok(text) => answer(fault, given(give_text(&text, buffer, length))),
+        Err(refusal) => answer(fault, told(refusal)),
+    }
 }
 
 /// Fights a match of 1 to 16 load files.
@@ -105,11 +109,15 @@ pub extern "C" fn mars_match(
     fault: &mut MarsFault,
 ) -> u32
     ensures told { result ≡ fault.new.code }
+    ensures refused { 1 ≤ result → result ≤ 9 → Tells settings.now formula.now loads.now lengths.now fault.new }
     ensures done { result ≡ 0 → HoldsMatch settings.now formula.now loads.now lengths.now rows.new }
     ensures kept { result ≢ 0 → rows.new ≡ rows.old }
+    ensures few { result ≤ 9 }
 {
-    *fault = outcome(match_into(alloc, settings, formula, loads, lengths, rows));
-    fault.code
+    match match_into(alloc, settings, formula, loads, lengths, rows) {
+        Ok(()) => answer(fault, given(true)),
+        Err(refusal) => answer(fault, told(refusal)),
+    }
 }
 
 /// Fights a league of up to 65,536 load files.
@@ -124,11 +132,15 @@ pub extern "C" fn mars_league(
     fault: &mut MarsFault,
 ) -> u32
     ensures told { result ≡ fault.new.code }
+    ensures refused { 1 ≤ result → result ≤ 9 → Tells settings.now formula.now loads.now lengths.now fault.new }
     ensures done { result ≡ 0 → HoldsLeague settings.now formula.now loads.now lengths.now rows.new }
     ensures kept { result ≢ 0 → rows.new ≡ rows.old }
+    ensures few { result ≤ 9 }
 {
-    *fault = outcome(league_into(alloc, settings, formula, loads, lengths, rows));
-    fault.code
+    match league_into(alloc, settings, formula, loads, lengths, rows) {
+        Ok(()) => answer(fault, given(true)),
+        Err(refusal) => answer(fault, told(refusal)),
+    }
 }
 
 /// Fights a match of each candidate with each opponent.
@@ -143,11 +155,15 @@ pub extern "C" fn mars_population(
     fault: &mut MarsFault,
 ) -> u32
     ensures told { result ≡ fault.new.code }
+    ensures refused { 1 ≤ result → result ≤ 9 → Tells settings.now formula.now loads.now lengths.now fault.new }
     ensures done { result ≡ 0 → HoldsSums settings.now formula.now loads.now lengths.now rows.new }
     ensures kept { result ≢ 0 → rows.new ≡ rows.old }
+    ensures few { result ≤ 9 }
 {
-    *fault = outcome(population_into(alloc, settings, formula, loads, lengths, rows));
-    fault.code
+    match population_into(alloc, settings, formula, loads, lengths, rows) {
+        Ok(()) => answer(fault, given(true)),
+        Err(refusal) => answer(fault, told(refusal)),
+    }
 }
 
 /// Debugs the battle of the first round.
@@ -164,11 +180,85 @@ pub extern "C" fn mars_debug(
     fault: &mut MarsFault,
 ) -> u32
     ensures told { result ≡ fault.new.code }
+    ensures refused { 1 ≤ result → result ≤ 9 → Tells settings.now (codes "0") loads.now lengths.now fault.new }
     ensures done { result ≡ 0 → HoldsTranscript settings.now loads.now lengths.now history lines.now length.new buffer.old buffer.new }
+    ensures room { result ≡ 10 → OverflowsTranscript settings.now loads.now lengths.now history lines.now length.new buffer.old }
     ensures kept { result ≢ 0 → buffer.new ≡ buffer.old }
+    ensures few { result ≤ 10 }
 {
-    *fault = outcome(debug_into(
-        alloc, settings, loads, lengths, history, lines, buffer, length,
-    ));
-    fault.code
+    match transcript(alloc, settings, loads, lengths, history, lines) {
+        Ok(text) => answer(fault, given(give_text(&text, buffer, length))),
+        Err(refusal) => answer(fault, told(refusal)),
+    }
+}
+
+/// Records the turns of the battle of a round, from where the debugger's lines lead it.
+#[unsafe(no_mangle)]
+pub extern "C" fn mars_record(
+    alloc: Global,
+    settings: &MarsSettings,
+    loads: &[u8],
+    lengths: &[usize],
+    round: u32,
+    history: u32,
+    lines: &[u8],
+    first: u32,
+    rows: &mut [MarsRecord],
+    count: &mut usize,
+    fault: &mut MarsFault,
+) -> u32
+    ensures told { result ≡ fault.new.code }
+    ensures refused { 1 ≤ result → result ≤ 9 → Tells settings.now (codes "0") loads.now lengths.now fault.new }
+    ensures done { result ≡ 0 → HoldsRecords settings.now loads.now lengths.now round history lines.now first count.new rows.old rows.new }
+    ensures kept { result ≢ 0 → rows.new ≡ rows.old }
+    ensures uncounted { result ≢ 0 → count.new ≡ count.old }
+    ensures few { result ≤ 9 }
+{
+    match battle_of(alloc, settings, loads, lengths, round, history, lines) {
+        Ok(battle) => {
+            give_records(battle, first, rows, count);
+            answer(fault, given(true))
+        }
+        Err(refusal) => answer(fault, told(refusal)),
+    }
+}
+
+/// Shows where the battle of a round stands, so many turns from where the debugger's lines lead it.
+#[unsafe(no_mangle)]
+pub extern "C" fn mars_state(
+    alloc: Global,
+    settings: &MarsSettings,
+    loads: &[u8],
+    lengths: &[usize],
+    round: u32,
+    history: u32,
+    lines: &[u8],
+    turns: u32,
+    cells: &mut [MarsCell],
+    counts: &mut [usize],
+    processes: &mut [u32],
+    deaths: &mut [MarsDeath],
+    standing: &mut MarsStanding,
+    fault: &mut MarsFault,
+) -> u32
+    ensures told { result ≡ fault.new.code }
+    ensures refused { 1 ≤ result → result ≤ 9 → Tells settings.now (codes "0") loads.now lengths.now fault.new }
+    ensures done { result ≡ 0 → HoldsState settings.now loads.now lengths.now round history lines.now turns
+        cells.old cells.new counts.old counts.new processes.old processes.new deaths.old deaths.new standing.new }
+    ensures room { result ≡ 10 → OverflowsState settings.now loads.now lengths.now round history lines.now turns
+        cells.old counts.old processes.old deaths.old standing.new }
+    ensures kept { result ≢ 0 → AreKept cells.old cells.new counts.old counts.new processes.old processes.new deaths.old deaths.new }
+    ensures few { result ≤ 10 }
+{
+    match state_of(
+        alloc, settings, loads, lengths, round, history, lines, turns,
+    ) {
+        Ok(battle) => {
+            match give_state(alloc, &battle, cells, counts, processes, deaths, standing) {
+                Some(fits) => answer(fault, given(fits)),
+                None => answer(fault, told(Refusal::OutOfMemory)),
+            }
+        }
+        Err(refusal) => answer(fault, told(refusal)),
+    }
 }

@@ -1,9 +1,12 @@
 //! Why a call wasn't done, and what a caller is told of it.
-ghost use Rattle.std.specs.Prelude.{◌≡◌, IfErr, OnOk};
-ghost use Rattle.mars_c.specs.Codes.{code_of};
+ghost use Rattle.std.specs.Prelude.{◌≡◌, ◌≤◌, ℕ, if◌then◌else◌, List};
+ghost use Rattle.mars_c.specs.Codes.{fault_of, numbered as spec_numbered};
+ghost use Rattle.mars_c.specs.Refusals.{Refuses, refusal_at};
+ghost use Rattle.mars_c.specs.declared.faults.Refusal.TheVariants as variant;
+ghost use Rattle.mars_c.specs.declared.settings.MarsSettings.{MarsSettings as SettingsValue};
 
 use crate::numbers::{
-    assembly_number, battle_number, expression_number, load_number, parameter_number,
+    assembly_number, battle_number, expression_number, load_line, load_number, parameter_number,
     placement_number, problem_numbers,
 };
 use crate::ranges::SettingsFault;
@@ -26,8 +29,6 @@ pub enum Refusal {
     Placement(PlaceFault),
     Battle(BattleFault),
     Score(ExprFault),
-    /// The buffer is shorter than what is to be written.
-    Room,
 }
 
 /// What a caller is told. What doesn't apply is 0.
@@ -48,9 +49,9 @@ pub struct MarsFault {
     pub warrior: u64,
 }
 
-/// A fault of a code and a number.
+/// An answer with a number.
 fn numbered(code: u32, number: u32) -> MarsFault
-    ensures { result.code ≡ code }
+    ensures { result ≡ spec_numbered code number }
 {
     MarsFault {
         code,
@@ -62,9 +63,9 @@ fn numbered(code: u32, number: u32) -> MarsFault
     }
 }
 
-/// A fault of a source.
+/// What a caller is told of a source's fault.
 fn assembly(fault: AsmFault) -> MarsFault
-    ensures { result.code ≡ 5 }
+    ensures { result ≡ fault_of (variant.Assembly fault) }
 {
     let (problem, expression) = problem_numbers(fault.problem);
     MarsFault {
@@ -75,24 +76,22 @@ fn assembly(fault: AsmFault) -> MarsFault
     }
 }
 
-/// A fault of a load file.
+/// What a caller is told of a load file's fault.
 fn load(index: usize, fault: LoadFault) -> MarsFault
-    ensures { result.code ≡ 6 }
+    ensures { result ≡ fault_of (variant.Load index fault) }
 {
-    let line = match fault {
-        LoadFault::Syntax(line) => line as u64,
-        _ => 0,
-    };
     MarsFault {
-        line,
+        line: load_line(fault),
         warrior: index as u64,
         ..numbered(6, load_number(fault))
     }
 }
 
 /// What a caller is told of a refusal.
-fn told(refusal: Refusal) -> MarsFault
-    ensures { result.code ≡ code_of refusal }
+pub fn told(refusal: Refusal) -> MarsFault
+    ensures fault { result ≡ fault_of refusal }
+    ensures some { 1 ≤ result.code }
+    ensures few { result.code ≤ 9 }
 {
     match refusal {
         Refusal::OutOfMemory => numbered(1, 0),
@@ -104,39 +103,40 @@ fn told(refusal: Refusal) -> MarsFault
         Refusal::Placement(fault) => numbered(7, placement_number(fault)),
         Refusal::Battle(fault) => numbered(8, battle_number(fault)),
         Refusal::Score(fault) => numbered(9, expression_number(fault)),
-        Refusal::Room => numbered(10, 0),
     }
 }
 
-/// What a caller is told of how a call ended.
-pub fn outcome(done: Result<(), Refusal>) -> MarsFault
-    ensures ok { OnOk done (result.code ≡ 0) }
-    ensures err { IfErr done (λ refusal. result.code ≡ code_of refusal) }
+/// What a caller is told of a call that wasn't refused, by whether its answer fits the caller's buffers.
+pub fn given(fits: bool) -> MarsFault
+    ensures { result ≡ (if fits then spec_numbered 0 0 else spec_numbered 10 0) }
 {
-    match done {
-        Ok(()) => numbered(0, 0),
-        Err(refusal) => told(refusal),
+    if fits {
+        numbered(0, 0)
+    } else {
+        numbered(10, 0)
     }
 }
 
-impl From<MatchFault> for Refusal {
-    fn from(fault: MatchFault) -> Refusal {
-        match fault {
-            MatchFault::OutOfMemory => Refusal::OutOfMemory,
-            MatchFault::Place(PlaceFault::OutOfMemory) => Refusal::OutOfMemory,
-            MatchFault::Battle(BattleFault::OutOfMemory) => Refusal::OutOfMemory,
-            MatchFault::Place(fault) => Refusal::Placement(fault),
-            MatchFault::Battle(fault) => Refusal::Battle(fault),
-            MatchFault::Score(fault) => Refusal::Score(fault),
-        }
+/// The refusal of a fight.
+pub fn refused_fight(fault: MatchFault) -> Refusal
+    ensures { (s : SettingsValue) (text loads lengths : List ℕ) → Refuses s text loads lengths result }
+{
+    match fault {
+        MatchFault::OutOfMemory => Refusal::OutOfMemory,
+        MatchFault::Place(PlaceFault::OutOfMemory) => Refusal::OutOfMemory,
+        MatchFault::Battle(BattleFault::OutOfMemory) => Refusal::OutOfMemory,
+        MatchFault::Place(fault) => Refusal::Placement(fault),
+        MatchFault::Battle(fault) => Refusal::Battle(fault),
+        MatchFault::Score(fault) => Refusal::Score(fault),
     }
 }
 
-impl From<AsmFault> for Refusal {
-    fn from(fault: AsmFault) -> Refusal {
-        match fault.problem {
-            AsmProblem::OutOfMemory => Refusal::OutOfMemory,
-            _ => Refusal::Assembly(fault),
-        }
+/// The refusal of a source.
+pub fn refused_source(fault: AsmFault) -> Refusal
+    ensures { result ≡ refusal_at fault.problem fault }
+{
+    match fault.problem {
+        AsmProblem::OutOfMemory => Refusal::OutOfMemory,
+        _ => Refusal::Assembly(fault),
     }
 }

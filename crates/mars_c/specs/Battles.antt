@@ -1,0 +1,55 @@
+-- The battle of a round, and where the debugger's lines lead it.
+use Rattle.std.specs.Prelude.{◌≡◌, ◌<◌, ◌≤◌, ℕ, zero, suc, codes, List, [], length, Ok, Option, Result, Some}
+use Rattle.mars_cell.specs.Parameters.{Parameters}
+use Rattle.mars_cell.specs.Warriors.{WarriorValue}
+use Rattle.mars_core.specs.State.{State}
+use Rattle.mars_core.specs.Turn.{after_turns}
+use Rattle.mars_match.specs.Battles.{started}
+use Rattle.mars_match.specs.Rounds.{placed_for}
+use Rattle.mars_match.specs.declared.fault.MatchFault.{MatchFault}
+use Rattle.redcode_text.specs.Results.{◌>>=◌}
+use Rattle.mars_session.specs.Script.{SessionState}
+use Rattle.mars_app.specs.Debugger.Transcript.{Completes}
+use Rattle.mars_app.specs.Debugging.{session_at}
+use Rattle.mars_match.specs.Placement.{FitsTwo}
+use Rattle.mars_c.specs.Asked.{AreTerms}
+use Rattle.mars_c.specs.Contests.{AreLoads}
+use Rattle.mars_c.specs.declared.settings.MarsSettings.{MarsSettings}
+use Rattle.mars_c.specs.declared.settings.Terms.{Terms}
+
+-- the starts of a round: each one before it has drawn its own
+abbrev pub placed_in : Parameters → ℕ → Option ℕ → ℕ → ℕ → Result (List ℕ) MatchFault
+placed_in p w fixed zero seed = placed_for p w fixed seed >>= λ placed. Ok placed.0
+placed_in p w fixed (suc k) seed = placed_for p w fixed seed >>= λ placed. placed_in p w fixed k placed.1
+
+-- how the battle of a round starts
+abbrev pub IsRound : Terms → List WarriorValue → ℕ → State → Type 0
+IsRound t ws round s = (starts : List ℕ) × (placed_in t.params (length ws) t.plan.fixed round t.plan.seed ≡ Ok starts)
+    × (started t.params ws starts round ≡ Ok s)
+
+-- the battle of a round of these load files, as it starts
+abbrev pub IsStart : MarsSettings → List ℕ → List ℕ → ℕ → State → Type 0
+IsStart s loads lengths round start = (t : Terms) × (ws : List WarriorValue)
+    × AreTerms s (codes "0") t × AreLoads t.params loads lengths ws × FitsTwo t.params (length ws) t.plan.fixed × (round < s.rounds)
+    × IsRound t ws round start
+
+-- how many places a history may keep
+abbrev pub IsHistory : ℕ → Type 0
+IsHistory places = (1 ≤ places) × (places ≤ 1000000)
+
+-- a session over a battle has read the debugger's lines, up to a quit or all of them, and answered this
+abbrev pub IsDebugged : State → ℕ → List ℕ → SessionState → List ℕ → Type 0
+IsDebugged start history lines session text = (left : Option (List ℕ))
+    × Completes start.params.core_size (Some lines) left (session_at history start) (Some []) session (Some text)
+
+-- the debugger's lines lead from the start of a battle to a state
+abbrev pub IsLed : State → ℕ → List ℕ → State → Type 0
+IsLed start history lines s = (session : SessionState) × (text : List ℕ) × IsDebugged start history lines session text × (s ≡ session.history.present.state)
+
+-- where the debugger's lines lead the battle of a round of these load files
+abbrev pub IsAsked : MarsSettings → List ℕ → List ℕ → ℕ → ℕ → List ℕ → State → Type 0
+IsAsked s loads lengths round history lines state = (start : State) × IsHistory history × IsStart s loads lengths round start × IsLed start history lines state
+
+-- the state so many turns after where the lines lead
+abbrev pub IsPlayed : MarsSettings → List ℕ → List ℕ → ℕ → ℕ → List ℕ → ℕ → State → Type 0
+IsPlayed s loads lengths round history lines turns state = (from : State) × IsAsked s loads lengths round history lines from × (state ≡ after_turns turns from)

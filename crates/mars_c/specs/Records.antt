@@ -1,0 +1,62 @@
+-- Records of turns as numbers.
+use Rattle.std.specs.Prelude.{◌≡◌, ◌<◌, ◌≤◌, ℕ, true, false, if◌then◌else◌, List, [], ◌∷◌, length, Option, None, Some, slice_get, slice_index_or}
+use Rattle.mars_core.specs.State.{State, is_over_of}
+use Rattle.mars_core.specs.Turn.{turn_of, turn_record, after_turns}
+use Rattle.mars_core.specs.declared.record.Atom.{Atom}
+use Rattle.mars_core.specs.declared.record.Work.{Work}
+use Rattle.mars_core.specs.declared.record.Work.TheVariants.{Turn, SetCell, MoveProcess, KillProcess, Spawn}
+use Rattle.mars_core.specs.declared.machine.writes.CellChange.{CellChange}
+use Rattle.mars_c.specs.Cells.{plain_cell}
+use Rattle.mars_c.specs.declared.cells.MarsCell.{MarsCell}
+use Rattle.mars_c.specs.declared.records.MarsChange.{MarsChange}
+use Rattle.mars_c.specs.declared.records.MarsRecord.{MarsRecord}
+
+-- the numbers of a write
+abbrev pub plain_change : CellChange → MarsChange
+plain_change change = record { address = change.address; before = plain_cell change.before; after = plain_cell change.after }
+
+-- zeros where there is none
+abbrev pub blank : MarsCell
+blank = record { op = 0; modifier = 0; a_mode = 0; b_mode = 0; a = 0; b = 0 }
+
+abbrev pub change_of : Option CellChange → MarsChange
+change_of None = record { address = 0; before = blank; after = blank }
+change_of (Some change) = plain_change change
+
+-- the warrior of a turn, and the address that was taken from its queue
+abbrev pub taken_by : Work → ℕ × ℕ
+taken_by (Turn w address) = (w, address)
+taken_by SetCell = (0, 0)
+taken_by (MoveProcess w i from to) = (0, 0)
+taken_by (KillProcess w i address) = (0, 0)
+taken_by (Spawn w address) = (0, 0)
+
+-- the numbers of a turn's record, and the cycles that are complete then
+abbrev pub plain_record : Atom → ℕ → MarsRecord
+plain_record atom cycle = record {
+  warrior = (taken_by atom.work).0;
+  address = (taken_by atom.work).1;
+  next = atom.next_after;
+  cycle = cycle;
+  died = if atom.died then 1 else 0;
+  changes = length atom.cells.items;
+  queued = length atom.queued.items;
+  change = change_of (slice_get atom.cells.items 0) ∷ change_of (slice_get atom.cells.items 1) ∷ change_of (slice_get atom.cells.items 2) ∷ [];
+  process = slice_index_or atom.queued.items 0 0 ∷ slice_index_or atom.queued.items 1 0 ∷ [];
+}
+
+-- the row of a state's turn
+abbrev pub turn_row : State → MarsRecord
+turn_row s = plain_record (turn_record s) (turn_of s).cycle
+
+-- so many turns are left: after them the battle is over, and not before
+pub record IsLeft (s : State) (n : ℕ) : Type 0 where
+  pub ends : is_over_of (after_turns n s) ≡ true
+  pub runs : (k : ℕ) → k < n → is_over_of (after_turns k s) ≡ false
+
+-- Rows hold the turns from a state on, of which so many are left: row k the record of turn k, counted from 0. Where there are more rows, these
+-- are as they were.
+pub record AreRecords (s : State) (left : ℕ) (before after : List MarsRecord) : Type 0 where
+  pub many : length after ≡ length before
+  pub written : (k : ℕ) → k < left → k < length before → slice_get after k ≡ Some (turn_row (after_turns k s))
+  pub kept : (k : ℕ) → left ≤ k → slice_get after k ≡ slice_get before k

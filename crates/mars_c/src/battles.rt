@@ -1,0 +1,184 @@
+//! The battle of a round, and where the debugger's lines lead it.
+ghost use Rattle.std.specs.Prelude.{◌≡◌, ◌≤◌, [], codes, IfErr, IfOk, IfSome, None, Ok, length, vec_len};
+ghost use Rattle.mars_match.specs.Placement.{FitsTwo};
+ghost use Rattle.mars_c.specs.Battles.{IsAsked, IsDebugged, IsHistory, IsLed, IsPlayed, IsRound, IsStart, placed_in};
+ghost use Rattle.mars_c.specs.Refusals.{Refuses};
+ghost use Rattle.mars_core.specs.Limits.{most_warriors};
+
+use crate::faults::{Refusal, refused_fight};
+use crate::loading::{Entry, enter};
+use crate::playing::play_on;
+use crate::ranges::SettingsFault;
+use crate::settings::{MarsSettings, Terms, warriors_fault};
+use mars_app::debug;
+use mars_cell::Warrior;
+use mars_core::Battle;
+use mars_match::{MatchFault, round_starts};
+use mars_session::{RingTape, Session};
+use std::alloc::Global;
+
+/// The most places of a history.
+const LONGEST_HISTORY: u32 = 1_000_000;
+
+/// Where the warriors of a round are laid, by the seeds that the rounds before leave.
+fn starts_in(
+    alloc: Global,
+    terms: &Terms,
+    warriors: u32,
+    round: u32,
+) -> Result<Vec<u32>, MatchFault>
+    requires some { 1 ≤ warriors }
+    requires few { warriors ≤ most_warriors }
+    requires position { FitsTwo terms.now.params warriors terms.now.plan.fixed }
+    ensures many { IfOk result (λ starts. vec_len starts ≡ warriors) }
+    ensures value { IfOk result (λ starts. placed_in terms.now.params warriors terms.now.plan.fixed round terms.now.plan.seed
+        ≡ Ok starts.items) }
+{
+    let fixed = terms.plan.fixed;
+    let mut seed = terms.plan.seed;
+    for before in 0..round {
+        let (_starts, left) = round_starts(alloc, &terms.params, warriors, fixed, seed)?;
+        seed = left;
+    }
+    let (starts, _left) = round_starts(alloc, &terms.params, warriors, fixed, seed)?;
+    Ok(starts)
+}
+
+/// The battle of a round.
+fn round_battle(
+    alloc: Global,
+    terms: &Terms,
+    mut warriors: Vec<Warrior>,
+    round: u32,
+) -> Result<Battle, MatchFault>
+    requires some { 1 ≤ vec_len warriors }
+    requires few { vec_len warriors ≤ most_warriors }
+    requires position { FitsTwo terms.now.params (vec_len warriors) terms.now.plan.fixed }
+    ensures { IfOk result (IsRound terms.now warriors.items round) }
+{
+    let count = warriors.len();
+    let mut starts = starts_in(alloc, terms, count as u32, round)?;
+    let first = round as usize % count;
+    starts.rotate_left(first);
+    warriors.rotate_left(first);
+    match Battle::new(alloc, &terms.params, &warriors, &starts) {
+        Ok(battle) => Ok(battle),
+        Err(fault) => Err(MatchFault::Battle(fault)),
+    }
+}
+
+/// The battle of a round of load files, as it starts.
+pub fn start_of(
+    alloc: Global,
+    settings: &MarsSettings,
+    loads: &[u8],
+    lengths: &[usize],
+    round: u32,
+) -> Result<Battle, Refusal>
+    requires some { 1 ≤ length lengths.now }
+    requires few { length lengths.now ≤ most_warriors }
+    ensures start { IfOk result (IsStart settings.now loads.now lengths.now round) }
+    ensures refused { IfErr result (Refuses settings.now (codes "0") loads.now lengths.now) }
+{
+    let Entry { terms, warriors } = enter(alloc, settings, b"0", loads, lengths, lengths.len())?;
+    if round >= terms.plan.rounds {
+        return Err(Refusal::Settings(SettingsFault::Round));
+    }
+    let battle = round_battle(alloc, &terms, warriors, round);
+    drop(terms);
+    match battle {
+        Ok(battle) => Ok(battle),
+        Err(fault) => Err(refused_fight(fault)),
+    }
+}
+
+/// A session over a battle that has read the debugger's lines, and what it answered to them; none where memory is wanting.
+pub fn debugged(
+    alloc: Global,
+    battle: Battle,
+    history: u32,
+    lines: &[u8],
+    transcript: &mut Vec<u8>,
+) -> Option<Session<RingTape>>
+    requires history { IsHistory history }
+    requires empty { transcript.old.items ≡ [] }
+    ensures { IfSome result (λ session. IsDebugged battle history lines.now session.state transcript.new.items) }
+{
+    let Ok(tape) = RingTape::new(alloc, battle, history as usize) else {
+        return None;
+    };
+    let mut session = Session::new(tape, u64::from(history));
+    let mut rest = lines;
+    match debug(&mut rest, transcript, &mut session) {
+        Ok(()) => Some(session),
+        Err(_) => None,
+    }
+}
+
+/// The fault of how many warriors a battle and how many places its history has.
+pub fn asked_fault(warriors: usize, history: u32) -> Option<SettingsFault>
+    ensures some { result ≡ None → 1 ≤ warriors }
+    ensures few { result ≡ None → warriors ≤ most_warriors }
+    ensures history { result ≡ None → IsHistory history }
+{
+    if history < 1 || history > LONGEST_HISTORY {
+        // The count of warriors is judged first.
+        return Some(warriors_fault(warriors).unwrap_or(SettingsFault::History));
+    }
+    warriors_fault(warriors)
+}
+
+/// The battle that the debugger's lines lead to; none where memory is wanting.
+fn led(alloc: Global, battle: Battle, history: u32, lines: &[u8]) -> Option<Battle>
+    requires { IsHistory history }
+    ensures { IfSome result (IsLed battle history lines.now) }
+{
+    let mut unread = Vec::new(alloc);
+    let session = debugged(alloc, battle, history, lines, &mut unread)?;
+    match session.battle().copy(alloc) {
+        Ok(battle) => Some(battle),
+        Err(_) => None,
+    }
+}
+
+/// The battle of a round of load files, where the debugger's lines lead it.
+pub fn battle_of(
+    alloc: Global,
+    settings: &MarsSettings,
+    loads: &[u8],
+    lengths: &[usize],
+    round: u32,
+    history: u32,
+    lines: &[u8],
+) -> Result<Battle, Refusal>
+    ensures led { IfOk result (IsAsked settings.now loads.now lengths.now round history lines.now) }
+    ensures refused { IfErr result (Refuses settings.now (codes "0") loads.now lengths.now) }
+{
+    if let Some(fault) = asked_fault(lengths.len(), history) {
+        return Err(Refusal::Settings(fault));
+    }
+    let battle = start_of(alloc, settings, loads, lengths, round)?;
+    match led(alloc, battle, history, lines) {
+        Some(battle) => Ok(battle),
+        None => Err(Refusal::OutOfMemory),
+    }
+}
+
+/// That battle, so many turns further on, or at its end, where there are fewer.
+pub fn state_of(
+    alloc: Global,
+    settings: &MarsSettings,
+    loads: &[u8],
+    lengths: &[usize],
+    round: u32,
+    history: u32,
+    lines: &[u8],
+    turns: u32,
+) -> Result<Battle, Refusal>
+    ensures played { IfOk result (IsPlayed settings.now loads.now lengths.now round history lines.now turns) }
+    ensures refused { IfErr result (Refuses settings.now (codes "0") loads.now lengths.now) }
+{
+    let mut battle = battle_of(alloc, settings, loads, lengths, round, history, lines)?;
+    play_on(&mut battle, turns);
+    Ok(battle)
+}

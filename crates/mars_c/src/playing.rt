@@ -1,0 +1,46 @@
+//! A battle that is played on, and the records of its turns.
+ghost use Rattle.std.specs.Prelude.{◌≡◌, length};
+ghost use Rattle.mars_core.specs.Turn.{after_turns};
+ghost use Rattle.mars_c.specs.Code.{recorded};
+ghost use Rattle.mars_c.specs.Records.{AreRecords, IsLeft};
+
+use crate::records::MarsRecord;
+use mars_core::Battle;
+
+/// Makes so many turns, or as many as there are.
+pub fn play_on(battle: &mut Battle, turns: u32)
+    ensures { battle.new ≡ after_turns turns battle.old }
+{
+    for made in 0..turns {
+        let Ok(_atom) = battle.turn() else {
+            return;
+        };
+    }
+}
+
+/// Makes turns, as many as there are rows for, and writes the record of each.
+fn record_turns(battle: &mut Battle, rows: &mut [MarsRecord])
+    ensures rows { rows.new ≡ recorded battle.old rows.old }
+    ensures battle { battle.new ≡ after_turns (length rows.old) battle.old }
+{
+    for i in 0..rows.len() {
+        let Ok(atom) = battle.turn() else {
+            return;
+        };
+        rows[i] = MarsRecord::of(&atom, battle.cycle());
+    }
+}
+
+/// Plays so many turns of a battle, writes the records of those that follow, as many as there are rows for, and tells how many
+/// follow in all.
+pub fn give_records(battle: Battle, first: u32, rows: &mut [MarsRecord], count: &mut usize)
+    ensures count { IsLeft (after_turns first battle) count.new }
+    ensures rows { AreRecords (after_turns first battle) count.new rows.old rows.new }
+{
+    let mut battle = battle;
+    play_on(&mut battle, first);
+    let before = battle.turns();
+    record_turns(&mut battle, rows);
+    battle.run_to_end();
+    *count = (battle.turns() - before) as usize;
+}

@@ -1,0 +1,80 @@
+"""Tells on standard error how far a start is, and about how long it takes still."""
+import json
+import shutil
+import sys
+import time
+
+# The longest silence where there is no terminal, in seconds.
+SILENCE = 20
+
+
+def clock(seconds):
+    return f"{int(seconds) // 60} min {int(seconds) % 60} s"
+
+
+class Reckoning:
+    """When each crate is proved, in seconds from the begin of a start: as in the last one, which a file keeps, else the last crate alone."""
+
+    def __init__(self, path, crates, whole):
+        self.path = path
+        try:
+            with open(path) as file:
+                kept = json.load(file)
+            self.due = {crate: float(kept[crate]) for crate in crates}
+        except (OSError, ValueError, LookupError, TypeError):
+            self.due = {crates[-1]: whole}
+
+    def whole(self):
+        return max(self.due.values())
+
+    def left(self, proved, seconds):
+        """How many seconds are left: the pace is that of the crate that was proved last, or slower where one that isn't proved is late."""
+        paces = [when / self.due[crate] for crate, when in proved.items() if crate in self.due]
+        late = [seconds / when for crate, when in self.due.items() if crate not in proved]
+        return self.whole() * max([paces[-1] if paces else 1, *late]) - seconds
+
+    def keep(self, proved):
+        with open(self.path, "w") as file:
+            json.dump(proved, file)
+
+
+class Progress:
+    """Tells how far a start with so many crates is: on a terminal in one line that is written over each second; elsewhere in a line for each
+    crate that is proved, and one on what is under way where nothing was said for a while."""
+
+    def __init__(self, count, reckoning=None):
+        self.count, self.reckoning, self.proved = count, reckoning, {}
+        self.begun = self.told = time.monotonic()
+        self.is_terminal = sys.stderr.isatty()
+
+    def add(self, crate):
+        """Tells of a crate that it is proved."""
+        self.proved[crate] = time.monotonic() - self.begun
+        if not self.is_terminal:
+            self.tell(f"mars: proved {crate}, {len(self.proved)} of {self.count} ({clock(self.proved[crate])})")
+
+    def go_on(self, at_work):
+        """Tells what is under way, where it is time for that."""
+        if time.monotonic() - self.told >= (1 if self.is_terminal else SILENCE):
+            seconds = time.monotonic() - self.begun
+            parts = [f"mars: {len(self.proved)} of {self.count} crates proved in {clock(seconds)}", *self.time_left(seconds)]
+            self.tell(f"{', '.join(parts)}; {' and '.join(at_work)} under way")
+
+    def time_left(self, seconds):
+        left = self.reckoning.left(self.proved, seconds) if self.reckoning else 0
+        if left > 0:
+            yield f"about {left / 60:.0f} min left" if left >= 90 else "about a minute left"
+
+    def tell(self, line):
+        """Writes a line, on a terminal over the one before."""
+        self.told = time.monotonic()
+        if self.is_terminal:
+            print(f"\r\033[K{line[:shutil.get_terminal_size().columns - 1]}", end="", file=sys.stderr, flush=True)
+        else:
+            print(line, file=sys.stderr, flush=True)
+
+    def end(self):
+        """Ends the line of a terminal."""
+        if self.is_terminal:
+            done = f"mars: proved {len(self.proved)} crates in {clock(time.monotonic() - self.begun)}\n" if len(self.proved) == self.count > 0 else ""
+            print(f"\r\033[K{done}", end="", file=sys.stderr, flush=True)
