@@ -12,7 +12,8 @@ use indexmap::IndexSet;
 use std::alloc::{AllocError, Global};
 use std::marker::Model;
 
-/// Names, in the order of their first use.
+/// Names, in the order of their first use. Their hashes have no seed: names that collide cost half a minute at most, and who reads
+/// sources of strangers needs a limit of time anyway.
 #[derive(Drop)]
 pub struct NameTable {
     names: IndexSet<String>,
