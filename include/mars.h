@@ -165,8 +165,8 @@ uint32_t mars_population(const MarsSettings *settings, const uint8_t *formula, s
                          MarsRow *rows, size_t row_count, MarsFault *fault);
 
 /* Debugs the battle of the first round: `lines` are what the debugger reads, and the buffer gets what it answers. `history` is
- * how many places can be gone back, 1 to 1000000, and takes 160 bytes for each, whether turns are made or not. `rounds` is
- * judged, though one round is debugged. *length is the length of the answers, also where the answer is MARS_ROOM. */
+ * how many places can be gone back, 1 to 1000000; 160 bytes are asked of malloc for each at once, and touched as turns are made.
+ * `rounds` is judged, though one round is debugged. *length is the length of the answers, also where the answer is MARS_ROOM. */
 uint32_t mars_debug(const MarsSettings *settings,
                     const uint8_t *loads, size_t loads_length, const size_t *lengths, size_t warriors,
                     uint32_t history, const uint8_t *lines, size_t lines_length,

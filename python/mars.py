@@ -27,6 +27,7 @@ from typing import Any, Callable, Sequence
 
 import cffi
 import numpy as np
+from numpy.typing import NDArray
 
 __all__ = ["Fault", "Row", "Settings", "Warrior", "State", "Battle", "match", "league", "population", "debug", "record", "state", "cell_text", "NANO", "TINY"]
 
@@ -113,9 +114,9 @@ class State:
     `cells` is an array of the cells as MarsCell of the header has them, with the fields op, modifier, a_mode, b_mode, a, b. `queues`
     has an array of addresses for each warrior, the front first, and `deaths` an array with the fields warrior, turns, in order.
     """
-    cells: np.ndarray
-    queues: list[np.ndarray]
-    deaths: np.ndarray
+    cells: NDArray[Any]
+    queues: list[NDArray[Any]]
+    deaths: NDArray[Any]
     turns: int
     cycle: int
     next: int
@@ -165,7 +166,7 @@ def debug(warriors: Sequence[Warrior], lines: str | Sequence[str], seed: int = 1
     return _text(65536, lambda *room: _call("mars_debug", *given, *room)).decode("latin-1")
 
 
-def record(warriors: Sequence[Warrior], lines: str | Sequence[str] = "", first: int = 0, most: int | None = None, round: int = 0, seed: int = 1, settings: Settings = Settings(), position: int = 0, history: int = 200000) -> np.ndarray:
+def record(warriors: Sequence[Warrior], lines: str | Sequence[str] = "", first: int = 0, most: int | None = None, round: int = 0, seed: int = 1, settings: Settings = Settings(), position: int = 0, history: int = 200000) -> NDArray[Any]:
     """The turns of the battle of a round from where the debugger's lines lead it, without the first `first`: all, or at most so many.
 
     An array with the fields of MarsRecord of the header: warrior, address, next, cycle, died, changes, queued, change (three of
@@ -223,7 +224,7 @@ class Battle:
         before = len(self._answers(self.commands)) if self.commands else 0
         return self._answers([*self.commands, reading])[before:]
 
-    def turns(self, first: int = 0, most: int | None = None) -> np.ndarray:
+    def turns(self, first: int = 0, most: int | None = None) -> NDArray[Any]:
         """The turns from here on, as if no further command came, as `record` gives them."""
         return record(lines=self.commands, first=first, most=most, **self._asked)
 
@@ -251,7 +252,7 @@ def _library() -> tuple[Any, Any]:
     ffi = cffi.FFI()
     with open(header) as file:
         ffi.cdef(_declarations(file.read()))
-    opened = ffi.dlopen(library)
+    opened: Any = ffi.dlopen(library)
     if opened.mars_version() // 1000 != opened.MARS_VERSION // 1000 or opened.mars_version() < opened.MARS_VERSION:
         raise OSError(f"{library} is of version {opened.mars_version()}, and {header} of {opened.MARS_VERSION}")
     return ffi, opened
@@ -268,26 +269,26 @@ def _declarations(header: str) -> str:
 
 
 @lru_cache(maxsize=None)
-def _type(name: str) -> np.dtype:
+def _type(name: str) -> np.dtype[Any]:
     """The type of an array's elements, by that of the header."""
     return _type_of(_library()[0].typeof(name))
 
 
-def _type_of(kind: Any) -> np.dtype:
+def _type_of(kind: Any) -> np.dtype[Any]:
     if kind.kind == "array":
         return np.dtype((_type_of(kind.item), (kind.length,)))
     if kind.kind == "struct":
-        fields = [(name, _type_of(field.type), field.offset) for name, field in kind.fields]
-        names, formats, offsets = map(list, zip(*fields))
-        return np.dtype({"names": names, "formats": formats, "offsets": offsets, "itemsize": _library()[0].sizeof(kind)})
+        fields = dict(kind.fields)
+        formats, offsets = [_type_of(field.type) for field in fields.values()], [field.offset for field in fields.values()]
+        return np.dtype({"names": list(fields), "formats": formats, "offsets": offsets, "itemsize": _library()[0].sizeof(kind)})
     return np.dtype(np.uintp if kind.cname == "size_t" else kind.cname.removesuffix("_t"))
 
 
-def _array(name: str, count: int) -> np.ndarray:
+def _array(name: str, count: int) -> NDArray[Any]:
     return np.zeros(_number(count), _type(name))
 
 
-def _slice(name: str, values: bytes | bytearray | np.ndarray) -> tuple[Any, int]:
+def _slice(name: str, values: bytes | bytearray | NDArray[Any]) -> tuple[Any, int]:
     """A pointer to values of a type, and how many there are."""
     return values if isinstance(values, bytes) else _library()[0].from_buffer(f"{name}[]", values), len(values)
 
