@@ -3,6 +3,7 @@
 A function that looks for causes takes a source and its line, and gives sentences. They are guesses by the look of the text.
 """
 import re
+from collections import Counter, deque
 from dataclasses import dataclass
 from unicodedata import name as character_name
 
@@ -109,34 +110,35 @@ def loop_counts(source):
 
 
 def label_in_count(source, line):
+    labels = source.labels()
     for name in dict.fromkeys(line.names()):
         if name in source.equates:
             first = source.equates[name][0].number
             if first > line.number:
                 yield f"`{name}` gets its EQU in line {first}: move that before line {line.number}."
-        elif name in source.labels():
-            first = source.labels()[name][0].number
+        elif name in labels:
+            first = labels[name][0].number
             yield f"`{name}` is a label (line {first}): write a number in its place, or give the count a name by EQU."
         elif name not in PREDEFINED:
             yield f"`{name}` isn't defined."
 
 
 def duplicate(source, line):
-    found = misspelt(line)
+    found, labels, counts = misspelt(line), source.labels(), Counter(line.labels)
     if found:
         yield no_operation_here(line, *found)
-    for name in line.labels:
+    for name in counts:
         if name in PREDEFINED:
             yield f"`{name}` is predefined: labels and EQU names can't be called so."
             continue
-        earlier = [other for other in source.labels().get(name, []) if other.number < line.number]
+        earlier = [other for other in labels.get(name, [])[:1] if other.number < line.number]
         equate = source.equates.get(name, [line])[0]
         if earlier:
             yield why_taken(line, name, earlier[0])
         elif equate.number < line.number:
             yield f"`{name}` is an EQU name already, by line {equate.number}."
-        elif line.labels.count(name) > 1:
-            yield f"`{name}` stands in this line {line.labels.count(name)} times as a label: there is no operation between."
+        elif counts[name] > 1:
+            yield f"`{name}` stands in this line {counts[name]} times as a label: there is no operation between."
         elif "&" not in name:
             yield from label_in_loop(source, line, name)
     if line.operation in source.equates:
@@ -275,15 +277,19 @@ def begins_operand(token):
 
 
 def unknown(source, line):
-    names = [token for token in expression_tokens(line) if NAME.match(token)]
+    names = deque(token for token in expression_tokens(line) if NAME.match(token))
     labels, seen = source.labels(), set(PREDEFINED)
     seen.update(loop.counter for loop in source.loops_around(line.number))
-    joined = [re.compile(re.sub(r"&\w+", r"\\d\\d+", label) + "$") for label in labels if "&" in label]
+    # what stands before the joins of a label, whose counters are two digits or more each
+    stems = {label.partition("&")[0] for label in labels if "&" in label}
+    lengths = {len(stem) for stem in stems}
     while names:
-        name = names.pop(0)
-        if name in seen or "&" in name or any(pattern.match(name) for pattern in joined):
+        name = names.popleft()
+        if name in seen or "&" in name:
             continue
         seen.add(name)
+        if any(name[:length] in stems and re.fullmatch(r"\d\d+", name[length:]) for length in lengths):
+            continue
         if name in source.equates:
             names += [inner for other in source.equates[name] for inner in other.names()]
         elif name not in labels:
