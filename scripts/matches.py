@@ -18,11 +18,11 @@ from limits import Limit, source_limit
 from places import Contest, cluster, digest_of, passing_folder, read_file, threads, write_file
 from program import find_program
 from results import Results
-from settings import NUMBERS
+from settings import NUMBERS, number_of
 
 # the words of mars that a match is given
 WORDS = ("-r", "-s", "-c", "-p", "-l", "-d", "-F", "--seed", "--score", "--read-limit", "--write-limit")
-ROW = re.compile(r"^ *(-?\d+) +(\d+) +(\d+) +(\d+)  ", re.M)
+ROW = re.compile(r"^ *(-?\d{1,19}) +(\d{1,18}) +(\d{1,18}) +(\d{1,18})  ", re.M)
 LOAD_FILE = re.compile(r"^;load 2 \d+\n;name (.*)\n;author (.*)\n(?:.+\n)*", re.M)
 # faults of status 1 that are of no warrior
 OF_ALL = ("mars: placement", "mars: score")
@@ -149,7 +149,7 @@ class Arena:
             if is_stream(one.file):
                 taken[entry] = one.file
             files.append(entry if is_stream(one.file) else one.file)
-        numbers = {word: int(value) for word, _, value in (text.partition("=") for text in self.contest.words) if word in NUMBERS}
+        numbers = {word: number_of(value.removeprefix("+")) for word, _, value in (text.partition("=") for text in self.contest.words) if word in NUMBERS}
         return BattleWords(files, numbers)
 
     def keys(self, pair):

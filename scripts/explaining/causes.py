@@ -23,6 +23,7 @@ PREDEFINED = {
 }
 MODES = ["#", "$", "*", "@", "{", "<", "}", ">"]
 OPERATORS = ["+", "-", "/", "%"]
+GREATEST = "9223372036854775807"
 P_SPACE = ("LDP", "STP", "PIN")
 
 
@@ -61,10 +62,12 @@ def bad_token(source, line):
 def token_faults(token, counters):
     """What is wrong with a token by itself."""
     if token.isdecimal():
-        if int(token) >= 1 << 63:
-            yield f"`{token}` is greater than 9223372036854775807."
+        digits = token.lstrip("0")
+        if (len(digits), digits) > (len(GREATEST), GREATEST):
+            yield f"`{token}` is greater than {GREATEST}."
     elif re.match(r"0[xX][0-9a-fA-F]+$", token):
-        yield f"`{token}`: numbers are decimal; this one is {int(token, 16)}."
+        value = int(token, 16)
+        yield f"`{token}`: numbers are decimal" + (f"; this one is {value}." if value <= int(GREATEST) else ".")
     elif "&" in token and token != "&&":
         for joined in token.split("&")[1:]:
             if joined not in counters:
