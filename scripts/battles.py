@@ -26,19 +26,6 @@ LONGEST = 1000000
 LARGEST_FILE = 1048576
 
 
-def script(name, main):
-    """Runs a script by its words. What ends it, a fault or Ctrl-C, is told in one line."""
-    try:
-        main(sys.argv[1:])
-    except Fault as fault:
-        print(f"{name}: {fault}", file=sys.stderr)
-        sys.exit(fault.status)
-    except KeyboardInterrupt:
-        sys.exit(f"{name}: stopped")
-    except BrokenPipeError:
-        sys.exit(1)
-
-
 def split_words(arguments):
     """What stands before the first `--`, for the script, and what stands behind it, for mars."""
     if "--" not in arguments:

@@ -244,9 +244,9 @@ class Words(argparse.ArgumentParser):
     def error(self, message):
         raise Fault(f"{message} (--help tells the words)", 2)
 
-    def read(self, least):
+    def read(self, arguments, least):
         """What was given. Fewer than two files are refused by what is asked for at least."""
-        own, files = split_words(sys.argv[1:])
+        own, files = split_words(arguments)
         given = self.parse_intermixed_args(own)
         given.files += files
         if len(given.files) < 2:
@@ -256,22 +256,3 @@ class Words(argparse.ArgumentParser):
         if given.worker_program and not given.scheduler:
             self.error("--worker-program goes with --scheduler")
         return given
-
-
-def script(name, main):
-    """Does what a script does, and ends it with the status of that. What ends it early is told in one line."""
-    for stream in (sys.stdout, sys.stderr):
-        stream.reconfigure(errors="surrogateescape")
-    try:
-        status = main()
-        sys.stdout.flush()
-        sys.exit(status)
-    except Fault as fault:
-        print(f"{name}: {fault}", file=sys.stderr)
-        sys.exit(fault.status)
-    except KeyboardInterrupt:
-        print(f"{name}: stopped", file=sys.stderr)
-        sys.exit(130)
-    except BrokenPipeError:
-        os.dup2(os.open(os.devnull, os.O_WRONLY), sys.stdout.fileno())
-        sys.exit(1)
