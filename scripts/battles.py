@@ -15,15 +15,13 @@ from dataclasses import dataclass, field
 
 from hills import settings_of
 from limits import Limit, source_limit, started
-from program import NAME, Fault, find_program  # noqa: F401  (find_program serves the scripts)
+from program import LARGEST_FILE, NAME, Fault, find_program  # noqa: F401  (find_program serves the scripts)
 from settings import NUMBERS
 
 # commands are sent in pieces that a pipe holds, so that neither side waits for the other
 PIECE = 8000
 # the most turns that the debugger makes by a command, and the most cells that it lists
 LONGEST = 1000000
-# the longest file that mars reads
-LARGEST_FILE = 1048576
 
 
 def split_words(arguments):

@@ -12,7 +12,7 @@ from concurrent.futures import ThreadPoolExecutor
 from contextlib import contextmanager
 from dataclasses import dataclass
 
-from battles import Fault, Words as BattleWords, is_stream, listing_of, split_words, taken
+from battles import LARGEST_FILE, Fault, Words as BattleWords, is_stream, listing_of, split_words, taken
 from hills import settings_of
 from limits import Limit, source_limit
 from places import Contest, cluster, digest_of, passing_folder, read_file, threads, write_file
@@ -27,8 +27,6 @@ LOAD_FILE = re.compile(r"^;load 2 \d+\n;name (.*)\n;author (.*)\n(?:.+\n)*", re.
 # faults of status 1 that are of no warrior
 OF_ALL = ("mars: placement", "mars: score")
 ADDRESS = re.compile(r"((tcp|tls)://)?(\[[0-9a-fA-F:]+\]|[^\s/:\[\]]+):\d+")
-# the most bytes of a file that mars reads
-LARGEST = 1048576
 
 
 @dataclass
@@ -73,30 +71,41 @@ def load_file_of(contest, file, entry, text):
     return found
 
 
-def enter(contest, number, file):
-    """The warrior of a file, as a load file in the contest's folder. One that mars wouldn't read fights as the file is."""
-    ending = ".load" if file.endswith(".load") else ".red"
+def copied(contest, number, file):
+    """A file's name in the contest's folder, to which it is copied, or the fault by which it can't be. Of a longer file than mars reads one
+    byte more is copied, so that mars tells it."""
+    entry = f"{number}.load" if file.endswith(".load") else f"{number}.red"
     try:
-        text = read_file(file)
+        with open(file, "rb") as given:
+            text = given.read(LARGEST_FILE + 1)
     except OSError:
-        raise Left(f"mars: {file}: cannot read") from None
-    write_file(contest.folder, f"{number}{ending}", text)
-    load_file = load_file_of(contest, file, f"{number}{ending}", text)
-    if len(load_file[0]) <= LARGEST:
-        ending, text = ".load", load_file[0].encode()
-        write_file(contest.folder, f"{number}{ending}", text)
-    return Warrior(file, load_file[1], load_file[2], f"{number}{ending}", digest_of(ending.encode() + text))
+        return Left(f"mars: {file}: cannot read")
+    write_file(contest.folder, entry, text)
+    return entry
+
+
+def enter(contest, number, file, entry):
+    """The warrior of a file that was copied, as a load file in the contest's folder. One that mars wouldn't read fights as the file is."""
+    text = read_file(contest.folder, entry)
+    load_file = load_file_of(contest, file, entry, text)
+    if len(load_file[0]) <= LARGEST_FILE:
+        entry, text = f"{number}.load", load_file[0].encode()
+        write_file(contest.folder, entry, text)
+    return Warrior(file, load_file[1], load_file[2], entry, digest_of(os.path.splitext(entry)[1].encode() + text))
 
 
 def enter_all(contest, files, jobs):
-    """For each file its warrior, or the fault that leaves it out."""
-    def entered(numbered):
+    """For each file its warrior, or the fault that leaves it out. The files are read by this thread alone: one that waits for a pipe
+    couldn't be ended."""
+    entries = [copied(contest, number, file) for number, file in enumerate(files)]
+
+    def entered(number):
         try:
-            return enter(contest, *numbered)
+            return entries[number] if isinstance(entries[number], Left) else enter(contest, number, files[number], entries[number])
         except Left as left:
             return left
     with ThreadPoolExecutor(jobs) as pool:
-        return list(pool.map(entered, enumerate(files)))
+        return list(pool.map(entered, range(len(files))))
 
 
 def counts_of(contest, output):

@@ -12,6 +12,8 @@ BUILT = os.path.join(TOP, "crates", CRATE, "out", CRATE)
 INSTALLED = os.path.join(os.path.dirname(TOP), "bin", "mars")
 # What a person calls the program here.
 NAME = "./mars" if os.path.isfile(os.path.join(TOP, "mars")) else "mars"
+# The longest file that the program reads.
+LARGEST_FILE = 1048576
 
 
 def called(script):
