@@ -146,14 +146,15 @@ def told(fault, status):
 
 @dataclass
 class Warrior:
-    """A warrior as the listing has it: `NAME by AUTHOR`, its cells, and where among them it starts."""
-    title: str
+    """A warrior as the listing has it: its name, its author, its cells, and where among them it starts."""
+    name: str
+    author: str
     cells: list
     origin: int
 
     @property
-    def name(self):
-        return self.title.rsplit(" by ", 1)[0]
+    def title(self):
+        return f"{self.name} by {self.author}"
 
 
 @dataclass
@@ -165,14 +166,18 @@ class Row:
     losses: int
 
 
+# a warrior of the listing: a line that names it, and its load file
+LISTED = re.compile(r"warrior \d+: .*\n;load 2 \d+\n;name (.*)\n;author (.*)\nORG (\d+)((?:\n.+)*)")
+
+
 def listed(listing):
     """The warriors of a listing."""
     warriors = []
     for part in listing.strip().split("\n\n"):
-        # The head of the load file says the size of the core and the names, which are known.
-        head, _size, _name, _author, origin, *cells = part.split("\n")
-        title = re.fullmatch(r"warrior \d+: (.*), \d+ instructions", head)[1]
-        warriors.append(Warrior(title, cells, int(origin.split()[1])))
+        found = LISTED.fullmatch(part.rstrip("\n"))
+        if not found:
+            raise Fault("what the program wrote is no listing of warriors: is it mars?")
+        warriors.append(Warrior(found[1], found[2], found[4].split("\n")[1:], int(found[3])))
     return warriors
 
 

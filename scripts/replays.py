@@ -76,7 +76,7 @@ def write_match(folder, warriors, rounds, sums):
     rows = [row([f'<a href="{one.page}">{one.number}</a>', *[(what, what) for what in one.outcomes], f"{one.turns:,}",
                  f"<code>{escape(one.words)}</code>"]) for one in rounds]
     names = [escape(warrior.name) for warrior in warriors]
-    told = [row([f"{name} by {escape(warrior.title.rpartition(' by ')[2])}", *map(str, counts)])
+    told = [row([escape(warrior.title), *map(str, counts)])
             for name, warrior, counts in zip(names, warriors, sums)]
     write_index(folder, TITLE=f"{escape(named(warriors))}: a match of Core War",
                 SUMS="\n".join([row(["Warrior", "Wins", "Ties", "Losses"], "th"), *told]),
