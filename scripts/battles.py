@@ -55,11 +55,17 @@ class Words:
         """The words with the file `first` in front, and those before it at the end."""
         return Words(self.files[first:] + self.files[:first], self.numbers)
 
+    def as_given(self):
+        """The words with the names that were given in place of the files into which these were taken."""
+        return Words([taken.get(path, path) for path in self.files], self.numbers)
+
     def as_list(self):
-        return [text for word, value in self.numbers.items() for text in (word, str(value))] + self.files
+        numbers = [text for word, value in self.numbers.items() for text in (word, str(value))]
+        return numbers + ["--"] * any(path.startswith("-") for path in self.files) + self.files
 
 
-# the files into which streams were taken, with the names of the streams; the folder of these files goes when the script ends
+# the files into which streams were taken, and in a league all warriors, with the names that were given; the folder of the streams goes
+# when the script ends
 taken = {}
 FOLDER = None
 
@@ -87,7 +93,7 @@ def taken_in(path):
 
 
 def as_given(text):
-    """The text with the names of streams in place of the files into which they were taken."""
+    """The text with the names that were given in place of the files into which these were taken."""
     for copy, path in taken.items():
         text = text.replace(copy, path)
     return text
@@ -123,6 +129,7 @@ class WordsParser(argparse.ArgumentParser):
 def read_words(words, hill=None):
     """The words of a battle, with the settings of a hill where they have no other. Those of the output count nothing here:
     `-e`, `-b`, `-o`, `--score`. Streams are taken in."""
+    words, files = split_words(words)
     parser = WordsParser(add_help=False, allow_abbrev=False)
     for word in NUMBERS:
         parser.add_argument(word, type=int, dest=word)
@@ -133,10 +140,11 @@ def read_words(words, hill=None):
     read = vars(parser.parse_intermixed_args(words))
     if read["--league"] or read["--load"]:
         raise Fault("the words of mars: --league and --load make no battle", 2)
-    if not read["files"]:
+    files = read["files"] + files
+    if not files:
         raise Fault("no warriors: their files stand behind --, as in -- examples/dwarf.red examples/imp.red", 2)
     numbers = {word: read[word] for word in NUMBERS if read[word] is not None}
-    return Words([taken_in(path) for path in read["files"]], {**(settings_of(hill) if hill else {}), **numbers})
+    return Words([taken_in(path) for path in files], {**(settings_of(hill) if hill else {}), **numbers})
 
 
 def told(fault, status):
@@ -319,7 +327,7 @@ def battle_of_round(words, warriors, number):
 
 def command_line(battle):
     """The words that debug the battle, for the shell."""
-    return as_given(shlex.join([NAME, "-e", *battle.words.as_list()]))
+    return shlex.join([NAME, "-e", *battle.words.as_given().as_list()])
 
 
 @dataclass
@@ -461,7 +469,7 @@ class Debugger:
 
 def check_writable(name):
     """Tells, before the work that a file is for, that it can't be written."""
-    is_new = not os.path.exists(name)
+    is_new = not os.path.lexists(name)
     try:
         open(name, "ab").close()
         if is_new:

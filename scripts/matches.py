@@ -12,7 +12,7 @@ from concurrent.futures import ThreadPoolExecutor
 from contextlib import contextmanager
 from dataclasses import dataclass
 
-from battles import LARGEST_FILE, Fault, Words as BattleWords, is_stream, listing_of, split_words, taken
+from battles import LARGEST_FILE, Fault, Words as BattleWords, listing_of, split_words, taken
 from hills import settings_of
 from limits import Limit, source_limit
 from places import Contest, cluster, digest_of, passing_folder, read_file, threads, write_file
@@ -20,13 +20,15 @@ from program import find_program
 from results import Results
 from settings import NUMBERS, number_of
 
+# the longest that a match may be given, in seconds
+LONGEST_TIME = 1_000_000
 # the words of mars that a match is given
 WORDS = ("-r", "-s", "-c", "-p", "-l", "-d", "-F", "--seed", "--score", "--read-limit", "--write-limit")
 ROW = re.compile(r"^ *(-?\d{1,19}) +(\d{1,18}) +(\d{1,18}) +(\d{1,18})  ", re.M)
 LOAD_FILE = re.compile(r"^;load 2 \d+\n;name (.*)\n;author (.*)\n(?:.+\n)*", re.M)
 # faults of status 1 that are of no warrior
 OF_ALL = ("mars: placement", "mars: score")
-ADDRESS = re.compile(r"((tcp|tls)://)?(\[[0-9a-fA-F:]+\]|[^\s/:\[\]]+):\d+")
+ADDRESS = re.compile(r"(tcp://)?(\[[0-9a-fA-F:]+\]|[^\s/:\[\]]+):\d+")
 
 
 @dataclass
@@ -110,10 +112,16 @@ def enter_all(contest, files, jobs):
 
 def counts_of(contest, output):
     """The first one's points, wins, ties and losses, and the second one's points, by the table of a match."""
-    rows = ROW.findall(output)
-    if len(rows) != 2:
-        raise Fault(f"{contest.program} writes no table of a match")
-    return tuple(int(number) for number in (*rows[0], rows[1][0]))
+    rows = [[int(number) for number in row] for row in ROW.findall(output)]
+    rounds = numbers_of(contest.words).get("-r", NUMBERS["-r"].default)
+    if len(rows) != 2 or not all(sum(counts) == rounds and -2**63 <= points < 2**63 for points, *counts in rows):
+        raise Fault(f"{contest.program} writes no table of a match of {rounds} round(s)")
+    return (*rows[0], rows[1][0])
+
+
+def numbers_of(words):
+    """The numbers among the words of a contest."""
+    return {word: number_of(value.removeprefix("+")) for word, _, value in (text.partition("=") for text in words) if word in NUMBERS}
 
 
 class Progress:
@@ -151,15 +159,12 @@ class Arena:
         return [number for number, one in enumerate(self.entered) if not isinstance(one, Left)]
 
     def battle_words(self, pair):
-        """The words of a pair's match, for its debugger. Of a warrior that came by a stream the file is what was read of it."""
-        files = []
-        for one in map(self.entered.__getitem__, pair):
-            entry = os.path.join(self.contest.folder, one.entry)
-            if is_stream(one.file):
-                taken[entry] = one.file
-            files.append(entry if is_stream(one.file) else one.file)
-        numbers = {word: number_of(value.removeprefix("+")) for word, _, value in (text.partition("=") for text in self.contest.words) if word in NUMBERS}
-        return BattleWords(files, numbers)
+        """The words of a pair's match, for its debugger. The files are what was read of the warriors: those that were given may be others by
+        now."""
+        warriors = [self.entered[number] for number in pair]
+        files = [os.path.join(self.contest.folder, one.entry) for one in warriors]
+        taken.update(zip(files, (one.file for one in warriors)))
+        return BattleWords(files, numbers_of(self.contest.words))
 
     def keys(self, pair):
         return [self.entered[number].digest for number in pair]
@@ -224,7 +229,7 @@ def ranges(text):
 
 def positive(text):
     number = float(text)
-    if not 0 < number < float("inf"):
+    if not 0 < number <= LONGEST_TIME:
         raise ValueError
     return number
 
@@ -260,6 +265,8 @@ class Words(argparse.ArgumentParser):
         given.files += files
         if len(given.files) < 2:
             self.error(least)
+        if given.results in ("", ":memory:"):
+            self.error("--results FILE: the name of a file is asked for")
         if given.scheduler is not None and not ADDRESS.fullmatch(given.scheduler):
             self.error("--scheduler ADDRESS is HOST:PORT, as in first.lan:8786")
         if given.worker_program and not given.scheduler:
