@@ -123,6 +123,7 @@ def word_faults(words):
     given = read_words(words)
     faults = list(given.faults)
     modes = [name for name in ("-e", "--league", "--load") if name in given.values]
+    faults += [f"`{word}` isn't UTF-8." for word in words if re.search("[\udc80-\udcff]", word)]
     count = len(given.files)
     if not count:
         faults.append("No file of a warrior is named.")
