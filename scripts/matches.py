@@ -243,7 +243,7 @@ class Words(argparse.ArgumentParser):
         for word in WORDS[1:]:
             self.add_argument(word, dest=word)
         self.add_argument("--hill", default="94nop")
-        self.add_argument("--jobs", type=count, default=os.cpu_count() or 1)
+        self.add_argument("--jobs", type=count, default=len(os.sched_getaffinity(0)))
         self.add_argument("--time-limit", type=positive)
         self.add_argument("--source-limit", type=source_limit, default=Limit())
         self.add_argument("--results")

@@ -5,6 +5,7 @@ A function that looks for causes takes a source and its line, and gives sentence
 import re
 from collections import Counter, deque
 from dataclasses import dataclass
+from functools import cache
 from unicodedata import name as character_name
 
 from explaining.source import DIRECTIVES, MODIFIERS, NAME, OPCODES, SIGNS, TOKEN, like, misspelt
@@ -127,7 +128,7 @@ def label_in_count(source, line):
 
 
 def duplicate(source, line):
-    found, labels, counts = misspelt(line), source.labels(), Counter(line.labels)
+    found, labels, counts, loops = misspelt(line), source.labels(), Counter(line.labels), source.loops_around(line.number)
     if found:
         yield no_operation_here(line, *found)
     for name in counts:
@@ -143,14 +144,14 @@ def duplicate(source, line):
         elif counts[name] > 1:
             yield f"`{name}` stands in this line {counts[name]} times as a label: there is no operation between."
         elif "&" not in name:
-            yield from label_in_loop(source, line, name)
+            yield from label_in_loop(loops, name)
     if line.operation in source.equates:
         first = source.equates[line.operation][0].number
         yield f"`{line.operation}` is the EQU of line {first}: the labels in its text are defined at each use."
 
 
-def label_in_loop(source, line, name):
-    for loop in source.loops_around(line.number)[-1:]:
+def label_in_loop(loops, name):
+    for loop in loops[-1:]:
         counter = loop.counter or "i"
         yield (f"`{name}` stands in the loop of line {loop.head.number}, which is read more than once: "
                f"write `{name}&{counter}`, `{counter}` being the counter before FOR.")
@@ -326,13 +327,15 @@ def bad_count(source, line):
 
 
 def equ_depth(source, line):
-    for name in line.names():
+    @cache
+    def inner(name):
+        """The first EQU name that an EQU name stands for, or None."""
+        return next((n for other in source.equates.get(name, []) for n in other.names() if n in source.equates), None)
+
+    for name in dict.fromkeys(line.names()):
         way = [name]
-        while way[-1] in source.equates and way.count(way[-1]) == 1 and len(way) < 40:
-            inner = [n for other in source.equates[way[-1]] for n in other.names() if n in source.equates]
-            if not inner:
-                break
-            way.append(inner[0])
+        while inner(way[-1]) and way.count(way[-1]) == 1 and len(way) < 40:
+            way.append(inner(way[-1]))
         if way.count(way[-1]) > 1:
             yield "A circle: " + " stands for ".join(f"`{n}`" for n in way) + "."
 
@@ -377,7 +380,8 @@ def load_syntax(source, line):
     if source.data.startswith(b"\xef\xbb\xbf") and line.number == 1:
         yield "The file begins with a byte order mark: save it as UTF-8 without it."
         return
-    cell = re.match(r"\s*(\w+)(?:\s*\.\s*(\w+))?(.*)", text)
+    # between what a cell is made of stands one blank at most, so that no pattern tries many
+    cell = re.match(r"\s*(\w+)(?:\s*\.\s*(\w+))?(.*)", " ".join(text.split()))
     operation_, modifier, rest = cell.groups() if cell else ("", "", text)
     if operation_.upper() in ("ORG", "END"):
         yield f"{operation_.upper()} takes a number, not a label or an expression."
