@@ -9,34 +9,18 @@ import os
 import re
 import shlex
 import subprocess
-import sys
 import tempfile
 from dataclasses import dataclass, field
 
 from hills import settings_of
 from limits import Limit, source_limit, started
-from program import NAME, Fault, find_program  # noqa: F401  (find_program serves the scripts)
+from program import LARGEST_FILE, NAME, Fault, find_program  # noqa: F401  (find_program serves the scripts)
 from settings import NUMBERS
 
 # commands are sent in pieces that a pipe holds, so that neither side waits for the other
 PIECE = 8000
 # the most turns that the debugger makes by a command, and the most cells that it lists
 LONGEST = 1000000
-# the longest file that mars reads
-LARGEST_FILE = 1048576
-
-
-def script(name, main):
-    """Runs a script by its words. What ends it, a fault or Ctrl-C, is told in one line."""
-    try:
-        main(sys.argv[1:])
-    except Fault as fault:
-        print(f"{name}: {fault}", file=sys.stderr)
-        sys.exit(fault.status)
-    except KeyboardInterrupt:
-        sys.exit(f"{name}: stopped")
-    except BrokenPipeError:
-        sys.exit(1)
 
 
 def split_words(arguments):
@@ -70,11 +54,17 @@ class Words:
         """The words with the file `first` in front, and those before it at the end."""
         return Words(self.files[first:] + self.files[:first], self.numbers)
 
+    def as_given(self):
+        """The words with the names that were given in place of the files into which these were taken."""
+        return Words([taken.get(path, path) for path in self.files], self.numbers)
+
     def as_list(self):
-        return [text for word, value in self.numbers.items() for text in (word, str(value))] + self.files
+        numbers = [text for word, value in self.numbers.items() for text in (word, str(value))]
+        return numbers + ["--"] * any(path.startswith("-") for path in self.files) + self.files
 
 
-# the files into which streams were taken, with the names of the streams; the folder of these files goes when the script ends
+# the files into which streams were taken, and in a league all warriors, with the names that were given; the folder of the streams goes
+# when the script ends
 taken = {}
 FOLDER = None
 
@@ -102,7 +92,7 @@ def taken_in(path):
 
 
 def as_given(text):
-    """The text with the names of streams in place of the files into which they were taken."""
+    """The text with the names that were given in place of the files into which these were taken."""
     for copy, path in taken.items():
         text = text.replace(copy, path)
     return text
@@ -138,6 +128,7 @@ class WordsParser(argparse.ArgumentParser):
 def read_words(words, hill=None):
     """The words of a battle, with the settings of a hill where they have no other. Those of the output count nothing here:
     `-e`, `-b`, `-o`, `--score`. Streams are taken in."""
+    words, files = split_words(words)
     parser = WordsParser(add_help=False, allow_abbrev=False)
     for word in NUMBERS:
         parser.add_argument(word, type=int, dest=word)
@@ -148,10 +139,11 @@ def read_words(words, hill=None):
     read = vars(parser.parse_intermixed_args(words))
     if read["--league"] or read["--load"]:
         raise Fault("the words of mars: --league and --load make no battle", 2)
-    if not read["files"]:
+    files = read["files"] + files
+    if not files:
         raise Fault("no warriors: their files stand behind --, as in -- examples/dwarf.red examples/imp.red", 2)
     numbers = {word: read[word] for word in NUMBERS if read[word] is not None}
-    return Words([taken_in(path) for path in read["files"]], {**(settings_of(hill) if hill else {}), **numbers})
+    return Words([taken_in(path) for path in files], {**(settings_of(hill) if hill else {}), **numbers})
 
 
 def told(fault, status):
@@ -161,14 +153,15 @@ def told(fault, status):
 
 @dataclass
 class Warrior:
-    """A warrior as the listing has it: `NAME by AUTHOR`, its cells, and where among them it starts."""
-    title: str
+    """A warrior as the listing has it: its name, its author, its cells, and where among them it starts."""
+    name: str
+    author: str
     cells: list
     origin: int
 
     @property
-    def name(self):
-        return self.title.rsplit(" by ", 1)[0]
+    def title(self):
+        return f"{self.name} by {self.author}"
 
 
 @dataclass
@@ -180,14 +173,18 @@ class Row:
     losses: int
 
 
+# a warrior of the listing: a line that names it, and its load file
+LISTED = re.compile(r"warrior \d+: .*\n;load 2 \d+\n;name (.*)\n;author (.*)\nORG (\d+)((?:\n.+)*)")
+
+
 def listed(listing):
     """The warriors of a listing."""
     warriors = []
     for part in listing.strip().split("\n\n"):
-        # The head of the load file says the size of the core and the names, which are known.
-        head, _size, _name, _author, origin, *cells = part.split("\n")
-        title = re.fullmatch(r"warrior \d+: (.*), \d+ instructions", head)[1]
-        warriors.append(Warrior(title, cells, int(origin.split()[1])))
+        found = LISTED.fullmatch(part.rstrip("\n"))
+        if not found:
+            raise Fault("what the program wrote is no listing of warriors: is it mars?")
+        warriors.append(Warrior(found[1], found[2], found[4].split("\n")[1:], int(found[3])))
     return warriors
 
 
@@ -329,7 +326,7 @@ def battle_of_round(words, warriors, number):
 
 def command_line(battle):
     """The words that debug the battle, for the shell."""
-    return as_given(shlex.join([NAME, "-e", *battle.words.as_list()]))
+    return shlex.join([NAME, "-e", *battle.words.as_given().as_list()])
 
 
 @dataclass
@@ -471,7 +468,7 @@ class Debugger:
 
 def check_writable(name):
     """Tells, before the work that a file is for, that it can't be written."""
-    is_new = not os.path.exists(name)
+    is_new = not os.path.lexists(name)
     try:
         open(name, "ab").close()
         if is_new:

@@ -1,14 +1,16 @@
 """Films of battles: what changed from one turn to another, who changed it, and where processes stand. Pages and pictures
 show them.
 
-A film is read off the debugger alone, in pieces, by as many processes as there are processors. Between two frames the core
+A film is read off the debugger alone, in pieces, by as many processes as there are processors for this one. Between two frames the core
 is looked at every few turns, its grain; a cell that differs from one look to the next has the warrior that is found by
 bisection. With a grain of one turn that is who changed it last, always; with a longer one a cell that changes and changes
 back within the grain isn't seen, and of two warriors that change a cell within it one is found.
 """
+import multiprocessing
 import os
 import signal
 import sys
+import threading
 from collections import Counter, deque
 from concurrent.futures import ProcessPoolExecutor
 from dataclasses import dataclass
@@ -238,13 +240,19 @@ def told_on_terminal(text):
 
 
 def end_at_once():
-    """Ctrl-C ends the processes of a film without a word; the script that started them tells it."""
+    """Ctrl-C ends a process of a film without a word, since the script that started it tells it; and so does the end of that script."""
     signal.signal(signal.SIGINT, signal.SIG_DFL)
+    threading.Thread(target=end_behind_parent, daemon=True).start()
+
+
+def end_behind_parent():
+    multiprocessing.parent_process().join()
+    os._exit(1)
 
 
 def filmed(film, develop):
     """What `develop` makes of each piece of the film, in order. Few pieces are made ahead, so that few are held."""
-    workers = os.cpu_count() or 1
+    workers = len(os.sched_getaffinity(0))
     pieces = pieces_of(film.ends, workers * PIECES_EACH)
     done, ahead, waiting = 0, iter(pieces), deque()
     with ProcessPoolExecutor(workers, initializer=end_at_once) as pool:

@@ -12,23 +12,23 @@ from concurrent.futures import ThreadPoolExecutor
 from contextlib import contextmanager
 from dataclasses import dataclass
 
-from battles import Fault, Words as BattleWords, is_stream, listing_of, split_words, taken
+from battles import LARGEST_FILE, Fault, Words as BattleWords, listing_of, split_words, taken
 from hills import settings_of
 from limits import Limit, source_limit
 from places import Contest, cluster, digest_of, passing_folder, read_file, threads, write_file
 from program import find_program
 from results import Results
-from settings import NUMBERS
+from settings import NUMBERS, number_of
 
+# the longest that a match may be given, in seconds
+LONGEST_TIME = 1_000_000
 # the words of mars that a match is given
 WORDS = ("-r", "-s", "-c", "-p", "-l", "-d", "-F", "--seed", "--score", "--read-limit", "--write-limit")
-ROW = re.compile(r"^ *(-?\d+) +(\d+) +(\d+) +(\d+)  ", re.M)
+ROW = re.compile(r"^ *(-?\d{1,19}) +(\d{1,18}) +(\d{1,18}) +(\d{1,18})  ", re.M)
 LOAD_FILE = re.compile(r"^;load 2 \d+\n;name (.*)\n;author (.*)\n(?:.+\n)*", re.M)
 # faults of status 1 that are of no warrior
 OF_ALL = ("mars: placement", "mars: score")
-ADDRESS = re.compile(r"((tcp|tls)://)?(\[[0-9a-fA-F:]+\]|[^\s/:\[\]]+):\d+")
-# the most bytes of a file that mars reads
-LARGEST = 1048576
+ADDRESS = re.compile(r"(tcp://)?(\[[0-9a-fA-F:]+\]|[^\s/:\[\]]+):\d+")
 
 
 @dataclass
@@ -73,38 +73,55 @@ def load_file_of(contest, file, entry, text):
     return found
 
 
-def enter(contest, number, file):
-    """The warrior of a file, as a load file in the contest's folder. One that mars wouldn't read fights as the file is."""
-    ending = ".load" if file.endswith(".load") else ".red"
+def copied(contest, number, file):
+    """A file's name in the contest's folder, to which it is copied, or the fault by which it can't be. Of a longer file than mars reads one
+    byte more is copied, so that mars tells it."""
+    entry = f"{number}.load" if file.endswith(".load") else f"{number}.red"
     try:
-        text = read_file(file)
+        with open(file, "rb") as given:
+            text = given.read(LARGEST_FILE + 1)
     except OSError:
-        raise Left(f"mars: {file}: cannot read") from None
-    write_file(contest.folder, f"{number}{ending}", text)
-    load_file = load_file_of(contest, file, f"{number}{ending}", text)
-    if len(load_file[0]) <= LARGEST:
-        ending, text = ".load", load_file[0].encode()
-        write_file(contest.folder, f"{number}{ending}", text)
-    return Warrior(file, load_file[1], load_file[2], f"{number}{ending}", digest_of(ending.encode() + text))
+        return Left(f"mars: {file}: cannot read")
+    write_file(contest.folder, entry, text)
+    return entry
+
+
+def enter(contest, number, file, entry):
+    """The warrior of a file that was copied, as a load file in the contest's folder. One that mars wouldn't read fights as the file is."""
+    text = read_file(contest.folder, entry)
+    load_file = load_file_of(contest, file, entry, text)
+    if len(load_file[0]) <= LARGEST_FILE:
+        entry, text = f"{number}.load", load_file[0].encode()
+        write_file(contest.folder, entry, text)
+    return Warrior(file, load_file[1], load_file[2], entry, digest_of(os.path.splitext(entry)[1].encode() + text))
 
 
 def enter_all(contest, files, jobs):
-    """For each file its warrior, or the fault that leaves it out."""
-    def entered(numbered):
+    """For each file its warrior, or the fault that leaves it out. The files are read by this thread alone: one that waits for a pipe
+    couldn't be ended."""
+    entries = [copied(contest, number, file) for number, file in enumerate(files)]
+
+    def entered(number):
         try:
-            return enter(contest, *numbered)
+            return entries[number] if isinstance(entries[number], Left) else enter(contest, number, files[number], entries[number])
         except Left as left:
             return left
     with ThreadPoolExecutor(jobs) as pool:
-        return list(pool.map(entered, enumerate(files)))
+        return list(pool.map(entered, range(len(files))))
 
 
 def counts_of(contest, output):
     """The first one's points, wins, ties and losses, and the second one's points, by the table of a match."""
-    rows = ROW.findall(output)
-    if len(rows) != 2:
-        raise Fault(f"{contest.program} writes no table of a match")
-    return tuple(int(number) for number in (*rows[0], rows[1][0]))
+    rows = [[int(number) for number in row] for row in ROW.findall(output)]
+    rounds = numbers_of(contest.words).get("-r", NUMBERS["-r"].default)
+    if len(rows) != 2 or not all(sum(counts) == rounds and -2**63 <= points < 2**63 for points, *counts in rows):
+        raise Fault(f"{contest.program} writes no table of a match of {rounds} round(s)")
+    return (*rows[0], rows[1][0])
+
+
+def numbers_of(words):
+    """The numbers among the words of a contest."""
+    return {word: number_of(value.removeprefix("+")) for word, _, value in (text.partition("=") for text in words) if word in NUMBERS}
 
 
 class Progress:
@@ -142,15 +159,12 @@ class Arena:
         return [number for number, one in enumerate(self.entered) if not isinstance(one, Left)]
 
     def battle_words(self, pair):
-        """The words of a pair's match, for its debugger. Of a warrior that came by a stream the file is what was read of it."""
-        files = []
-        for one in map(self.entered.__getitem__, pair):
-            entry = os.path.join(self.contest.folder, one.entry)
-            if is_stream(one.file):
-                taken[entry] = one.file
-            files.append(entry if is_stream(one.file) else one.file)
-        numbers = {word: int(value) for word, _, value in (text.partition("=") for text in self.contest.words) if word in NUMBERS}
-        return BattleWords(files, numbers)
+        """The words of a pair's match, for its debugger. The files are what was read of the warriors: those that were given may be others by
+        now."""
+        warriors = [self.entered[number] for number in pair]
+        files = [os.path.join(self.contest.folder, one.entry) for one in warriors]
+        taken.update(zip(files, (one.file for one in warriors)))
+        return BattleWords(files, numbers_of(self.contest.words))
 
     def keys(self, pair):
         return [self.entered[number].digest for number in pair]
@@ -215,7 +229,7 @@ def ranges(text):
 
 def positive(text):
     number = float(text)
-    if not 0 < number < float("inf"):
+    if not 0 < number <= LONGEST_TIME:
         raise ValueError
     return number
 
@@ -229,7 +243,7 @@ class Words(argparse.ArgumentParser):
         for word in WORDS[1:]:
             self.add_argument(word, dest=word)
         self.add_argument("--hill", default="94nop")
-        self.add_argument("--jobs", type=count, default=os.cpu_count() or 1)
+        self.add_argument("--jobs", type=count, default=len(os.sched_getaffinity(0)))
         self.add_argument("--time-limit", type=positive)
         self.add_argument("--source-limit", type=source_limit, default=Limit())
         self.add_argument("--results")
@@ -244,34 +258,17 @@ class Words(argparse.ArgumentParser):
     def error(self, message):
         raise Fault(f"{message} (--help tells the words)", 2)
 
-    def read(self, least):
+    def read(self, arguments, least):
         """What was given. Fewer than two files are refused by what is asked for at least."""
-        own, files = split_words(sys.argv[1:])
+        own, files = split_words(arguments)
         given = self.parse_intermixed_args(own)
         given.files += files
         if len(given.files) < 2:
             self.error(least)
+        if given.results in ("", ":memory:"):
+            self.error("--results FILE: the name of a file is asked for")
         if given.scheduler is not None and not ADDRESS.fullmatch(given.scheduler):
             self.error("--scheduler ADDRESS is HOST:PORT, as in first.lan:8786")
         if given.worker_program and not given.scheduler:
             self.error("--worker-program goes with --scheduler")
         return given
-
-
-def script(name, main):
-    """Does what a script does, and ends it with the status of that. What ends it early is told in one line."""
-    for stream in (sys.stdout, sys.stderr):
-        stream.reconfigure(errors="surrogateescape")
-    try:
-        status = main()
-        sys.stdout.flush()
-        sys.exit(status)
-    except Fault as fault:
-        print(f"{name}: {fault}", file=sys.stderr)
-        sys.exit(fault.status)
-    except KeyboardInterrupt:
-        print(f"{name}: stopped", file=sys.stderr)
-        sys.exit(130)
-    except BrokenPipeError:
-        os.dup2(os.open(os.devnull, os.O_WRONLY), sys.stdout.fileno())
-        sys.exit(1)

@@ -85,7 +85,7 @@ def unpacked(page):
 
 def head_of(film, ending, prepare):
     """What a page knows besides its frames."""
-    warriors = [{"name": warrior.name, "author": warrior.title.rpartition(" by ")[2], "death": ending.deaths[number],
+    warriors = [{"name": warrior.name, "author": warrior.author, "death": ending.deaths[number],
                  "grave": ending.graves[number], "fate": fate(film.warriors, ending.deaths, number)}
                 for number, warrior in enumerate(film.warriors)]
     return {"size": film.battle.words.number("-s"), "last": ending.last, "empty": EMPTY, "warriors": warriors,

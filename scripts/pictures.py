@@ -11,6 +11,7 @@ from itertools import groupby
 from battles import Fault
 from captions import DARK, LIGHT, coloured, fate, named, outcome, round_numbers, settings
 from films import ending_of, film_of, filmed
+from settings import number_of
 
 COLUMNS, ROWS = 400, 300
 KEY = "strong: processes; lighter: written; pale: written last; dashed: a death"
@@ -91,9 +92,10 @@ def rows_of(frames):
 def cells_of(text, core_size):
     """The range of cells that `A-B` says, or the whole core."""
     low, _, high = (text or f"0-{core_size - 1}").partition("-")
-    if not (low.isdecimal() and high.isdecimal() and int(low) <= int(high) < core_size):
+    low, high = number_of(low), number_of(high)
+    if low is None or high is None or not low <= high < core_size:
         raise Fault(f"--cells {text}: A-B, from 0 to {core_size - 1}, as in 0-99", 2)
-    return range(int(low), int(high) + 1)
+    return range(low, high + 1)
 
 
 def picture_of(program, battle, warriors, part, cells, columns):

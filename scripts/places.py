@@ -23,6 +23,8 @@ from limits import Limit
 # Matches that a scheduler hands on as one, since each such costs some milliseconds; and how many such it has at most.
 BUNDLE = 8
 AT_A_SCHEDULER = 500
+# After so many seconds without an answer it is looked whether there is somebody to answer.
+NOW_AND_THEN = 5
 NO_PACKAGE = ("--scheduler: {} has no package distributed: apt-get install python3-distributed, "
               "and start Debian's own Python: /usr/bin/python3 {} ..")
 
@@ -111,35 +113,39 @@ class Contest:
 
 @dataclass
 class Place:
-    """How a bundle of matches is handed out, how many are in one, and how many bundles are out at a time."""
+    """How a bundle of matches is handed out, how many are in one, how many bundles are out at a time, and what is done now and then while
+    they are waited for."""
     submit: Callable
     bundle: int
     at_a_time: int
+    wait: Callable = lambda: None
 
     def answers(self, matches):
         """Hands out matches, each a name and its two files. Gives each name with the answer of `run`, as they come."""
         done, handed_out, matches = queue.SimpleQueue(), {}, iter(matches)
         while bundle := list(islice(matches, self.bundle)):
             if len(handed_out) == self.at_a_time:
-                yield from next_answers(done, handed_out)
+                yield from self.next_answers(done, handed_out)
             names, files = zip(*bundle)
             future = self.submit(files)
             handed_out[future] = names
             future.add_done_callback(done.put)
         while handed_out:
-            yield from next_answers(done, handed_out)
+            yield from self.next_answers(done, handed_out)
 
-
-def next_answers(done, handed_out):
-    """The answers of the bundle that is done next."""
-    future = done.get()
-    try:
-        return zip(handed_out.pop(future), future.result())
-    except CancelledError:
-        raise Fault("the scheduler has gone") from None
-    except Exception as error:
-        # What is handed out raises nothing of its own: a worker can't take it, or a match has ended several workers.
-        raise Fault(f"the workers: {' '.join(str(error).split())}") from None
+    def next_answers(self, done, handed_out):
+        """The answers of the bundle that is done next."""
+        while True:
+            try:
+                future = done.get(timeout=NOW_AND_THEN)
+                return zip(handed_out.pop(future), future.result())
+            except queue.Empty:
+                self.wait()
+            except CancelledError:
+                raise Fault("the scheduler has gone") from None
+            except Exception as error:
+                # What is handed out raises nothing of its own: a worker can't take it, or a match has ended several workers.
+                raise Fault(f"the workers: {' '.join(str(error).split())}") from None
 
 
 @contextmanager
@@ -150,6 +156,22 @@ def threads(contest, jobs):
         yield Place(lambda bundle: pool.submit(contest.fight, bundle), 1, 2 * jobs)
     finally:
         pool.shutdown(cancel_futures=True)
+
+
+def teller_of_absence(client):
+    """What tells, each time that it becomes so, that a scheduler has no worker."""
+    was_alone = False
+
+    def look():
+        nonlocal was_alone
+        try:
+            is_alone = not client.nthreads()
+        except OSError:
+            return
+        if is_alone and not was_alone:
+            print("no worker is there: the matches wait for one", file=sys.stderr)
+        was_alone = is_alone
+    return look
 
 
 @contextmanager
@@ -169,11 +191,11 @@ def cluster(contest, address, program):
     except (OSError, ValueError) as error:
         raise Fault(f"--scheduler {address}: {error}") from None
     with client:
-        if not client.nthreads():
-            print("no worker yet: the matches wait for one", file=sys.stderr)
+        wait = teller_of_absence(client)
+        wait()
         executor, digest = client.get_executor(pure=False), digest_of(read_file(contest.program))
 
         def submit(bundle):
             texts = {name: read_file(contest.folder, name) for files in bundle for name in files}
             return executor.submit(run_there, program, digest, ["-b", *contest.words], texts, bundle, contest.time_limit)
-        yield Place(submit, BUNDLE, AT_A_SCHEDULER)
+        yield Place(submit, BUNDLE, AT_A_SCHEDULER, wait)

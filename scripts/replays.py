@@ -5,7 +5,7 @@ import shlex
 from dataclasses import dataclass
 from html import escape
 
-from battles import Battle, Debugger, Fault, as_given, battles_of, check_writable, command_line, warriors_of, write_file
+from battles import Battle, Debugger, Fault, battles_of, check_writable, command_line, warriors_of, write_file
 from captions import named
 from films import Part, told_on_terminal
 from pages import FRAMES, HERE, filled, page_of
@@ -55,7 +55,7 @@ def make_folder(folder):
 def write_page(program, words, warriors, one, folder):
     """Writes the page of a round of the match of these words."""
     battle = one.battle
-    lay = as_given(shlex.join([called("rounds"), "--lay", str(one.number), "--", *words.as_list()])) if battle.commands else ""
+    lay = shlex.join([called("rounds"), "--lay", str(one.number), "--", *words.as_given().as_list()]) if battle.commands else ""
     turned = warriors[battle.first:] + warriors[:battle.first]
     page = page_of(program, battle, turned, Part(None, None, FRAMES), lay)
     write_file(os.path.join(folder, one.page), page.text.encode())
@@ -68,7 +68,7 @@ def row(cells, element="td"):
 
 
 def write_index(folder, **fields):
-    write_file(os.path.join(folder, "index.html"), filled(INDEX, fields).encode())
+    write_file(os.path.join(folder, "index.html"), filled(INDEX, fields).encode(errors="replace"))
 
 
 def write_match(folder, warriors, rounds, sums):
@@ -76,7 +76,7 @@ def write_match(folder, warriors, rounds, sums):
     rows = [row([f'<a href="{one.page}">{one.number}</a>', *[(what, what) for what in one.outcomes], f"{one.turns:,}",
                  f"<code>{escape(one.words)}</code>"]) for one in rounds]
     names = [escape(warrior.name) for warrior in warriors]
-    told = [row([f"{name} by {escape(warrior.title.rpartition(' by ')[2])}", *map(str, counts)])
+    told = [row([escape(warrior.title), *map(str, counts)])
             for name, warrior, counts in zip(names, warriors, sums)]
     write_index(folder, TITLE=f"{escape(named(warriors))}: a match of Core War",
                 SUMS="\n".join([row(["Warrior", "Wins", "Ties", "Losses"], "th"), *told]),

@@ -49,7 +49,10 @@ class Results:
     def find(self, first, second):
         """What was kept of a match: the first one's points, wins, ties and losses, and the second one's points; or None."""
         with self.telling():
-            return self.file.execute(FIND, (*self.contest, first, second)).fetchone()
+            found = self.file.execute(FIND, (*self.contest, first, second)).fetchone()
+        if found and not all(isinstance(number, int) for number in found):
+            raise Fault(f"{self.path}: what it has of a match isn't numbers")
+        return found
 
     def keep(self, first, second, counts):
         self.new.append((*self.contest, first, second, *counts))

@@ -1,5 +1,6 @@
 """The words of the program that take a number: what each means, its least and greatest value, and what mars takes where it
 isn't given. A test compares them with the program's own help."""
+import re
 from dataclasses import dataclass
 
 
@@ -24,3 +25,9 @@ NUMBERS = {
     "--seed": Number("seed", 1, 2_147_483_646, 1),
     "--history": Number("number of places in the history", 1, 1_000_000, 200_000),
 }
+
+
+def number_of(text):
+    """The number that digits say, or None: of more than 18 digits behind its zeros there is none here."""
+    found = re.fullmatch(r"0*(\d{1,18})", text, re.ASCII)
+    return int(found[1]) if found else None

@@ -5,8 +5,9 @@ import sys
 from dataclasses import dataclass
 from html import escape
 
-from battles import Fault
+from battles import Fault, write_file
 from png import true_png_of
+from program import printable
 
 COLUMNS = ("points", "wins", "ties", "losses")
 # A cell of a picture is mixed from these, by the rounds that were won, tied and lost.
@@ -83,7 +84,7 @@ def write_matrix(league, _):
     lines += [[index, *(wins(mine, other) for other in league.order)] for index, mine in enumerate(league.order, 1)]
     width = max(len(str(cell)) for line in lines for cell in line)
     for line, title in zip(lines, ["warrior", *(league.warriors[number].file for number in league.order)]):
-        print(*(f"{cell:>{width}}" for cell in line), f" {title}")
+        print(*(f"{cell:>{width}}" for cell in line), f" {printable(title)}")
 
 
 def colour(rounds):
@@ -133,9 +134,4 @@ def png_of(league):
 
 def write_picture(league, path):
     """The matrix as a picture, of the kind that the file's name ends in."""
-    content = png_of(league) if path.endswith(".png") else "\n".join(svg_of(league)).encode()
-    try:
-        with open(path, "wb") as file:
-            file.write(content)
-    except OSError as error:
-        raise Fault(f"{path}: {error.strerror}") from None
+    write_file(path, png_of(league) if path.endswith(".png") else "\n".join(svg_of(league)).encode())

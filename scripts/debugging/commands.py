@@ -3,6 +3,7 @@ from dataclasses import dataclass
 
 from battles import LONGEST, Fault
 from looking import tell_cause, tell_change, tell_death
+from settings import number_of
 
 COMMANDS = {}
 # how many cells `list` shows where it isn't told, and how many around each warrior's next process
@@ -67,7 +68,7 @@ def back(session, rest):
     if rest and not rest.isdecimal():
         session.search([session.condition(rest.split())], False)
     else:
-        session.move(f"goto {max(session.look.first, session.standing().turn - int(rest or 1))}")
+        session.move(f"goto {max(session.look.first, session.standing().turn - session.count(rest or '1', 'turns'))}")
 
 
 @command("break [CONDITION]", "sets a break for continue and reverse; without words: lists them")
@@ -82,8 +83,8 @@ def set_break(session, rest):
 def delete(session, rest):
     if not rest:
         session.breaks.clear()
-    elif rest.isdecimal() and int(rest) < len(session.breaks):
-        del session.breaks[int(rest)]
+    elif number_of(rest) in range(len(session.breaks)):
+        del session.breaks[number_of(rest)]
     else:
         raise Fault(f"there is no break {rest}")
 
@@ -160,9 +161,7 @@ def list_cells(session, rest):
         return
     address, _, count = rest.partition(" ")
     first = session.address(address)
-    if count and not count.isdecimal():
-        raise Fault(f"`{count}` is no number of cells")
-    count = int(count or min(CELLS, size))
+    count = session.count(count, "cells") if count else min(CELLS, size)
     print_cells(session, first, count)
     session.repeated = f"list {(first + count) % size} {count}"
 

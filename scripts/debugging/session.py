@@ -6,6 +6,7 @@ from dataclasses import dataclass
 from battles import Fault
 from debugging.searches import KINDS, Condition, search_back, search_forward
 from debugging.telling import BOLD, DIM, Teller
+from settings import number_of
 
 REFUSALS = {1: "no turns or cells, or more than 1,000,000", 2: "an address outside the core, or from above to",
             3: "a number of a cell outside the core", 4: "there is no such warrior", 5: "there is no such process",
@@ -131,13 +132,21 @@ class Session:
     # what is read
 
     def warrior(self, text):
-        if not text.isdecimal() or int(text) >= self.debugger.warriors:
+        warrior = number_of(text)
+        if warrior is None or warrior >= self.debugger.warriors:
             raise Fault(f"`{text}` is no warrior: they are 0 to {self.debugger.warriors - 1}")
-        return int(text)
+        return warrior
+
+    def count(self, text, what):
+        """A number of turns or of cells."""
+        count = number_of(text)
+        if count is None:
+            raise Fault(f"`{text}` is no number of {what}")
+        return count
 
     def address(self, text):
         """An address: a number, a label, or `.` for where the next process stands; with a distance behind it or none."""
-        found = re.fullmatch(r"(\.|\d+|(?:\d+\.)?[A-Za-z_][\w&]*)([+-]\d+)?", text, re.ASCII)
+        found = re.fullmatch(r"(\.|\d{1,18}|(?:\d+\.)?[A-Za-z_][\w&]*)([+-]\d{1,18})?", text, re.ASCII)
         base = found and found[1]
         if base == ".":
             base = (self.debugger.queue(self.standing().next) or [None])[0]

@@ -3,7 +3,9 @@
 A function that looks for causes takes a source and its line, and gives sentences. They are guesses by the look of the text.
 """
 import re
+from collections import Counter, deque
 from dataclasses import dataclass
+from functools import cache
 from unicodedata import name as character_name
 
 from explaining.source import DIRECTIVES, MODIFIERS, NAME, OPCODES, SIGNS, TOKEN, like, misspelt
@@ -22,6 +24,7 @@ PREDEFINED = {
 }
 MODES = ["#", "$", "*", "@", "{", "<", "}", ">"]
 OPERATORS = ["+", "-", "/", "%"]
+GREATEST = "9223372036854775807"
 P_SPACE = ("LDP", "STP", "PIN")
 
 
@@ -60,10 +63,12 @@ def bad_token(source, line):
 def token_faults(token, counters):
     """What is wrong with a token by itself."""
     if token.isdecimal():
-        if int(token) >= 1 << 63:
-            yield f"`{token}` is greater than 9223372036854775807."
+        digits = token.lstrip("0")
+        if (len(digits), digits) > (len(GREATEST), GREATEST):
+            yield f"`{token}` is greater than {GREATEST}."
     elif re.match(r"0[xX][0-9a-fA-F]+$", token):
-        yield f"`{token}`: numbers are decimal; this one is {int(token, 16)}."
+        value = int(token, 16)
+        yield f"`{token}`: numbers are decimal" + (f"; this one is {value}." if value <= int(GREATEST) else ".")
     elif "&" in token and token != "&&":
         for joined in token.split("&")[1:]:
             if joined not in counters:
@@ -109,43 +114,44 @@ def loop_counts(source):
 
 
 def label_in_count(source, line):
+    labels = source.labels()
     for name in dict.fromkeys(line.names()):
         if name in source.equates:
             first = source.equates[name][0].number
             if first > line.number:
                 yield f"`{name}` gets its EQU in line {first}: move that before line {line.number}."
-        elif name in source.labels():
-            first = source.labels()[name][0].number
+        elif name in labels:
+            first = labels[name][0].number
             yield f"`{name}` is a label (line {first}): write a number in its place, or give the count a name by EQU."
         elif name not in PREDEFINED:
             yield f"`{name}` isn't defined."
 
 
 def duplicate(source, line):
-    found = misspelt(line)
+    found, labels, counts, loops = misspelt(line), source.labels(), Counter(line.labels), source.loops_around(line.number)
     if found:
         yield no_operation_here(line, *found)
-    for name in line.labels:
+    for name in counts:
         if name in PREDEFINED:
             yield f"`{name}` is predefined: labels and EQU names can't be called so."
             continue
-        earlier = [other for other in source.labels().get(name, []) if other.number < line.number]
+        earlier = [other for other in labels.get(name, [])[:1] if other.number < line.number]
         equate = source.equates.get(name, [line])[0]
         if earlier:
             yield why_taken(line, name, earlier[0])
         elif equate.number < line.number:
             yield f"`{name}` is an EQU name already, by line {equate.number}."
-        elif line.labels.count(name) > 1:
-            yield f"`{name}` stands in this line {line.labels.count(name)} times as a label: there is no operation between."
+        elif counts[name] > 1:
+            yield f"`{name}` stands in this line {counts[name]} times as a label: there is no operation between."
         elif "&" not in name:
-            yield from label_in_loop(source, line, name)
+            yield from label_in_loop(loops, name)
     if line.operation in source.equates:
         first = source.equates[line.operation][0].number
         yield f"`{line.operation}` is the EQU of line {first}: the labels in its text are defined at each use."
 
 
-def label_in_loop(source, line, name):
-    for loop in source.loops_around(line.number)[-1:]:
+def label_in_loop(loops, name):
+    for loop in loops[-1:]:
         counter = loop.counter or "i"
         yield (f"`{name}` stands in the loop of line {loop.head.number}, which is read more than once: "
                f"write `{name}&{counter}`, `{counter}` being the counter before FOR.")
@@ -275,15 +281,19 @@ def begins_operand(token):
 
 
 def unknown(source, line):
-    names = [token for token in expression_tokens(line) if NAME.match(token)]
+    names = deque(token for token in expression_tokens(line) if NAME.match(token))
     labels, seen = source.labels(), set(PREDEFINED)
     seen.update(loop.counter for loop in source.loops_around(line.number))
-    joined = [re.compile(re.sub(r"&\w+", r"\\d\\d+", label) + "$") for label in labels if "&" in label]
+    # what stands before the joins of a label, whose counters are two digits or more each
+    stems = {label.partition("&")[0] for label in labels if "&" in label}
+    lengths = {len(stem) for stem in stems}
     while names:
-        name = names.pop(0)
-        if name in seen or "&" in name or any(pattern.match(name) for pattern in joined):
+        name = names.popleft()
+        if name in seen or "&" in name:
             continue
         seen.add(name)
+        if any(name[:length] in stems and re.fullmatch(r"\d\d+", name[length:]) for length in lengths):
+            continue
         if name in source.equates:
             names += [inner for other in source.equates[name] for inner in other.names()]
         elif name not in labels:
@@ -317,13 +327,15 @@ def bad_count(source, line):
 
 
 def equ_depth(source, line):
-    for name in line.names():
+    @cache
+    def inner(name):
+        """The first EQU name that an EQU name stands for, or None."""
+        return next((n for other in source.equates.get(name, []) for n in other.names() if n in source.equates), None)
+
+    for name in dict.fromkeys(line.names()):
         way = [name]
-        while way[-1] in source.equates and way.count(way[-1]) == 1 and len(way) < 40:
-            inner = [n for other in source.equates[way[-1]] for n in other.names() if n in source.equates]
-            if not inner:
-                break
-            way.append(inner[0])
+        while inner(way[-1]) and way.count(way[-1]) == 1 and len(way) < 40:
+            way.append(inner(way[-1]))
         if way.count(way[-1]) > 1:
             yield "A circle: " + " stands for ".join(f"`{n}`" for n in way) + "."
 
@@ -368,7 +380,8 @@ def load_syntax(source, line):
     if source.data.startswith(b"\xef\xbb\xbf") and line.number == 1:
         yield "The file begins with a byte order mark: save it as UTF-8 without it."
         return
-    cell = re.match(r"\s*(\w+)(?:\s*\.\s*(\w+))?(.*)", text)
+    # between what a cell is made of stands one blank at most, so that no pattern tries many
+    cell = re.match(r"\s*(\w+)(?:\s*\.\s*(\w+))?(.*)", " ".join(text.split()))
     operation_, modifier, rest = cell.groups() if cell else ("", "", text)
     if operation_.upper() in ("ORG", "END"):
         yield f"{operation_.upper()} takes a number, not a label or an expression."

@@ -5,12 +5,15 @@ from difflib import get_close_matches
 
 OPCODES = "DAT MOV ADD SUB MUL DIV MOD JMP JMZ JMN DJN SEQ CMP SNE SLT SPL NOP".split()
 DIRECTIVES = "FOR ROF EQU ORG END".split()
+OPERATIONS = {*OPCODES, *DIRECTIVES}
 MODIFIERS = "A B AB BA F X I".split()
 ELSEWHERE = "LDP STP PIN XCH PCT STS".split()
 # A word of a line with its joins, a number, or a sign. What is no sign of the language comes as a token too.
 TOKEN = re.compile(r"(?:\w|&(?=[A-Za-z_]))+|==|!=|<=|>=|&&|\|\||\S", re.ASCII)
 SIGNS = set("== != <= >= && || + - * / % ! < > ( ) , . : # $ @ { }".split())
 NAME = re.compile(r"[A-Za-z_][\w&]*$", re.ASCII)
+# so many words of a line are looked at for one that is spelt like an operation
+FIRST_WORDS = 20
 
 
 @dataclass
@@ -67,18 +70,18 @@ class Source:
 
 def parse_line(number, text, equates):
     """The labels, the operation and what follows it; names are labels until one is an operation."""
-    tokens = TOKEN.findall(text.split(";")[0])
+    tokens, at = TOKEN.findall(text.split(";")[0]), 0
     line = Line(number, text)
-    while tokens and NAME.match(tokens[0]):
-        word = tokens.pop(0)
-        names_what_follows = tokens[:1] and tokens[0].upper() in ("EQU", "FOR")
-        if not names_what_follows and (word.upper() in OPCODES + DIRECTIVES or word in equates):
+    while at < len(tokens) and NAME.match(tokens[at]):
+        word, following = tokens[at], "".join(tokens[at + 1:at + 2])
+        at += 1
+        if following.upper() not in ("EQU", "FOR") and (word.upper() in OPERATIONS or word in equates):
             line.operation = word
             break
         line.labels.append(word)
-        if tokens[:1] == [":"]:
-            tokens.pop(0)
-    line.rest = tokens
+        if following == ":":
+            at += 1
+    line.rest = tokens[at:]
     return line
 
 
@@ -129,7 +132,7 @@ def misspelt(line):
     """A word of a line without an operation that is spelt like one, with that."""
     if line.operation or not (line.rest or len(line.labels) > 1):
         return None
-    for word in line.labels:
+    for word in line.labels[:FIRST_WORDS]:
         meant = like(word, OPCODES + DIRECTIVES)
         if word.upper() in ELSEWHERE or meant:
             return word, None if word.upper() in ELSEWHERE else meant

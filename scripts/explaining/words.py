@@ -3,7 +3,7 @@ import re
 from dataclasses import dataclass, field
 
 from explaining.source import like
-from settings import NUMBERS
+from settings import NUMBERS, number_of
 
 
 FLAGS = ("-e", "-b", "-o", "--league", "--load", "--help")
@@ -35,8 +35,8 @@ class Given:
         self.values[name] = value
 
     def number(self, name):
-        value = self.values.get(name)
-        return int(value) if value is not None and re.match(r"\+?\d+$", value) else NUMBERS[name].default
+        value = number_of((self.values.get(name) or "").removeprefix("+"))
+        return NUMBERS[name].default if value is None else value
 
     def has_asked_help(self):
         return "--help" in self.values
@@ -114,7 +114,8 @@ def is_signed(name, value):
 
 
 def is_between(value, least, greatest):
-    return re.match(r"\+?\d+$", value) is not None and least <= int(value) <= greatest
+    number = number_of(value.removeprefix("+"))
+    return number is not None and least <= number <= greatest
 
 
 def word_faults(words):
@@ -122,6 +123,7 @@ def word_faults(words):
     given = read_words(words)
     faults = list(given.faults)
     modes = [name for name in ("-e", "--league", "--load") if name in given.values]
+    faults += [f"`{word}` isn't UTF-8." for word in words if re.search("[\udc80-\udcff]", word)]
     count = len(given.files)
     if not count:
         faults.append("No file of a warrior is named.")
