@@ -13,6 +13,7 @@ import sys
 import threading
 from collections import Counter, deque
 from concurrent.futures import ProcessPoolExecutor
+from concurrent.futures.process import BrokenProcessPool
 from dataclasses import dataclass
 from itertools import compress, islice
 from operator import ne
@@ -264,6 +265,8 @@ def filmed(film, develop):
                 yield future.result()
                 done += len(ends) - 1
                 told_on_terminal(f"{done}/{len(film.ends) - 1} frames")
+        except BrokenProcessPool:
+            raise Fault("a process of the film was ended by something else") from None
         finally:
             told_on_terminal("")
             pool.shutdown(cancel_futures=True)
