@@ -1,0 +1,25 @@
+"""Core War over a proved machine: assembles warriors, fights matches, leagues and populations, and gives each turn.
+
+    import corewar
+    dwarf = corewar.read("dwarf.red")
+    imp = corewar.assemble("MOV 0, 1")
+    for row in corewar.match([dwarf, imp], rounds=100):
+        print(row.points, row.wins, row.ties, row.losses)
+    history = corewar.History(corewar.Match((dwarf, imp)))
+    print(history.end, history.deaths(history.end))
+
+It calls the library that `scripts/library` builds, and needs Debian's python3-cffi and python3-numpy.
+"""
+from .battle.history import History
+from .engine.calls import Match, State, assemble, debug, league, match, population, record, state
+from .engine.sources import Limit, read
+from .model.cells import cell_text
+from .model.faults import Fault, FileFault, Refused
+from .model.results import Row
+from .model.settings import HILLS, Settings
+from .model.warriors import Warrior
+
+__all__ = [
+    *("History", "Match", "State", "assemble", "debug", "league", "match", "population", "record", "state"),
+    *("Limit", "read", "cell_text", "Fault", "FileFault", "Refused", "Row", "HILLS", "Settings", "Warrior"),
+]

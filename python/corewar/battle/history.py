@@ -1,0 +1,279 @@
+"""A battle in time: any turn forwards and back, who changed a cell, and what edits by hand make of it.
+
+The machine's records of turns are asked for in blocks, each with where the battle stands before it, so any state is that of a block
+and the writes and processes of some turns on, and a question about many turns is one look over an array. All of it is exact.
+"""
+from __future__ import annotations
+
+from collections.abc import Iterator
+from dataclasses import dataclass
+from functools import cached_property, lru_cache
+
+import numpy as np
+from numpy.typing import NDArray
+
+from ..engine.calls import Match, State, count_turns, record, state
+from ..model.cells import Cells, Records
+
+# How many turns a block has, and how many blocks are kept: some 10 MB each.
+BLOCK, KEPT = 65_536, 24
+# The most turns that a line of the debugger makes.
+LONGEST_RUN = 1_000_000
+# Who a cell is of: a warrior's number, or one of these.
+NOBODY, BY_HAND = 255, 254
+Owners = NDArray[np.uint8]
+
+
+@dataclass(frozen=True)
+class Segment:
+    """Turns with no edit among them: the debugger's lines that lead to where it starts, the turn behind which that is, and its last turn."""
+
+    lines: tuple[str, ...]
+    first: int
+    last: int
+
+
+@dataclass(frozen=True, eq=False)
+class Changes:
+    """The cells that turns left other than they were, in the order of the turns."""
+
+    turns: NDArray[np.int64]
+    addresses: NDArray[np.uint32]
+    warriors: NDArray[np.uint32]
+    before: Cells
+    after: Cells
+
+
+class Block:
+    """Turns `first` + 1 to `last` of a battle: their records, and where the battle stands before them."""
+
+    def __init__(self, first: int, start: State, records: Records) -> None:
+        self.first, self.last, self.start, self.records = first, first + len(records), start, records
+
+    @cached_property
+    def changes(self) -> Changes:
+        """What the turns changed. Of several writes of a cell in one turn the first one's cell before and the last one's after count."""
+        change = self.records["change"]
+        address, before, after = change["address"], change["before"].copy(), change["after"]
+        used = np.arange(3) < self.records["changes"][:, None]
+        for later in (2, 1):
+            for earlier in range(later):
+                same = used[:, later] & used[:, earlier] & (address[:, later] == address[:, earlier])
+                if same.any():
+                    before[same, later] = before[same, earlier]
+                    used[same, earlier] = False
+        used &= before != after
+        turns = np.broadcast_to(np.arange(self.first + 1, self.last + 1)[:, None], used.shape)[used]
+        warriors = np.broadcast_to(self.records["warrior"][:, None], used.shape)[used]
+        return Changes(turns, address[used], warriors, before[used], after[used])
+
+    def count(self, turn: int) -> int:
+        """How many of the changes there were up to a turn."""
+        return int(np.searchsorted(self.changes.turns, turn, "right"))
+
+    def cells(self, turn: int) -> Cells:
+        """The core after a turn."""
+        cells, count = self.start.cells.copy(), self.count(turn)
+        cells[self.changes.addresses[:count]] = self.changes.after[:count]
+        return cells
+
+    def cell(self, address: int, turn: int) -> np.void:
+        """A cell after a turn."""
+        found = np.flatnonzero(self.changes.addresses[: self.count(turn)] == address)
+        cell: np.void = self.changes.after[found[-1]] if len(found) else self.start.cells[address]
+        return cell
+
+    @cached_property
+    def _queued(self) -> list[tuple[NDArray[np.uint32], NDArray[np.intp], NDArray[np.intp]]]:
+        """For each warrior what it queued, how much of it up to each turn, and how many turns it had up to each."""
+        used = np.arange(2) < self.records["queued"][:, None]
+        found = []
+        for warrior in range(len(self.start.queues)):
+            own = self.records["warrior"] == warrior
+            queued, turns = np.cumsum(np.where(own, self.records["queued"], 0)), np.cumsum(own)
+            found.append((self.records["process"][used & own[:, None]], queued.astype(np.intp), turns.astype(np.intp)))
+        return found
+
+    def queue(self, warrior: int, turn: int) -> NDArray[np.uint32]:
+        """Where the processes of a warrior stand after a turn, the next one first: all that were queued, less one for each of its turns."""
+        if turn == self.first:
+            return self.start.queues[warrior]
+        processes, queued, turns = self._queued[warrior]
+        place = turn - self.first - 1
+        queue: NDArray[np.uint32] = np.concatenate([self.start.queues[warrior], processes[: queued[place]]])
+        return queue[turns[place] :]
+
+    def processes(self, warrior: int) -> NDArray[np.intp]:
+        """How many processes a warrior has after each turn, that before the block first."""
+        _, queued, turns = self._queued[warrior]
+        return len(self.start.queues[warrior]) + np.concatenate([[0], queued - turns]).astype(np.intp)
+
+    def following(self, turn: int) -> int:
+        """The warrior whose turn is next after a turn."""
+        return self.start.next if turn == self.first else int(self.records["next"][turn - self.first - 1])
+
+    def cycle(self, turn: int) -> int:
+        """How many cycles are complete after a turn."""
+        return self.start.cycle if turn == self.first else int(self.records["cycle"][turn - self.first - 1])
+
+
+class History:
+    """The battle of a round from its start to its end, with the edits by hand that were made in it. It never changes: an edit gives
+    another history, which shares what lies before it."""
+
+    def __init__(self, fight: Match, round: int = 0) -> None:
+        self.fight, self.round, self.core = fight, round, fight.settings.core
+        self.warriors = fight.warriors[round % len(fight.warriors) :] + fight.warriors[: round % len(fight.warriors)]
+        self.names = distinct([warrior.called for warrior in self.warriors])
+        self.segments = [Segment((), 0, count_turns(fight, round))]
+        self._blocks = lru_cache(maxsize=KEPT)(self._ask)
+        self._owners: dict[int, Owners] = {}
+
+    @property
+    def end(self) -> int:
+        """The last turn."""
+        return self.segments[-1].last
+
+    @property
+    def edits(self) -> tuple[tuple[int, str], ...]:
+        """The edits by hand, each a line of the debugger, with the turn behind which it was made."""
+        return tuple((segment.first, segment.lines[-1]) for segment in self.segments[1:])
+
+    def _ask(self, lines: tuple[str, ...], first: int, skipped: int, count: int) -> Block:
+        start = state(self.fight, self.round, lines, skipped)
+        return Block(first + skipped, start, record(self.fight, self.round, lines, skipped, count))
+
+    def _segment(self, turn: int) -> Segment:
+        """The segment in which the battle stands after a turn, and after the edits that were made behind it."""
+        return next(segment for segment in reversed(self.segments) if segment.first <= turn)
+
+    def block(self, turn: int) -> Block:
+        """The block in which the battle stands after a turn, and after the edits that were made behind it."""
+        if not 0 <= turn <= self.end:
+            raise IndexError(f"the battle has turn 0 to turn {self.end}")
+        segment = self._segment(turn)
+        skipped = (turn - segment.first) // BLOCK * BLOCK
+        return self._blocks(segment.lines, segment.first, skipped, min(BLOCK, segment.last - segment.first - skipped))
+
+    def block_of(self, turn: int) -> Block:
+        """The block that has the record of a turn, from 1 on."""
+        return self.block(turn - 1)
+
+    def blocks(self, first: int = 0, last: int | None = None) -> Iterator[Block]:
+        """The blocks that have the turns behind `first`, up to `last` or the end."""
+        turn, last = first, self.end if last is None else last
+        while turn < last:
+            block = self.block(turn)
+            yield block
+            turn = block.last
+
+    def blocks_back(self, last: int) -> Iterator[Block]:
+        """The blocks that have the turns up to `last`, the latest first."""
+        turn = last
+        while turn > 0:
+            block = self.block(turn - 1)
+            yield block
+            turn = block.first
+
+    def record(self, turn: int) -> np.void:
+        """The record of a turn, from 1 on."""
+        block = self.block_of(turn)
+        made: np.void = block.records[turn - block.first - 1]
+        return made
+
+    def state(self, turn: int) -> State:
+        """Where the battle stands after a turn."""
+        block = self.block(turn)
+        queues = [block.queue(warrior, turn) for warrior in range(len(self.warriors))]
+        over = turn == self.end
+        return State(block.cells(turn), queues, self.deaths(turn), turn, block.cycle(turn), block.following(turn), over)
+
+    def executed(self, turn: int) -> np.void:
+        """The cell that a turn executed, as it was before."""
+        block = self.block_of(turn)
+        return block.cell(int(self.record(turn)["address"]), turn - 1)
+
+    def head(self, turn: int) -> int | None:
+        """Where the process stands that is executed next after a turn; None where the battle is over."""
+        block = self.block(turn)
+        return None if turn == self.end else int(block.queue(block.following(turn), turn)[0])
+
+    @cached_property
+    def ending(self) -> State:
+        """Where the battle stands at its end."""
+        last = self.segments[-1]
+        return state(self.fight, self.round, last.lines, last.last - last.first)
+
+    def deaths(self, turn: int) -> NDArray[np.void]:
+        """The deaths up to a turn, in order, with the fields warrior and turns."""
+        return self.ending.deaths[self.ending.deaths["turns"] <= turn]
+
+    def death(self, warrior: int) -> int | None:
+        """The turn in which a warrior dies."""
+        return next((int(turns) for number, turns in self.ending.deaths.tolist() if number == warrior), None)
+
+    def owners(self, turn: int) -> Owners:
+        """Of each cell who changed it last up to a turn, or was loaded there: a warrior's number, NOBODY or BY_HAND."""
+        near = max((at for at in self._owners if at <= turn), default=None)
+        owners = self._loaded() if near is None else self._owners[near].copy()
+        for block in self.blocks(near or 0, turn):
+            self._owners.setdefault(block.first, owners.copy())
+            count = block.count(turn)
+            owners[block.changes.addresses[:count]] = block.changes.warriors[:count]
+            if block.last <= turn:
+                owners[self._changed_by_hand(block.last)] = BY_HAND
+        return owners
+
+    def _loaded(self) -> Owners:
+        """Who was loaded to each cell, before the first turn."""
+        owners, start = np.full(self.core, NOBODY, np.uint8), state(self.fight, self.round)
+        for number, warrior in enumerate(self.warriors):
+            first = int(start.queues[number][0]) - warrior.origin
+            owners[(first + np.arange(len(warrior))) % self.core] = number
+        owners[self._changed_by_hand(0)] = BY_HAND
+        return owners
+
+    def _changed_by_hand(self, turn: int) -> NDArray[np.intp]:
+        """The cells that the edits behind a turn left other than they were."""
+        before = self.segments[0] if turn == 0 else [segment for segment in self.segments if segment.first < turn][-1]
+        if self._segment(turn) is before:
+            return np.empty(0, np.intp)
+        cells = state(self.fight, self.round, before.lines, turn - before.first).cells
+        return np.flatnonzero(cells != self.block(turn).start.cells)
+
+    def by_hand(self, address: int, turn: int) -> tuple[int, np.void, np.void] | None:
+        """The last change of a cell by hand up to a turn: the turn behind which it was made, the cell before and the cell after."""
+        for one, other in reversed([*zip(self.segments, self.segments[1:])]):
+            if other.first <= turn:
+                before = state(self.fight, self.round, one.lines, other.first - one.first).cells[address]
+                after = self._blocks(other.lines, other.first, 0, min(BLOCK, other.last - other.first)).start.cells[
+                    address
+                ]
+                if before != after:
+                    return other.first, before, after
+        return None
+
+    def edited(self, turn: int, line: str) -> History:
+        """The history in which a line of the debugger edits the battle after a turn. What followed there is another future."""
+        segment = self._segment(turn)
+        lines = (*segment.lines, *run_lines(turn - segment.first), line)
+        made = History.__new__(History)
+        made.__dict__.update({name: value for name, value in vars(self).items() if name != "ending"})
+        made.segments = [
+            *[Segment(one.lines, one.first, min(one.last, turn)) for one in self.segments if one.first <= turn],
+            Segment(lines, turn, turn + count_turns(self.fight, self.round, lines)),
+        ]
+        made._owners = {at: owners for at, owners in self._owners.items() if at < turn}
+        return made
+
+
+def run_lines(turns: int) -> list[str]:
+    """The lines of the debugger that make so many turns."""
+    return [f"run {min(LONGEST_RUN, turns - made)}" for made in range(0, turns, LONGEST_RUN)]
+
+
+def distinct(names: list[str]) -> list[str]:
+    """Names that tell warriors apart: those of several have a number behind them."""
+    return [
+        f"{name} {names[:place].count(name) + 1}" if names.count(name) > 1 else name for place, name in enumerate(names)
+    ]

@@ -1,0 +1,78 @@
+"""The command `corewar` and its subcommands."""
+from __future__ import annotations
+
+import os
+import sys
+from importlib import import_module
+
+import click
+
+from ..model.faults import Refused
+from .options import HELP
+
+# Each subcommand, and the module of this folder that has it: what a command needs is imported where it is called.
+COMMANDS = {
+    "debug": "debugging",
+    "why": "looking",
+    "trace": "looking",
+    "changed": "looking",
+    "picture": "pictures",
+    "page": "pictures",
+    "rounds": "rounds",
+}
+
+
+class Commands(click.Group):
+    """A group whose commands are imported where they are asked for."""
+
+    def list_commands(self, context: click.Context) -> list[str]:
+        return list(COMMANDS)
+
+    def get_command(self, context: click.Context, name: str) -> click.Command | None:
+        if name not in COMMANDS:
+            return None
+        found: click.Command = getattr(import_module(f".{COMMANDS[name]}", __package__), name)
+        return found
+
+
+@click.command(cls=Commands, context_settings=HELP)
+@click.version_option("1.0", prog_name="corewar")
+def commands() -> None:
+    """Core War over a proved machine: fights, leagues, pictures, and a debugger that goes back and forth."""
+
+
+def main() -> None:
+    """Runs the command. What can't be done is told in one line, and no traceback reaches a user."""
+    try:
+        status = commands.main(prog_name="corewar", standalone_mode=False)
+        sys.stdout.flush()
+        sys.exit(status or 0)
+    except click.ClickException as fault:
+        fault.show()
+        sys.exit(fault.exit_code)
+    except (click.Abort, KeyboardInterrupt):
+        tell("stopped")
+        sys.exit(130)
+    except Refused as fault:
+        tell(str(fault))
+        sys.exit(1)
+    except OSError as fault:
+        if not isinstance(fault, BrokenPipeError):
+            tell(": ".join(str(part) for part in (fault.filename, fault.strerror) if part is not None))
+        # What standard output didn't take isn't tried again.
+        os.dup2(os.open(os.devnull, os.O_WRONLY), sys.stdout.fileno())
+        sys.exit(1)
+
+
+def printable(text: str) -> str:
+    """The text with `?` for each character that isn't shown, or that a terminal obeys: names may be a stranger's."""
+    return "".join(letter if letter.isprintable() else "?" for letter in text)
+
+
+def tell(text: str) -> None:
+    """Writes lines to standard error."""
+    click.echo("\n".join(f"corewar: {printable(line)}" for line in text.split("\n")), err=True)
+
+
+if __name__ == "__main__":
+    main()

@@ -1,0 +1,105 @@
+"""The options that every command about battles takes, once: those of `mars`, and `--hill`, `--round`."""
+from __future__ import annotations
+
+import functools
+from collections.abc import Callable
+from dataclasses import dataclass, replace
+from typing import Any
+
+import click
+
+from ..engine.calls import Match
+from ..engine.sources import Limit, read_warriors
+from ..model.settings import FORMULA, HILLS, NUMBERS, Settings
+
+HELP = {"help_option_names": ["-h", "--help"], "max_content_width": 120}
+
+
+@dataclass(frozen=True)
+class Asked:
+    """What the options of a command about battles come to."""
+
+    files: tuple[str, ...]
+    settings: Settings
+    rounds: int
+    seed: int
+    position: int
+    formula: str
+    round: int
+    limit: Limit
+
+    def fight(self) -> Match:
+        """The match of the files, each of which is read once. Raises FileFault."""
+        warriors = read_warriors(self.files, self.settings, self.rounds, self.limit)
+        return Match(warriors, self.settings, self.seed, self.position)
+
+
+class LimitType(click.ParamType):
+    """S or S,MB."""
+
+    name = "S[,MB]"
+
+    def convert(self, value: Any, param: click.Parameter | None, context: click.Context | None) -> Limit:
+        if isinstance(value, Limit):
+            return value
+        parts = str(value).split(",")
+        if not 1 <= len(parts) <= 2 or not all(part.isdecimal() and 0 < int(part) <= 1_000_000 for part in parts):
+            self.fail(f"{value} isn't S or S,MB, with numbers from 1 to 1000000", param, context)
+        return replace(Limit(), **dict(zip(("seconds", "megabytes"), map(int, parts))))
+
+
+def number_option(name: str, **how: Any) -> Callable[[Any], Any]:
+    """The option of a number, with its range and what it means."""
+    number = NUMBERS[name]
+    words = {number.word, f"--{name.replace('_', '-')}"}
+    kind = click.IntRange(number.least, number.greatest)
+    return click.option(
+        *sorted(words), name, type=kind, help=f"{number.meaning[0].upper()}{number.meaning[1:]}.", **how
+    )
+
+
+SETTINGS = [number_option(name) for name in vars(Settings())]
+CONTEST = [
+    click.option(
+        "--hill",
+        type=click.Choice(list(HILLS)),
+        default="94nop",
+        show_default=True,
+        help="The settings of a known hill.",
+    ),
+    number_option("rounds", default=1, show_default=True),
+    number_option("seed", default=1, show_default=True),
+    number_option("position", default=0),
+    click.option("--score", "formula", default=FORMULA, show_default=True, help="What a survivor gets."),
+    click.option(
+        "--source-limit",
+        "limit",
+        type=LimitType(),
+        default=Limit(),
+        help="What a source may take, in seconds and megabytes; 10,1000.",
+    ),
+]
+FILES = click.argument("files", nargs=-1, required=True)
+ROUND = click.option(
+    "--round", "round_", type=click.IntRange(0), default=0, help="Which round of the match, from 0 on."
+)
+
+
+def battle_options(*, one_round: bool = False) -> Callable[[Callable[..., Any]], Callable[..., Any]]:
+    """Gives a command the options of a contest and its files, as its argument `asked`; with `one_round` that of a round, too."""
+
+    def decorate(command: Callable[..., Any]) -> Callable[..., Any]:
+        @functools.wraps(command)
+        def asking(*, files: tuple[str, ...], hill: str, limit: Limit, round_: int = 0, **given: Any) -> Any:
+            numbers = {name: given.pop(name) for name in vars(Settings())}
+            settings = replace(HILLS[hill], **{name: value for name, value in numbers.items() if value is not None})
+            contest = {name: given.pop(name) for name in ("rounds", "seed", "position", "formula")}
+            return command(Asked(files, settings, round=round_, limit=limit, **contest), **given)
+
+        options = [*SETTINGS, *CONTEST, *([ROUND] if one_round else []), FILES]
+        made: Callable[..., Any] = asking
+        for option in reversed(options):
+            made = option(made)
+        return made
+
+    return decorate

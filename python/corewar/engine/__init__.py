@@ -1,0 +1,1 @@
+"""The only place that reaches the machine: the proved library for C, by cffi."""

@@ -1,0 +1,111 @@
+"""The library for C as its header declares it: its types as those of NumPy, and its calls.
+
+The library is the file that MARS_LIBRARY names, else build/libmars.so of the checkout that this file stands in, else the one that the
+system finds; the header is the file that MARS_HEADER names, else include/mars.h of the checkout, else the system's. A call lets other
+threads run, and two threads may call at once.
+"""
+from __future__ import annotations
+
+import ctypes.util
+import os
+import re
+from collections.abc import Sequence
+from functools import lru_cache
+from pathlib import Path
+from typing import Any
+
+import cffi
+import numpy as np
+from numpy.typing import NDArray
+
+from ..model.faults import Fault, Refused
+
+# The answer of a call whose buffer is too short, which isn't a fault.
+ROOM = 10
+CHECKOUT = Path(__file__).resolve().parents[3]
+SYSTEM = [Path(folder) for folder in ("/usr/local", "/usr")]
+
+
+class NoLibrary(Refused):
+    """The library or its header isn't there, or they are of different versions."""
+
+
+def found(variable: str, places: Sequence[Path]) -> str | None:
+    """The file that a variable of the environment names, or the first of these that is there."""
+    return os.environ.get(variable) or next((str(path) for path in places if path.is_file()), None)
+
+
+@lru_cache(maxsize=None)
+def library() -> tuple[Any, Any]:
+    """The types of the header, and the library."""
+    shared = found("MARS_LIBRARY", [CHECKOUT / "build" / "libmars.so"]) or ctypes.util.find_library("mars")
+    if shared is None:
+        raise NoLibrary("libmars.so isn't found: scripts/library builds it, and MARS_LIBRARY names it")
+    beside = [Path(shared).resolve().parents[1], *SYSTEM]
+    header = found("MARS_HEADER", [folder / "include" / "mars.h" for folder in (CHECKOUT, *beside)])
+    if header is None:
+        raise NoLibrary("mars.h isn't found: scripts/library installs it, and MARS_HEADER names it")
+    ffi = cffi.FFI()
+    ffi.cdef(declarations(Path(header).read_text()))
+    try:
+        opened: Any = ffi.dlopen(shared)
+    except OSError as fault:
+        raise NoLibrary(f"{shared}: {fault}") from None
+    given, wanted = opened.mars_version(), opened.MARS_VERSION
+    if given // 1000 != wanted // 1000 or given < wanted:
+        raise NoLibrary(f"{shared} is of version {given}, and {header} of {wanted}: scripts/library builds it anew")
+    return ffi, opened
+
+
+def declarations(header: str) -> str:
+    """The header without what is for the preprocessor, but for the version."""
+    plain = re.sub(r"#ifdef __cplusplus\n.*?\n#endif", "", header, flags=re.S)
+    return "\n".join(
+        line for line in plain.splitlines() if not line.startswith("#") or line.startswith("#define MARS_VERSION")
+    )
+
+
+@lru_cache(maxsize=None)
+def kind(name: str) -> np.dtype[Any]:
+    """The type of an array's elements, by that of the header."""
+    return kind_of(library()[0].typeof(name))
+
+
+def kind_of(declared: Any) -> np.dtype[Any]:
+    if declared.kind == "array":
+        return np.dtype((kind_of(declared.item), (declared.length,)))
+    if declared.kind == "struct":
+        fields = dict(declared.fields)
+        formats, offsets = [kind_of(field.type) for field in fields.values()], [
+            field.offset for field in fields.values()
+        ]
+        size = library()[0].sizeof(declared)
+        return np.dtype({"names": list(fields), "formats": formats, "offsets": offsets, "itemsize": size})
+    return np.dtype(np.uintp if declared.cname == "size_t" else declared.cname.removesuffix("_t"))
+
+
+def array(name: str, count: int) -> NDArray[Any]:
+    """An array of so many values of a type of the header, all 0."""
+    return np.zeros(number(count), kind(name))
+
+
+def slice_of(name: str, values: bytes | bytearray | NDArray[Any]) -> tuple[Any, int]:
+    """A pointer to values of a type, and how many there are."""
+    return values if isinstance(values, bytes) else library()[0].from_buffer(f"{name}[]", values), len(values)
+
+
+def number(value: int) -> int:
+    """A number that a call takes."""
+    if not 0 <= value < 1 << 32:
+        raise ValueError(f"{value} isn't a number from 0 to 4294967295")
+    return value
+
+
+def call(name: str, *given: Any) -> int:
+    """Calls the library; ROOM is an answer, and every other one but 0 is raised."""
+    ffi, opened = library()
+    fault = ffi.new("MarsFault *")
+    answer: int = getattr(opened, name)(*given, fault)
+    if answer not in (0, ROOM):
+        raise Fault(fault.code, fault.number, fault.problem, fault.expression, fault.line, fault.warrior)
+    return answer

@@ -1,0 +1,37 @@
+"""What tests of the package share: the command as a process, the examples, and warriors that are read once."""
+from __future__ import annotations
+
+import os
+import subprocess
+import sys
+from collections.abc import Callable
+from pathlib import Path
+
+import pytest
+
+TOP = Path(__file__).resolve().parents[1]
+EXAMPLES = TOP / "examples"
+sys.path.insert(0, str(TOP / "python"))
+
+Run = Callable[..., "subprocess.CompletedProcess[str]"]
+
+
+@pytest.fixture
+def run(tmp_path: Path) -> Run:
+    """Runs `corewar` with words in a folder of its own; `given` is its standard input. Files of examples are named by `@dwarf`."""
+
+    def started(*words: object, given: str | bytes = "", **how: object) -> subprocess.CompletedProcess[str]:
+        named = [str(EXAMPLES / f"{str(word)[1:]}.red") if str(word).startswith("@") else str(word) for word in words]
+        environment = {
+            **os.environ,
+            "PYTHONPATH": str(TOP / "python"),
+            "NO_COLOR": "1",
+            "XDG_STATE_HOME": str(tmp_path / "state"),
+        }
+        data = given.encode() if isinstance(given, str) else given
+        options = {"cwd": tmp_path, "env": environment, "capture_output": True, "timeout": 300, **how}
+        done = subprocess.run([sys.executable, "-m", "corewar.cli.main", *named], input=data, **options)  # type: ignore[call-overload]
+        text = [part.decode(errors="replace") if part is not None else "" for part in (done.stdout, done.stderr)]
+        return subprocess.CompletedProcess(done.args, done.returncode, *text)
+
+    return started
