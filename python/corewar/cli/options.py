@@ -107,7 +107,7 @@ def battle_options(*, one_round: bool = False) -> Callable[[Callable[..., Any]],
         def asking(*, files: tuple[str, ...], hill: str, limit: Limit, round_: int = 0, **given: Any) -> Any:
             numbers = {name: given.pop(name) for name in vars(Settings())}
             settings = replace(HILLS[hill], **{name: value for name, value in numbers.items() if value is not None})
-            contest = {name: given.pop(name) or 0 for name in ("rounds", "seed", "position", "formula")}
+            contest: dict[str, Any] = {name: given.pop(name) or 0 for name in ("rounds", "seed", "position", "formula")}
             return command(Asked(files, settings, round=round_, limit=limit, **contest), **given)
 
         options = [*SETTINGS, *CONTEST, *([ROUND] if one_round else []), FILES]
