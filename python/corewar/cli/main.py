@@ -12,6 +12,7 @@ from .options import HELP
 
 # Each subcommand, and the module of this folder that has it: what a command needs is imported where it is called.
 COMMANDS = {
+    "fight": "rounds",
     "debug": "debugging",
     "why": "looking",
     "trace": "looking",
