@@ -20,6 +20,7 @@ COMMANDS = {
     "picture": "pictures",
     "page": "pictures",
     "rounds": "rounds",
+    "web": "workbench",
 }
 
 
