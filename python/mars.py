@@ -29,13 +29,40 @@ import cffi
 import numpy as np
 from numpy.typing import NDArray
 
-__all__ = ["Fault", "Row", "Settings", "Warrior", "State", "Battle", "match", "league", "population", "debug", "record", "state", "cell_text", "NANO", "TINY"]
+__all__ = [
+    "Fault",
+    "Row",
+    "Settings",
+    "Warrior",
+    "State",
+    "Battle",
+    "match",
+    "league",
+    "population",
+    "debug",
+    "record",
+    "state",
+    "cell_text",
+    "NANO",
+    "TINY",
+]
 
 FORMULA = "(W*W-1)/S"
 LARGEST_CORE = 1 << 20
 ROOM = 10
 EXPRESSIONS = ["Syntax", "Unknown", "DivideByZero", "Range", "Depth"]
-PROBLEMS = ["NotAscii", "BadToken", "UnclosedFor", "RofAlone", "BadCount", "LabelInCount", "Duplicate", "EquDepth", "TooLong", "Expression"]
+PROBLEMS = [
+    "NotAscii",
+    "BadToken",
+    "UnclosedFor",
+    "RofAlone",
+    "BadCount",
+    "LabelInCount",
+    "Duplicate",
+    "EquDepth",
+    "TooLong",
+    "Expression",
+]
 # What each answer but 0 is called, and its numbers from 1 on.
 FAULTS: dict[int, tuple[str, list[str]]] = {
     1: ("out of memory", []),
@@ -69,7 +96,11 @@ class Fault(Exception):
         self.name = _name(names, self.number)
         where = f"line {self.line}: " if self.code in (5, 6) else ""
         head = [] if self.code == 5 else [self.kind, "1 Expression"] if self.code == 4 else [self.kind]
-        named = [_numbered(names, self.number), _numbered(PROBLEMS, told.problem), _numbered(EXPRESSIONS, told.expression)]
+        named = [
+            _numbered(names, self.number),
+            _numbered(PROBLEMS, told.problem),
+            _numbered(EXPRESSIONS, told.expression),
+        ]
         super().__init__(where + " ".join([*head, *filter(None, named)]))
 
 
@@ -85,6 +116,7 @@ def _numbered(names: list[str], number: int) -> str:
 @dataclass(frozen=True)
 class Settings:
     """How contests are held: the words of the program, with its defaults. A limit of 0 is the core size."""
+
     core: int = 8000
     processes: int = 8000
     cycles: int = 80000
@@ -101,6 +133,7 @@ TINY = Settings(core=800, processes=800, cycles=8000, longest=20, distance=20)
 @dataclass(frozen=True)
 class Row:
     """How a warrior fared: its points, and how many rounds it survived alone, with others, and not."""
+
     points: int
     wins: int
     ties: int
@@ -114,6 +147,7 @@ class State:
     `cells` is an array of the cells as MarsCell of the header has them, with the fields op, modifier, a_mode, b_mode, a, b. `queues`
     has an array of addresses for each warrior, the front first, and `deaths` an array with the fields warrior, turns, in order.
     """
+
     cells: NDArray[Any]
     queues: list[NDArray[Any]]
     deaths: NDArray[Any]
@@ -126,16 +160,21 @@ class State:
 @dataclass(frozen=True)
 class Warrior:
     """A warrior, by its load file of either version."""
+
     load: bytes
 
     @classmethod
-    def assemble(cls, source: str | bytes, settings: Settings = Settings(), rounds: int = 1, warriors: int = 2) -> Warrior:
+    def assemble(
+        cls, source: str | bytes, settings: Settings = Settings(), rounds: int = 1, warriors: int = 2
+    ) -> Warrior:
         """The warrior of a source; `rounds` and `warriors` are what ROUNDS and WARRIORS stand for."""
         given, text = [_held(settings, rounds), _number(warriors)], _slice("uint8_t", _bytes(source))
         return cls(_text(4096, lambda *room: _call("mars_assemble", *given, *text, *room)))
 
     @classmethod
-    def read(cls, path: str | os.PathLike[str], settings: Settings = Settings(), rounds: int = 1, warriors: int = 2) -> Warrior:
+    def read(
+        cls, path: str | os.PathLike[str], settings: Settings = Settings(), rounds: int = 1, warriors: int = 2
+    ) -> Warrior:
         """The warrior of a file: a load file where the name ends in .load, else a source."""
         with open(path, "rb") as file:
             text = file.read()
@@ -145,57 +184,119 @@ class Warrior:
         return self.load.decode("latin-1")
 
 
-def match(warriors: Sequence[Warrior], rounds: int = 1, seed: int = 1, settings: Settings = Settings(), position: int = 0, formula: str = FORMULA) -> list[Row]:
+def match(
+    warriors: Sequence[Warrior],
+    rounds: int = 1,
+    seed: int = 1,
+    settings: Settings = Settings(),
+    position: int = 0,
+    formula: str = FORMULA,
+) -> list[Row]:
     """A match of 1 to 16 warriors: the row of each. `position` is where the second of two starts in each round; 0 is drawn."""
     return _rows("mars_match", _held(settings, rounds, seed, position), formula, warriors, len(warriors))
 
 
-def league(warriors: Sequence[Warrior], rounds: int = 1, seed: int = 1, settings: Settings = Settings(), formula: str = FORMULA) -> list[Row]:
+def league(
+    warriors: Sequence[Warrior], rounds: int = 1, seed: int = 1, settings: Settings = Settings(), formula: str = FORMULA
+) -> list[Row]:
     """A league of up to 65,536 warriors, a match of every two: the row of each."""
     return _rows("mars_league", _held(settings, rounds, seed), formula, warriors, len(warriors))
 
 
-def population(candidates: Sequence[Warrior], opponents: Sequence[Warrior], rounds: int = 1, seed: int = 1, settings: Settings = Settings(), position: int = 0, formula: str = FORMULA) -> list[Row]:
+def population(
+    candidates: Sequence[Warrior],
+    opponents: Sequence[Warrior],
+    rounds: int = 1,
+    seed: int = 1,
+    settings: Settings = Settings(),
+    position: int = 0,
+    formula: str = FORMULA,
+) -> list[Row]:
     """A match of each candidate with each opponent: for each candidate the sum of its rows."""
-    return _rows("mars_population", _held(settings, rounds, seed, position), formula, [*candidates, *opponents], len(candidates))
+    return _rows(
+        "mars_population", _held(settings, rounds, seed, position), formula, [*candidates, *opponents], len(candidates)
+    )
 
 
-def debug(warriors: Sequence[Warrior], lines: str | Sequence[str], seed: int = 1, settings: Settings = Settings(), position: int = 0, history: int = 200000) -> str:
+def debug(
+    warriors: Sequence[Warrior],
+    lines: str | Sequence[str],
+    seed: int = 1,
+    settings: Settings = Settings(),
+    position: int = 0,
+    history: int = 200000,
+) -> str:
     """What the debugger answers to its lines over the battle of the first round."""
     given = [_held(settings, 1, seed, position), *_loads(warriors), _number(history), *_slice("uint8_t", _lines(lines))]
     return _text(65536, lambda *room: _call("mars_debug", *given, *room)).decode("latin-1")
 
 
-def record(warriors: Sequence[Warrior], lines: str | Sequence[str] = "", first: int = 0, most: int | None = None, round: int = 0, seed: int = 1, settings: Settings = Settings(), position: int = 0, history: int = 200000) -> NDArray[Any]:
+def record(
+    warriors: Sequence[Warrior],
+    lines: str | Sequence[str] = "",
+    first: int = 0,
+    most: int | None = None,
+    round: int = 0,
+    seed: int = 1,
+    settings: Settings = Settings(),
+    position: int = 0,
+    history: int = 200000,
+) -> NDArray[Any]:
     """The turns of the battle of a round from where the debugger's lines lead it, without the first `first`: all, or at most so many.
 
     An array with the fields of MarsRecord of the header: warrior, address, next, cycle, died, changes, queued, change (three of
     address, before, after), process (two). What doesn't apply is 0. A turn takes 120 bytes.
     """
     ffi, _ = _library()
-    given, count = [*_battle(warriors, lines, round, seed, settings, position, history), _number(first)], ffi.new("size_t *")
+    given, count = [*_battle(warriors, lines, round, seed, settings, position, history), _number(first)], ffi.new(
+        "size_t *"
+    )
     if most is None:
         _call("mars_record", *given, *_slice("MarsRecord", _array("MarsRecord", 0)), count)
         most = count[0]
     rows = _array("MarsRecord", most)
     _call("mars_record", *given, *_slice("MarsRecord", rows), count)
-    return rows[:count[0]]
+    return rows[: count[0]]
 
 
-def state(warriors: Sequence[Warrior], lines: str | Sequence[str] = "", turns: int = 0, round: int = 0, seed: int = 1, settings: Settings = Settings(), position: int = 0, history: int = 200000) -> State:
+def state(
+    warriors: Sequence[Warrior],
+    lines: str | Sequence[str] = "",
+    turns: int = 0,
+    round: int = 0,
+    seed: int = 1,
+    settings: Settings = Settings(),
+    position: int = 0,
+    history: int = 200000,
+) -> State:
     """Where the battle of a round stands, so many turns from where the debugger's lines lead it, or at its end."""
     ffi, _ = _library()
     given = [*_battle(warriors, lines, round, seed, settings, position, history), _number(turns)]
-    cells, counts, deaths = _array("MarsCell", min(settings.core, LARGEST_CORE)), _array("size_t", len(warriors)), _array("MarsDeath", len(warriors))
+    cells, counts, deaths = (
+        _array("MarsCell", min(settings.core, LARGEST_CORE)),
+        _array("size_t", len(warriors)),
+        _array("MarsDeath", len(warriors)),
+    )
     standing, processes = ffi.new("MarsStanding *"), _array("uint32_t", 4096)
 
     def ask() -> int:
-        return _call("mars_state", *given, *_slice("MarsCell", cells), *_slice("size_t", counts), *_slice("uint32_t", processes), *_slice("MarsDeath", deaths), standing)
+        return _call(
+            "mars_state",
+            *given,
+            *_slice("MarsCell", cells),
+            *_slice("size_t", counts),
+            *_slice("uint32_t", processes),
+            *_slice("MarsDeath", deaths),
+            standing,
+        )
+
     if ask() == ROOM:
         processes = _array("uint32_t", standing.processes)
         ask()
-    queues = np.split(processes[:standing.processes], np.cumsum(counts.astype(np.intp))[:-1])
-    return State(cells, queues, deaths[:standing.deaths], standing.turns, standing.cycle, standing.next, bool(standing.over))
+    queues = np.split(processes[: standing.processes], np.cumsum(counts.astype(np.intp))[:-1])
+    return State(
+        cells, queues, deaths[: standing.deaths], standing.turns, standing.cycle, standing.next, bool(standing.over)
+    )
 
 
 def cell_text(cell: np.void) -> str:
@@ -208,8 +309,17 @@ class Battle:
     """A battle that is debugged. It keeps the commands that it was given, and asks the library anew each time, so a long
     list of commands takes as long each time."""
 
-    def __init__(self, warriors: Sequence[Warrior], seed: int = 1, settings: Settings = Settings(), position: int = 0, history: int = 200000) -> None:
-        self._asked: dict[str, Any] = dict(warriors=list(warriors), seed=seed, settings=settings, position=position, history=history)
+    def __init__(
+        self,
+        warriors: Sequence[Warrior],
+        seed: int = 1,
+        settings: Settings = Settings(),
+        position: int = 0,
+        history: int = 200000,
+    ) -> None:
+        self._asked: dict[str, Any] = dict(
+            warriors=list(warriors), seed=seed, settings=settings, position=position, history=history
+        )
         self.commands: list[str] = []
 
     def do(self, *commands: str) -> list[str]:
@@ -265,7 +375,9 @@ def _first(paths: Sequence[str | None]) -> str | None:
 def _declarations(header: str) -> str:
     """The header without what is for the preprocessor, but for the version."""
     plain = re.sub(r"#ifdef __cplusplus\n.*?\n#endif", "", header, flags=re.S)
-    return "\n".join(line for line in plain.splitlines() if not line.startswith("#") or line.startswith("#define MARS_VERSION"))
+    return "\n".join(
+        line for line in plain.splitlines() if not line.startswith("#") or line.startswith("#define MARS_VERSION")
+    )
 
 
 @lru_cache(maxsize=None)
@@ -279,8 +391,12 @@ def _type_of(kind: Any) -> np.dtype[Any]:
         return np.dtype((_type_of(kind.item), (kind.length,)))
     if kind.kind == "struct":
         fields = dict(kind.fields)
-        formats, offsets = [_type_of(field.type) for field in fields.values()], [field.offset for field in fields.values()]
-        return np.dtype({"names": list(fields), "formats": formats, "offsets": offsets, "itemsize": _library()[0].sizeof(kind)})
+        formats, offsets = [_type_of(field.type) for field in fields.values()], [
+            field.offset for field in fields.values()
+        ]
+        return np.dtype(
+            {"names": list(fields), "formats": formats, "offsets": offsets, "itemsize": _library()[0].sizeof(kind)}
+        )
     return np.dtype(np.uintp if kind.cname == "size_t" else kind.cname.removesuffix("_t"))
 
 
@@ -321,7 +437,15 @@ def _loads(warriors: Sequence[Warrior]) -> tuple[Any, ...]:
     return *_slice("uint8_t", b"".join(files)), _library()[0].new("size_t[]", [len(file) for file in files]), len(files)
 
 
-def _battle(warriors: Sequence[Warrior], lines: str | Sequence[str], round: int, seed: int, settings: Settings, position: int, history: int) -> tuple[Any, ...]:
+def _battle(
+    warriors: Sequence[Warrior],
+    lines: str | Sequence[str],
+    round: int,
+    seed: int,
+    settings: Settings,
+    position: int,
+    history: int,
+) -> tuple[Any, ...]:
     """What a call on the battle of a round is given first."""
     held = _held(settings, _number(round) + 1, seed, position)
     return held, *_loads(warriors), round, _number(history), *_slice("uint8_t", _lines(lines))
@@ -350,4 +474,4 @@ def _text(room: int, call: Callable[..., int]) -> bytes:
     if call(*_slice("uint8_t", buffer), length) == ROOM:
         buffer = bytearray(length[0])
         call(*_slice("uint8_t", buffer), length)
-    return bytes(buffer[:length[0]])
+    return bytes(buffer[: length[0]])

@@ -68,7 +68,19 @@ def search_back(history: History, conditions: Sequence[Condition], turn: int) ->
     return None
 
 
-def last_change(history: History, address: int, turn: int) -> int | None:
-    """The last turn, up to this one, that changed a cell."""
-    found = search_back(history, [Condition("changes", address, address)], turn + 1)
+def last_change(history: History, address: int, turn: int, part: str | None = None) -> int | None:
+    """The last turn, up to this one, that changed a cell, or that part of it."""
+    for block in history.blocks_back(turn):
+        changes = block.changes
+        held = (changes.addresses == address) & (changes.turns <= turn)
+        if part is not None:
+            held &= changes.before[part] != changes.after[part]
+        if held.any():
+            return int(changes.turns[held][-1])
+    return None
+
+
+def next_change(history: History, address: int, turn: int) -> int | None:
+    """The first turn behind this one that changes a cell."""
+    found = search_forward(history, [Condition("changes", address, address)], turn)
     return found[0] if found else None

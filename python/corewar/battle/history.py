@@ -221,7 +221,7 @@ class History:
             count = block.count(turn)
             owners[block.changes.addresses[:count]] = block.changes.warriors[:count]
             if block.last <= turn:
-                owners[self._changed_by_hand(block.last)] = BY_HAND
+                owners[self.changed_by_hand(block.last)] = BY_HAND
         return owners
 
     def _loaded(self) -> Owners:
@@ -230,10 +230,10 @@ class History:
         for number, warrior in enumerate(self.warriors):
             first = int(start.queues[number][0]) - warrior.origin
             owners[(first + np.arange(len(warrior))) % self.core] = number
-        owners[self._changed_by_hand(0)] = BY_HAND
+        owners[self.changed_by_hand(0)] = BY_HAND
         return owners
 
-    def _changed_by_hand(self, turn: int) -> NDArray[np.intp]:
+    def changed_by_hand(self, turn: int) -> NDArray[np.intp]:
         """The cells that the edits behind a turn left other than they were."""
         before = self.segments[0] if turn == 0 else [segment for segment in self.segments if segment.first < turn][-1]
         if self._segment(turn) is before:

@@ -3,9 +3,7 @@ from __future__ import annotations
 
 import os
 import re
-import sys
 from collections.abc import Callable, Sequence
-from contextlib import nullcontext
 from dataclasses import dataclass
 from functools import wraps
 from pathlib import Path
@@ -19,7 +17,7 @@ from rich.progress import BarColumn, MofNCompleteColumn, Progress, TimeRemaining
 from ..league.contest import Contest, Matches, Pairs, all_pairs, enter
 from ..league.places import cluster, threads
 from ..league.results import Results
-from ..league.table import FORMATS, HEAD, League
+from ..league.table import FORMATS, League
 from ..model.faults import FileFault
 from ..model.warriors import Warrior
 from .options import Asked, battle_options
@@ -69,11 +67,14 @@ class Hall:
     def fight(self, matches: Matches) -> None:
         """Fights all that isn't kept, with a bar on a terminal."""
         try:
-            with Results(self.results, matches) if self.results else nullcontext() as kept:
-                turned = kept.find() if kept else 0
+            if not self.results:
+                self._fight(matches, lambda rows: None)
+                return
+            with Results(self.results, matches) as kept:
+                turned = kept.find()
                 if turned:
                     tell(TURNED.format(turned))
-                self._fight(matches, kept.keep if kept else lambda rows: None)
+                self._fight(matches, kept.keep)
         except KeyboardInterrupt:
             done = f"{matches.is_fought.sum()} of {len(matches)} matches are kept: the same command goes on"
             tell(done if self.results else "stopped")
@@ -185,6 +186,6 @@ def lines_of(matches: Matches) -> list[str]:
     """The head, and a line for each match, the most points first."""
     opponents = [matches.warriors[number] for number in matches.pairs[:, 1].tolist()]
     width = max((len(one.file) for one in opponents), default=0)
-    lines = sorted(zip(matches.counts.tolist(), opponents), key=lambda line: -line[0][0])
+    lines = sorted(zip(matches.counts.tolist(), opponents), key=lambda line: -int(line[0][0]))
     told = [f"{row_of(counts)}  {printable(one.file):{width}}  {one.title}" for counts, one in lines]
     return ["  points   wins   ties losses   theirs  opponent", *told]

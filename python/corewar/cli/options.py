@@ -2,12 +2,14 @@
 from __future__ import annotations
 
 import functools
+import os
 from collections.abc import Callable
 from dataclasses import dataclass, replace
 from typing import Any
 
 import click
 
+from ..battle.history import History
 from ..engine.calls import Match
 from ..engine.sources import Limit, read_warriors
 from ..model.settings import FORMULA, HILLS, NUMBERS, Settings
@@ -31,7 +33,19 @@ class Asked:
     def fight(self) -> Match:
         """The match of the files, each of which is read once. Raises FileFault."""
         warriors = read_warriors(self.files, self.settings, self.rounds, self.limit)
-        return Match(warriors, self.settings, self.seed, self.position)
+        return Match(warriors, self.settings, self.seed, self.position, self.rounds)
+
+
+def warrior_of(history: History, named: str) -> int:
+    """The number of a warrior in the order of turns, by that, by its name or by its file."""
+    files = [os.path.basename(warrior.file) for warrior in history.warriors]
+    stems = [file.removesuffix(".red") for file in files]
+    for names in (history.names, files, stems, [name.lower() for name in history.names]):
+        if named in names:
+            return names.index(named)
+    if named.isdecimal() and int(named) < len(files):
+        return int(named)
+    raise click.BadParameter(f"{named} is none of {', '.join(history.names)}")
 
 
 class LimitType(click.ParamType):
@@ -69,7 +83,7 @@ CONTEST = [
     ),
     number_option("rounds", default=1, show_default=True),
     number_option("seed", default=1, show_default=True),
-    number_option("position", default=0),
+    number_option("position"),
     click.option("--score", "formula", default=FORMULA, show_default=True, help="What a survivor gets."),
     click.option(
         "--source-limit",
@@ -93,7 +107,7 @@ def battle_options(*, one_round: bool = False) -> Callable[[Callable[..., Any]],
         def asking(*, files: tuple[str, ...], hill: str, limit: Limit, round_: int = 0, **given: Any) -> Any:
             numbers = {name: given.pop(name) for name in vars(Settings())}
             settings = replace(HILLS[hill], **{name: value for name, value in numbers.items() if value is not None})
-            contest = {name: given.pop(name) for name in ("rounds", "seed", "position", "formula")}
+            contest: dict[str, Any] = {name: given.pop(name) or 0 for name in ("rounds", "seed", "position", "formula")}
             return command(Asked(files, settings, round=round_, limit=limit, **contest), **given)
 
         options = [*SETTINGS, *CONTEST, *([ROUND] if one_round else []), FILES]

@@ -27,6 +27,7 @@ class Match:
     settings: Settings = Settings()
     seed: int = 1
     position: int = 0
+    rounds: int = 1
 
 
 @dataclass(frozen=True, eq=False)
@@ -57,6 +58,15 @@ def assemble(
 ) -> Warrior:
     """The warrior of a source. Raises Fault."""
     return Warrior(load_file(source, settings, rounds, warriors), file, bytes_of(source))
+
+
+def source_lines(
+    source: bytes, settings: Settings = Settings(), rounds: int = 1, warriors: int = 2
+) -> list[tuple[int, list[str]]]:
+    """For each instruction of a source the number of its line, from 1, and its labels. Raises Fault."""
+    given = [held(settings, rounds), number(warriors), *slice_of("uint8_t", source)]
+    made = text(4096, lambda *room: call("mars_lines", *given, *room)).decode("latin-1")
+    return [(int(words[0]), words[1:]) for words in map(str.split, made.splitlines())]
 
 
 def match(

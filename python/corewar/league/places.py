@@ -29,13 +29,14 @@ NO_PACKAGE = f"--scheduler: {sys.executable} has no package distributed: apt-get
 
 @dataclass(frozen=True)
 class Place:
-    """How a bundle is handed out; how many cycles it takes at most; how many bundles are out at a time; and what is done now and then
-    while they are waited for."""
+    """How a bundle is handed out; how many cycles it takes at most; how many bundles are out at a time; what is done now and then while
+    they are waited for; and the counts of one that is done."""
 
     submit: Callable[[Pairs], Future[Any]]
     cycles: int
     at_a_time: int
     look: Callable[[], None] = lambda: None
+    counts_of: Callable[[Future[Any]], Counts] = Future.result
 
     def fight(self, matches: Matches) -> Iterator[Pairs]:
         """Fights what isn't fought yet. Gives the rows of each bundle when their counts are filled in. Raises Refused."""
@@ -49,26 +50,10 @@ class Place:
             done = wait(out, LOOK_EACH, FIRST_COMPLETED).done
             for future in done:
                 rows = out.pop(future)
-                matches.fill_in(rows, counts_of(future))
+                matches.fill_in(rows, self.counts_of(future))
                 yield rows
             if not done:
                 self.look()
-
-
-def counts_of(future: Future[Any]) -> Counts:
-    """The counts of a bundle that is done."""
-    try:
-        counts: Counts | str = future.result()
-    except CancelledError:
-        raise Refused("the scheduler has gone") from None
-    except Refused:
-        raise
-    except Exception as fault:
-        # What is handed out raises nothing of its own: a worker can't take it, or a bundle has ended several workers.
-        raise Refused(f"the workers: {' '.join(str(fault).split())}") from None
-    if isinstance(counts, str):
-        raise Refused(counts)
-    return counts
 
 
 @contextmanager
@@ -91,6 +76,20 @@ def fight_there(contest: Contest, loads: dict[int, bytes], pairs: Pairs) -> Coun
         return fight(contest, {number: Warrior(load) for number, load in loads.items()}, pairs)
     except Refused as fault:
         return str(fault)
+
+
+def counts_there(future: Future[Counts | str]) -> Counts:
+    """The counts of a bundle that a worker has fought."""
+    try:
+        counts = future.result()
+    except CancelledError:
+        raise Refused("the scheduler has gone") from None
+    except Exception as fault:
+        # What is handed out raises nothing of its own: a worker can't take it, or a bundle has ended several workers.
+        raise Refused(f"the workers: {' '.join(str(fault).split())}") from None
+    if isinstance(counts, str):
+        raise Refused(counts)
+    return counts
 
 
 def teller_of_absence(client: Any) -> Callable[[], None]:
@@ -120,16 +119,18 @@ def cluster(matches: Matches, address: str) -> Iterator[Place]:
     # Dask logs a traceback for each match that is dropped; what ends a league comes as a fault.
     logging.disable()
     try:
-        client = distributed.Client(address, timeout=10, set_as_default=False)
+        begin: Any = distributed.Client
+        client = begin(address, timeout=10, set_as_default=False)
     except (OSError, ValueError) as fault:
         raise Refused(f"--scheduler {address}: {fault}") from None
 
     def submit(rows: Pairs) -> Future[Any]:
         pairs = matches.pairs[rows]
         loads = {number: matches.warriors[number].load for number in np.unique(pairs).tolist()}
-        return executor.submit(fight_there, matches.contest, loads, pairs)
+        handed_out: Future[Any] = executor.submit(fight_there, matches.contest, loads, pairs)
+        return handed_out
 
     with client:
         executor, look = client.get_executor(pure=False), teller_of_absence(client)
         look()
-        yield Place(submit, CYCLES_THERE, AT_A_SCHEDULER, look)
+        yield Place(submit, CYCLES_THERE, AT_A_SCHEDULER, look, counts_there)

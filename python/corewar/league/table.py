@@ -31,10 +31,10 @@ class League:
         self.against: NDArray[np.int64] = np.zeros((len(self.warriors), len(self.warriors), 4), np.int64)
         self.against[first, second] = matches.counts[:, :4]
         self.against[second, first] = matches.counts[:, [4, 3, 2, 1]]
-        points = [sum(line) for line in self.against[..., 0].tolist()]
+        points: list[int] = [sum(line) for line in self.against[..., 0].tolist()]
         if any(not -(2**63) <= number < 2**63 for number in points):
             raise Fault(SCORE, 4)
-        best = sorted(range(len(points)), key=lambda number: -points[number])
+        best = sorted(range(len(points)), key=points.__getitem__, reverse=True)
         self.ranks = {number: rank for rank, number in enumerate(best, 1)}
         self.order = best if by_points else sorted(best)
 

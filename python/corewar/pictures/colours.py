@@ -1,15 +1,19 @@
-"""The colours of results: a match is mixed of those of its rounds."""
+"""The colours of warriors: sixteen that are far apart, also for those who see few colours; the first two most, the first eight well."""
 from __future__ import annotations
 
-import numpy as np
-from numpy.typing import NDArray
+from ..battle.history import History
 
-WON, TIED, LOST = (30, 80, 200), (216, 216, 216), (200, 30, 30)
-NO_MATCH = 255
+LIGHT = (
+    *("#d5480a", "#0a6fb8", "#0b5148", "#c080b8", "#e8960f", "#22a9ee", "#7a0f12", "#5c1896"),
+    *("#f08a5d", "#5a8fd8", "#4f9a80", "#8a3f80", "#9a6a10", "#2f7f93", "#b28a6c", "#858b94"),
+)
+DARK = (
+    *("#ff7a33", "#3f9df2", "#2fe0a0", "#a98fb4", "#f7e21f", "#c2f0fb", "#a35f4a", "#bdb4ff"),
+    *("#d0562a", "#2f6fc0", "#179a6c", "#d060b8", "#a8951a", "#4aa3bd", "#d8a58c", "#858d98"),
+)
 
 
-def mixed(balances: NDArray[np.int64]) -> NDArray[np.uint8]:
-    """The red, green and blue of matches, each from 0 to 255, by their wins, ties and losses, which stand in the last dimension."""
-    rounds = balances.sum(axis=-1, keepdims=True)
-    colours = balances @ np.array([WON, TIED, LOST]) / np.maximum(rounds, 1)
-    return np.where(rounds > 0, np.rint(colours), NO_MATCH).astype(np.uint8)
+def coloured(colours: tuple[str, ...], history: History) -> list[str]:
+    """The colours of a battle's warriors: each has the same one in all rounds of a match, whoever begins."""
+    count = len(history.warriors)
+    return [colours[(number + history.round) % count] for number in range(count)]

@@ -8,7 +8,7 @@ from matplotlib.figure import Figure
 from matplotlib.patches import Patch
 from numpy.typing import NDArray
 
-from .colours import LOST, TIED, WON, mixed
+from .shades import LOST, TIED, WON, mixed
 
 # The size of a cell and of the whole matrix at most, in inches; below the size of a letter, in points, names aren't written.
 CELL, SIDE, LETTER = 0.25, 20.0, 4.0

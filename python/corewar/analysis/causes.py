@@ -1,0 +1,90 @@
+"""Why a warrior died, and how a cell came about."""
+from __future__ import annotations
+
+from collections.abc import Iterator
+
+import numpy as np
+
+from ..battle.conditions import last_change
+from ..battle.history import History
+from ..model.cells import OPCODES
+from .telling import Teller
+
+# How many turns further back one is searched in which a warrior executed what another had made.
+FAR = 500
+
+
+def change_told(teller: Teller, address: int, turn: int) -> list[str]:
+    """The last change of a cell up to a turn, by a turn or by hand."""
+    history = teller.history
+    found, by_hand = last_change(history, address, turn), history.by_hand(address, turn)
+    if by_hand and by_hand[0] >= (found or 0):
+        behind, before, after = by_hand
+        return [
+            f"Cell {address} was changed by hand behind turn {behind}: {teller.cell(before)} -> {teller.cell(after)}"
+        ]
+    if found is None:
+        return [f"Cell {address} wasn't changed since the start."]
+    return [f"Cell {address} was last changed in turn {found}:", *teller.lines(found)]
+
+
+def cause_told(teller: Teller, address: int, turn: int) -> list[str]:
+    """How a cell came about up to a turn: its last change, and that of its opcode."""
+    history = teller.history
+    found, became = last_change(history, address, turn), last_change(history, address, turn, "op")
+    told = change_told(teller, address, turn)
+    if found is not None and became not in (None, found):
+        opcode = OPCODES[history.block(turn).cell(address, turn)["op"]]
+        told += [f"It became a {opcode} in turn {became}:", *teller.lines(became or 0)]
+    return told
+
+
+def stranger(history: History, turn: int) -> int | None:
+    """The turn of another warrior that made what a turn executed, where another made it."""
+    record = history.record(turn)
+    found = last_change(history, int(record["address"]), turn - 1)
+    return found if found is not None and history.record(found)["warrior"] != record["warrior"] else None
+
+
+def own_turns(history: History, warrior: int, turn: int) -> Iterator[int]:
+    """The turns of a warrior up to a turn, the latest first."""
+    for block in history.blocks_back(turn):
+        own = block.first + 1 + np.flatnonzero(block.records["warrior"] == warrior)
+        yield from (int(one) for one in own[own <= turn][::-1])
+
+
+def executed_told(teller: Teller, turn: int, told: set[tuple[int, int]]) -> Iterator[str]:
+    """A turn, and the turn of another warrior that made what it executed, if there is one and it wasn't told yet."""
+    history, made = teller.history, stranger(teller.history, turn)
+    yield from teller.lines(turn)
+    address = int(history.record(turn)["address"])
+    if made is not None and (made, address) not in told:
+        told.add((made, address))
+        before = history.block(made - 1).cell(address, made - 1)
+        record = history.record(made)
+        who = f"{teller.names[record['warrior']]} at {record['address']}"
+        yield f"    {address} was {teller.cell(before)} until turn {made} of {who}: {teller.cell(history.executed(made))}"
+
+
+def death_told(teller: Teller, warrior: int, count: int) -> Iterator[str]:
+    """Why a warrior died, and so many of its turns before that; where in none of them it executed what another had made, the last one
+    further back in which it did. The last process alone counts: others may have ended before."""
+    history, name = teller.history, teller.names[warrior]
+    death = history.death(warrior)
+    if death is None:
+        yield f"{name} lives after turn {history.end}, the last one."
+        return
+    yield f"{name} died in turn {death}:"
+    yield from teller.lines(death)
+    yield from cause_told(teller, int(history.record(death)["address"]), death - 1)
+    turns = [turn for turn, _ in zip(own_turns(history, warrior, death - 1), range(count + FAR))]
+    if turns:
+        yield "Its turns before that:"
+    told: set[tuple[int, int]] = set()
+    for turn in reversed(turns[:count]):
+        yield from executed_told(teller, turn, told)
+    if not told and stranger(history, death) is None:
+        strayed = next((turn for turn in turns[count:] if stranger(history, turn) is not None), None)
+        if strayed is not None:
+            yield "Further back it executed what another had made:"
+            yield from executed_told(teller, strayed, told)

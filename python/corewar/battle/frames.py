@@ -1,0 +1,57 @@
+"""A battle in frames: some turns each, with the cells that they changed, who did, and where processes stand after them."""
+from __future__ import annotations
+
+from collections.abc import Iterator
+from dataclasses import dataclass
+
+import numpy as np
+from numpy.typing import NDArray
+
+from ..model.cells import Cells
+from .history import BY_HAND, History
+
+
+@dataclass(frozen=True, eq=False)
+class Frame:
+    """A moment after `turn` turns. `addresses` are the cells that changed since the frame before, in order, `writers` who changed each
+    last, or BY_HAND, and `cells` what is there now."""
+
+    turn: int
+    addresses: NDArray[np.int64]
+    writers: NDArray[np.uint8]
+    cells: Cells
+    queues: list[NDArray[np.uint32]]
+
+
+def parts(first: int, last: int, count: int) -> list[int]:
+    """The ends of so many parts of the turns from the first to the last one, or of fewer where there are fewer turns."""
+    count = max(1, min(last - first, count))
+    return [first + (last - first) * part // count for part in range(count + 1)]
+
+
+def frames(history: History, ends: list[int]) -> Iterator[Frame]:
+    """The frames at these turns; in the first one nothing has changed."""
+    yield frame(history, ends[0], ends[0])
+    for first, last in zip(ends, ends[1:]):
+        yield frame(history, first, last)
+
+
+def frame(history: History, first: int, last: int) -> Frame:
+    """The frame of the turns behind one turn, up to another."""
+    addresses, writers, cells = [], [], []
+    for block in history.blocks(first, last):
+        start, end = block.count(first), block.count(last)
+        addresses.append(block.changes.addresses[start:end].astype(np.int64))
+        writers.append(block.changes.warriors[start:end].astype(np.uint8))
+        cells.append(block.changes.after[start:end])
+        if block.last <= last:
+            by_hand = history.changed_by_hand(block.last)
+            addresses.append(by_hand)
+            writers.append(np.full(len(by_hand), BY_HAND, np.uint8))
+            cells.append(history.block(block.last).start.cells[by_hand])
+    queues = [history.block(last).queue(number, last) for number in range(len(history.warriors))]
+    if not addresses:
+        return Frame(last, np.empty(0, np.int64), np.empty(0, np.uint8), history.block(0).start.cells[:0], queues)
+    # Of each cell the last change counts: the first one from behind.
+    changed, places = np.unique(np.concatenate(addresses)[::-1], return_index=True)
+    return Frame(last, changed, np.concatenate(writers)[::-1][places], np.concatenate(cells)[::-1][places], queues)

@@ -1,0 +1,57 @@
+"""The sources of a battle's warriors beside its core: which line made a cell, and the labels that stand there."""
+from __future__ import annotations
+
+from collections import Counter
+from dataclasses import dataclass
+from functools import cached_property
+
+from ..engine.calls import source_lines, state
+from ..model.faults import Fault
+from .history import History
+
+
+@dataclass(frozen=True)
+class Line:
+    """The line of a source that made a cell: the warrior, the number of the line from 1, and its text."""
+
+    warrior: int
+    number: int
+    text: str
+
+
+class Sources:
+    """What the sources say of the cells that the warriors were loaded to. A load file has no lines and no labels."""
+
+    def __init__(self, history: History) -> None:
+        self.lines: dict[int, Line] = {}
+        self._labels: list[tuple[int, str, int]] = []
+        start = state(history.fight, history.round)
+        for number, warrior in enumerate(history.warriors):
+            first = int(start.queues[number][0]) - warrior.origin
+            texts = (warrior.source or b"").decode("latin-1").split("\n")
+            for place, (line, labels) in enumerate(self._read(history, number)):
+                address = (first + place) % history.core
+                self.lines[address] = Line(number, line, texts[line - 1].rstrip())
+                self._labels += [(number, label, address) for label in labels]
+
+    @staticmethod
+    def _read(history: History, number: int) -> list[tuple[int, list[str]]]:
+        source = history.warriors[number].source
+        if source is None:
+            return []
+        try:
+            return source_lines(source, history.fight.settings, history.fight.rounds, len(history.warriors))
+        except (Fault, AttributeError):
+            return []
+
+    @cached_property
+    def addresses(self) -> dict[str, int]:
+        """The addresses of labels: `bomb` where one warrior has it, and `0.bomb` for that of warrior 0."""
+        owners = Counter(label for _, label in {(number, label) for number, label, _ in self._labels})
+        alone = {label: address for _, label, address in self._labels if owners[label] == 1}
+        return {**alone, **{f"{number}.{label}": address for number, label, address in self._labels}}
+
+    @cached_property
+    def labels(self) -> dict[int, str]:
+        """The label of each address that has one, as short as it may be."""
+        return {address: label for label, address in reversed(self.addresses.items())}

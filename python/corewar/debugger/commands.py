@@ -1,0 +1,334 @@
+"""The commands of the debugger: a table by name, each with its words, what it does, short names, and its function."""
+from __future__ import annotations
+
+from collections.abc import Callable, Iterable, Iterator
+from dataclasses import dataclass
+
+import numpy as np
+
+from ..analysis.causes import cause_told, change_told, death_told
+from ..analysis.telling import processes
+from ..battle.history import History
+from ..model.faults import Refused
+from .session import MOST_FILLED, Session
+
+Act = Callable[[Session, str], Iterable[str]]
+# How many cells `list` shows, and how many around each warrior's next process; how many turns of a dead warrior `why` tells.
+CELLS, AROUND, TURNS = 11, 7, 4
+
+
+class Left(Exception):
+    """The user leaves."""
+
+
+@dataclass(frozen=True)
+class Command:
+    """A command: its function takes the session and the rest of the line, and gives what it tells. An empty line makes one that repeats
+    again."""
+
+    usage: str
+    told: str
+    short: tuple[str, ...]
+    repeats: bool
+    act: Act
+
+    @property
+    def name(self) -> str:
+        return self.usage.split()[0]
+
+
+COMMANDS: dict[str, Command] = {}
+
+
+def command(usage: str, told: str, *short: str, repeats: bool = False) -> Callable[[Act], Act]:
+    """Enters a function into the table."""
+
+    def enter(act: Act) -> Act:
+        made = Command(usage, told, short, repeats, act)
+        COMMANDS[made.name] = made
+        return act
+
+    return enter
+
+
+def find_command(word: str) -> Command:
+    """The command of a name, of a short one, or of the first letters of one."""
+    found = [one for one in COMMANDS.values() if word == one.name or word in one.short]
+    found = found or [one for one in COMMANDS.values() if one.name.startswith(word)]
+    if len(found) != 1:
+        told = ", ".join(one.name for one in found)
+        raise Refused(f"`{word}` is short for {told}" if found else f"`{word}` is no command: help tells them")
+    return found[0]
+
+
+def here(session: Session) -> Iterator[str]:
+    """The turn that led here, and what comes next."""
+    if session.turn:
+        yield session.teller.turn(session.turn)
+    yield session.teller.following(session.turn)
+
+
+def count_of(session: Session, text: str, what: str) -> int:
+    return session.number(text, what) if text else 1
+
+
+def turns_of(history: History, warrior: int, turn: int, forward: bool) -> int | None:
+    """The next turn of a warrior behind a turn, or its last one up to that."""
+    for block in history.blocks(turn) if forward else history.blocks_back(turn):
+        own = block.first + 1 + np.flatnonzero(block.records["warrior"] == warrior)
+        own = own[own > turn][:1] if forward else own[own < turn][-1:]
+        if len(own):
+            return int(own[0])
+    return None
+
+
+def step_by(session: Session, rest: str, sign: int) -> Iterator[str]:
+    """Steps so many turns on or back, or to the next or last turn of a warrior."""
+    if rest and not rest.isdecimal():
+        warrior = session.warrior(rest)
+        found = turns_of(session.history, warrior, session.turn, sign > 0)
+        if found is None:
+            raise Refused(
+                f"{session.names[warrior]} has no turn {'behind' if sign > 0 else 'before'} turn {session.turn}"
+            )
+        session.go(found)
+    else:
+        to = session.turn + sign * count_of(session, rest, "turns")
+        session.go(max(0, min(session.history.end, to)))
+    yield from here(session)
+
+
+@command("step [N|W]", "makes one turn, or N, or those up to the next one of warrior W", "s", "n", repeats=True)
+def step(session: Session, rest: str) -> Iterator[str]:
+    yield from step_by(session, rest, 1)
+
+
+@command("reverse-step [N|W]", "goes as far back", "rs", "back", repeats=True)
+def reverse_step(session: Session, rest: str) -> Iterator[str]:
+    yield from step_by(session, rest, -1)
+
+
+@command("run [N]", "makes N turns, or all that are left", "r", repeats=True)
+def run(session: Session, rest: str) -> Iterator[str]:
+    yield from step_by(session, rest or str(session.history.end), 1)
+
+
+@command("goto T", "goes to turn T, `start` or `end`", "g")
+def goto(session: Session, rest: str) -> Iterator[str]:
+    end = session.history.end
+    turn = {"start": 0, "end": end}.get(rest)
+    turn = session.number(rest, "turns") if turn is None else turn
+    if turn > end:
+        raise Refused(f"the battle has turn 0 to turn {end}")
+    session.go(turn)
+    yield from here(session)
+
+
+@command("until C", "goes on to where C cycles are complete")
+def until(session: Session, rest: str) -> Iterator[str]:
+    cycle, history = session.number(rest, "cycles"), session.history
+    for block in history.blocks(session.turn):
+        found = block.first + 1 + np.flatnonzero(block.records["cycle"] >= cycle)
+        found = found[found > session.turn]
+        if len(found):
+            session.go(int(found[0]))
+            yield from here(session)
+            return
+    raise Refused(f"behind turn {session.turn} no cycle {cycle} is completed")
+
+
+@command("continue [CONDITION]", "goes on to the next break, or to where the condition holds", "c", repeats=True)
+def go_on(session: Session, rest: str) -> Iterator[str]:
+    yield from searched(session, rest, True)
+
+
+@command("reverse-continue [CONDITION]", "goes back to the break before, or to where it held", "rc", repeats=True)
+def go_back(session: Session, rest: str) -> Iterator[str]:
+    yield from searched(session, rest, False)
+
+
+def searched(session: Session, rest: str, forward: bool) -> Iterator[str]:
+    conditions = [session.condition(rest.split())] if rest else session.breaks
+    yield f"{session.told(session.search(conditions, forward))}:"
+    yield from here(session)
+
+
+@command("break [CONDITION]", "sets a break for continue; without words: lists them", "b")
+def set_break(session: Session, rest: str) -> Iterator[str]:
+    if rest:
+        session.breaks.append(session.condition(rest.split()))
+    for number, condition in enumerate(session.breaks):
+        yield f"break {number}: {session.told(condition)}"
+
+
+@command("delete N", "takes break N away; `delete all`: all of them", "d")
+def delete(session: Session, rest: str) -> Iterator[str]:
+    if rest == "all":
+        session.breaks.clear()
+    elif rest.isdecimal() and int(rest) < len(session.breaks):
+        del session.breaks[int(rest)]
+    else:
+        raise Refused(f"there is no break `{rest}`: delete takes a number, or `all`")
+    yield from set_break(session, "")
+
+
+@command("undo", "takes back the last move or edit", "u", repeats=True)
+def undo(session: Session, _: str) -> Iterator[str]:
+    session.undo()
+    yield from here(session)
+
+
+@command("redo", "makes again what was taken back", repeats=True)
+def redo(session: Session, _: str) -> Iterator[str]:
+    session.redo()
+    yield from here(session)
+
+
+@command("edit A LINE", "sets the cell at A by a line of source, as in edit 3 jmp bomb", "e")
+def edit(session: Session, rest: str) -> Iterator[str]:
+    first, _, line = rest.partition(" ")
+    address = session.address(first)
+    cell = session.cell(address, line.strip())
+    old = session.teller.cell(session.history.block(session.turn).cell(address, session.turn))
+    session.edit(f"edit {address} {cell}")
+    yield f"{session.teller.where(address)}: {old} -> {cell}"
+
+
+@command("fill A B LINE", "sets the cells from A to B by a line of source")
+def fill(session: Session, rest: str) -> Iterator[str]:
+    words = rest.split(None, 2)
+    if len(words) != 3:
+        raise Refused("fill takes two addresses and a line of source")
+    first, last = session.address(words[0]), session.address(words[1])
+    if not first <= last < first + MOST_FILLED:
+        raise Refused(f"from {first} to {last} there are no 1 to {MOST_FILLED} cells")
+    cell = session.cell(first, words[2])
+    session.edit(f"fill {first} {last} {cell}")
+    yield f"{first} to {last}: {cell}"
+
+
+@command("move W I A", "makes process I of warrior W, 0 being its next one, stand at A")
+def move(session: Session, rest: str) -> Iterator[str]:
+    words = rest.rsplit(None, 2)
+    if len(words) != 3:
+        raise Refused("move takes a warrior, the index of a process, and an address")
+    warrior = session.warrior(words[0])
+    session.edit(f"move {warrior} {session.process(warrior, words[1])} {session.address(words[2])}")
+    yield from queue(session, words[0])
+
+
+@command("kill W I", "takes process I of warrior W away")
+def kill(session: Session, rest: str) -> Iterator[str]:
+    name, _, index = rest.rpartition(" ")
+    warrior = session.warrior(name)
+    session.edit(f"kill {warrior} {session.process(warrior, index)}")
+    yield from queue(session, name)
+
+
+@command("spawn W A", "gives warrior W a further process at A")
+def spawn(session: Session, rest: str) -> Iterator[str]:
+    name, _, where = rest.rpartition(" ")
+    warrior, address = session.warrior(name), session.address(where)
+    count = len(session.history.block(session.turn).queue(warrior, session.turn))
+    if not 0 < count < session.history.fight.settings.processes:
+        raise Refused(
+            f"{session.names[warrior]} has {processes(count)}, and {'the dead get none' if not count else 'may have no more'}"
+        )
+    session.edit(f"spawn {warrior} {address}")
+    yield from queue(session, name)
+
+
+@command("futures [N]", "lists what edits made of the battle, or goes over to number N; none is lost")
+def futures(session: Session, rest: str) -> Iterator[str]:
+    if rest:
+        number = session.number(rest, "a future")
+        if number >= len(session.futures):
+            raise Refused(f"there are the futures 0 to {len(session.futures) - 1}")
+        history = session.futures[number]
+        session.go(min(session.turn, history.end), history)
+    for number, history in enumerate(session.futures):
+        edits = "; ".join(f"behind turn {turn}: {line}" for turn, line in history.edits) or "as it was"
+        yield f"{'>' if history is session.history else ' '} {number}: {edits}; {history.end} turns"
+
+
+@command(
+    "list [A [N]]", "shows N cells from A on; without A those around each warrior's next process", "l", repeats=True
+)
+def list_cells(session: Session, rest: str) -> Iterator[str]:
+    core, teller, turn = session.history.core, session.teller, session.turn
+    if rest:
+        first, _, count = rest.partition(" ")
+        most = session.number(count, "cells") if count else CELLS
+        yield from teller.cells(turn, session.address(first), min(most, core))
+        return
+    for number in range(len(session.names)):
+        queue = session.history.block(turn).queue(number, turn)
+        if len(queue):
+            yield f"{teller.names[number]}:"
+            yield from teller.cells(turn, int(queue[0]) - AROUND // 2, min(AROUND, core))
+
+
+@command("queue [W]", "shows where the processes of warrior W stand, the next one first", "p")
+def queue(session: Session, rest: str) -> Iterator[str]:
+    block = session.history.block(session.turn)
+    warrior = session.warrior(rest) if rest else block.following(session.turn)
+    addresses = " ".join(map(str, block.queue(warrior, session.turn)))
+    yield f"{session.teller.names[warrior]}: {addresses}".rstrip()
+
+
+@command("show", "shows the turn and the cycle, and how each warrior stands", "i")
+def show(session: Session, _: str) -> Iterator[str]:
+    end, turn = session.history.end, session.turn
+    state = "over" if turn == end else f"of {end} turns"
+    yield f"turn {turn}, cycle {session.history.block(turn).cycle(turn)}, battle {state}"
+    yield from session.teller.standing(turn)
+
+
+@command("why [W]", "tells why warrior W died, or how the cell came about that is executed next")
+def why(session: Session, rest: str) -> Iterator[str]:
+    turn, teller = session.turn, session.teller
+    died = [int(number) for number, when in session.history.deaths(turn).tolist() if when == turn]
+    if rest or died:
+        yield from death_told(teller, session.warrior(rest) if rest else died[0], TURNS)
+        return
+    yield teller.following(turn)
+    address = session.history.head(turn)
+    if address is not None:
+        yield from cause_told(teller, address, turn)
+
+
+@command("changed A", "tells the last turn that changed cell A, up to here")
+def changed(session: Session, rest: str) -> Iterator[str]:
+    yield from change_told(session.teller, session.address(rest), session.turn)
+
+
+CONDITIONS = """A CONDITION, for continue, reverse-continue and break:
+  at A[..B]       a cell from A to B is executed next
+  changes A[..B]  a turn changed a cell from A to B
+  .. by W         .. and warrior W does it
+  splits W        warrior W got a further process
+  ends W          warrior W lost a process
+  dies W          warrior W died
+An address A is a number, a label, `.` (where the next process stands), or one of these with +N or -N.
+A warrior W is a number or a name. The first letters of a command do. An empty line makes the last one again."""
+
+
+@command("help [COMMAND]", "tells the commands, or one of them", "h", "?")
+def tell_help(session: Session, rest: str) -> Iterator[str]:
+    for one in [find_command(rest)] if rest else COMMANDS.values():
+        short = f" ({', '.join(one.short)})" if one.short else ""
+        yield f"{one.usage:29}{one.told}{short}"
+    if not rest or "CONDITION" in find_command(rest).usage:
+        yield CONDITIONS
+
+
+@command("quit", "leaves", "q")
+def leave(session: Session, _: str) -> Iterator[str]:
+    raise Left
+    yield ""
+
+
+def execute(session: Session, line: str) -> list[str]:
+    """Makes the command of a line, and gives what it tells. Raises Refused, and Left."""
+    word, _, rest = line.strip().partition(" ")
+    return list(find_command(word).act(session, rest.strip()))

@@ -1,0 +1,173 @@
+"""The prompt: completion as one types, lines that are kept, cells in colours, and a bar that says where the battle stands. Without a
+terminal lines are read as they come, and what they tell is plain.
+"""
+from __future__ import annotations
+
+import os
+import sys
+from collections.abc import Callable, Iterable, Iterator
+from pathlib import Path
+from typing import TextIO
+
+from prompt_toolkit import PromptSession
+from prompt_toolkit.auto_suggest import AutoSuggestFromHistory
+from prompt_toolkit.completion import CompleteEvent, Completer, Completion
+from prompt_toolkit.document import Document
+from prompt_toolkit.formatted_text import ANSI
+from prompt_toolkit.history import FileHistory, InMemoryHistory
+from prompt_toolkit.lexers import PygmentsLexer
+from pygments.lexers.esoteric import RedcodeLexer
+
+from ..battle.conditions import OF_CELLS, OF_WARRIORS
+from ..model.faults import Refused
+from .commands import COMMANDS, Command, Left, execute, find_command
+from .session import Session
+
+# The colours of warriors, as a terminal numbers them.
+PAINTS = (91, 94, 92, 93, 95, 96, 31, 34, 32, 33, 35, 36)
+
+
+def paint(number: int, text: str) -> str:
+    """A warrior's name in its colour."""
+    return f"\x1b[{PAINTS[number % len(PAINTS)]}m{text}\x1b[0m"
+
+
+class Words(Completer):
+    """Completes commands, conditions, labels and names of warriors."""
+
+    def __init__(self, session: Session) -> None:
+        self.session = session
+
+    def get_completions(self, document: Document, _: CompleteEvent) -> Iterator[Completion]:
+        before, word = document.text_before_cursor, document.get_word_before_cursor(WORD=True)
+        for text, told in self.candidates(before.split(), not word):
+            if text.lower().startswith(word.lower()):
+                yield Completion(text, -len(word), display_meta=told)
+
+    def candidates(self, words: list[str], is_new: bool) -> Iterator[tuple[str, str]]:
+        """What may stand where the last word begins, each with what it means."""
+        if len(words) + is_new <= 1:
+            yield from ((one.name, one.told) for one in COMMANDS.values())
+            return
+        if words[0] in ("help", "h"):
+            yield from ((name, "") for name in COMMANDS)
+        if len(words) + is_new == 2 and "CONDITION" in usage(words[0]):
+            yield from ((word, "") for word in (*OF_CELLS, *OF_WARRIORS))
+        yield from ((label, str(address)) for label, address in self.session.sources.addresses.items())
+        yield from ((name, f"warrior {number}") for number, name in enumerate(self.session.names))
+
+
+def usage(word: str) -> str:
+    try:
+        return find_command(word).usage
+    except Refused:
+        return ""
+
+
+class Runner:
+    """Makes lines: those of the debugger, and `source FILE` and `log FILE`, which read and write lines."""
+
+    def __init__(self, session: Session, show: Callable[[str], None]) -> None:
+        self.session, self.show = session, show
+        self.log: TextIO | None = None
+
+    def make(self, line: str) -> None:
+        """Makes a line, and shows what it tells. Raises Left."""
+        word, _, file = line.strip().partition(" ")
+        try:
+            if word == "log":
+                self.begin_log(file)
+            elif word == "source":
+                self.make_all(file)
+            elif word:
+                self.show("\n".join(execute(self.session, line)))
+                if self.log:
+                    print(line.strip(), file=self.log, flush=True)
+        except Refused as fault:
+            self.show(str(fault))
+        except OSError as fault:
+            self.show(f"{file}: {fault.strerror}")
+
+    def begin_log(self, file: str) -> None:
+        """From here on writes each line that was made into a file, which `source` makes again."""
+        if self.log:
+            self.log.close()
+        self.log = open(file, "x") if file else None
+
+    def make_all(self, file: str) -> None:
+        """Makes the lines of a file."""
+        with open(file, errors="replace") as lines:
+            for line in lines:
+                self.make(line)
+
+
+COMMANDS["source"] = Command("source FILE", "makes the lines of a file", (), False, lambda *_: [])
+COMMANDS["log"] = Command(
+    "log [FILE]", "writes the lines that follow into a new file; without FILE no longer", (), False, lambda *_: []
+)
+
+
+def run_lines(session: Session, lines: Iterable[str]) -> None:
+    """Makes lines that come from no terminal. An empty one does nothing."""
+    runner = Runner(session, lambda text: print(text, flush=True))
+    try:
+        for line in lines:
+            runner.make(line)
+    except Left:
+        return
+
+
+def state_file() -> Path | None:
+    """The file of the lines that were typed before, where it can be written."""
+    folder = Path(os.environ.get("XDG_STATE_HOME") or Path.home() / ".local" / "state") / "corewar"
+    try:
+        folder.mkdir(parents=True, exist_ok=True)
+        (folder / "debug").touch()
+    except OSError:
+        return None
+    return folder / "debug"
+
+
+def run_prompt(session: Session, coloured: bool) -> None:
+    """Reads lines at a prompt until the user leaves."""
+    session.paint = paint if coloured else session.paint
+    file = state_file()
+    prompt: PromptSession[str] = PromptSession(
+        history=FileHistory(str(file)) if file else InMemoryHistory(),
+        completer=Words(session),
+        complete_while_typing=True,
+        lexer=PygmentsLexer(RedcodeLexer) if coloured else None,
+        auto_suggest=AutoSuggestFromHistory(),
+        bottom_toolbar=lambda: ANSI(bar(session)),
+    )
+    runner, last = Runner(session, lambda text: print(text, flush=True)), ""
+    while True:
+        try:
+            line = prompt.prompt(f"turn {session.turn}> ").strip()
+            line = line or last
+            runner.make(line)
+            last = line if line and repeats(line) else ""
+        except KeyboardInterrupt:
+            continue
+        except (EOFError, Left):
+            return
+
+
+def repeats(line: str) -> bool:
+    """Whether an empty line makes this one again."""
+    try:
+        return find_command(line.split()[0]).repeats
+    except Refused:
+        return False
+
+
+def bar(session: Session) -> str:
+    """Where the battle stands, in a line."""
+    block = session.history.block(session.turn)
+    counts = [len(block.queue(number, session.turn)) for number in range(len(session.names))]
+    standing = ", ".join(f"{name} {count}" for name, count in zip(session.names, counts))
+    return f" turn {session.turn} of {session.history.end}, cycle {block.cycle(session.turn)}; processes: {standing}"
+
+
+def is_terminal() -> bool:
+    return sys.stdin.isatty() and sys.stdout.isatty()

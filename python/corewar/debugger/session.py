@@ -1,0 +1,142 @@
+"""A battle that is debugged: where it stands, what was done, and what is to be undone. It changes by moves and edits alone."""
+from __future__ import annotations
+
+import re
+from collections.abc import Callable, Sequence
+from dataclasses import dataclass, field, replace
+
+from ..analysis.telling import Teller
+from ..battle.conditions import OF_CELLS, OF_WARRIORS, Condition, search_back, search_forward
+from ..battle.history import History
+from ..battle.labels import Sources
+from ..engine.calls import load_file
+from ..model.faults import Fault, Refused
+
+# The most cells that one edit fills, as the debugger of the program has it.
+MOST_FILLED = 1_000_000
+WORD = re.compile(r"[A-Za-z_]\w*")
+CONDITION = "a condition is at A[..B] [by W], changes A[..B] [by W], splits W, ends W or dies W"
+
+
+@dataclass
+class Session:
+    """The place in a history, the places to which undo and redo lead, breaks, and all futures that edits have made."""
+
+    history: History
+    sources: Sources
+    paint: Callable[[int, str], str] = lambda _, text: text
+    turn: int = 0
+    past: list[tuple[History, int]] = field(default_factory=list)
+    undone: list[tuple[History, int]] = field(default_factory=list)
+    breaks: list[Condition] = field(default_factory=list)
+    futures: list[History] = field(default_factory=list)
+
+    def __post_init__(self) -> None:
+        self.futures.append(self.history)
+
+    @property
+    def teller(self) -> Teller:
+        return Teller(self.history, self.sources, self.paint)
+
+    @property
+    def names(self) -> list[str]:
+        return self.history.names
+
+    def go(self, turn: int, history: History | None = None) -> None:
+        """Goes to a turn of this history or of another one."""
+        self.past.append((self.history, self.turn))
+        self.undone.clear()
+        self.history, self.turn = history or self.history, turn
+
+    def undo(self) -> None:
+        """Goes back to where the last move or edit began."""
+        if not self.past:
+            raise Refused("there is nothing to undo")
+        self.undone.append((self.history, self.turn))
+        self.history, self.turn = self.past.pop()
+
+    def redo(self) -> None:
+        """Makes again what was undone."""
+        if not self.undone:
+            raise Refused("there is nothing to redo")
+        self.past.append((self.history, self.turn))
+        self.history, self.turn = self.undone.pop()
+
+    def edit(self, line: str) -> None:
+        """Edits the battle here by a line of the debugger. What followed stays as another future."""
+        history = self.history.edited(self.turn, line)
+        self.futures.append(history)
+        self.go(self.turn, history)
+
+    def search(self, conditions: Sequence[Condition], forward: bool) -> Condition:
+        """Goes to the next place where one of the conditions holds, or to the one before."""
+        if not conditions:
+            raise Refused("there is no break: break sets one, and continue takes a condition, too")
+        found = (search_forward if forward else search_back)(self.history, conditions, self.turn)
+        if found is None:
+            raise Refused(f"not found {'behind' if forward else 'before'} turn {self.turn}")
+        self.go(found[0])
+        return found[1]
+
+    def number(self, text: str, what: str) -> int:
+        if not text.isdecimal() or len(text) > 18:
+            raise Refused(f"`{text}` is no number of {what}")
+        return int(text)
+
+    def address(self, text: str) -> int:
+        """An address: a number, a label, or `.`, where the next process stands; each with +N or -N behind it."""
+        found = re.fullmatch(r"(\.|[\w.]+?)((?:[+-]\d{1,9})*)", text)
+        base = found[1] if found else ""
+        at: int | None = self.history.head(self.turn) if base == "." else self.sources.addresses.get(base)
+        if at is None and not (base.isdecimal() and int(base) < self.history.core):
+            raise Refused(f"`{text}` is no address: a number below {self.history.core}, a label, or `.`, with +N or -N")
+        offset = sum(map(int, re.findall(r"[+-]\d+", found[2]))) if found else 0
+        return ((int(base) if at is None else at) + offset) % self.history.core
+
+    def warrior(self, text: str) -> int:
+        """A warrior by its number or its name."""
+        names = [name.lower() for name in self.names]
+        if text.lower() in names:
+            return names.index(text.lower())
+        if text.isdecimal() and int(text) < len(names):
+            return int(text)
+        told = ", ".join(f"{number} {name}" for number, name in enumerate(self.names))
+        raise Refused(f"`{text}` is no warrior: {told}")
+
+    def condition(self, words: Sequence[str]) -> Condition:
+        """The condition that words say."""
+        word, rest = (words[0], list(words[1:])) if words else ("", [])
+        by = self.warrior(" ".join(rest[2:])) if len(rest) > 2 and rest[1] == "by" else None
+        if word in OF_CELLS and rest and (len(rest) == 1 or by is not None):
+            first, _, last = rest[0].partition("..")
+            return Condition(word, self.address(first), self.address(last or first), by)
+        if word in OF_WARRIORS and rest:
+            number = self.warrior(" ".join(rest))
+            return Condition(word, number, number)
+        raise Refused(CONDITION)
+
+    def told(self, condition: Condition) -> str:
+        """A condition as it is told."""
+        if condition.word in OF_WARRIORS:
+            return f"{condition.word} {self.names[condition.first]}"
+        where = self.teller.where(condition.first)
+        until = "" if condition.last == condition.first else f"..{self.teller.where(condition.last)}"
+        return f"{condition.word} {where}{until}" + ("" if condition.by is None else f" by {self.names[condition.by]}")
+
+    def cell(self, address: int, line: str) -> str:
+        """The cell that a line of source makes at an address, as the debugger reads it; labels stand for what they do in the core."""
+        labels = [name for name in self.sources.addresses if name in WORD.findall(line)]
+        given = [f"{name} EQU ({self.sources.addresses[name] - address})" for name in labels]
+        settings = replace(self.history.fight.settings, longest=1)
+        try:
+            load = load_file("\n".join([*given, line, ""]), settings, 1, len(self.names))
+        except Fault as fault:
+            raise Refused(f"`{line}` is no cell: {str(fault).partition(': ')[2]}") from None
+        return load.decode().strip().rpartition("\n")[2]
+
+    def process(self, warrior: int, text: str) -> int:
+        """The index of a process of a warrior, the next one being 0."""
+        index, count = self.number(text, "a process"), len(self.history.block(self.turn).queue(warrior, self.turn))
+        if index >= count:
+            raise Refused(f"{self.names[warrior]} has no process {index}: it has {count}")
+        return index

@@ -1,0 +1,137 @@
+"""The page that replays a battle.
+
+It has the battle in it: a line for its head, and one for each piece of its frames, all of them JSON, deflated, in base64. Each piece has
+the texts of its cells, so that a browser can read the pieces side by side.
+"""
+from __future__ import annotations
+
+import base64
+import json
+import zlib
+from collections.abc import Iterable, Iterator
+from itertools import islice
+from typing import Any
+
+import numpy as np
+from numpy.typing import NDArray
+
+from ..analysis.captions import command, fate, outcome, settings_told, title
+from ..battle.frames import Frame, frames
+from ..battle.history import BY_HAND, NOBODY, History
+from ..model.cells import cell_text
+from ..pictures.colours import DARK, LIGHT, coloured
+from .render import render
+
+# How many frames a piece has.
+PIECE = 100
+EMPTY = "DAT.F $0, $0"
+
+
+def gaps(addresses: NDArray[np.int64]) -> list[int]:
+    """The first address, and by how much each one is more than the one before: numbers that deflate well."""
+    made: list[int] = np.diff(addresses, prepend=0).tolist()
+    return made
+
+
+def moves(before: NDArray[np.int64], after: NDArray[np.int64]) -> list[list[int]]:
+    """By how much the number of a warrior's processes changed, as the gaps between these addresses and the numbers."""
+    addresses = np.flatnonzero(before != after)
+    return [gaps(addresses), (after - before)[addresses].tolist()]
+
+
+class Coder:
+    """Writes frames for JSON, each by what it differs in from the one before."""
+
+    def __init__(self, history: History) -> None:
+        self.history = history
+        self.stands = [np.zeros(history.core, np.int64) for _ in history.warriors]
+        self.texts: dict[str, int] = {}
+
+    def coded(self, one: Frame, writers: NDArray[np.uint8]) -> dict[str, Any]:
+        """A frame. A cell's text is its number among the texts, which grow by those that are new. A cell that was edited is nobody's."""
+        block = self.history.block(one.turn)
+        before = self.stands
+        self.stands = [np.bincount(queue, minlength=self.history.core) for queue in one.queues]
+        told = [cell_text(cell, self.history.core) for cell in one.cells]
+        return {
+            "turn": one.turn,
+            "cycle": block.cycle(one.turn),
+            "next": block.following(one.turn),
+            "head": self.history.head(one.turn),
+            "at": gaps(one.addresses),
+            "by": np.where(writers == BY_HAND, NOBODY, writers).tolist(),
+            "text": [self.texts.setdefault(text, len(self.texts)) for text in told],
+            "moves": [moves(*stands) for stands in zip(before, self.stands)],
+        }
+
+    def piece(self, coded: Iterable[dict[str, Any]]) -> str:
+        """The line of a piece."""
+        self.texts = {}
+        made = list(coded)
+        return packed({"texts": list(self.texts), "frames": made})
+
+
+def packed(value: object) -> str:
+    """A line of the page's battle."""
+    return base64.b64encode(zlib.compress(json.dumps(value, separators=(",", ":")).encode(), 9)).decode()
+
+
+def start_frame(history: History, turn: int) -> Frame:
+    """All cells that aren't empty or nobody's after a turn, as a frame that shows them."""
+    state, owners = history.state(turn), history.owners(turn)
+    empty = np.array([cell_text(cell, history.core) == EMPTY for cell in state.cells])
+    addresses = np.flatnonzero(~empty | (owners != NOBODY))
+    return Frame(turn, addresses, owners[addresses], state.cells[addresses], state.queues)
+
+
+def pieces(history: History, ends: list[int]) -> Iterator[str]:
+    """The lines of all frames at these turns."""
+    coder = Coder(history)
+    first = start_frame(history, ends[0])
+    yield coder.piece(coder.coded(one, one.writers) for one in [first])
+    moments = frames(history, ends)
+    next(moments)
+    while group := list(islice(moments, PIECE)):
+        yield coder.piece(coder.coded(one, one.writers) for one in group)
+
+
+def grave(history: History, warrior: int) -> int | None:
+    """Where the process stood by whose end a warrior died; None where it lives, or died by hand."""
+    death = history.death(warrior)
+    record = history.record(death) if death else None
+    return int(record["address"]) if record is not None and record["died"] and record["warrior"] == warrior else None
+
+
+def head_of(history: History) -> dict[str, Any]:
+    """What a page knows besides its frames."""
+    warriors = [
+        {
+            "name": history.names[number],
+            "author": warrior.author,
+            "death": history.death(number),
+            "grave": grave(history, number),
+            "fate": fate(history, number),
+        }
+        for number, warrior in enumerate(history.warriors)
+    ]
+    return {
+        "size": history.core,
+        "last": history.end,
+        "empty": EMPTY,
+        "warriors": warriors,
+        "command": command(history, "debug --turn TURN"),
+    }
+
+
+def page_of(history: History, ends: list[int]) -> str:
+    """The page of a battle in frames at these turns."""
+    return render(
+        "replay.html.j2",
+        title=title(history),
+        outcome=outcome(history),
+        settings=settings_told(history),
+        names=history.names,
+        light=coloured(LIGHT, history),
+        dark=coloured(DARK, history),
+        battle="\n".join([packed(head_of(history)), *pieces(history, ends)]),
+    )

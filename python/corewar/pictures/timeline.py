@@ -1,0 +1,85 @@
+"""A battle as a picture: time goes down, the core goes across. A warrior's colour is strong where its processes stand, lighter where it
+wrote, and pale on the cells that it wrote last. The end of the file's name chooses PNG, SVG or PDF.
+"""
+from __future__ import annotations
+
+from dataclasses import dataclass
+
+import numpy as np
+from matplotlib.colors import to_rgb
+from matplotlib.figure import Figure
+from matplotlib.patches import Patch
+from numpy.typing import NDArray
+
+from ..analysis.captions import fate, outcome, settings_told, title
+from ..battle.frames import Frame, frames
+from ..battle.history import History
+from .colours import LIGHT, coloured
+
+# How much of a warrior's colour there is on cells that are owned, that are written, and where processes stand.
+OWNED, WRITTEN, STANDING = 0.3, 0.6, 1.0
+
+
+@dataclass(frozen=True)
+class View:
+    """What a picture shows: the turns at which its rows end, and the cells of its columns."""
+
+    ends: list[int]
+    cells: range
+    columns: int
+
+    def leaders(self, addresses: NDArray[np.int64], warriors: NDArray[np.int64], count: int) -> NDArray[np.int64]:
+        """Of each column the warrior that has most of these cells, the first of several, and -1 where nobody has any."""
+        inside = (addresses >= self.cells.start) & (addresses < self.cells.stop) & (warriors < count)
+        columns = (addresses[inside] - self.cells.start) * self.columns // len(self.cells)
+        sums = np.bincount(warriors[inside] * self.columns + columns, minlength=count * self.columns).reshape(count, -1)
+        return np.where(sums.max(axis=0) > 0, sums.argmax(axis=0), -1)
+
+
+def standing(frame: Frame) -> tuple[NDArray[np.int64], NDArray[np.int64]]:
+    """Where processes stand, and whose they are."""
+    whose = np.repeat(np.arange(len(frame.queues)), [len(queue) for queue in frame.queues])
+    return np.concatenate(frame.queues).astype(np.int64), whose
+
+
+def points(history: History, view: View) -> NDArray[np.float64]:
+    """The colours of the picture, by rows and columns."""
+    count, owners = len(history.warriors), history.owners(view.ends[0]).astype(np.int64)
+    shades = np.array([to_rgb(colour) for colour in coloured(LIGHT, history)])
+    made = np.ones((len(view.ends) - 1, view.columns, 3))
+    moments = frames(history, view.ends)
+    next(moments)
+    for row, frame in zip(made, moments):
+        owners[frame.addresses] = frame.writers
+        layers = (
+            (OWNED, (np.arange(history.core), owners)),
+            (WRITTEN, (frame.addresses, frame.writers.astype(np.int64))),
+            (STANDING, standing(frame)),
+        )
+        for part, (addresses, warriors) in layers:
+            leaders = view.leaders(addresses, warriors, count)
+            row[leaders >= 0] = 1 - part * (1 - shades[leaders[leaders >= 0]])
+    return made
+
+
+def draw(history: History, view: View, path: str) -> None:
+    """Writes the picture of a battle to a file."""
+    figure = Figure(figsize=(10, 7.5), layout="constrained")
+    axes = figure.subplots()
+    first, last = view.ends[0], view.ends[-1]
+    extent = (view.cells.start, view.cells.stop, last, first)
+    axes.imshow(points(history, view), aspect="auto", interpolation="nearest", extent=extent)
+    figure.suptitle(f"{title(history)}. {outcome(history)}, {history.end:,} turns", fontsize=12)
+    axes.set_title(", ".join(settings_told(history)), fontsize=8)
+    axes.set(xlabel="cell", ylabel="turn")
+    colours = coloured(LIGHT, history)
+    for warrior, colour in enumerate(colours):
+        death = history.death(warrior)
+        if death is not None and first < death <= last:
+            axes.axhline(death, color=colour, linestyle="dashed")
+    labels = [f"{name} {fate(history, number)}" for number, name in enumerate(history.names)]
+    handles = [Patch(color=colour, label=label) for colour, label in zip(colours, labels)]
+    axes.legend(
+        handles=handles, loc="upper center", bbox_to_anchor=(0.5, -0.08), ncols=min(4, len(handles)), fontsize=8
+    )
+    figure.savefig(path, metadata={"Date": None} if path.endswith(".svg") else None)
