@@ -25,7 +25,7 @@ from .telling import printable, tell, tell_fault
 
 PICTURES = (".png", ".svg", ".pdf")
 ADDRESS = re.compile(r"(tcp://)?(\[[0-9a-fA-F:]+\]|[^\s/:\[\]]+):\d+")
-TURNED = "{} matches are kept the other way round alone, which are others: the file that stands earlier moves first in round 0"
+TURNED = "{} of {} matches are kept the other way round alone: those are other matches, so these are fought"
 
 
 def writable(context: click.Context, param: click.Parameter, path: str | None) -> str | None:
@@ -73,7 +73,7 @@ class Hall:
             with Results(self.results, matches) as kept:
                 turned = kept.find()
                 if turned:
-                    tell(TURNED.format(turned))
+                    tell(TURNED.format(turned, len(matches)))
                 self._fight(matches, kept.keep)
         except KeyboardInterrupt:
             done = f"{matches.is_fought.sum()} of {len(matches)} matches are kept: the same command goes on"
@@ -109,8 +109,11 @@ def contest_options(command: Callable[..., Any]) -> Callable[..., Any]:
 
 
 def entered(asked: Asked) -> tuple[Contest, list[Warrior], list[FileFault]]:
+    """The contest, the warriors of the files, and the faults of those that have none, which are told."""
     contest = Contest(asked.settings, asked.rounds, asked.seed, asked.position, asked.formula)
     warriors, faults = enter(contest, asked.files, asked.limit)
+    for fault in faults:
+        tell_fault(fault)
     return contest, warriors, faults
 
 
@@ -134,24 +137,50 @@ def write(text: str, output: str | None) -> None:
 @click.option("--format", "form", type=click.Choice(list(FORMATS)), default="table", show_default=True)
 @click.option("-o", "--output", type=FILE, callback=writable, help="Writes the table there.")
 @click.option("--picture", type=FILE, callback=writable, help="Draws who beats whom, as .png, .svg or .pdf.")
-def league(asked: Asked, hall: Hall, order: str, form: str, output: str | None, picture: str | None) -> int:
+@click.option("--pages", type=click.Path(file_okay=False), help="Writes index.html there, with table and matrix.")
+@click.option("--page-pairs", "named", multiple=True, metavar="A,B", help="Two files that have a replay, too.")
+def league(asked: Asked, hall: Hall, order: str, form: str, **files: Any) -> int:
     """Fights a match of every two warriors.
 
     The file that stands earlier is the first warrior of a match. A file with a fault is told and left out; then the status is 1.
     """
     contest, warriors, faults = entered(asked)
-    for fault in faults:
-        tell_fault(fault)
+    pairs = [pair_of(warriors, names) for names in files["named"]]
     matches = Matches(contest, warriors, all_pairs(len(warriors)))
     hall.fight(matches)
     result = League(matches, order == "points")
     text = FORMATS[form](result)
-    write(text if form in ("csv", "json") else "\n".join(map(printable, text.split("\n"))), output)
-    if picture:
+    write(text if form in ("csv", "json") else "\n".join(map(printable, text.split("\n"))), files["output"])
+    if files["picture"]:
         from ..pictures.matrix import draw
 
-        draw(result.titles(), [result.ranks[number] for number in result.order], result.balances(), picture)
+        ranks = [result.ranks[number] for number in result.order]
+        draw(result.titles(), ranks, result.balances(), files["picture"])
+    if files["pages"]:
+        write_pages(result, files["pages"], pairs)
     return 1 if faults else 0
+
+
+def pair_of(warriors: Sequence[Warrior], names: str) -> tuple[int, int]:
+    """The two warriors that `A,B` names by their files, with or without folder and ending, in the order of the files."""
+    found = [number for name in names.split(",") for number, one in enumerate(warriors) if name in names_of(one)]
+    if len(found) != 2 or found[0] == found[1] or names.count(",") != 1:
+        raise click.BadParameter(f"{names} doesn't name two of the files, as in dwarf,imp", param_hint="--page-pairs")
+    return min(found), max(found)
+
+
+def names_of(warrior: Warrior) -> tuple[str, str, str]:
+    path = Path(warrior.file)
+    return warrior.file, path.name, path.stem
+
+
+def write_pages(result: League, folder: str, pairs: list[tuple[int, int]]) -> None:
+    from ..pages.league import Pages
+
+    pages = Pages(Path(folder), result, pairs)
+    pages.write_index()
+    for pair in pairs:
+        pages.write_replay(*pair)
 
 
 @click.command()
@@ -164,8 +193,6 @@ def challenge(asked: Asked, hall: Hall, only_sum: bool) -> int:
     a fault is told and left out; then the status is 1. The candidate's fault ends all.
     """
     contest, warriors, faults = entered(asked)
-    for fault in faults:
-        tell_fault(fault)
     if not warriors or any(fault.file == asked.files[0] for fault in faults):
         return 1
     opponents = np.arange(1, len(warriors))

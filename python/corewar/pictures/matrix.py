@@ -27,5 +27,5 @@ def draw(titles: Sequence[str], ranks: Sequence[int], balances: NDArray[np.int64
     axes.tick_params(length=0)
     shades = {"won": WON, "tied": TIED, "lost": LOST}
     patches = [Patch(color=[part / 255 for part in shade], label=name) for name, shade in shades.items()]
-    figure.legend(handles=patches, loc="outside lower right", ncols=3)
+    axes.legend(handles=patches, loc="upper left", bbox_to_anchor=(1.01, 1), borderaxespad=0, frameon=False)
     figure.savefig(path)
