@@ -22,6 +22,7 @@ COMMANDS = {
     "rounds": "rounds",
     "league": "league",
     "challenge": "league",
+    "explain": "explaining",
 }
 
 

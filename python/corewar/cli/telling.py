@@ -3,7 +3,8 @@ from __future__ import annotations
 
 import click
 
-from ..model.faults import Refused
+from ..explain import told
+from ..model.faults import Fault, FileFault, Refused
 
 
 def printable(text: str) -> str:
@@ -16,6 +17,9 @@ def tell(text: str) -> None:
     click.echo("\n".join(f"corewar: {printable(line)}" for line in text.split("\n")), err=True)
 
 
-def tell_fault(fault: Refused) -> None:
-    """Tells what can't be done."""
-    tell(str(fault))
+def tell_fault(refused: Refused) -> None:
+    """Tells what can't be done, and behind a fault of the machine what it means."""
+    tell(str(refused))
+    fault, source = (refused.fault, refused.text) if isinstance(refused, FileFault) else (refused, b"")
+    if isinstance(fault, Fault):
+        click.echo("".join(f"  {printable(sentence)}\n" for sentence in told(fault, source)), err=True, nl=False)
