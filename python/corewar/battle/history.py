@@ -127,7 +127,7 @@ class History:
         self.names = distinct([warrior.called for warrior in self.warriors])
         self.segments = [Segment((), 0, count_turns(fight, round))]
         self._blocks = lru_cache(maxsize=KEPT)(self._ask)
-        self._owners: dict[int, Owners] = {}
+        self._written: dict[int, tuple[Owners, NDArray[np.int64]]] = {}
 
     @property
     def end(self) -> int:
@@ -214,24 +214,31 @@ class History:
 
     def owners(self, turn: int) -> Owners:
         """Of each cell who changed it last up to a turn, or was loaded there: a warrior's number, NOBODY or BY_HAND."""
-        near = max((at for at in self._owners if at <= turn), default=None)
-        owners = self._loaded() if near is None else self._owners[near].copy()
-        for block in self.blocks(near or 0, turn):
-            self._owners.setdefault(block.first, owners.copy())
-            count = block.count(turn)
-            owners[block.changes.addresses[:count]] = block.changes.warriors[:count]
-            if block.last <= turn:
-                owners[self.changed_by_hand(block.last)] = BY_HAND
-        return owners
+        return self.written(turn)[0]
 
-    def _loaded(self) -> Owners:
+    def written(self, turn: int) -> tuple[Owners, NDArray[np.int64]]:
+        """Of each cell its owner, and the turn that changed it last; 0 where none did."""
+        near = max((at for at in self._written if at <= turn), default=None)
+        owners, turns = self._loaded() if near is None else self._written[near]
+        owners, turns = owners.copy(), turns.copy()
+        for block in self.blocks(near or 0, turn):
+            self._written.setdefault(block.first, (owners.copy(), turns.copy()))
+            changes, count = block.changes, block.count(turn)
+            owners[changes.addresses[:count]] = changes.warriors[:count]
+            turns[changes.addresses[:count]] = changes.turns[:count]
+            if block.last <= turn:
+                by_hand = self.changed_by_hand(block.last)
+                owners[by_hand], turns[by_hand] = BY_HAND, block.last
+        return owners, turns
+
+    def _loaded(self) -> tuple[Owners, NDArray[np.int64]]:
         """Who was loaded to each cell, before the first turn."""
         owners, start = np.full(self.core, NOBODY, np.uint8), state(self.fight, self.round)
         for number, warrior in enumerate(self.warriors):
             first = int(start.queues[number][0]) - warrior.origin
             owners[(first + np.arange(len(warrior))) % self.core] = number
         owners[self.changed_by_hand(0)] = BY_HAND
-        return owners
+        return owners, np.zeros(self.core, np.int64)
 
     def changed_by_hand(self, turn: int) -> NDArray[np.intp]:
         """The cells that the edits behind a turn left other than they were."""
@@ -263,7 +270,7 @@ class History:
             *[Segment(one.lines, one.first, min(one.last, turn)) for one in self.segments if one.first <= turn],
             Segment(lines, turn, turn + count_turns(self.fight, self.round, lines)),
         ]
-        made._owners = {at: owners for at, owners in self._owners.items() if at < turn}
+        made._written = {at: written for at, written in self._written.items() if at < turn}
         return made
 
 

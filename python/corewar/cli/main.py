@@ -13,6 +13,7 @@ from .telling import tell, tell_fault
 
 # Each subcommand, and the module of this folder that has it: what a command needs is imported where it is called.
 COMMANDS = {
+    "fight": "rounds",
     "debug": "debugging",
     "why": "looking",
     "trace": "looking",

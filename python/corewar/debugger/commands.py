@@ -127,9 +127,9 @@ def goto(session: Session, rest: str) -> Iterator[str]:
 @command("until C", "goes on to where C cycles are complete")
 def until(session: Session, rest: str) -> Iterator[str]:
     cycle, history = session.number(rest, "cycles"), session.history
-    for block in history.blocks(session.turn):
+    passed = history.block(session.turn).cycle(session.turn) >= cycle
+    for block in [] if passed else history.blocks(session.turn):
         found = block.first + 1 + np.flatnonzero(block.records["cycle"] >= cycle)
-        found = found[found > session.turn]
         if len(found):
             session.go(int(found[0]))
             yield from here(session)

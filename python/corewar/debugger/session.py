@@ -43,7 +43,9 @@ class Session:
         return self.history.names
 
     def go(self, turn: int, history: History | None = None) -> None:
-        """Goes to a turn of this history or of another one."""
+        """Goes to a turn of this history or of another one. What leads nowhere isn't undone."""
+        if (turn, history or self.history) == (self.turn, self.history):
+            return
         self.past.append((self.history, self.turn))
         self.undone.clear()
         self.history, self.turn = history or self.history, turn

@@ -131,6 +131,7 @@ def page_of(history: History, ends: list[int]) -> str:
         outcome=outcome(history),
         settings=settings_told(history),
         names=history.names,
+        deaths=[{"name": history.names[number], "turn": turn} for number, turn in history.ending.deaths.tolist()],
         light=coloured(LIGHT, history),
         dark=coloured(DARK, history),
         battle="\n".join([packed(head_of(history)), *pieces(history, ends)]),

@@ -94,8 +94,10 @@ fn edits_of_a_battle(rt: HostRuntime) -> Result<(), Fail> {
     Ok(())
 }
 
-/// A run to the last cycle, a restart that is refused, and another round.
+/// Some turns, a run to the last cycle, a restart that is refused, and another round.
 fn check_rounds(rt: &impl Abort, battle: &mut Battle, warriors: &[Warrior]) -> Result<(), Fail> {
+    battle.run(3);
+    assert_eq!(rt; battle.turns(), 3);
     battle.run_to_end();
     assert_eq!(rt; battle.turns(), 20);
     assert_eq!(rt; battle.cycle(), 10);

@@ -1,4 +1,4 @@
-//! Runs to the end, beside the same turns one by one.
+//! Runs, beside the same turns one by one.
 
 use super::{OF_EIGHT, battle_of, check_clock, check_deaths, check_same, turn};
 use mars_core::{Battle, Death};
@@ -6,13 +6,18 @@ use std::alloc::Global;
 use std::process::Abort;
 use std::test::Fail;
 
-/// Makes turns until the battle is over, at most 1000.
-fn step_to_end(battle: &mut Battle) {
-    for _ in 0..1000 {
+/// Makes so many turns, or as many as are left.
+fn step(battle: &mut Battle, turns: u32) {
+    for _ in 0..turns {
         if battle.turn().is_err() {
             break;
         }
     }
+}
+
+/// Makes turns until the battle is over, at most 1000.
+fn step_to_end(battle: &mut Battle) {
+    step(battle, 1000);
 }
 
 /// Runs a battle to its end, and a copy of it by one turn after another: both end alike, after so many turns.
@@ -62,6 +67,32 @@ fn runs_within_limits(rt: HostRuntime) -> Result<(), Fail> {
     let mut turned = battle.copy(rt.alloc())?;
     step_to_end(&mut turned);
     check_run(&rt, rt.alloc(), &mut battle, turned.turns())
+}
+
+/// Runs a battle for one, two and more turns, and a copy of it by one turn after another.
+fn check_turns(rt: &impl Abort, alloc: Global, battle: &mut Battle) -> Result<(), Fail> {
+    let mut stepped = battle.copy(alloc)?;
+    for turns in [1, 0, 2, 1000, 1] {
+        step(&mut stepped, turns);
+        battle.run(turns);
+        check_same(rt, battle, &stepped);
+    }
+    assert!(rt; battle.is_over());
+    Ok(())
+}
+
+#[test]
+fn so_many_turns(rt: HostRuntime) -> Result<(), Fail> {
+    let cells = [
+        (0, "MOV.I $3, $3"),
+        (3, "SPL.B {2, >5"),
+        (6, "DIV.F }1, *7"),
+    ];
+    for sizes in [OF_EIGHT, (8, 4, 4, 6)] {
+        let mut battle = battle_of(rt.alloc(), sizes, &cells)?;
+        check_turns(&rt, rt.alloc(), &mut battle)?;
+    }
+    Ok(())
 }
 
 #[test]

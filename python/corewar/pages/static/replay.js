@@ -73,8 +73,8 @@ class Replay {
 
 /** What is told in words: the outcome, the warriors, the cells around one, the words of mars that debug a turn. */
 class Words {
-  constructor(replay, choose) {
-    Object.assign(this, {replay, rows: [...element("legend").rows], lines: [...element("listing").children]});
+  constructor(replay, choose, go) {
+    Object.assign(this, {replay, go, rows: [...element("legend").rows], lines: [...element("listing").children]});
     element("listing").style.setProperty("--digits", `${String(replay.battle.size - 1).length}ch`);
     element("legend").className = this.rows.length > 4 ? "many" : "";
     this.rows.forEach((row, who) => { row.querySelector("button").onclick = () => choose(who); });
@@ -111,12 +111,13 @@ class Words {
   /** The cells around an address. */
   list(focus, isOwn) {
     const {replay, replay: {battle: {size, texts, warriors, last}, owner}} = this, age = replay.frame - replay.written[focus];
-    const when = age >= -LONG_AGO ? "" : age ? `, written ${count(age, "frame")} ago` : ", written in this frame";
+    const when = age >= -LONG_AGO ? "" : age ? `written ${count(age, "frame")} ago` : "written in this frame";
     const standing = this.processes(focus);
     element("where").textContent = isOwn ? `Cell ${number(focus)}`
       : replay.moment.turn === last ? "The end" : `Next: ${warriors[replay.moment.next].name} at ${number(focus)}`;
-    element("cell").textContent = (owner[focus] === NOBODY ? "Nobody’s cell" : `Owned by ${warriors[owner[focus]].name}${when}`)
-      + (standing && `. Processes: ${standing}`);
+    const link = Object.assign(document.createElement("button"), {textContent: when, className: "link", onclick: () => this.go(replay.written[focus])});
+    element("cell").replaceChildren(owner[focus] === NOBODY ? "Nobody’s cell" : `Owned by ${warriors[owner[focus]].name}`,
+      ...(when && owner[focus] !== NOBODY ? [", ", link] : []), standing && `. Processes: ${standing}`);
     this.lines.forEach((line, i) => {
       const around = (this.lines.length - 1) / 2, address = (focus + i - around + around * size) % size;
       line.style.setProperty("--warrior", owner[address] === NOBODY ? "transparent" : `var(--warrior-${owner[address]})`);
@@ -133,7 +134,8 @@ class Player {
     this.rate = Math.max(0, SPEEDS.findLastIndex(speed => speed <= this.end / LENGTH));
     this.grid = new Grid(element("core"), replay);
     this.track = new Track(element("overview"), element("time"), replay);
-    this.words = new Words(replay, who => { this.alone = this.alone === who ? null : who; this.recolour(); });
+    this.words = new Words(replay, who => { this.alone = this.alone === who ? null : who; this.recolour(); },
+      frame => this.go(frame));
     this.listen();
     this.listenToCore(element("core"));
     this.listenToTrack(element("track"));
@@ -148,6 +150,7 @@ class Player {
   listen() {
     for (const name of ["first", "back", "play", "on", "last", "slower", "faster", "whole"]) element(name).onclick = () => this.command(name);
     element("time").oninput = () => this.go(+element("time").value);
+    document.querySelectorAll("[data-turn]").forEach(link => { link.onclick = () => this.goTo(+link.dataset.turn); });
     addEventListener("keydown", event => this.key(event));
     addEventListener("hashchange", () => this.fromAddress());
     matchMedia("(prefers-color-scheme: dark)").onchange = () => this.recolour();
@@ -217,11 +220,14 @@ class Player {
     this.ask();
   }
 
-  /** Goes to the last frame that isn't behind the turn that the page's address names behind #turn=, or to the start. */
-  fromAddress() {
-    const named = +new URLSearchParams(location.hash.slice(1)).get("turn");
-    this.go(this.replay.battle.frames.findLastIndex(({turn}) => turn <= named));
+  /** Goes to the first frame after so many turns, or to the end. */
+  goTo(turn) {
+    const frame = this.replay.battle.frames.findIndex(moment => moment.turn >= turn);
+    this.go(frame < 0 ? this.end : frame);
   }
+
+  /** Goes to the turn that the page's address names behind #turn=, or to the start. */
+  fromAddress() { this.goTo(+new URLSearchParams(location.hash.slice(1)).get("turn")); }
 
   fit() {
     this.grid.fit(element("stage"), matchMedia("(max-width: 60rem)").matches);

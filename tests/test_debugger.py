@@ -1,0 +1,175 @@
+"""The debugger: a session does what the program's debugger does, and commands tell it."""
+from __future__ import annotations
+
+import subprocess
+
+import pytest
+from battles import edits, matches
+from conftest import EXAMPLES, Run
+from hypothesis import given, settings, strategies as st
+
+from corewar.battle.history import History
+from corewar.battle.labels import Sources
+from corewar.debugger.commands import COMMANDS, Left, execute, find_command
+from corewar.debugger.session import Session
+from corewar.engine.calls import Match, debug
+from corewar.engine.sources import read
+from corewar.model.cells import cell_text
+from corewar.model.faults import Refused
+
+
+def session_of(*names: str) -> Session:
+    fight = Match(tuple(read(str(EXAMPLES / f"{name}.red"), warriors=len(names)) for name in names))
+    history = History(fight)
+    return Session(history, Sources(history))
+
+
+def refused(session: Session, line: str) -> str:
+    with pytest.raises(Refused) as fault:
+        execute(session, line)
+    return str(fault.value)
+
+
+MOVES = st.one_of(edits(), st.sampled_from(["step", "run 3", "run 11", "undo", "redo"]))
+
+
+@settings(max_examples=200, deadline=None)
+@given(matches(), st.lists(MOVES, max_size=12))
+def test_a_session_is_the_program_s(fight: Match, lines: list[str]) -> None:
+    """After any list of commands, accepted or refused, the battle is the one that the program's debugger has."""
+    history = History(fight)
+    session = Session(history, Sources(history))
+    for line in lines:
+        try:
+            execute(session, line)
+        except Refused:
+            pass
+    state, core = session.history.state(session.turn), fight.settings.core
+    queues = [f"queue {number}" for number in range(len(fight.warriors))]
+    answers = debug(fight, [*lines, f"list 0 {core}", *queues]).splitlines()[-core - len(queues) :]
+    assert answers[:core] == [f"{at} {cell_text(cell, core)}" for at, cell in enumerate(state.cells)]
+    assert answers[core:] == [" ".join([f"queue {n}:", *map(str, queue)]) for n, queue in enumerate(state.queues)]
+
+
+def test_moves() -> None:
+    session = session_of("dwarf", "imp")
+    assert execute(session, "step") == [
+        "turn 1: Dwarf at 0: ADD.AB #4, $3; 3: DAT.F #0, #0 -> DAT.F #0, #4; then at 1",
+        "next: Imp at 1305: MOV.I $0, $1",
+    ]
+    places = [6, 7, 6, 4, 7798, 7, 10, 0, 7798, 0, 7798]
+    for line, turn in zip(
+        ("n 5", "s dwarf", "rs", "back imp", "run", "goto 7", "until 5", "g start", "g end", "u", "redo"), places
+    ):
+        execute(session, line)
+        assert session.turn == turn, line
+    assert refused(session, "until 5") == "behind turn 7798 no cycle 5 is completed"
+    assert execute(session, "goto end")[-1] == "the battle is over: Dwarf lives"
+    assert refused(session, "goto 7799") == "the battle has turn 0 to turn 7798"
+    assert refused(session, "step imp") == "Imp has no turn behind turn 7798"
+
+
+def test_searches_go_both_ways() -> None:
+    session = session_of("dwarf", "imp")
+    assert execute(session, "continue changes 3")[0] == "changes 3:" and session.turn == 1
+    assert execute(session, "c changes 1300..1400 by imp")[0] == "changes 1300..1400 by Imp:" and session.turn == 2
+    assert execute(session, "c dies imp")[0] == "dies Imp:" and session.turn == 7798
+    assert execute(session, "rc at 0")[1].startswith("turn 7794: Imp") and session.turn == 7794
+    assert refused(session, "continue").startswith("there is no break")
+    assert execute(session, "b changes 3") == ["break 0: changes 3"]
+    assert execute(session, "b dies Imp") == ["break 0: changes 3", "break 1: dies Imp"]
+    execute(session, "goto 0")
+    assert execute(session, "c")[0] == "changes 3:"
+    assert refused(session, "delete") == "there is no break ``: delete takes a number, or `all`"
+    assert execute(session, "d 0") == ["break 0: dies Imp"]
+    assert execute(session, "d all") == []
+    assert refused(session, "rc dies imp") == "not found before turn 1"
+    assert refused(session, "c dies nobody") == "`nobody` is no warrior: 0 Dwarf, 1 Imp"
+    assert refused(session, "break reads 3").startswith("a condition is at A")
+
+
+def test_edits_make_futures() -> None:
+    session = session_of("dwarf", "imp")
+    execute(session, "goto 6")
+    assert execute(session, "edit 0 jmp 2") == ["0: ADD.AB #4, $3 -> JMP.B $2, $0"]
+    assert session.history.end == 160000
+    assert execute(session, "futures") == [
+        "  0: as it was; 7798 turns",
+        "> 1: behind turn 6: edit 0 JMP.B $2, $0; 160000 turns",
+    ]
+    assert execute(session, "spawn imp 100") == ["Imp: 1308 100"]
+    assert execute(session, "move imp 1 200") == ["Imp: 1308 200"]
+    assert execute(session, "kill 1 0") == ["Imp: 200"]
+    assert execute(session, "fill 300 302 spl 0") == ["300 to 302: SPL.B $0, $0"]
+    execute(session, "futures 0")
+    assert (session.turn, session.history.end) == (6, 7798)
+    execute(session, "undo")
+    assert len(session.history.edits) == 5
+    assert (
+        refused(session, "edit 8000 nop") == "`8000` is no address: a number below 8000, a label, or `.`, with +N or -N"
+    )
+    assert refused(session, "edit 0 mvo 1").startswith("`mvo 1` is no cell: ")
+    assert refused(session, "kill imp 3") == "Imp has no process 3: it has 1"
+    assert refused(session, "futures 9") == "there are the futures 0 to 5"
+    assert refused(session, "fill 5 3 nop") == "from 5 to 3 there are no 1 to 1000000 cells"
+
+
+def test_what_is_told() -> None:
+    session = session_of("dwarf", "imp")
+    assert execute(session, "show") == ["turn 0, cycle 0, battle of 7798 turns", "Dwarf: 1 process", "Imp: 1 process"]
+    execute(session, "run")
+    assert execute(session, "show") == [
+        "turn 7798, cycle 3899, battle over",
+        "Dwarf: 1 process",
+        "Imp: died in turn 7798",
+    ]
+    assert execute(session, "why")[:3] == [
+        "Imp died in turn 7798:",
+        "turn 7798: Imp at 5203: DAT.F #0, #-2800",
+        "Cell 5203 was last changed in turn 7797:",
+    ]
+    assert execute(session, "why dwarf") == ["Dwarf lives after turn 7798, the last one."]
+    assert execute(session, "changed 4") == ["Cell 4 wasn't changed since the start."]
+    assert execute(session, "queue imp") == ["Imp:"]
+    assert [line.split()[0] for line in execute(session, "list 7999 3")] == ["7999", "0", "1"]
+
+
+def test_help_tells_each_command() -> None:
+    session = session_of("imp")
+    told = "\n".join(execute(session, "help"))
+    assert all(one.usage in told for one in COMMANDS.values())
+    assert execute(session, "help step")[0].startswith("step [N|W]")
+    assert find_command("cont").name == "continue"
+    assert refused(session, "re") == "`re` is short for reverse-step, reverse-continue, redo"
+    assert refused(session, "frobnicate") == "`frobnicate` is no command: help tells them"
+    with pytest.raises(Left):
+        execute(session, "quit")
+
+
+def test_over_a_pipe(run: Run) -> None:
+    done = run("debug", "@dwarf", "@imp", given="step\n\nbad\nundo\nlog kept\nstep 2\nlog\nquit\nstep\n")
+    lines = done.stdout.splitlines()
+    assert (done.returncode, done.stderr) == (0, "")
+    assert lines[0].startswith("turn 1: Dwarf") and lines[2] == "`bad` is no command: help tells them"
+    assert lines[-1] == "next: Dwarf at 1: MOV.I $2, @2"
+    again = run("debug", "@dwarf", "@imp", "--turn", 4, given="source kept\nsource nowhere\n")
+    assert again.stdout.splitlines()[0].startswith("turn 6: Imp")
+    assert again.stdout.splitlines()[-1] == "nowhere: No such file or directory"
+
+
+def test_at_a_terminal(tmp_path: object) -> None:
+    """A prompt in colours, and an empty line that repeats."""
+    pexpect = pytest.importorskip("pexpect", reason="package python3-pexpect")
+    top = EXAMPLES.parent
+    words = ["debug", str(EXAMPLES / "dwarf.red"), str(EXAMPLES / "imp.red")]
+    environment = {**subprocess.os.environ, "XDG_STATE_HOME": str(tmp_path), "TERM": "xterm"}  # type: ignore[attr-defined]
+    with pexpect.spawn(str(top / "corewar"), words, env=environment, timeout=20, encoding="utf-8") as child:
+        child.expect("Dwarf against Imp; help tells the commands")
+        child.expect("turn 0>")
+        child.send("step\r")
+        child.expect("ADD.AB")
+        child.expect("turn 1>")
+        child.send("\r")
+        child.expect("turn 2>")
+        child.sendcontrol("d")
+        child.expect(pexpect.EOF)

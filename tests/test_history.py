@@ -1,0 +1,128 @@
+"""A history is what the machine says of each turn, whatever the blocks and the edits."""
+from __future__ import annotations
+
+from collections.abc import Iterator
+
+import numpy as np
+import pytest
+from battles import edits, matches
+from conftest import EXAMPLES
+from hypothesis import given, settings, strategies as st
+
+from corewar.battle import history as module
+from corewar.battle.conditions import Condition, last_change, next_change, search_back, search_forward
+from corewar.battle.frames import frames, parts
+from corewar.battle.history import BY_HAND, NOBODY, History, run_lines
+from corewar.engine.calls import Match, State, debug, record, state
+from corewar.engine.sources import read
+from corewar.model.cells import cell_text
+
+
+@pytest.fixture(autouse=True)
+def small_blocks(monkeypatch: pytest.MonkeyPatch) -> None:
+    monkeypatch.setattr(module, "BLOCK", 7)
+    monkeypatch.setattr(module, "KEPT", 3)
+
+
+def same(one: State, other: State) -> bool:
+    parts = [(one.cells, other.cells), (one.deaths, other.deaths), *zip(one.queues, other.queues)]
+    return all(np.array_equal(*part) for part in parts) and (one.turns, one.cycle, one.next, one.over) == (
+        *(other.turns, other.cycle, other.next, other.over),
+    )
+
+
+def edited(history: History, places: list[tuple[float, str]]) -> tuple[History, list[str]]:
+    """The history after edits at these parts of what is left of it, and the lines that lead to the last one."""
+    turn, lines = 0, []
+    for part, line in places:
+        ahead = int(part * (history.end - turn))
+        lines += [*run_lines(ahead), line]
+        turn += ahead
+        history = history.edited(turn, line)
+    return history, lines
+
+
+PLACES = st.lists(st.tuples(st.floats(0, 1), edits()), max_size=3)
+
+
+@settings(max_examples=150, deadline=None)
+@given(matches(), st.integers(0, 4), PLACES)
+def test_each_state_is_the_machine_s(fight: Match, round: int, places: list[tuple[float, str]]) -> None:
+    history, lines = edited(History(fight, round), places)
+    first = history.segments[-1].first
+    for turn in range(first, history.end + 1):
+        assert same(history.state(turn), state(fight, round, lines, turn - first))
+    assert np.array_equal(history.ending.cells, history.state(history.end).cells)
+    made = record(fight, round, lines, 0, history.end - first + 3)
+    for turn in range(first + 1, history.end + 1):
+        assert history.record(turn).tobytes() == made[turn - first - 1].tobytes()
+
+
+@settings(max_examples=60, deadline=None)
+@given(matches(), st.integers(0, 60))
+def test_a_state_is_what_the_debugger_lists(fight: Match, turn: int) -> None:
+    history = History(fight)
+    turn = min(turn, history.end)
+    now, core = history.state(turn), fight.settings.core
+    queues = [f"queue {number}" for number in range(len(fight.warriors))]
+    answers = debug(fight, [*run_lines(turn), f"list 0 {core}", *queues]).splitlines()[bool(turn) :]
+    assert answers[:core] == [f"{at} {cell_text(cell, core)}" for at, cell in enumerate(now.cells)]
+    assert answers[core:] == [" ".join([f"queue {n}:", *map(str, queue)]) for n, queue in enumerate(now.queues)]
+
+
+def steps(history: History) -> Iterator[tuple[int, State, State]]:
+    """Each turn, with the states before and after it."""
+    for turn in range(1, history.end + 1):
+        yield turn, history.state(turn - 1), history.state(turn)
+
+
+@settings(max_examples=60, deadline=None)
+@given(matches(), st.integers(0, 23))
+def test_searches_are_those_of_single_steps(fight: Match, address: int) -> None:
+    history = History(fight)
+    changed = [turn for turn, before, after in steps(history) if before.cells[address] != after.cells[address]]
+    at = [turn for turn in range(history.end) if history.head(turn) == address]
+    died = [turn for turn, before, after in steps(history) if len(after.deaths) > len(before.deaths)]
+    for turn in range(history.end + 1):
+        assert last_change(history, address, turn) == max((one for one in changed if one <= turn), default=None)
+        assert next_change(history, address, turn) == min((one for one in changed if one > turn), default=None)
+        held = [Condition("at", address, address), *(Condition("dies", n, n) for n in range(len(fight.warriors)))]
+        found, back = search_forward(history, held, turn), search_back(history, held, turn)
+        assert (found and found[0]) == min((one for one in at + died if one > turn), default=None)
+        assert (back and back[0]) == max((one for one in at + died if one < turn), default=None)
+
+
+@settings(max_examples=60, deadline=None)
+@given(matches(), st.integers(1, 20), PLACES)
+def test_frames_show_who_changed_a_cell_last(fight: Match, count: int, places: list[tuple[float, str]]) -> None:
+    history, _ = edited(History(fight), places)
+    owners, cells = history.owners(0), history.state(0).cells.copy()
+    for frame in list(frames(history, parts(0, history.end, count)))[1:]:
+        owners[frame.addresses], cells[frame.addresses] = frame.writers, frame.cells
+        now = history.state(frame.turn)
+        assert np.array_equal(cells, now.cells) and np.array_equal(owners, history.owners(frame.turn))
+        assert all(np.array_equal(*queues) for queues in zip(frame.queues, now.queues))
+
+
+@settings(max_examples=60, deadline=None)
+@given(matches())
+def test_owners_are_those_of_single_steps(fight: Match) -> None:
+    history = History(fight)
+    owners = history.owners(0)
+    loaded = sum(map(len, fight.warriors))
+    assert (owners != NOBODY).sum() == loaded
+    for turn, before, after in steps(history):
+        owners[before.cells != after.cells] = history.record(turn)["warrior"]
+        assert np.array_equal(owners, history.owners(turn))
+
+
+def test_an_edit_leaves_the_other_future() -> None:
+    fight = Match((read(str(EXAMPLES / "dwarf.red")), read(str(EXAMPLES / "imp.red"))))
+    before = History(fight)
+    after = before.edited(6, "edit 0 JMP.B $2, $0")
+    assert (before.end, after.end) == (7798, 160000)
+    assert before.edits == () and after.edits == ((6, "edit 0 JMP.B $2, $0"),)
+    assert after.owners(6)[0] == BY_HAND and before.owners(6)[0] == 0
+    behind, old, new = after.by_hand(0, 100) or pytest.fail("the edit isn't found")
+    assert (behind, cell_text(old, 8000), cell_text(new, 8000)) == (6, "ADD.AB #4, $3", "JMP.B $2, $0")
+    assert after.by_hand(1, 100) is None and before.by_hand(0, 100) is None
