@@ -9,6 +9,7 @@ import click
 
 from ..model.faults import Refused
 from .options import HELP
+from .telling import tell, tell_fault
 
 # Each subcommand, and the module of this folder that has it: what a command needs is imported where it is called.
 COMMANDS = {
@@ -20,6 +21,9 @@ COMMANDS = {
     "picture": "pictures",
     "page": "pictures",
     "rounds": "rounds",
+    "league": "league",
+    "challenge": "league",
+    "explain": "explaining",
     "web": "workbench",
 }
 
@@ -56,7 +60,7 @@ def main() -> None:
         tell("stopped")
         sys.exit(130)
     except Refused as fault:
-        tell(str(fault))
+        tell_fault(fault)
         sys.exit(1)
     except OSError as fault:
         if not isinstance(fault, BrokenPipeError):
@@ -64,16 +68,6 @@ def main() -> None:
         # What standard output didn't take isn't tried again.
         os.dup2(os.open(os.devnull, os.O_WRONLY), sys.stdout.fileno())
         sys.exit(1)
-
-
-def printable(text: str) -> str:
-    """The text with `?` for each character that isn't shown, or that a terminal obeys: names may be a stranger's."""
-    return "".join(letter if letter.isprintable() else "?" for letter in text)
-
-
-def tell(text: str) -> None:
-    """Writes lines to standard error."""
-    click.echo("\n".join(f"corewar: {printable(line)}" for line in text.split("\n")), err=True)
 
 
 if __name__ == "__main__":

@@ -93,13 +93,14 @@ CONTEST = [
         help="What a source may take, in seconds and megabytes; 10,1000.",
     ),
 ]
-FILES = click.argument("files", nargs=-1, required=True)
 ROUND = click.option(
     "--round", "round_", type=click.IntRange(0), default=0, help="Which round of the match, from 0 on."
 )
 
 
-def battle_options(*, one_round: bool = False) -> Callable[[Callable[..., Any]], Callable[..., Any]]:
+def battle_options(
+    *, one_round: bool = False, needs_files: bool = True
+) -> Callable[[Callable[..., Any]], Callable[..., Any]]:
     """Gives a command the options of a contest and its files, as its argument `asked`; with `one_round` that of a round, too."""
 
     def decorate(command: Callable[..., Any]) -> Callable[..., Any]:
@@ -110,7 +111,8 @@ def battle_options(*, one_round: bool = False) -> Callable[[Callable[..., Any]],
             contest: dict[str, Any] = {name: given.pop(name) or 0 for name in ("rounds", "seed", "position", "formula")}
             return command(Asked(files, settings, round=round_, limit=limit, **contest), **given)
 
-        options = [*SETTINGS, *CONTEST, *([ROUND] if one_round else []), FILES]
+        options = [*SETTINGS, *CONTEST, *([ROUND] if one_round else [])]
+        options.append(click.argument("files", nargs=-1, required=needs_files))
         made: Callable[..., Any] = asking
         for option in reversed(options):
             made = option(made)

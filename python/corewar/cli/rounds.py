@@ -7,8 +7,8 @@ from ..analysis.captions import command
 from ..battle.rounds import rounds_of, sums
 from ..engine.calls import match
 from ..model.faults import Refused
-from .main import printable
 from .options import Asked, battle_options
+from .telling import printable
 
 
 @click.command()

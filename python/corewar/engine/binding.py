@@ -12,6 +12,7 @@ import re
 from collections.abc import Sequence
 from functools import lru_cache
 from pathlib import Path
+from threading import Lock
 from typing import Any
 
 import cffi
@@ -22,6 +23,7 @@ from ..model.faults import Fault, Refused
 
 # The answer of a call whose buffer is too short, which isn't a fault.
 ROOM = 10
+OPENING = Lock()
 CHECKOUT = Path(__file__).resolve().parents[3]
 SYSTEM = [Path(folder) for folder in ("/usr/local", "/usr")]
 
@@ -35,8 +37,14 @@ def found(variable: str, places: Sequence[Path]) -> str | None:
     return os.environ.get(variable) or next((str(path) for path in places if path.is_file()), None)
 
 
-@lru_cache(maxsize=None)
 def library() -> tuple[Any, Any]:
+    """The types of the header, and the library: the same for all threads, since the types of two headers don't go together."""
+    with OPENING:
+        return opened()
+
+
+@lru_cache(maxsize=None)
+def opened() -> tuple[Any, Any]:
     """The types of the header, and the library."""
     shared = found("MARS_LIBRARY", [CHECKOUT / "build" / "libmars.so"]) or ctypes.util.find_library("mars")
     if shared is None:
@@ -48,13 +56,13 @@ def library() -> tuple[Any, Any]:
     ffi = cffi.FFI()
     ffi.cdef(declarations(Path(header).read_text()))
     try:
-        opened: Any = ffi.dlopen(shared)
+        calls: Any = ffi.dlopen(shared)
     except OSError as fault:
         raise NoLibrary(f"{shared}: {fault}") from None
-    given, wanted = opened.mars_version(), opened.MARS_VERSION
+    given, wanted = calls.mars_version(), calls.MARS_VERSION
     if given // 1000 != wanted // 1000 or given < wanted:
         raise NoLibrary(f"{shared} is of version {given}, and {header} of {wanted}: scripts/library builds it anew")
-    return ffi, opened
+    return ffi, calls
 
 
 def declarations(header: str) -> str:
@@ -103,9 +111,9 @@ def number(value: int) -> int:
 
 def call(name: str, *given: Any) -> int:
     """Calls the library; ROOM is an answer, and every other one but 0 is raised."""
-    ffi, opened = library()
+    ffi, calls = library()
     fault = ffi.new("MarsFault *")
-    answer: int = getattr(opened, name)(*given, fault)
+    answer: int = getattr(calls, name)(*given, fault)
     if answer not in (0, ROOM):
         raise Fault(fault.code, fault.number, fault.problem, fault.expression, fault.line, fault.warrior)
     return answer

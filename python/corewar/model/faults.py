@@ -15,7 +15,7 @@ KINDS: dict[int, tuple[str, list[str]]] = {
     8: ("battle", ["NoWarrior", "TooMany", "Overlap", "StartOutside", "FieldOutside"]),
     9: ("score", EXPRESSIONS),
 }
-MEMORY, ASSEMBLY, LOAD, FORMULA = 1, 5, 6, 4
+MEMORY, ASSEMBLY, LOAD, FORMULA, SCORE = 1, 5, 6, 4, 9
 
 
 class Refused(Exception):

@@ -19,7 +19,7 @@ from ..debugger.commands import Left, execute
 from ..debugger.session import Session
 from ..engine.calls import Match
 from ..engine.sources import Assembler, Limit, Overrun
-from ..explain.faults import told as explained
+from ..explain import told as explained
 from ..model.cells import cell_text
 from ..model.faults import Fault, Refused
 from ..model.settings import Settings

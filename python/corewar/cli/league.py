@@ -1,0 +1,218 @@
+"""`league` and `challenge`: matches of many warriors in pairs."""
+from __future__ import annotations
+
+import os
+import re
+from collections.abc import Callable, Sequence
+from dataclasses import dataclass
+from functools import wraps
+from pathlib import Path
+from typing import Any
+
+import click
+import numpy as np
+from rich.console import Console
+from rich.progress import BarColumn, MofNCompleteColumn, Progress, TimeRemainingColumn
+
+from ..league.contest import Contest, Matches, Pairs, all_pairs, enter
+from ..league.places import cluster, threads
+from ..league.results import Results
+from ..league.table import FORMATS, League
+from ..model.faults import FileFault
+from ..model.warriors import Warrior
+from .options import Asked, battle_options
+from .telling import printable, tell, tell_fault
+
+PICTURES = (".png", ".svg", ".pdf")
+ADDRESS = re.compile(r"(tcp://)?(\[[0-9a-fA-F:]+\]|[^\s/:\[\]]+):\d+")
+TURNED = "{} of {} matches are kept the other way round alone: those are other matches, so these are fought"
+
+
+def writable(context: click.Context, param: click.Parameter, path: str | None) -> str | None:
+    """A file that can be made where it isn't there."""
+    if path is not None and not Path(path).absolute().parent.is_dir():
+        raise click.BadParameter(f"there is no folder {Path(path).parent}")
+    if path is not None and param.name == "picture" and not path.endswith(PICTURES):
+        raise click.BadParameter(f"its name ends in {', '.join(PICTURES[:-1])} or {PICTURES[-1]}")
+    return path
+
+
+def address(context: click.Context, param: click.Parameter, given: str | None) -> str | None:
+    if given is not None and not ADDRESS.fullmatch(given):
+        raise click.BadParameter("it is HOST:PORT, as in first.lan:8786")
+    return given
+
+
+FILE = click.Path(dir_okay=False, writable=True)
+PLACE = [
+    click.option("--results", type=FILE, callback=writable, help="Keeps results here, and fights none that are here."),
+    click.option(
+        "--jobs",
+        type=click.IntRange(1),
+        default=len(os.sched_getaffinity(0)),
+        help="Matches at a time; all processors.",
+    ),
+    click.option("--scheduler", callback=address, metavar="HOST:PORT", help="Fights on the workers of a Dask cluster."),
+]
+
+
+@dataclass(frozen=True)
+class Hall:
+    """Where matches are fought, and where their results are kept."""
+
+    results: str | None
+    jobs: int
+    scheduler: str | None
+
+    def fight(self, matches: Matches) -> None:
+        """Fights all that isn't kept, with a bar on a terminal."""
+        try:
+            if not self.results:
+                self._fight(matches, lambda rows: None)
+                return
+            with Results(self.results, matches) as kept:
+                turned = kept.find()
+                if turned:
+                    tell(TURNED.format(turned, len(matches)))
+                self._fight(matches, kept.keep)
+        except KeyboardInterrupt:
+            done = f"{matches.is_fought.sum()} of {len(matches)} matches are kept: the same command goes on"
+            tell(done if self.results else "stopped")
+            # A match that is under way isn't waited for.
+            os._exit(130)
+
+    def _fight(self, matches: Matches, keep: Callable[[Pairs], None]) -> None:
+        console = Console(stderr=True)
+        columns = (MofNCompleteColumn(), "matches", BarColumn(), TimeRemainingColumn())
+        place = cluster(matches, self.scheduler) if self.scheduler else threads(matches, self.jobs)
+        with Progress(*columns, console=console, transient=True, disable=not console.is_terminal) as bar, place as here:
+            task = bar.add_task("", total=len(matches), completed=int(matches.is_fought.sum()))
+            for rows in here.fight(matches):
+                keep(rows)
+                bar.advance(task, len(rows))
+
+
+def contest_options(command: Callable[..., Any]) -> Callable[..., Any]:
+    """Gives a command the options of a contest, its files and its place, as the arguments `asked` and `hall`."""
+
+    @battle_options()
+    @wraps(command)
+    def asking(asked: Asked, results: str | None, jobs: int, scheduler: str | None, **given: Any) -> Any:
+        if len(asked.files) < 2:
+            raise click.UsageError("at least two files are asked for")
+        return command(asked, Hall(results, jobs, scheduler), **given)
+
+    made: Callable[..., Any] = asking
+    for option in reversed(PLACE):
+        made = option(made)
+    return made
+
+
+def entered(asked: Asked) -> tuple[Contest, list[Warrior], list[FileFault]]:
+    """The contest, the warriors of the files, and the faults of those that have none, which are told."""
+    contest = Contest(asked.settings, asked.rounds, asked.seed, asked.position, asked.formula)
+    warriors, faults = enter(contest, asked.files, asked.limit)
+    for fault in faults:
+        tell_fault(fault)
+    return contest, warriors, faults
+
+
+def write(text: str, output: str | None) -> None:
+    """Writes text with its end of line to a file, or to standard output; names of files are written as they were given."""
+    told = f"{text}\n".encode("utf-8", "surrogateescape")
+    if output:
+        Path(output).write_bytes(told)
+    else:
+        click.echo(told, nl=False)
+
+
+@click.command()
+@contest_options
+@click.option(
+    "--order",
+    type=click.Choice(["points", "files"]),
+    default="points",
+    help="The most points first, or as the files stand.",
+)
+@click.option("--format", "form", type=click.Choice(list(FORMATS)), default="table", show_default=True)
+@click.option("-o", "--output", type=FILE, callback=writable, help="Writes the table there.")
+@click.option("--picture", type=FILE, callback=writable, help="Draws who beats whom, as .png, .svg or .pdf.")
+@click.option("--pages", type=click.Path(file_okay=False), help="Writes index.html there, with table and matrix.")
+@click.option("--page-pairs", "named", multiple=True, metavar="A,B", help="Two files that have a replay, too.")
+def league(asked: Asked, hall: Hall, order: str, form: str, **files: Any) -> int:
+    """Fights a match of every two warriors.
+
+    The file that stands earlier is the first warrior of a match. A file with a fault is told and left out; then the status is 1.
+    """
+    contest, warriors, faults = entered(asked)
+    pairs = [pair_of(warriors, names) for names in files["named"]]
+    matches = Matches(contest, warriors, all_pairs(len(warriors)))
+    hall.fight(matches)
+    result = League(matches, order == "points")
+    text = FORMATS[form](result)
+    write(text if form in ("csv", "json") else "\n".join(map(printable, text.split("\n"))), files["output"])
+    if files["picture"]:
+        from ..pictures.matrix import draw
+
+        ranks = [result.ranks[number] for number in result.order]
+        draw(result.titles(), ranks, result.balances(), files["picture"])
+    if files["pages"]:
+        write_pages(result, files["pages"], pairs)
+    return 1 if faults else 0
+
+
+def pair_of(warriors: Sequence[Warrior], names: str) -> tuple[int, int]:
+    """The two warriors that `A,B` names by their files, with or without folder and ending, in the order of the files."""
+    found = [number for name in names.split(",") for number, one in enumerate(warriors) if name in names_of(one)]
+    if len(found) != 2 or found[0] == found[1] or names.count(",") != 1:
+        raise click.BadParameter(f"{names} doesn't name two of the files, as in dwarf,imp", param_hint="--page-pairs")
+    return min(found), max(found)
+
+
+def names_of(warrior: Warrior) -> tuple[str, str, str]:
+    path = Path(warrior.file)
+    return warrior.file, path.name, path.stem
+
+
+def write_pages(result: League, folder: str, pairs: list[tuple[int, int]]) -> None:
+    from ..pages.league import Pages
+
+    pages = Pages(Path(folder), result, pairs)
+    pages.write_index()
+    for pair in pairs:
+        pages.write_replay(*pair)
+
+
+@click.command()
+@contest_options
+@click.option("--sum", "only_sum", is_flag=True, help="Prints the line of sums alone.")
+def challenge(asked: Asked, hall: Hall, only_sum: bool) -> int:
+    """Fights a match of the first file, a candidate, with each of the others, its opponents.
+
+    A line has the points, wins, ties and losses of the candidate, and the points of the opponent. The last one has the sums. A file with
+    a fault is told and left out; then the status is 1. The candidate's fault ends all.
+    """
+    contest, warriors, faults = entered(asked)
+    if not warriors or any(fault.file == asked.files[0] for fault in faults):
+        return 1
+    opponents = np.arange(1, len(warriors))
+    matches = Matches(contest, warriors, np.column_stack([np.zeros_like(opponents), opponents]))
+    hall.fight(matches)
+    lines = [] if only_sum else lines_of(matches)
+    sums = [sum(column) for column in matches.counts.T.tolist()]
+    write("\n".join([*lines, f"{row_of(sums)}  sum of {len(matches)}"]), None)
+    return 1 if faults else 0
+
+
+def row_of(counts: Sequence[int]) -> str:
+    points, wins, ties, losses, theirs = counts
+    return f"{points:8} {wins:6} {ties:6} {losses:6} {theirs:8}"
+
+
+def lines_of(matches: Matches) -> list[str]:
+    """The head, and a line for each match, the most points first."""
+    opponents = [matches.warriors[number] for number in matches.pairs[:, 1].tolist()]
+    width = max((len(one.file) for one in opponents), default=0)
+    lines = sorted(zip(matches.counts.tolist(), opponents), key=lambda line: -int(line[0][0]))
+    told = [f"{row_of(counts)}  {printable(one.file):{width}}  {one.title}" for counts, one in lines]
+    return ["  points   wins   ties losses   theirs  opponent", *told]

@@ -1,0 +1,25 @@
+"""What commands say of faults, on standard error."""
+from __future__ import annotations
+
+import click
+
+from ..explain import told
+from ..model.faults import Fault, FileFault, Refused
+
+
+def printable(text: str) -> str:
+    """The text with `?` for each character that isn't shown, or that a terminal obeys: names may be a stranger's."""
+    return "".join(letter if letter.isprintable() else "?" for letter in text)
+
+
+def tell(text: str) -> None:
+    """Writes lines to standard error."""
+    click.echo("\n".join(f"corewar: {printable(line)}" for line in text.split("\n")), err=True)
+
+
+def tell_fault(refused: Refused) -> None:
+    """Tells what can't be done, and behind a fault of the machine what it means."""
+    tell(str(refused))
+    fault, source = (refused.fault, refused.text) if isinstance(refused, FileFault) else (refused, b"")
+    if isinstance(fault, Fault):
+        click.echo("".join(f"  {printable(sentence)}\n" for sentence in told(fault, source)), err=True, nl=False)

@@ -1,0 +1,137 @@
+"""Why a source has a fault, as far as the look of its text tells: sentences, the likeliest first."""
+from __future__ import annotations
+
+import re
+from collections.abc import Callable, Iterator
+from unicodedata import name as character_name
+
+from .source import ELSEWHERE, MODIFIERS, NAME, OPCODES, PREDEFINED, Line, Source, like, misspelt
+
+Cause = Callable[[Source, Line], Iterator[str]]
+COMMENT, BEGINS = re.compile(r"//|/\*"), "A comment begins with `;`."
+DASHED = re.compile(r"\s*([A-Za-z_]\w*(?:-\w+)+):?(?=\s)")
+OPENING = ("#", "$", "@", "{", "}", "(")
+
+
+def not_ascii(source: Source, line: Line) -> Iterator[str]:
+    raw = source.data.split(b"\n")[line.number - 1].split(b";")[0]
+    if line.number == 1 and raw.startswith((b"\xff\xfe", b"\xfe\xff")):
+        yield "The file is UTF-16, as some editors of Windows save it: save it as plain text."
+    elif line.number == 1 and raw.startswith(b"\xef\xbb\xbf"):
+        yield "The file begins with a byte order mark, three bytes that can't be seen: save it as UTF-8 without it."
+    else:
+        found = re.search(r"[^\x00-\x7f]", raw.decode("utf-8", "replace"))
+        if found:
+            named = character_name(found[0], "without a name").lower()
+            yield f"Column {found.start() + 1} has `{found[0]}`, {named}: write the plain sign of your keyboard."
+
+
+def operation(source: Source, line: Line) -> Iterator[str]:
+    dashed, word = DASHED.match(line.code), misspelt(line)
+    if COMMENT.search(line.code):
+        yield BEGINS
+    elif dashed:
+        yield f"A name has no `-`: write `{dashed[1].replace('-', '_')}`."
+    elif word:
+        yield word
+    elif line.operation in source.equates:
+        yield f"`{line.operation}` is the EQU name of line {source.equates[line.operation].number}, so its text is read here."
+    elif line.rest[:1] == ["."]:
+        yield from modifier(source, line, "".join(line.rest[1:2]))
+
+
+def modifier(source: Source, line: Line, named: str) -> Iterator[str]:
+    for loop in source.loops_around(line.number):
+        if loop.counter == named:
+            yield (
+                f"`{named}` is the counter of the loop of line {loop.head.number}, so its number stands behind the point: "
+                f"write `.{named.swapcase()}`, or give the counter another name, as `corewar explain --mend` does."
+            )
+    if named.upper() not in MODIFIERS:
+        yield f"`.{named}` is no modifier: there are {', '.join(MODIFIERS)}."
+
+
+def duplicate(source: Source, line: Line) -> Iterator[str]:
+    word, labels, loops = misspelt(line), source.labels(), source.loops_around(line.number)
+    if word:
+        yield word
+    for name in dict.fromkeys(line.labels):
+        other = min((found.get(name, line) for found in (labels, source.equates)), key=lambda one: one.number)
+        if name in PREDEFINED:
+            yield f"`{name}` is predefined: call it otherwise."
+        elif other.number < line.number:
+            yield taken(line, name, other)
+        elif line.labels.count(name) > 1:
+            yield f"`{name}` stands twice in this line, and no operation between."
+        elif loops:
+            yield f"`{name}` stands in a loop, which is read more than once: write `{name}&{loops[-1].counter or 'i'}`."
+
+
+def taken(line: Line, name: str, other: Line) -> str:
+    """Why a name stands in an earlier line."""
+    word = misspelt(other)
+    if word:
+        return f"In line {other.number} {word}"
+    if line.word == "EQU" and not other.operation:
+        return f"Line {other.number} uses `{name}` before this EQU, so it is read as a label there: move the EQU up."
+    return f"`{name}` stands in line {other.number} already."
+
+
+def syntax(source: Source, line: Line) -> Iterator[str]:
+    tokens = line.operands
+    if COMMENT.search(line.code):
+        yield BEGINS
+        return
+    if line.word in OPCODES and tokens and tokens[0].upper() in OPCODES:
+        yield f"`{line.operation}` is an opcode, so no label: call it otherwise."
+        return
+    for before, after in zip(tokens, tokens[1:]):
+        if (before == ")" or re.match(r"\w", before)) and (after in OPENING or re.match(r"\w", after)):
+            yield f"A comma may be missing between `{before}` and `{after}`."
+    if tokens.count("(") != tokens.count(")"):
+        yield f"Parentheses: {tokens.count('(')} opened, {tokens.count(')')} closed."
+
+
+def unknown(source: Source, line: Line) -> Iterator[str]:
+    labels, counters = source.labels(), {loop.counter for loop in source.loops_around(line.number)}
+    names, seen = [token for token in line.operands if NAME.match(token)], {*PREDEFINED, *counters}
+    for name in names:
+        if name in seen or "&" in name:
+            continue
+        seen.add(name)
+        if name in source.equates:
+            names += [inner for inner in source.equates[name].operands if NAME.match(inner)]
+        elif name not in labels:
+            yield undefined(source, name, {**labels, **source.equates})
+        elif line.text.lstrip().startswith(";"):
+            yield f"`{name}` is a label: an assert knows numbers, predefined names and EQU names."
+
+
+def undefined(source: Source, name: str, known: dict[str, Line]) -> str:
+    """Why a name stands for nothing."""
+    for loop in source.loops:
+        if name in loop.head.labels:
+            return f"`{name}` before the FOR of line {loop.head.number} is its counter: give it a line of its own."
+    for line in source.lines:
+        if line.unread and name in line.labels:
+            return f"`{name}` stands in line {line.number}, but {line.unread}."
+    if name.upper() in OPCODES + ELSEWHERE:
+        return f"`{name}` is an opcode: two instructions on one line, or a label of that name?"
+    near = like(name, [*known, *PREDEFINED])
+    if name == "PSPACESIZE":
+        return "`PSPACESIZE`: P-space is left out."
+    if near is None:
+        return f"`{name}` isn't defined: no line has it as a label or as the name of an EQU."
+    where = f" (line {known[near].number})" if near in known else ""
+    case = ": case counts" if near.lower() == name.lower() else ""
+    return f"`{name}` isn't defined{case}. Is `{near}`{where} meant?"
+
+
+# What looks for the causes of a fault, by its text.
+CAUSES: dict[str, Cause] = {
+    "1 Text 1 NotAscii": not_ascii,
+    "1 Text 7 Duplicate": duplicate,
+    "2 Operation": operation,
+    "4 Expression 1 Syntax": syntax,
+    "4 Expression 2 Unknown": unknown,
+}

@@ -1,0 +1,148 @@
+"""Sources by their look: lines with labels, operation and operands, EQU names, and loops, each of which is read once."""
+from __future__ import annotations
+
+import re
+from collections.abc import Sequence
+from dataclasses import dataclass, field
+from difflib import get_close_matches
+
+OPCODES = "DAT MOV ADD SUB MUL DIV MOD JMP JMZ JMN DJN SEQ CMP SNE SLT SPL NOP".split()
+OPERATIONS = [*OPCODES, *"FOR ROF EQU ORG END".split()]
+MODIFIERS = "A B AB BA F X I".split()
+PREDEFINED = "CORESIZE MAXPROCESSES MAXCYCLES MAXLENGTH MINDISTANCE ROUNDS WARRIORS VERSION CURLINE".split()
+# Opcodes of other dialects.
+ELSEWHERE = "LDP STP PIN XCH PCT STS".split()
+# A name with its joins, a number, or a sign. What is no sign of the language comes as a token, too.
+TOKEN = re.compile(r"(?:\w|&(?=[A-Za-z_]))+|==|!=|<=|>=|&&|\|\||\S", re.ASCII)
+NAME = re.compile(r"[A-Za-z_][\w&]*$", re.ASCII)
+# So many words of a line are looked at for one that is spelt like another.
+FIRST_WORDS = 20
+
+
+@dataclass
+class Line:
+    """A line; `unread` says why it isn't read, where it isn't."""
+
+    number: int
+    text: str
+    labels: list[str] = field(default_factory=list)
+    operation: str = ""
+    rest: list[str] = field(default_factory=list)
+    unread: str = ""
+
+    @property
+    def word(self) -> str:
+        """The operation in capitals."""
+        return self.operation.upper()
+
+    @property
+    def code(self) -> str:
+        """What stands before the comment."""
+        return self.text.partition(";")[0]
+
+    @property
+    def operands(self) -> list[str]:
+        """The tokens of the operands, or of an assert."""
+        if re.match(r"\s*;assert\b", self.text, re.I):
+            return TOKEN.findall(self.text.split(";")[1])[1:]
+        return self.rest[2:] if self.rest[:1] == ["."] else self.rest
+
+
+@dataclass
+class Loop:
+    """A loop: the line of its FOR, its counter or nothing, and the number of the line of its ROF."""
+
+    head: Line
+    counter: str
+    last: int
+
+
+@dataclass
+class Source:
+    """A source: its bytes and its lines, the first line of each EQU name, and the loops."""
+
+    data: bytes
+    lines: list[Line]
+    equates: dict[str, Line]
+    loops: list[Loop]
+
+    def labels(self) -> dict[str, Line]:
+        """The first line of each label."""
+        found: dict[str, Line] = {}
+        for line in self.lines:
+            if not line.unread and line.word not in ("EQU", "FOR"):
+                for label in line.labels:
+                    found.setdefault(label, line)
+        return found
+
+    def loops_around(self, number: int) -> list[Loop]:
+        return [loop for loop in self.loops if loop.head.number < number < loop.last]
+
+
+def parse_line(number: int, text: str, names: dict[str, Line]) -> Line:
+    """A line in its parts: words are labels until one is an operation, as an EQU name may be."""
+    line, at = Line(number, text), 0
+    tokens = TOKEN.findall(line.code)
+    while at < len(tokens) and NAME.match(tokens[at]):
+        word, following = tokens[at], "".join(tokens[at + 1 : at + 2])
+        at += 1
+        is_operation = word.upper() in OPERATIONS or word in names
+        if following.upper() not in ("EQU", "FOR") and is_operation:
+            line.operation = word
+            break
+        line.labels.append(word)
+        at += following == ":"
+    line.rest = tokens[at:]
+    return line
+
+
+def read_source(data: bytes) -> Source:
+    """The lines of a source as they are parted where no loop is read twice."""
+    texts = [text.decode("utf-8", "replace").rstrip("\r") for text in data.removesuffix(b"\n").split(b"\n")]
+    first = next((number for number, text in enumerate(texts, 1) if re.match(r"\s*;redcode", text, re.I)), 1)
+    source, open_loops, end = Source(data, [], {}, []), list[Loop](), 0
+    for number, text in enumerate(texts, 1):
+        line = parse_line(number, text, source.equates)
+        source.lines.append(line)
+        if number < first:
+            line.unread = f"what is before the `;redcode` of line {first} is ignored"
+        elif end:
+            line.unread = f"the END of line {end} stops reading"
+        elif line.word == "END":
+            end = number
+        elif line.word == "EQU" and line.labels:
+            source.equates.setdefault(line.labels[-1], line)
+        elif line.word == "FOR":
+            open_loops.append(Loop(line, "".join(line.labels[-1:]), len(texts) + 1))
+            source.loops.append(open_loops[-1])
+        elif line.word == "ROF" and open_loops:
+            open_loops.pop().last = number
+    return source
+
+
+def like(word: str, choices: Sequence[str]) -> str | None:
+    """The one of the choices that is spelt most like a word: the same letters in another order first."""
+    upper = {choice.upper(): choice for choice in choices}
+    same = [choice for choice in upper if sorted(choice) == sorted(word.upper())]
+    close = same or get_close_matches(word.upper(), upper, n=1)
+    return upper[close[0]] if close else None
+
+
+def misspelt(line: Line) -> str | None:
+    """What is to be said of a word that stands where an operation should, and is spelt like one or is one of another dialect."""
+    if line.operation or not (line.rest or len(line.labels) > 1):
+        return None
+    for word in line.labels[:FIRST_WORDS]:
+        meant = like(word, OPERATIONS)
+        if word.upper() in ELSEWHERE:
+            return f"`{word}` isn't an opcode of this language: P-space and the like are left out."
+        if meant:
+            return f"`{word}` is read as a label: is {meant} meant?"
+    return None
+
+
+def excerpt(data: bytes, number: int) -> list[str]:
+    """The line of a source with its neighbours; nothing where it has no such line."""
+    lines = data.decode("utf-8", "replace").removesuffix("\n").split("\n")
+    shown = [] if not 0 < number <= len(lines) else range(max(1, number - 1), min(len(lines), number + 1) + 1)
+    return [f"{'>' if at == number else ' '} {at:4} | {lines[at - 1].expandtabs()}".rstrip() for at in shown]

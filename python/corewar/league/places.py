@@ -1,0 +1,136 @@
+"""Where matches are fought: by threads of this process, or by the workers of a Dask cluster, which have this package installed."""
+from __future__ import annotations
+
+import logging
+import sys
+from collections.abc import Callable, Iterator
+from concurrent.futures import FIRST_COMPLETED, CancelledError, Future, ThreadPoolExecutor, wait
+from contextlib import contextmanager
+from dataclasses import dataclass
+from itertools import islice
+from typing import Any
+
+import numpy as np
+
+from ..model.faults import Refused
+from ..model.warriors import Warrior
+from .contest import Contest, Counts, Matches, Pairs, fight
+
+# How many cycles a bundle takes at most here, which is a quarter of a second, and how many bundles there are for each thread.
+CYCLES = 6_000_000
+AHEAD = 2
+# The same at a scheduler, where each bundle costs some milliseconds.
+CYCLES_THERE = 50_000_000
+AT_A_SCHEDULER = 500
+# After so many seconds without an answer it is looked whether there is somebody to answer.
+LOOK_EACH = 5
+NO_PACKAGE = f"--scheduler: {sys.executable} has no package distributed: apt-get install python3-distributed"
+
+
+@dataclass(frozen=True)
+class Place:
+    """How a bundle is handed out; how many cycles it takes at most; how many bundles are out at a time; what is done now and then while
+    they are waited for; and the counts of one that is done."""
+
+    submit: Callable[[Pairs], Future[Any]]
+    cycles: int
+    at_a_time: int
+    look: Callable[[], None] = lambda: None
+    counts_of: Callable[[Future[Any]], Counts] = Future.result
+
+    def fight(self, matches: Matches) -> Iterator[Pairs]:
+        """Fights what isn't fought yet. Gives the rows of each bundle when their counts are filled in. Raises Refused."""
+        bundles = matches.bundles(self.cycles)
+        out: dict[Future[Any], Pairs] = {}
+        while True:
+            for bundle in islice(bundles, self.at_a_time - len(out)):
+                out[self.submit(bundle)] = bundle
+            if not out:
+                return
+            done = wait(out, LOOK_EACH, FIRST_COMPLETED).done
+            for future in done:
+                rows = out.pop(future)
+                matches.fill_in(rows, self.counts_of(future))
+                yield rows
+            if not done:
+                self.look()
+
+
+@contextmanager
+def threads(matches: Matches, jobs: int) -> Iterator[Place]:
+    """So many matches at a time here. What hasn't begun when it is left is dropped."""
+    pool = ThreadPoolExecutor(jobs)
+
+    def submit(rows: Pairs) -> Future[Counts]:
+        return pool.submit(fight, matches.contest, matches.warriors, matches.pairs[rows])
+
+    try:
+        yield Place(submit, CYCLES, AHEAD * jobs)
+    finally:
+        pool.shutdown(wait=False, cancel_futures=True)
+
+
+def fight_there(contest: Contest, loads: dict[int, bytes], pairs: Pairs) -> Counts | str:
+    """The counts of a bundle, on a worker; a fault as text, since that can be sent."""
+    try:
+        return fight(contest, {number: Warrior(load) for number, load in loads.items()}, pairs)
+    except Refused as fault:
+        return str(fault)
+
+
+def counts_there(future: Future[Counts | str]) -> Counts:
+    """The counts of a bundle that a worker has fought."""
+    try:
+        counts = future.result()
+    except CancelledError:
+        raise Refused("the scheduler has gone") from None
+    except Exception as fault:
+        # What is handed out raises nothing of its own: a worker can't take it, or a bundle has ended several workers.
+        raise Refused(f"the workers: {' '.join(str(fault).split())}") from None
+    if isinstance(counts, str):
+        raise Refused(counts)
+    return counts
+
+
+def teller_of_absence(client: Any) -> Callable[[], None]:
+    """What tells, each time that it becomes so, that a scheduler has no worker."""
+    was_alone = False
+
+    def look() -> None:
+        nonlocal was_alone
+        try:
+            is_alone = not client.nthreads()
+        except OSError:
+            return
+        if is_alone and not was_alone:
+            print("corewar: no worker is there: the matches wait for one", file=sys.stderr)
+        was_alone = is_alone
+
+    return look
+
+
+@contextmanager
+def cluster(matches: Matches, address: str) -> Iterator[Place]:
+    """The workers of a Dask scheduler. What hasn't ended when it is left is dropped. Raises Refused."""
+    try:
+        import distributed
+    except ImportError:
+        raise Refused(NO_PACKAGE) from None
+    # Dask logs a traceback for each match that is dropped; what ends a league comes as a fault.
+    logging.disable()
+    try:
+        begin: Any = distributed.Client
+        client = begin(address, timeout=10, set_as_default=False)
+    except (OSError, ValueError) as fault:
+        raise Refused(f"--scheduler {address}: {fault}") from None
+
+    def submit(rows: Pairs) -> Future[Any]:
+        pairs = matches.pairs[rows]
+        loads = {number: matches.warriors[number].load for number in np.unique(pairs).tolist()}
+        handed_out: Future[Any] = executor.submit(fight_there, matches.contest, loads, pairs)
+        return handed_out
+
+    with client:
+        executor, look = client.get_executor(pure=False), teller_of_absence(client)
+        look()
+        yield Place(submit, CYCLES_THERE, AT_A_SCHEDULER, look, counts_there)

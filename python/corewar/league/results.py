@@ -1,0 +1,71 @@
+"""Results of matches, kept in a file of SQLite, so that no match is fought twice.
+
+A match is known by its contest and by the digests of its two load files, in their order: a fight is a function of these. Results are
+written once a second, all of them or none, so a process that is killed loses at most those of its last second. Several processes may
+use one file.
+"""
+from __future__ import annotations
+
+import shlex
+import sqlite3
+import time
+from collections.abc import Iterator
+from contextlib import contextmanager
+from typing import Any
+
+from ..model.faults import Refused
+from .contest import Matches, Pairs
+
+TABLE = """CREATE TABLE IF NOT EXISTS fought (contest TEXT, first BLOB, second BLOB, points INTEGER NOT NULL, wins INTEGER NOT NULL,
+ties INTEGER NOT NULL, losses INTEGER NOT NULL, theirs INTEGER NOT NULL, PRIMARY KEY (contest, first, second)) STRICT, WITHOUT ROWID"""
+FIND = "SELECT first, second, points, wins, ties, losses, theirs FROM fought WHERE contest = ?"
+KEEP = "INSERT OR IGNORE INTO fought VALUES (?, ?, ?, ?, ?, ?, ?, ?)"
+# How long another process may keep the file to itself, and how long results wait to be written, in seconds.
+PATIENCE = 60
+WRITE_EACH = 1
+
+
+class Results:
+    """The kept results of some matches. Leaving it writes what waits. A fault of the file raises Refused."""
+
+    def __init__(self, path: str, matches: Matches) -> None:
+        self.path, self.matches, self.contest = path, matches, shlex.join(matches.contest.words)
+        self.new: list[tuple[Any, ...]] = []
+        self.written = time.monotonic()
+        with self.telling():
+            self.file = sqlite3.connect(path, timeout=PATIENCE)
+            self.file.execute(TABLE)
+
+    def __enter__(self) -> Results:
+        return self
+
+    def __exit__(self, *_: object) -> None:
+        self.write()
+        self.file.close()
+
+    @contextmanager
+    def telling(self) -> Iterator[None]:
+        """Tells a fault of SQLite as one of the file."""
+        try:
+            yield
+        except sqlite3.Error as fault:
+            raise Refused(f"{self.path}: {fault}") from None
+
+    def find(self) -> int:
+        """Fills in the matches that are kept. Returns how many are kept the other way round alone."""
+        with self.telling():
+            return self.matches.take_kept(self.file.execute(FIND, [self.contest]))
+
+    def keep(self, rows: Pairs) -> None:
+        """Keeps the matches of some rows, which were fought."""
+        digests, counts = self.matches.digests, self.matches.counts[rows].tolist()
+        for (first, second), numbers in zip(self.matches.pairs[rows].tolist(), counts):
+            self.new.append((self.contest, digests[first], digests[second], *numbers))
+        if time.monotonic() - self.written >= WRITE_EACH:
+            self.write()
+
+    def write(self) -> None:
+        """Writes what waits."""
+        with self.telling(), self.file:
+            self.file.executemany(KEEP, self.new)
+        self.new, self.written = [], time.monotonic()

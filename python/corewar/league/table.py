@@ -1,0 +1,99 @@
+"""What came of a league: who has how many points, who beats whom, and both as text for people and programs."""
+from __future__ import annotations
+
+import csv
+import io
+import json
+from collections.abc import Iterator
+from functools import cached_property
+from typing import Any
+
+import numpy as np
+from numpy.typing import NDArray
+
+from ..model.faults import SCORE, Fault
+from ..model.warriors import Warrior
+from .contest import Matches
+
+HEAD = ("points", "wins", "ties", "losses")
+
+
+class League:
+    """The warriors of a league, and `against`: the points, wins, ties and losses of each, by the lines, against each, by the columns.
+
+    `ranks` has the place of each warrior by its points, from 1; those of equal points stand in the order of the files. `order` has the
+    warriors in the order in which they are shown.
+    """
+
+    def __init__(self, matches: Matches, by_points: bool = True) -> None:
+        self.matches, self.warriors = matches, [*matches.warriors.values()]
+        first, second = matches.pairs.T
+        self.against: NDArray[np.int64] = np.zeros((len(self.warriors), len(self.warriors), 4), np.int64)
+        self.against[first, second] = matches.counts[:, :4]
+        self.against[second, first] = matches.counts[:, [4, 3, 2, 1]]
+        points: list[int] = [sum(line) for line in self.against[..., 0].tolist()]
+        if any(not -(2**63) <= number < 2**63 for number in points):
+            raise Fault(SCORE, 4)
+        best = sorted(range(len(points)), key=points.__getitem__, reverse=True)
+        self.ranks = {number: rank for rank, number in enumerate(best, 1)}
+        self.order = best if by_points else sorted(best)
+
+    @cached_property
+    def rows(self) -> list[dict[str, Any]]:
+        """A row for each warrior that is shown: rank, file, name, author, points, wins, ties and losses."""
+        sums = self.against.sum(axis=1).tolist()
+        return [self._row(number, self.warriors[number], sums[number]) for number in self.order]
+
+    def _row(self, number: int, one: Warrior, sums: list[int]) -> dict[str, Any]:
+        names = {"rank": self.ranks[number], "file": one.file, "name": one.name, "author": one.author}
+        return {**names, **dict(zip(HEAD, sums))}
+
+    def titles(self) -> list[str]:
+        """Each warrior that is shown, by its name or its file, and its author."""
+        return [f"{self.warriors[number].called} by {self.warriors[number].author}" for number in self.order]
+
+    def balances(self) -> NDArray[np.int64]:
+        """The wins, ties and losses of each that is shown against each, in this order."""
+        return self.against[np.ix_(self.order, self.order)][..., 1:]
+
+
+def table_of(league: League) -> str:
+    lines = ["  rank   points   wins   ties losses  warrior"]
+    for row, title in zip(league.rows, league.titles()):
+        lines.append("{rank:6} {points:8} {wins:6} {ties:6} {losses:6}  {title}".format(**row, title=title))
+    return "\n".join(lines)
+
+
+def matrix_of(league: League) -> str:
+    """The wins of each against each; lines and columns have the ranks of the warriors."""
+    lines = [["", *(str(league.ranks[number]) for number in league.order)]]
+    for line, (number, wins) in enumerate(zip(league.order, league.balances()[..., 0].tolist())):
+        wins[line] = "."
+        lines.append([str(league.ranks[number]), *map(str, wins)])
+    width = max(len(cell) for line in lines for cell in line)
+    titles = ["warrior", *league.titles()]
+    return "\n".join(" ".join(cell.rjust(width) for cell in line) + f"  {title}" for line, title in zip(lines, titles))
+
+
+def csv_of(league: League) -> str:
+    text = io.StringIO()
+    writer = csv.DictWriter(text, ("rank", "file", "name", "author", *HEAD), lineterminator="\n")
+    writer.writeheader()
+    writer.writerows(league.rows)
+    return text.getvalue().rstrip("\n")
+
+
+def json_of(league: League) -> str:
+    """The words, the seed, the warriors as they are shown, and each match with its two warriors' places among them, from 0."""
+    contest = league.matches.contest
+    head = {"words": contest.words, "seed": contest.seed, "rounds": contest.rounds}
+    return json.dumps({**head, "warriors": league.rows, "matches": [*matches_of(league)]}, indent=None)
+
+
+def matches_of(league: League) -> Iterator[dict[str, int]]:
+    places = np.argsort(league.order)[league.matches.pairs]
+    for pair, counts in zip(places.tolist(), league.matches.counts.tolist()):
+        yield dict(zip(("first", "second", *HEAD, "theirs"), [*pair, *counts]))
+
+
+FORMATS = {"table": table_of, "csv": csv_of, "json": json_of, "matrix": matrix_of}

@@ -1,0 +1,80 @@
+"""The page of a league: its table, who beats whom, and links to the replays of some pairs."""
+from __future__ import annotations
+
+from collections.abc import Sequence
+from pathlib import Path
+from typing import Any
+
+from ..battle.frames import parts
+from ..battle.history import History, distinct
+from ..engine.calls import Match
+from ..league.table import League
+from ..pictures.shades import mixed
+from .render import render
+from .replay import page_of
+
+# The matrix of more warriors is too much for a browser.
+LARGEST_MATRIX = 250
+FRAMES = 600
+
+
+class Pages:
+    """A folder with the page of a league, index.html, and a folder for each pair that has a replay, named by its files."""
+
+    def __init__(self, folder: Path, league: League, pairs: Sequence[tuple[int, int]]) -> None:
+        self.folder, self.league, self.pairs = folder, league, pairs
+        self.stems = distinct([Path(one.file).stem for one in league.warriors])
+
+    def replay(self, one: int, other: int) -> str:
+        """Where the replay of the first round of two warriors' match stands, below the folder."""
+        first, second = sorted((one, other))
+        return f"{self.stems[first]}-{self.stems[second]}/round-0.html"
+
+    def write_index(self) -> None:
+        """Writes the page of the league, with links to replays that are to be written."""
+        league, contest = self.league, self.league.matches.contest
+        numbers = {
+            **vars(contest.settings),
+            "rounds": contest.rounds,
+            "seed": contest.seed,
+            "position": contest.position,
+        }
+        told = [f"{name.replace('_', ' ')} {value:,}" for name, value in numbers.items() if value]
+        page = render(
+            "league.html.j2",
+            rows=[{**row, "title": title} for row, title in zip(league.rows, league.titles())],
+            settings=[*told, f"points {contest.formula}"],
+            lines=self.lines() if len(league.order) <= LARGEST_MATRIX else [],
+            is_linked=bool(self.pairs),
+        )
+        self.folder.mkdir(parents=True, exist_ok=True)
+        (self.folder / "index.html").write_text(page, encoding="utf-8", errors="replace")
+
+    def lines(self) -> list[list[dict[str, Any] | None]]:
+        """The cells of the matrix, line by line; none where a warrior would meet itself."""
+        balances, order = self.league.balances(), self.league.order
+        colours, counts = mixed(balances).tolist(), balances.tolist()
+        return [
+            [
+                None if one == other else self.cell(one, other, counts[x][y], colours[x][y])
+                for y, other in enumerate(order)
+            ]
+            for x, one in enumerate(order)
+        ]
+
+    def cell(self, one: int, other: int, counts: list[int], colour: list[int]) -> dict[str, Any]:
+        wins, ties, losses = counts
+        told = f"{wins} wins, {ties} ties, {losses} losses against {self.league.warriors[other].called}"
+        ink = "#000" if sum(colour) > 3 * 130 else "#fff"
+        is_linked = (one, other) in self.pairs or (other, one) in self.pairs
+        link = self.replay(one, other) if is_linked else ""
+        return {"wins": wins, "told": told, "ground": f"#{bytes(colour).hex()}", "ink": ink, "link": link}
+
+    def write_replay(self, first: int, second: int) -> None:
+        """Writes the replay of the first round of the match of a pair."""
+        contest, warriors = self.league.matches.contest, self.league.warriors
+        fighters = (warriors[first], warriors[second])
+        history = History(Match(fighters, contest.settings, contest.seed, contest.position, contest.rounds))
+        path = self.folder / self.replay(first, second)
+        path.parent.mkdir(parents=True, exist_ok=True)
+        path.write_text(page_of(history, parts(0, history.end, FRAMES)), encoding="utf-8", errors="replace")

@@ -1,0 +1,31 @@
+"""Who beats whom in a league, as a picture and as colours: blue is won, red lost, grey tied."""
+from __future__ import annotations
+
+from collections.abc import Sequence
+
+import numpy as np
+from matplotlib.figure import Figure
+from matplotlib.patches import Patch
+from numpy.typing import NDArray
+
+from .shades import LOST, TIED, WON, mixed
+
+# The size of a cell and of the whole matrix at most, in inches; below the size of a letter, in points, names aren't written.
+CELL, SIDE, LETTER = 0.25, 20.0, 4.0
+
+
+def draw(titles: Sequence[str], ranks: Sequence[int], balances: NDArray[np.int64], path: str) -> None:
+    """Draws the wins, ties and losses of each against each, of the kind that the file's name ends in."""
+    side = min(CELL * len(titles), SIDE)
+    letter = min(9.0, 72 * side / max(1, len(titles)) * 0.7)
+    figure = Figure(figsize=(side + 4, side + 1), layout="constrained")
+    axes = figure.subplots()
+    axes.imshow(mixed(balances), interpolation="none")
+    places = range(len(titles)) if letter >= LETTER else []
+    axes.set_xticks(places, [str(ranks[place]) for place in places], fontsize=letter)
+    axes.set_yticks(places, [f"{titles[place]}  {ranks[place]}" for place in places], fontsize=letter)
+    axes.tick_params(length=0)
+    shades = {"won": WON, "tied": TIED, "lost": LOST}
+    patches = [Patch(color=[part / 255 for part in shade], label=name) for name, shade in shades.items()]
+    axes.legend(handles=patches, loc="upper left", bbox_to_anchor=(1.01, 1), borderaxespad=0, frameon=False)
+    figure.savefig(path)
