@@ -3,11 +3,15 @@ from __future__ import annotations
 
 import hashlib
 import json
+import os
+from collections.abc import Generator
+from contextlib import ExitStack
 from dataclasses import dataclass, field
 from pathlib import Path
 from typing import Any
 
 import numpy as np
+from numpy.typing import NDArray
 
 from ..analysis.captions import fate, outcome, settings_told, title
 from ..analysis.causes import change_told
@@ -20,6 +24,9 @@ from ..debugger.session import Session
 from ..engine.calls import Match
 from ..engine.sources import Assembler, Limit, Overrun
 from ..explain import told as explained
+from ..league.contest import Contest, Matches, all_pairs
+from ..league.places import threads
+from ..league.results import Results
 from ..model.cells import cell_text
 from ..model.faults import Fault, Refused
 from ..model.settings import Settings
@@ -30,6 +37,7 @@ from ..pages.replay import grave, page_of
 MOMENTS, FADING = 600, 16
 # How many cells stand before and behind the one that is looked at.
 AROUND = 4
+JOBS = len(os.sched_getaffinity(0))
 
 
 def digest(text: str) -> str:
@@ -75,12 +83,20 @@ class Bench:
     """The battle on the workbench. The debugger's session has its place in time and its futures."""
 
     folder: Folder
+    results: str | None = None
     assembler: Assembler = field(default_factory=lambda: Assembler(Limit()))
     session: Session | None = None
 
     def assemble(self, name: str, source: str, settings: Settings, warriors: int, rounds: int = 1) -> Warrior:
         text = source.encode("utf-8", "surrogateescape")
         return Warrior(self.assembler.assemble(text, settings, rounds, warriors), name, text)
+
+    def warrior(self, source: dict[str, str], settings: Settings, warriors: int, rounds: int) -> Warrior:
+        """The warrior of a source that the page sent. Raises Refused."""
+        try:
+            return self.assemble(source["name"], source["text"], settings, warriors, rounds)
+        except (Fault, Overrun) as fault:
+            raise Refused(f"{source['name']}: {fault}") from None
 
     def lint(self, source: str, settings: Settings) -> dict[str, Any]:
         """The load file of a source, or its fault: the line, what it is, and what to do."""
@@ -98,12 +114,7 @@ class Bench:
     def fight(self, given: dict[str, Any]) -> dict[str, Any]:
         """Lays a battle out, and knows how it ends. Raises Refused."""
         settings, sources = Settings(**given["settings"]), given["sources"]
-        warriors = []
-        for source in sources:
-            try:
-                warriors.append(self.assemble(source["name"], source["text"], settings, len(sources), given["rounds"]))
-            except (Fault, Overrun) as fault:
-                raise Refused(f"{source['name']}: {fault}") from None
+        warriors = [self.warrior(source, settings, len(sources), given["rounds"]) for source in sources]
         fought = Match(tuple(warriors), settings, given["seed"], 0, given["rounds"])
         history = History(fought, given["round"])
         self.session = Session(history, Sources(history))
@@ -211,6 +222,22 @@ class Bench:
             "after": next_change(history, address, turn),
         }
 
+    def league(self, given: dict[str, Any]) -> Generator[dict[str, Any], None, None]:
+        """Fights a match of every two sources, and tells the counts of matches as they end. Kept results are told at once."""
+        sources, contest = given["sources"], Contest(Settings(**given["settings"]), given["rounds"], given["seed"])
+        warriors = [self.warrior(source, contest.settings, 2, contest.rounds) for source in sources]
+        matches = Matches(contest, warriors, all_pairs(len(warriors)))
+        with ExitStack() as stack:
+            kept = stack.enter_context(Results(self.results, matches)) if self.results else None
+            here = stack.enter_context(threads(matches, JOBS))
+            if kept:
+                kept.find()
+            yield counts_told(matches, np.flatnonzero(matches.is_fought))
+            for rows in here.fight(matches):
+                if kept:
+                    kept.keep(rows)
+                yield counts_told(matches, rows)
+
     def search(self, word: str, address: int, turn: int, forward: bool) -> dict[str, Any]:
         """The next turn, or the last one before, of which something is so for a cell, or for any warrior."""
         history = self.here().history
@@ -236,3 +263,9 @@ class Bench:
             answer = [str(fault)]
         breaks = [session.told(condition) for condition in session.breaks]
         return {"turn": session.turn, "answer": answer, "breaks": breaks, "isOther": session.history is not before}
+
+
+def counts_told(matches: Matches, rows: NDArray[np.intp]) -> dict[str, Any]:
+    """The pairs and the counts of some matches, and how many of all are fought."""
+    counts = np.hstack([matches.pairs[rows], matches.counts[rows]]).tolist()
+    return {"done": int(matches.is_fought.sum()), "total": len(matches), "counts": counts}

@@ -2,9 +2,11 @@
 from __future__ import annotations
 
 import asyncio
+import json
 import secrets
 import webbrowser
 from collections.abc import Awaitable, Callable
+from concurrent.futures import ThreadPoolExecutor
 from pathlib import Path
 from typing import Any
 
@@ -14,14 +16,16 @@ from ..model.faults import Fault, Refused
 from ..model.settings import HILLS, Settings
 from ..pages.render import render
 from ..pictures.colours import DARK, LIGHT
-from .bench import Bench, Folder
+from .bench import Bench
 
 HERE = Path(__file__).parent / "static"
 SHARED = Path(__file__).parents[1] / "pages" / "static"
 CODEMIRROR = Path("/usr/share/javascript/codemirror")
 LARGEST_REQUEST = 20_000_000
 # What the page may load, and from where: of this server alone.
-POLICY = "default-src 'none'; script-src 'self'; style-src 'self' 'unsafe-inline'; img-src 'self'; connect-src 'self'"
+POLICY = (
+    "default-src 'none'; script-src 'self'; style-src 'self' 'unsafe-inline'; img-src 'self' data:; connect-src 'self'"
+)
 
 Handler = Callable[[web.Request], Awaitable[web.StreamResponse]]
 routes = web.RouteTableDef()
@@ -121,6 +125,30 @@ async def cell(request: web.Request) -> web.Response:
     return web.json_response(await asyncio.to_thread(bench_of(request).cell, *numbers))
 
 
+@routes.post("/league")
+async def league(request: web.Request) -> web.StreamResponse:
+    """The counts of matches as they end, a line of JSON for each bundle; a fault behind the first one is the last line."""
+    fought, loop = bench_of(request).league(await given(request)), asyncio.get_running_loop()
+
+    def more() -> dict[str, Any]:
+        return next(fought, {})
+
+    # What SQLite opens in a thread is used in that alone.
+    with ThreadPoolExecutor(1) as thread:
+        told = await loop.run_in_executor(thread, more)
+        response = web.StreamResponse(headers={"Content-Type": "application/x-ndjson"})
+        await response.prepare(request)
+        try:
+            while told:
+                await response.write(json.dumps(told).encode() + b"\n")
+                told = await loop.run_in_executor(thread, more)
+        except Refused as fault:
+            await response.write(json.dumps({"fault": str(fault)}).encode() + b"\n")
+        finally:
+            await loop.run_in_executor(thread, fought.close)
+    return response
+
+
 @routes.get("/search/{word}/{address}/{turn}/{way}")
 async def search(request: web.Request) -> web.Response:
     asked = request.match_info
@@ -142,10 +170,10 @@ async def replay(request: web.Request) -> web.Response:
     return web.Response(text=text, content_type="text/html", headers=name)
 
 
-def application(folder: Folder, ports: list[int], token: str) -> web.Application:
+def application(bench: Bench, ports: list[int], token: str) -> web.Application:
     """The server's application: everything lies behind the token. The ports are those that it is asked under."""
     inner = web.Application(middlewares=[told], client_max_size=LARGEST_REQUEST)
-    inner["bench"] = Bench(folder)
+    inner["bench"] = bench
     inner.add_routes(routes)
     for prefix, path in (("/static", HERE), ("/shared", SHARED), ("/codemirror", CODEMIRROR)):
         inner.router.add_static(prefix, path, follow_symlinks=True)
@@ -154,12 +182,12 @@ def application(folder: Folder, ports: list[int], token: str) -> web.Application
     return outer
 
 
-async def serve(folder: Folder, port: int, opens: bool, say: Callable[[str], None]) -> None:
+async def serve(bench: Bench, port: int, opens: bool, say: Callable[[str], None]) -> None:
     """Serves until it is stopped."""
     if not CODEMIRROR.is_dir():
         raise Refused("the editor isn't there: apt-get install libjs-codemirror")
     token, ports = secrets.token_urlsafe(16), [port]
-    runner = web.AppRunner(application(folder, ports, token))
+    runner = web.AppRunner(application(bench, ports, token))
     await runner.setup()
     await web.TCPSite(runner, "127.0.0.1", port).start()
     ports[0] = runner.addresses[0][1]

@@ -238,12 +238,12 @@ class Time {
   /** Shows a battle, or another future of it. */
   async show(battle) {
     this.play(false);
-    this.live = new Live(battle, await ask("overview"));
-    [this.kept, this.alone] = [null, null];
+    const overview = await ask("overview");
+    Object.assign(this, {live: new Live(battle, overview), palette: null, kept: null, alone: null});
     this.rate = Math.max(1, battle.last / LENGTH);
     element("title").textContent = battle.title;
     element("outcome").textContent = `${battle.outcome} after ${number(battle.last)} turns`;
-    element("settings")?.remove();
+    element("settings").textContent = battle.settings.join(" · ");
     element("deaths").replaceChildren(...battle.warriors.filter(({death}) => death !== null).map(({name, death}) =>
       make("button", {className: "link", textContent: `${name} died in turn ${number(death)}`, onclick: () => this.go(death)})));
     element("legend").replaceChildren(...battle.warriors.map(({name}, who) => {
@@ -356,8 +356,10 @@ class Time {
 
   /** Lists the cells round the one that is looked at: who wrote it when, and what can be done with it. */
   async list() {
-    if (!this.live || this.isPlaying) return;
+    // A cell that is being edited stays where it is.
+    if (!this.live || this.isPlaying || element("listing").querySelector("input")) return;
     const {focus, turn, live: {battle: {warriors}, moment}} = this, told = await ask(`cell/${focus}/${turn}`);
+    if (element("listing").querySelector("input")) return;
     element("where").textContent = this.kept !== null ? `Cell ${number(focus)}` : moment.head === null ? "The end" : `Next: ${warriors[moment.next].name} at ${number(focus)}`;
     element("listing").style.setProperty("--digits", `${String(this.live.battle.size - 1).length}ch`);
     element("listing").replaceChildren(...told.around.map(cell => this.line(cell)));
@@ -378,9 +380,9 @@ class Time {
     made.style.setProperty("--warrior", owner < warriors.length ? `var(--warrior-${owner})` : "transparent");
     made.firstChild.onclick = () => this.keep(address);
     cell.onclick = () => {
-      const input = make("input", {value: text, onblur: () => this.look(), onkeydown: event => {
+      const input = make("input", {value: text, onblur: () => { input.replaceWith(cell); this.look(); }, onkeydown: event => {
         if (event.key === "Enter") this.debug(`edit ${address} ${input.value}`);
-        if (event.key === "Escape") this.look();
+        if (event.key === "Enter" || event.key === "Escape") input.blur();
       }});
       cell.replaceWith(input);
       input.select();
@@ -408,12 +410,84 @@ class Time {
   }
 }
 
+/** The league of the sources that are marked: the table and who beats whom grow as matches end. */
+class League {
+  constructor(shelf, terms, time) {
+    Object.assign(this, {shelf, terms, time, sorted: 0, isHeld: false});
+    element("hold").onclick = () => this.hold();
+  }
+
+  async hold() {
+    const sources = this.shelf.fighters, count = sources.length;
+    if (this.isHeld || count < 2) return;
+    Object.assign(this, {isHeld: true, sources, against: sources.map(() => sources.map(() => null))});
+    element("kept").textContent = "";
+    element("done").hidden = false;
+    try {
+      const body = {settings: this.terms.settings, sources, rounds: this.terms.number("rounds"), seed: this.terms.number("seed")};
+      const answer = await fetch("league", {method: "POST", headers: {"Content-Type": "application/json"}, body: JSON.stringify(body)});
+      await this.read(answer.body.pipeThrough(new TextDecoderStream()).getReader());
+    } catch (fault) {
+      element("kept").textContent = fault.message;
+    }
+    element("done").hidden = true;
+    this.isHeld = false;
+  }
+
+  /** Takes each line of the answer. */
+  async read(reader) {
+    let rest = "";
+    for (;;) {
+      const {done, value} = await reader.read();
+      if (done) return;
+      const lines = (rest + value).split("\n");
+      rest = lines.pop();
+      lines.map(JSON.parse).forEach(told => this.take(told));
+    }
+  }
+
+  take({fault, done, total, counts}) {
+    if (fault) throw new Error(fault);
+    for (const [first, second, points, wins, ties, losses, theirs] of counts) {
+      this.against[first][second] = [points, wins, ties, losses];
+      this.against[second][first] = [theirs, losses, ties, wins];
+    }
+    Object.assign(element("done"), {max: total, value: done});
+    element("kept").textContent = `${number(done)} of ${count(total, "match")}`;
+    this.draw();
+  }
+
+  /** The table, sorted by a column of sums, the most first. Lines and columns have the ranks of the warriors. */
+  draw() {
+    const sums = this.against.map(line => line.reduce((sum, counts) => counts ? sum.map((value, i) => value + counts[i]) : sum, [0, 0, 0, 0]));
+    const order = sums.map((_, who) => who).sort((one, other) => sums[other][this.sorted] - sums[one][this.sorted]);
+    const heads = ["points", "wins", "ties", "losses"].map((text, i) => make("th", {}, make("button", {textContent: text + (i === this.sorted ? " ▼" : ""),
+      onclick: () => { this.sorted = i; this.draw(); }})));
+    const lines = order.map((who, rank) => make("tr", {}, make("td", {textContent: rank + 1}), make("td", {textContent: this.sources[who].name}),
+      ...sums[who].map(value => make("td", {textContent: number(value)})), ...order.map(other => this.cell(who, other))));
+    element("table").replaceChildren(make("tr", {}, make("th"), make("th", {textContent: "warrior"}), ...heads,
+      ...order.map((_, rank) => make("th", {textContent: rank + 1}))), ...lines);
+  }
+
+  /** The wins of one against another: a click fights their first round. */
+  cell(who, other) {
+    const counts = this.against[who][other];
+    if (!counts) return make("td", {textContent: who === other ? "·" : ""});
+    const [, wins, ties, losses] = counts, [first, second] = [Math.min(who, other), Math.max(who, other)].map(at => this.sources[at]);
+    const title = `${wins} wins, ${ties} ties, ${losses} losses against ${this.sources[other].name}; a click shows round 0`;
+    const made = make("td", {}, make("button", {textContent: wins, title, onclick: () => this.time.fight([first, second], 0)}));
+    const share = (wins - losses) / (wins + ties + losses), colour = share < 0 ? "200,30,30" : "30,80,200";
+    made.style.background = `rgba(${colour},${Math.abs(share) * .5})`;
+    return made;
+  }
+}
+
 (async () => {
   const terms = new Terms();
   await terms.load();
   const shelf = new Shelf(terms), time = new Time(shelf, terms);
   element("hill").onchange = () => shelf.editor.performLint();
   element("terms").onsubmit = event => { event.preventDefault(); time.fight(shelf.fighters); };
-  window.bench = {terms, shelf, time};
+  window.bench = {terms, shelf, time, league: new League(shelf, terms, time)};
   await shelf.load();
 })();
