@@ -3,7 +3,8 @@ from __future__ import annotations
 
 import os
 import re
-from collections.abc import Callable, Sequence
+from collections.abc import Callable, Iterator, Sequence
+from contextlib import contextmanager
 from dataclasses import dataclass
 from functools import wraps
 from pathlib import Path
@@ -82,14 +83,24 @@ class Hall:
             os._exit(130)
 
     def _fight(self, matches: Matches, keep: Callable[[Pairs], None]) -> None:
-        console = Console(stderr=True)
-        columns = (MofNCompleteColumn(), "matches", BarColumn(), TimeRemainingColumn())
         place = cluster(matches, self.scheduler) if self.scheduler else threads(matches, self.jobs)
-        with Progress(*columns, console=console, transient=True, disable=not console.is_terminal) as bar, place as here:
-            task = bar.add_task("", total=len(matches), completed=int(matches.is_fought.sum()))
+        with progress(matches) as advance, place as here:
             for rows in here.fight(matches):
                 keep(rows)
-                bar.advance(task, len(rows))
+                advance(len(rows))
+
+
+@contextmanager
+def progress(matches: Matches) -> Iterator[Callable[[int], None]]:
+    """What is told of each number of matches that are fought: a bar on a terminal, nothing elsewhere."""
+    console = Console(stderr=True)
+    if not console.is_terminal:
+        yield lambda count: None
+        return
+    columns = (MofNCompleteColumn(), "matches", BarColumn(), TimeRemainingColumn())
+    with Progress(*columns, console=console, transient=True) as bar:
+        task = bar.add_task("", total=len(matches), completed=int(matches.is_fought.sum()))
+        yield lambda count: bar.advance(task, count)
 
 
 def contest_options(command: Callable[..., Any]) -> Callable[..., Any]:
