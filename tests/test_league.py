@@ -5,7 +5,6 @@ import csv
 import io
 import json
 import os
-import shlex
 import signal
 import sqlite3
 import subprocess
@@ -19,9 +18,8 @@ import pytest
 from conftest import EXAMPLES, TOP, Run
 from costly import large, slow
 
-from corewar.engine.calls import Match, assemble
-from corewar.engine.sources import Limit
-from corewar.league.contest import Contest, Matches, all_pairs, enter
+from corewar.engine.calls import assemble
+from corewar.league.contest import Contest, Matches, all_pairs
 from corewar.league.places import threads
 from corewar.league.results import Results
 from corewar.league.table import League
@@ -270,24 +268,24 @@ def wait_for_results(path: Path, count: int) -> None:
 def test_it_goes_on_where_it_was_ended(folder: Path) -> None:
     """By a kill and by Ctrl-C, which tells how many are kept; then the table is the same, and as many are kept as there are matches."""
     path, before = folder / "kept.sqlite", 0
-    words = ["-r", 300, "--jobs", 1, "--results", path, *(EXAMPLES / name for name in NAMES)]
+    words = ["-r", 300, "--jobs", 1, "--results", path, *(EXAMPLES / name for name in NAMES[:7])]
     for how in (signal.SIGKILL, signal.SIGINT):
         process = begun(folder, *words)
         wait_for_results(path, before)
         process.send_signal(how)
         output, told = process.communicate(timeout=60)
         kept = count_kept(path)
-        assert before < kept < 78 and output == ""
+        assert before < kept < 21 and output == ""
         if how == signal.SIGINT:
             assert (
                 process.returncode == 130
-                and told == f"corewar: {kept} of 78 matches are kept: the same command goes on\n"
+                and told == f"corewar: {kept} of 21 matches are kept: the same command goes on\n"
             )
         before = kept
     both = [begun(folder, *words) for _ in range(2)]
     tables = [process.communicate(timeout=300) for process in both]
-    own = own_rows(EXAMPLES, f"-o -r 300 {' '.join(NAMES)}")
-    assert [(rows(output), told) for output, told in tables] == 2 * [(own, "")] and count_kept(path) == 78
+    own = own_rows(EXAMPLES, f"-o -r 300 {' '.join(NAMES[:7])}")
+    assert [(rows(output), told) for output, told in tables] == 2 * [(own, "")] and count_kept(path) == 21
 
 
 def test_ctrl_c_without_results(folder: Path) -> None:
@@ -372,8 +370,6 @@ def test_a_large_league() -> None:
     assert sorted(league.ranks.values()) == [*range(1, 61)]
 
 
-def test_a_fault_of_the_settings_ends_all(folder: Path) -> None:
-    assert shlex.join(Contest(position=200).words).startswith("-s=8000")
-    warriors, faults = enter(Contest(), [str(folder / "stay.red"), str(folder / "broken.red")], Limit())
-    assert [warrior.name for warrior in warriors] == ["Stay"] and len(faults) == 1
-    assert Match(tuple(warriors)).seed == 1
+def test_a_contest_is_words() -> None:
+    words = "-s=8000 -p=8000 -c=80000 -l=100 -d=100 -r=1 --seed=1 -F=200 --score=(W*W-1)/S"
+    assert Contest(position=200).words == words.split()

@@ -11,7 +11,7 @@ from numpy.typing import NDArray
 
 from ..engine.calls import match
 from ..engine.sources import Assembler, Limit, read_warrior
-from ..model.faults import ASSEMBLY, LOAD, Fault, FileFault
+from ..model.faults import FileFault
 from ..model.settings import FORMULA, NUMBERS, Settings
 from ..model.warriors import Warrior
 
@@ -59,8 +59,6 @@ def enter(contest: Contest, files: Sequence[str], limit: Limit) -> tuple[list[Wa
             try:
                 warriors.append(read_warrior(assembler, file, contest.settings, contest.rounds))
             except FileFault as left:
-                if isinstance(left.fault, Fault) and left.fault.code not in (ASSEMBLY, LOAD):
-                    raise left.fault from None
                 faults.append(left)
     return warriors, faults
 

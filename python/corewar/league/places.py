@@ -84,6 +84,8 @@ def counts_there(future: Future[Counts | str]) -> Counts:
         counts = future.result()
     except CancelledError:
         raise Refused("the scheduler has gone") from None
+    except ModuleNotFoundError as fault:
+        raise Refused(f"a worker doesn't have this package: {fault}") from None
     except Exception as fault:
         # What is handed out raises nothing of its own: a worker can't take it, or a bundle has ended several workers.
         raise Refused(f"the workers: {' '.join(str(fault).split())}") from None
