@@ -24,6 +24,7 @@ COMMANDS = {
     "league": "league",
     "challenge": "league",
     "explain": "explaining",
+    "web": "workbench",
 }
 
 

@@ -13,7 +13,7 @@ const PLAY = "M3 1v14l11-7z", PAUSE = "M3 2h4v12H3zM9 2h4v12H9z";
 const CROSS = new Path2D("M-1 -1L1 1M1 -1L-1 1"), SQUARE = new Path2D("M-1 -1H1V1H-1z");
 const RING = new Path2D("M1.2 0A1.2 1.2 0 1 0 -1.2 0A1.2 1.2 0 1 0 1.2 0");
 const number = value => value.toLocaleString("en");
-const count = (value, what) => `${number(value)} ${what}${value === 1 ? "" : what.endsWith("s") ? "es" : "s"}`;
+const count = (value, what) => `${number(value)} ${what}${value === 1 ? "" : /(s|ch)$/.test(what) ? "es" : "s"}`;
 const clamp = (value, low, high) => Math.max(low, Math.min(high, value));
 
 /** The colours of the theme: of the ground, and of each warrior in text, on its cells by their age, and of its processes. */
