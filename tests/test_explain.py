@@ -208,3 +208,26 @@ def test_faults_of_all_commands_are_explained(run: Run) -> None:
     program = subprocess.run([TOP / "crates/mars/out/mars", "-l", "200", "x"], capture_output=True, text=True)
     assert run("explain", given=program.stderr).stdout.splitlines()[1] == told.stderr.splitlines()[1].strip()
     assert Settings().longest == 100
+
+
+def test_words_of_mars(run: Run) -> None:
+    """The word that the program doesn't take is told, and no other one."""
+    program, imp = TOP / "crates" / "mars" / "out" / "mars", str(TOP / "examples" / "imp.red")
+    cases = [
+        ("-r", "requires an argument"),
+        ("-r -10 W", "-10 is not in the range 1<=x<=100000"),
+        ("", "Missing argument"),
+    ]
+    cases += [("--see 3 W", "No such option: --see"), ("-k W", "No such option: -k"), ("-s 1048577 W", "1<=x<=1048576")]
+    cases += [("-r 1e3 W", "'1e3' is not a valid integer range"), ("-b=1 W", "No such option")]
+    cases += [
+        (words, "")
+        for words in ("-br10 W", "-r=10 W", "-r +10 W", "-ob W", "W -b", "-- W", "--seed=3 W", "--score=S W W")
+    ]
+    for text, told in cases:
+        words = [imp if word == "W" else word for word in text.split()]
+        done = subprocess.run([program, *words], stdin=subprocess.DEVNULL, capture_output=True, text=True)
+        assert (done.stderr == "mars: bad words\n") == bool(told), text
+        explained = run("explain", "mars", *words)
+        assert explained.returncode == (2 if told else 0) and told in explained.stderr, text
+        assert told or explained.stdout.startswith("Each word is right alone.")
