@@ -25,7 +25,7 @@ def folder(tmp_path: Path) -> None:
 
 
 def test_by_hand(run: Run) -> None:
-    """A survivor alone gets (2*2-1)/1 = 3 points of a round, each of two gets 3/2 = 1, a dead one nothing. Dead dies in its first turn."""
+    """A survivor alone gets (2*2-1)/1 = 3 points of a round, each of two gets 3/2 = 1, a dead one nothing."""
     assert run("challenge", "-r", 4, "stay.red", "stay.red", "dead.red", "late.red").stdout == HEAD + (
         "      12      4      0      0        0  dead.red  Dead by Anonymous\n"
         "      12      4      0      0        0  late.red  Late by Me\n"
@@ -50,7 +50,7 @@ def test_by_the_program(run: Run) -> None:
     names = sorted(path.name for path in EXAMPLES.glob("*.red"))
     lines = []
     for name in names:
-        command = [PROGRAM, "-b", "-r", "6", "--seed", "7", "dwarf.red", name]
+        command = [str(PROGRAM), "-b", "-r", "6", "--seed", "7", "dwarf.red", name]
         table = subprocess.run(command, cwd=EXAMPLES, capture_output=True, text=True).stdout.splitlines()
         counts = [int(count) for count in [*table[1].split()[:4], table[2].split()[0]]]
         lines.append((counts, f"{name:{max(map(len, names))}}  {table[2][31:]}"))

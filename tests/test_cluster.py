@@ -37,8 +37,10 @@ def start(tmp_path: Path) -> Iterator[Start]:
     def begin(*words: str, path: str = str(TOP / "python")) -> subprocess.Popen[bytes]:
         command = [sys.executable, "-m", "dask", *words, "--host", "127.0.0.1", "--no-dashboard"]
         environment = {**os.environ, "PYTHONPATH": path}
-        quiet = {"stdout": subprocess.DEVNULL, "stderr": subprocess.DEVNULL}
-        started.append(subprocess.Popen(command, cwd=tmp_path, env=environment, **quiet))
+        process = subprocess.Popen(
+            command, cwd=tmp_path, env=environment, stdout=subprocess.DEVNULL, stderr=subprocess.DEVNULL
+        )
+        started.append(process)
         return started[-1]
 
     yield begin
@@ -65,15 +67,16 @@ def begun(*words: object) -> subprocess.Popen[str]:
     command = [sys.executable, "-m", "corewar.cli.main", "league", *map(str, words), *FILES]
     environment = {**os.environ, "PYTHONPATH": str(TOP / "python")}
     signal.signal(signal.SIGINT, signal.default_int_handler)
-    pipes = {"stdout": subprocess.PIPE, "stderr": subprocess.PIPE}
-    return subprocess.Popen(command, cwd=EXAMPLES, env=environment, text=True, **pipes)
+    return subprocess.Popen(
+        command, cwd=EXAMPLES, env=environment, text=True, stdout=subprocess.PIPE, stderr=subprocess.PIPE
+    )
 
 
 def test_it_is_the_same_there(run: Run, start: Start, scheduler: tuple[str, Any]) -> None:
     worker(start, scheduler[0])
     for command in ("league", "challenge"):
         words = [command, "-r", 3, *FILES]
-        here, there = (run(*words, *more, cwd=EXAMPLES) for more in ([], ["--scheduler", scheduler[0]]))
+        here, there = run(*words, cwd=EXAMPLES), run(*words, "--scheduler", scheduler[0], cwd=EXAMPLES)
         # The command may be there before its worker.
         assert (there.stdout, there.stderr.removeprefix(ABSENT)) == (here.stdout, "")
     told = run("league", "--scheduler", scheduler[0], "--score", "1/(S-1)", *FILES, cwd=EXAMPLES)
@@ -87,7 +90,8 @@ def test_a_worker_dies_and_another_comes(start: Start, scheduler: tuple[str, Any
     time.sleep(2)
     first.kill()
     assert process.stderr is not None
-    wait_for(lambda: process.stderr.readline() == ABSENT)
+    read = process.stderr.readline
+    wait_for(lambda: read() == ABSENT)
     worker(start, scheduler[0])
     output, _ = process.communicate(timeout=240)
     assert output == run("league", "-r", LONG, *FILES, cwd=EXAMPLES).stdout
@@ -96,10 +100,10 @@ def test_a_worker_dies_and_another_comes(start: Start, scheduler: tuple[str, Any
 def test_ends(start: Start, scheduler: tuple[str, Any]) -> None:
     """Ctrl-C, and a scheduler that goes, are told in a line."""
     worker(start, scheduler[0])
-    for end, status in ((lambda process: process.send_signal(signal.SIGINT), 130), (lambda _: scheduler[1].kill(), 1)):
+    for status in (130, 1):
         process = begun("-r", LONG, "--scheduler", scheduler[0])
         time.sleep(4)
-        end(process)
+        (process if status == 130 else scheduler[1]).send_signal(signal.SIGINT if status == 130 else signal.SIGKILL)
         output, told = process.communicate(timeout=120)
         assert (process.returncode, output, told.removeprefix(ABSENT).count("\n")) == (status, "", 1)
 

@@ -175,7 +175,7 @@ def test_mend(run: Run, tmp_path: Path) -> None:
 
 
 def test_it_is_soon_there() -> None:
-    """What is made to take long: thousands of causes in a line, words behind END, labels behind loops, EQU names that are deep."""
+    """What is made to take long: thousands of causes, words behind END, labels behind loops, deep EQU names."""
     names, many = [f"q{number}" for number in range(15000)], [f"q{number}" for number in range(9000)]
     deep = "z0 EQU 1\n" + "".join(f"z{number} EQU z{number - 1}\n" for number in range(1, 34))
     sources = {
@@ -224,10 +224,10 @@ def test_words_of_mars(run: Run) -> None:
         (words, "")
         for words in ("-br10 W", "-r=10 W", "-r +10 W", "-ob W", "W -b", "-- W", "--seed=3 W", "--score=S W W")
     ]
-    for text, told in cases:
+    for text, wrong in cases:
         words = [imp if word == "W" else word for word in text.split()]
         done = subprocess.run([program, *words], stdin=subprocess.DEVNULL, capture_output=True, text=True)
-        assert (done.stderr == "mars: bad words\n") == bool(told), text
+        assert (done.stderr == "mars: bad words\n") == bool(wrong), text
         explained = run("explain", "mars", *words)
-        assert explained.returncode == (2 if told else 0) and told in explained.stderr, text
-        assert told or explained.stdout.startswith("Each word is right alone.")
+        assert explained.returncode == (2 if wrong else 0) and wrong in explained.stderr, text
+        assert wrong or explained.stdout.startswith("Each word is right alone.")

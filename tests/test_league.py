@@ -84,8 +84,8 @@ def test_it_is_the_programs_league(run: Run, words: str) -> None:
 
 def test_a_hill_is_its_words(run: Run) -> None:
     files, tiny = ["dwarf.red", "imp.red", "fitted.red"], "-o -r 20 -s 800 -c 8000 -p 800 -l 20"
-    for words, own in (([], "20"), (["-d", 300], "300")):
-        told = run("league", "-r", 20, "--hill", "tiny", *words, *files, cwd=EXAMPLES).stdout
+    for words, own in (("", "20"), ("-d 300", "300")):
+        told = run("league", "-r", 20, "--hill", "tiny", *words.split(), *files, cwd=EXAMPLES).stdout
         assert rows(told) == own_rows(EXAMPLES, f"{tiny} -d {own} {' '.join(files)}")
 
 
@@ -158,7 +158,7 @@ def test_picture(run: Run, folder: Path) -> None:
 
 
 def test_pages(run: Run, folder: Path) -> None:
-    """A page with the table, the matrix and the settings; a replay of a pair that is named, in a folder named by its files."""
+    """A page with table, matrix and settings; a replay of a pair that is named, in a folder named by its files."""
     run(
         "league",
         "--pages",
@@ -213,6 +213,7 @@ def test_faults_of_files(run: Run, folder: Path) -> None:
         ("--results broken.red", 1, "corewar: broken.red: file is not a database"),
         ("--scheduler here", 2, "it is HOST:PORT, as in first.lan:8786"),
         ("--scheduler tls://first.lan:1", 2, "it is HOST:PORT, as in first.lan:8786"),
+        ("--page-pairs stay,dead", 2, "--page-pairs goes with --pages"),
         ("--format yaml", 2, "'yaml' is not one of 'table', 'csv', 'json', 'matrix'"),
     ],
 )
@@ -224,6 +225,13 @@ def test_faults_of_words(run: Run, folder: Path, words: str, status: int, told: 
 def test_two_files_are_asked_for(run: Run, folder: Path) -> None:
     done = run("league", "stay.red")
     assert done.returncode == 2 and "at least two files are asked for" in done.stderr
+
+
+def test_no_file_has_a_warrior(run: Run, folder: Path) -> None:
+    done = run("league", "--picture", "m.png", "broken.red", "none.red")
+    assert (done.returncode, done.stdout) == (1, "") and "Traceback" not in done.stderr
+    done = run("league", "--picture", "m.png", "--pages", "web", "stay.red", "none.red")
+    assert done.returncode == 1 and rows(done.stdout) == ["       0      0      0      0  Stay by Anonymous"]
 
 
 def test_source_limit(run: Run, folder: Path) -> None:
@@ -266,7 +274,7 @@ def wait_for_results(path: Path, count: int) -> None:
 
 
 def test_it_goes_on_where_it_was_ended(folder: Path) -> None:
-    """By a kill and by Ctrl-C, which tells how many are kept; then the table is the same, and as many are kept as there are matches."""
+    """By a kill and by Ctrl-C, which tells how many are kept; then the table is the same, and all are kept."""
     path, before = folder / "kept.sqlite", 0
     words = ["-r", 300, "--jobs", 1, "--results", path, *(EXAMPLES / name for name in NAMES[:7])]
     for how in (signal.SIGKILL, signal.SIGINT):
@@ -291,8 +299,8 @@ def test_it_goes_on_where_it_was_ended(folder: Path) -> None:
 def test_ctrl_c_without_results(folder: Path) -> None:
     """What is under way isn't waited for."""
     os.mkfifo(folder / "pipe")
-    for files in (["pipe"], ["-c", 10_000_000, "-r", 100_000, "same.red"]):
-        process = begun(folder, "stay.red", *files)
+    for words in ("pipe", "-c 10000000 -r 100000 same.red"):
+        process = begun(folder, "stay.red", *words.split())
         time.sleep(1.5)
         process.send_signal(signal.SIGINT)
         output, told = process.communicate(timeout=20)

@@ -8,9 +8,9 @@ import click
 from ..model.settings import MOST_WARRIORS, NUMBERS, Number
 
 NUMBERS_OF_MARS = [*NUMBERS.values(), Number("--history", "places of the history", 1, 1_000_000)]
-TOGETHER = f"""Each word is right alone. Together: 1 to {MOST_WARRIORS} files are asked for, and no word twice; -e, --league and --load exclude one
-another; a league has two files at least, --load one, -F two, and goes from the least distance to the core size less that; a formula that
-begins with `-` is joined, as --score=-S."""
+TOGETHER = f"""Each word is right alone. Together: 1 to {MOST_WARRIORS} files are asked for, and no word twice;
+-e, --league and --load exclude one another; a league has two files at least, --load one, -F two, and goes from the
+least distance to the core size less that; a formula that begins with `-` is joined, as --score=-S."""
 MARS = click.Command(
     "mars",
     add_help_option=False,
