@@ -12,7 +12,19 @@ from .options import Asked, battle_options
 from .telling import printable
 
 
-@click.command()
+class Explain(click.Command):
+    """A command behind which `mars` begins the words of that program."""
+
+    def parse_args(self, context: click.Context, words: list[str]) -> list[str]:
+        if words[:1] == ["mars"]:
+            from .mars_words import judge
+
+            click.echo(judge(words[1:]))
+            context.exit()
+        return super().parse_args(context, words)
+
+
+@click.command(cls=Explain)
 @battle_options(needs_files=False)
 @click.option("--pmars", is_flag=True, help="Tells what pMARS reads otherwise.")
 @click.option("--mend", "is_mended", is_flag=True, help="Writes the one source so that this kit reads it.")
@@ -20,6 +32,7 @@ def explain(asked: Asked, pmars: bool, is_mended: bool) -> None:
     """Explains the fault of each file, or those that standard input tells.
 
     Without files, lines of faults are read, as `mars: first.red: line 7: 2 Operation`, whatever program wrote them.
+    Behind the word `mars` stand words of that program: which one it doesn't take is told.
     """
     if (pmars or is_mended) and not asked.files:
         raise click.UsageError("files are asked for")

@@ -3,7 +3,8 @@ from __future__ import annotations
 
 import os
 import re
-from collections.abc import Callable, Sequence
+from collections.abc import Callable, Iterator, Sequence
+from contextlib import contextmanager
 from dataclasses import dataclass
 from functools import wraps
 from pathlib import Path
@@ -50,7 +51,7 @@ PLACE = [
         "--jobs",
         type=click.IntRange(1),
         default=len(os.sched_getaffinity(0)),
-        help="Matches at a time; all processors.",
+        help="Matches at a time; without it as many as there are processors.",
     ),
     click.option("--scheduler", callback=address, metavar="HOST:PORT", help="Fights on the workers of a Dask cluster."),
 ]
@@ -82,14 +83,24 @@ class Hall:
             os._exit(130)
 
     def _fight(self, matches: Matches, keep: Callable[[Pairs], None]) -> None:
-        console = Console(stderr=True)
-        columns = (MofNCompleteColumn(), "matches", BarColumn(), TimeRemainingColumn())
         place = cluster(matches, self.scheduler) if self.scheduler else threads(matches, self.jobs)
-        with Progress(*columns, console=console, transient=True, disable=not console.is_terminal) as bar, place as here:
-            task = bar.add_task("", total=len(matches), completed=int(matches.is_fought.sum()))
+        with progress(matches) as advance, place as here:
             for rows in here.fight(matches):
                 keep(rows)
-                bar.advance(task, len(rows))
+                advance(len(rows))
+
+
+@contextmanager
+def progress(matches: Matches) -> Iterator[Callable[[int], None]]:
+    """What is told of each number of matches that are fought: a bar on a terminal, nothing elsewhere."""
+    console = Console(stderr=True)
+    if not console.is_terminal:
+        yield lambda count: None
+        return
+    columns = (MofNCompleteColumn(), "matches", BarColumn(), TimeRemainingColumn())
+    with Progress(*columns, console=console, transient=True) as bar:
+        task = bar.add_task("", total=len(matches), completed=int(matches.is_fought.sum()))
+        yield lambda count: bar.advance(task, count)
 
 
 def contest_options(command: Callable[..., Any]) -> Callable[..., Any]:
@@ -118,7 +129,7 @@ def entered(asked: Asked) -> tuple[Contest, list[Warrior], list[FileFault]]:
 
 
 def write(text: str, output: str | None) -> None:
-    """Writes text with its end of line to a file, or to standard output; names of files are written as they were given."""
+    """Writes text with its end of line to a file, or to standard output, with names of files as they were given."""
     told = f"{text}\n".encode("utf-8", "surrogateescape")
     if output:
         Path(output).write_bytes(told)
@@ -142,9 +153,14 @@ def write(text: str, output: str | None) -> None:
 def league(asked: Asked, hall: Hall, order: str, form: str, **files: Any) -> int:
     """Fights a match of every two warriors.
 
-    The file that stands earlier is the first warrior of a match. A file with a fault is told and left out; then the status is 1.
+    The file that stands earlier is the first warrior of a match. A file with a fault is told and left out; then the
+    status is 1.
     """
+    if files["named"] and not files["pages"]:
+        raise click.UsageError("--page-pairs goes with --pages")
     contest, warriors, faults = entered(asked)
+    if not warriors:
+        return 1
     pairs = [pair_of(warriors, names) for names in files["named"]]
     matches = Matches(contest, warriors, all_pairs(len(warriors)))
     hall.fight(matches)
@@ -162,7 +178,7 @@ def league(asked: Asked, hall: Hall, order: str, form: str, **files: Any) -> int
 
 
 def pair_of(warriors: Sequence[Warrior], names: str) -> tuple[int, int]:
-    """The two warriors that `A,B` names by their files, with or without folder and ending, in the order of the files."""
+    """The two warriors that `A,B` names, by their files with or without folder and ending, in the order of files."""
     found = [number for name in names.split(",") for number, one in enumerate(warriors) if name in names_of(one)]
     if len(found) != 2 or found[0] == found[1] or names.count(",") != 1:
         raise click.BadParameter(f"{names} doesn't name two of the files, as in dwarf,imp", param_hint="--page-pairs")
@@ -189,8 +205,8 @@ def write_pages(result: League, folder: str, pairs: list[tuple[int, int]]) -> No
 def challenge(asked: Asked, hall: Hall, only_sum: bool) -> int:
     """Fights a match of the first file, a candidate, with each of the others, its opponents.
 
-    A line has the points, wins, ties and losses of the candidate, and the points of the opponent. The last one has the sums. A file with
-    a fault is told and left out; then the status is 1. The candidate's fault ends all.
+    A line has the points, wins, ties and losses of the candidate, and the points of the opponent. The last one has the
+    sums. A file with a fault is told and left out; then the status is 1. The candidate's fault ends all.
     """
     contest, warriors, faults = entered(asked)
     if not warriors or any(fault.file == asked.files[0] for fault in faults):

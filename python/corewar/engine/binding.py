@@ -49,7 +49,7 @@ def opened() -> tuple[Any, Any]:
     shared = found("MARS_LIBRARY", [CHECKOUT / "build" / "libmars.so"]) or ctypes.util.find_library("mars")
     if shared is None:
         raise NoLibrary("libmars.so isn't found: scripts/library builds it, and MARS_LIBRARY names it")
-    beside = [Path(shared).resolve().parents[1], *SYSTEM]
+    beside = [Path(shared).resolve().parent.parent, *SYSTEM]
     header = found("MARS_HEADER", [folder / "include" / "mars.h" for folder in (CHECKOUT, *beside)])
     if header is None:
         raise NoLibrary("mars.h isn't found: scripts/library installs it, and MARS_HEADER names it")

@@ -12,7 +12,7 @@ from dataclasses import dataclass
 from multiprocessing.connection import Connection
 from typing import Any
 
-from ..model.faults import MEMORY, Fault, FileFault, Refused
+from ..model.faults import ASSEMBLY, LOAD, MEMORY, Fault, FileFault, Refused
 from ..model.settings import LARGEST_FILE, Settings
 from ..model.warriors import Warrior
 from .calls import load_file, match
@@ -124,7 +124,7 @@ def read_file(path: str) -> bytes:
 def read_warrior(
     assembler: Assembler, path: str, settings: Settings = Settings(), rounds: int = 1, warriors: int = 2
 ) -> Warrior:
-    """The warrior of a file: a load file where the name ends in .load, else a source. Raises FileFault."""
+    """The warrior of a file: a load file where the name ends in .load, else a source. Raises FileFault, and Fault for the settings."""
     text = read_file(path)
     try:
         if path.endswith(".load"):
@@ -133,8 +133,15 @@ def read_warrior(
             match([made], settings=Settings(**{**vars(settings), "cycles": 1}))
             return made
         return Warrior(assembler.assemble(text, settings, rounds, warriors), path, text)
-    except (Fault, Overrun) as fault:
-        raise FileFault(path, fault if isinstance(fault, Fault) else str(fault), text) from None
+    except Overrun as overrun:
+        raise FileFault(path, str(overrun), text) from None
+    except Fault as fault:
+        raise of_file(path, fault, text) from None
+
+
+def of_file(path: str, fault: Fault, text: bytes) -> Refused:
+    """A fault as that of a file, where it is one: faults of the settings aren't."""
+    return FileFault(path, fault, text) if fault.code in (ASSEMBLY, LOAD) else fault
 
 
 def read_warriors(
@@ -160,4 +167,4 @@ def read(path: str, settings: Settings = Settings(), rounds: int = 1, warriors: 
             else Warrior(load_file(text, settings, rounds, warriors), path, text)
         )
     except Fault as fault:
-        raise FileFault(path, fault, text) from None
+        raise of_file(path, fault, text) from None

@@ -35,7 +35,8 @@ def operation(source: Source, line: Line) -> Iterator[str]:
     elif word:
         yield word
     elif line.operation in source.equates:
-        yield f"`{line.operation}` is the EQU name of line {source.equates[line.operation].number}, so its text is read here."
+        first = source.equates[line.operation].number
+        yield f"`{line.operation}` is the EQU name of line {first}, so its text is read here."
     elif line.rest[:1] == ["."]:
         yield from modifier(source, line, "".join(line.rest[1:2]))
 
@@ -44,8 +45,8 @@ def modifier(source: Source, line: Line, named: str) -> Iterator[str]:
     for loop in source.loops_around(line.number):
         if loop.counter == named:
             yield (
-                f"`{named}` is the counter of the loop of line {loop.head.number}, so its number stands behind the point: "
-                f"write `.{named.swapcase()}`, or give the counter another name, as `corewar explain --mend` does."
+                f"`{named}` is the counter of the loop of line {loop.head.number}, so its number stands behind the "
+                f"point: write `.{named.swapcase()}`, or give it another name, as `corewar explain --mend` does."
             )
     if named.upper() not in MODIFIERS:
         yield f"`.{named}` is no modifier: there are {', '.join(MODIFIERS)}."

@@ -36,8 +36,9 @@ MEANINGS = {
     "load 4 BadOrigin": "The start is none of the cells, which ORG and END count from 0.",
     "load 6 Version": "The first line begins with `;load ` and isn't `;load 2 ` and a core size alone.",
     "1 Text 1 NotAscii": "A byte of 128 or more stands outside a comment.",
-    "1 Text 2 BadToken": "Something is no token, or may not stand here: a number is decimal and at most 9223372036854775807, a name "
-    "begins with a letter, `&` joins the counter of an open loop, and an EQU of several lines is an operation.",
+    "1 Text 2 BadToken": "Something is no token, or may not stand here: a number is decimal and at most "
+    "9223372036854775807, a name begins with a letter, `&` joins the counter of an open loop, and an EQU of several "
+    "lines is an operation.",
     "1 Text 3 UnclosedFor": "The FOR of this line has no ROF; a ROF with a label before it is none.",
     "1 Text 4 RofAlone": "The ROF of this line has no FOR: it is misspelt, or has more than one name before it.",
     "1 Text 5 BadCount": "A loop is read 0 to 10,000 times, and the count of this FOR is another number.",
@@ -55,7 +56,7 @@ MEANINGS = {
 
 
 def told(fault: Fault, source: bytes) -> list[str]:
-    """What a fault means and what to do, in one or two sentences: the causes that the source shows, else what it says in general."""
+    """What a fault means and what to do, in one or two sentences: the causes that the source shows, else in general."""
     kind = text_of(fault)
     causes: list[str] = []
     if kind in CAUSES and fault.code == ASSEMBLY:

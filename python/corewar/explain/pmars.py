@@ -28,10 +28,10 @@ def notes(source: Source, line: Line) -> Iterator[str]:
     if label and line.word == "FOR" and not line.labels:
         yield f"pMARS takes `{label}` of the line before as the counter; here it is a label: give this FOR a counter."
     if label and line.word == "EQU":
-        yield f"pMARS takes `{label}` of the line before as a name of this EQU, too; here it is a label: move the EQU up."
+        yield f"pMARS takes `{label}` of the line before as a name of this EQU; here it is a label: move the EQU up."
     for loop in source.loops if line.word == "EQU" else []:
         if loop.head.number > line.number and loop.counter and names_counter(line, loop.counter):
-            yield f"pMARS joins `{loop.counter}` where this EQU is used; here the EQU stands in the loop, its own name joined."
+            yield f"pMARS joins `{loop.counter}` where this EQU is used; here it stands in the loop, its name joined."
 
 
 def names_counter(line: Line, counter: str) -> bool:

@@ -1,4 +1,4 @@
-"""Sources by their look: lines with labels, operation and operands, EQU names, and loops, each of which is read once."""
+"""Sources by their look: lines with labels, operation and operands, EQU names, and loops, which are read once."""
 from __future__ import annotations
 
 import re
@@ -129,7 +129,7 @@ def like(word: str, choices: Sequence[str]) -> str | None:
 
 
 def misspelt(line: Line) -> str | None:
-    """What is to be said of a word that stands where an operation should, and is spelt like one or is one of another dialect."""
+    """What to say of a word in the place of an operation that is spelt like one, or is one of another dialect."""
     if line.operation or not (line.rest or len(line.labels) > 1):
         return None
     for word in line.labels[:FIRST_WORDS]:

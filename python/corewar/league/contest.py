@@ -11,7 +11,7 @@ from numpy.typing import NDArray
 
 from ..engine.calls import match
 from ..engine.sources import Assembler, Limit, read_warrior
-from ..model.faults import ASSEMBLY, LOAD, Fault, FileFault
+from ..model.faults import FileFault
 from ..model.settings import FORMULA, NUMBERS, Settings
 from ..model.warriors import Warrior
 
@@ -52,21 +52,19 @@ def fight(contest: Contest, warriors: Mapping[int, Warrior], pairs: Pairs) -> Co
 
 
 def enter(contest: Contest, files: Sequence[str], limit: Limit) -> tuple[list[Warrior], list[FileFault]]:
-    """The warriors of files, in their order, and the faults of the files that have none. A fault of the settings is raised."""
+    """The warriors of files, in order, and the faults of those that have none. A fault of the settings is raised."""
     warriors, faults = [], []
     with Assembler(limit) as assembler:
         for file in files:
             try:
                 warriors.append(read_warrior(assembler, file, contest.settings, contest.rounds))
             except FileFault as left:
-                if isinstance(left.fault, Fault) and left.fault.code not in (ASSEMBLY, LOAD):
-                    raise left.fault from None
                 faults.append(left)
     return warriors, faults
 
 
 class Matches:
-    """The matches of some pairs of warriors: `counts` has a row for each that `is_fought`. Pairs go up, by the first and then the second."""
+    """The matches of pairs, which go up by the first and then the second: `counts` has those that `is_fought`."""
 
     def __init__(self, contest: Contest, warriors: Sequence[Warrior], pairs: Pairs) -> None:
         self.contest, self.warriors, self.pairs = contest, dict(enumerate(warriors)), pairs
@@ -91,7 +89,7 @@ class Matches:
         return np.where(wanted[rows] == asked, rows, -1)
 
     def take_kept(self, kept: Iterator[tuple[Any, ...]]) -> int:
-        """Fills in what was kept: rows of two digests and the counts. Returns how many are kept the other way round alone."""
+        """Fills in what was kept, by two digests and counts; gives how many are kept the other way round alone."""
         numbers: dict[bytes, list[int]] = {}
         for number, digest in enumerate(self.digests):
             numbers.setdefault(digest, []).append(number)

@@ -1,4 +1,4 @@
-"""Where matches are fought: by threads of this process, or by the workers of a Dask cluster, which have this package installed."""
+"""Where matches are fought: by threads of this process, or by the workers of a Dask cluster, which have the package."""
 from __future__ import annotations
 
 import logging
@@ -16,7 +16,7 @@ from ..model.faults import Refused
 from ..model.warriors import Warrior
 from .contest import Contest, Counts, Matches, Pairs, fight
 
-# How many cycles a bundle takes at most here, which is a quarter of a second, and how many bundles there are for each thread.
+# How many cycles a bundle takes at most here, which is a quarter of a second, and how many bundles a thread has ahead.
 CYCLES = 6_000_000
 AHEAD = 2
 # The same at a scheduler, where each bundle costs some milliseconds.
@@ -29,8 +29,8 @@ NO_PACKAGE = f"--scheduler: {sys.executable} has no package distributed: apt-get
 
 @dataclass(frozen=True)
 class Place:
-    """How a bundle is handed out; how many cycles it takes at most; how many bundles are out at a time; what is done now and then while
-    they are waited for; and the counts of one that is done."""
+    """How a bundle is handed out; how many cycles it takes at most; how many bundles are out at a time; what is done
+    now and then while they are waited for; and the counts of one that is done."""
 
     submit: Callable[[Pairs], Future[Any]]
     cycles: int
@@ -39,7 +39,7 @@ class Place:
     counts_of: Callable[[Future[Any]], Counts] = Future.result
 
     def fight(self, matches: Matches) -> Iterator[Pairs]:
-        """Fights what isn't fought yet. Gives the rows of each bundle when their counts are filled in. Raises Refused."""
+        """Fights what isn't fought yet. Gives the rows of each bundle whose counts are filled in. Raises Refused."""
         bundles = matches.bundles(self.cycles)
         out: dict[Future[Any], Pairs] = {}
         while True:
@@ -84,6 +84,8 @@ def counts_there(future: Future[Counts | str]) -> Counts:
         counts = future.result()
     except CancelledError:
         raise Refused("the scheduler has gone") from None
+    except ModuleNotFoundError as fault:
+        raise Refused(f"a worker doesn't have this package: {fault}") from None
     except Exception as fault:
         # What is handed out raises nothing of its own: a worker can't take it, or a bundle has ended several workers.
         raise Refused(f"the workers: {' '.join(str(fault).split())}") from None

@@ -1,8 +1,8 @@
 """Results of matches, kept in a file of SQLite, so that no match is fought twice.
 
-A match is known by its contest and by the digests of its two load files, in their order: a fight is a function of these. Results are
-written once a second, all of them or none, so a process that is killed loses at most those of its last second. Several processes may
-use one file.
+A match is known by its contest and by the digests of its two load files, in their order: a fight is a function of
+these. Results are written once a second, all of them or none, so a process that is killed loses at most those of its
+last second. Several processes may use one file.
 """
 from __future__ import annotations
 
@@ -16,8 +16,9 @@ from typing import Any
 from ..model.faults import Refused
 from .contest import Matches, Pairs
 
-TABLE = """CREATE TABLE IF NOT EXISTS fought (contest TEXT, first BLOB, second BLOB, points INTEGER NOT NULL, wins INTEGER NOT NULL,
-ties INTEGER NOT NULL, losses INTEGER NOT NULL, theirs INTEGER NOT NULL, PRIMARY KEY (contest, first, second)) STRICT, WITHOUT ROWID"""
+TABLE = """CREATE TABLE IF NOT EXISTS fought (contest TEXT, first BLOB, second BLOB,
+points INTEGER NOT NULL, wins INTEGER NOT NULL, ties INTEGER NOT NULL, losses INTEGER NOT NULL, theirs INTEGER NOT NULL,
+PRIMARY KEY (contest, first, second)) STRICT, WITHOUT ROWID"""
 FIND = "SELECT first, second, points, wins, ties, losses, theirs FROM fought WHERE contest = ?"
 KEEP = "INSERT OR IGNORE INTO fought VALUES (?, ?, ?, ?, ?, ?, ?, ?)"
 # How long another process may keep the file to itself, and how long results wait to be written, in seconds.

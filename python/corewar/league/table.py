@@ -19,10 +19,10 @@ HEAD = ("points", "wins", "ties", "losses")
 
 
 class League:
-    """The warriors of a league, and `against`: the points, wins, ties and losses of each, by the lines, against each, by the columns.
+    """The warriors of a league, and `against`: the points, wins, ties and losses of each, by lines, against each.
 
-    `ranks` has the place of each warrior by its points, from 1; those of equal points stand in the order of the files. `order` has the
-    warriors in the order in which they are shown.
+    `ranks` has the place of each warrior by its points, from 1; those of equal points stand in the order of the files.
+    `order` has the warriors in the order in which they are shown.
     """
 
     def __init__(self, matches: Matches, by_points: bool = True) -> None:
@@ -84,7 +84,7 @@ def csv_of(league: League) -> str:
 
 
 def json_of(league: League) -> str:
-    """The words, the seed, the warriors as they are shown, and each match with its two warriors' places among them, from 0."""
+    """The words, the seed, the warriors as they are shown, and each match with its warriors' places there, from 0."""
     contest = league.matches.contest
     head = {"words": contest.words, "seed": contest.seed, "rounds": contest.rounds}
     return json.dumps({**head, "warriors": league.rows, "matches": [*matches_of(league)]}, indent=None)

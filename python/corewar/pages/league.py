@@ -19,7 +19,7 @@ FRAMES = 600
 
 
 class Pages:
-    """A folder with the page of a league, index.html, and a folder for each pair that has a replay, named by its files."""
+    """A folder with the page of a league, index.html, and a folder for each pair with a replay, named by its files."""
 
     def __init__(self, folder: Path, league: League, pairs: Sequence[tuple[int, int]]) -> None:
         self.folder, self.league, self.pairs = folder, league, pairs

@@ -10,7 +10,7 @@ from numpy.typing import NDArray
 
 from .shades import LOST, TIED, WON, mixed
 
-# The size of a cell and of the whole matrix at most, in inches; below the size of a letter, in points, names aren't written.
+# The size of a cell and of the whole matrix at most, in inches; letters below this size, in points, aren't written.
 CELL, SIDE, LETTER = 0.25, 20.0, 4.0
 
 

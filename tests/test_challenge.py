@@ -1,0 +1,87 @@
+"""challenge: its lines against values that were worked out by hand and the program's own tables, and its faults."""
+from __future__ import annotations
+
+import subprocess
+from pathlib import Path
+
+import pytest
+from conftest import EXAMPLES, TOP, Run
+
+PROGRAM = TOP / "crates" / "mars" / "out" / "mars"
+HEAD = "  points   wins   ties losses   theirs  opponent\n"
+FILES = {
+    "stay.red": ";name Stay\njmp 0\n",
+    "dead.red": ";name Dead\ndat 0\n",
+    "late.red": ";name Late\n;author Me\nnop 0\nnop 0\ndat 0\n",
+    "broken.red": "mvo 0, 1\n",
+    "made.red": ";assert WARRIORS == 2 && ROUNDS == 4 && CORESIZE == 400\njmp 0\n",
+}
+
+
+@pytest.fixture(autouse=True)
+def folder(tmp_path: Path) -> None:
+    for name, text in FILES.items():
+        (tmp_path / name).write_text(text)
+
+
+def test_by_hand(run: Run) -> None:
+    """A survivor alone gets (2*2-1)/1 = 3 points of a round, each of two gets 3/2 = 1, a dead one nothing."""
+    assert run("challenge", "-r", 4, "stay.red", "stay.red", "dead.red", "late.red").stdout == HEAD + (
+        "      12      4      0      0        0  dead.red  Dead by Anonymous\n"
+        "      12      4      0      0        0  late.red  Late by Me\n"
+        "       4      0      4      0        4  stay.red  Stay by Anonymous\n"
+        "      28      8      4      0        4  sum of 3\n"
+    )
+    assert run("challenge", "-r", 3, "--score=1-S*5", "stay.red", "late.red", "stay.red").stdout == HEAD + (
+        "     -12      3      0      0        0  late.red  Late by Me\n"
+        "     -27      0      3      0      -27  stay.red  Stay by Anonymous\n"
+        "     -39      3      3      0      -27  sum of 2\n"
+    )
+    # Of two that die at once the one that takes the first turn does, and the turns are exchanged from round to round.
+    assert run("challenge", "--sum", "-r", 4, "dead.red", "dead.red").stdout == (
+        "       6      2      0      2        6  sum of 1\n"
+    )
+    words = "-s 400 -c 10 -p 5 -l 10 -d 20 -F 100 --seed 5 --read-limit 200 --write-limit 200".split()
+    told = run("challenge", "--sum", "-r", 4, *words, "made.red", "dead.red")
+    assert told.stdout == "      12      4      0      0        0  sum of 1\n"
+
+
+def test_by_the_program(run: Run) -> None:
+    names = sorted(path.name for path in EXAMPLES.glob("*.red"))
+    lines = []
+    for name in names:
+        command = [str(PROGRAM), "-b", "-r", "6", "--seed", "7", "dwarf.red", name]
+        table = subprocess.run(command, cwd=EXAMPLES, capture_output=True, text=True).stdout.splitlines()
+        counts = [int(count) for count in [*table[1].split()[:4], table[2].split()[0]]]
+        lines.append((counts, f"{name:{max(map(len, names))}}  {table[2][31:]}"))
+    sums = [sum(column) for column in zip(*(counts for counts, _ in lines))]
+    lines = [*sorted(lines, key=lambda line: -line[0][0]), (sums, f"sum of {len(names)}")]
+    own = "".join("{:8} {:6} {:6} {:6} {:8}  ".format(*counts) + f"{told}\n" for counts, told in lines)
+    for jobs in (1, 3):
+        told = run("challenge", "--jobs", jobs, "-r", 6, "--seed", 7, "dwarf.red", *names, cwd=EXAMPLES)
+        assert told.stdout == HEAD + own
+
+
+def test_faults(run: Run) -> None:
+    """An opponent with a fault is told and left out; the candidate's ends all."""
+    done = run("challenge", "-r", 2, "stay.red", "broken.red", "dead.red", "none.red")
+    assert done.returncode == 1 and done.stdout == HEAD + (
+        "       6      2      0      0        0  dead.red  Dead by Anonymous\n"
+        "       6      2      0      0        0  sum of 1\n"
+    )
+    assert "corewar: broken.red: line 1: 2 Operation\n" in done.stderr and "corewar: none.red: No such" in done.stderr
+    for files in (["broken.red", "stay.red"], ["broken.red", "broken.red"]):
+        done = run("challenge", *files)
+        assert (done.returncode, done.stdout) == (1, "") and "broken.red: line 1: 2 Operation" in done.stderr
+    done = run("challenge", "stay.red")
+    assert done.returncode == 2 and "at least two files are asked for" in done.stderr
+
+
+def test_results_are_kept(run: Run, tmp_path: Path) -> None:
+    """They are those of a league in which the candidate stands first."""
+    words = ["--results", "kept.sqlite", "-r", 4, "stay.red", "dead.red", "late.red"]
+    told = run("league", *words)
+    assert told.returncode == 0
+    assert run("challenge", "--sum", *words).stdout == "      24      8      0      0        0  sum of 2\n"
+    turned = run("challenge", "--results", "kept.sqlite", "-r", 4, "late.red", "stay.red")
+    assert turned.stderr.startswith("corewar: 1 of 1 matches are kept the other way round alone")

@@ -1,0 +1,127 @@
+"""league and challenge on the workers of a Dask cluster, which come and go: a scheduler and workers on this machine."""
+from __future__ import annotations
+
+import json
+import os
+import signal
+import subprocess
+import sys
+import time
+from collections.abc import Callable, Iterator
+from pathlib import Path
+from typing import Any
+
+import pytest
+from conftest import EXAMPLES, TOP, Run
+
+pytest.importorskip("distributed", reason="package python3-distributed")
+
+FILES = sorted(path.name for path in EXAMPLES.glob("*.red"))[:8]
+ABSENT = "corewar: no worker is there: the matches wait for one\n"
+# A league of some examples that takes a worker some seconds.
+LONG = 400
+Start = Callable[..., "subprocess.Popen[bytes]"]
+
+
+def wait_for(condition: Callable[[], Any]) -> None:
+    end = time.monotonic() + 60
+    while not condition() and time.monotonic() < end:
+        time.sleep(0.05)
+
+
+@pytest.fixture
+def start(tmp_path: Path) -> Iterator[Start]:
+    """Starts a part of a cluster, which ends with the test. A worker has the package where its path leads to it."""
+    started = []
+
+    def begin(*words: str, path: str = str(TOP / "python")) -> subprocess.Popen[bytes]:
+        command = [sys.executable, "-m", "dask", *words, "--host", "127.0.0.1", "--no-dashboard"]
+        environment = {**os.environ, "PYTHONPATH": path}
+        process = subprocess.Popen(
+            command, cwd=tmp_path, env=environment, stdout=subprocess.DEVNULL, stderr=subprocess.DEVNULL
+        )
+        started.append(process)
+        return started[-1]
+
+    yield begin
+    for process in started:
+        process.kill()
+        process.wait()
+
+
+@pytest.fixture
+def scheduler(start: Start, tmp_path: Path) -> tuple[str, subprocess.Popen[bytes]]:
+    """The address of a scheduler, and its process."""
+    told = tmp_path / "scheduler.json"
+    process = start("scheduler", "--port", "0", "--scheduler-file", str(told))
+    wait_for(lambda: told.exists() and told.stat().st_size)
+    return json.loads(told.read_text())["address"], process
+
+
+def worker(start: Start, address: str, **how: str) -> subprocess.Popen[bytes]:
+    return start("worker", address, "--no-nanny", "--nthreads", "1", **how)
+
+
+def begun(*words: object) -> subprocess.Popen[str]:
+    """A league of the examples that was started."""
+    command = [sys.executable, "-m", "corewar.cli.main", "league", *map(str, words), *FILES]
+    environment = {**os.environ, "PYTHONPATH": str(TOP / "python")}
+    signal.signal(signal.SIGINT, signal.default_int_handler)
+    return subprocess.Popen(
+        command, cwd=EXAMPLES, env=environment, text=True, stdout=subprocess.PIPE, stderr=subprocess.PIPE
+    )
+
+
+def test_it_is_the_same_there(run: Run, start: Start, scheduler: tuple[str, Any]) -> None:
+    worker(start, scheduler[0])
+    for command in ("league", "challenge"):
+        words = [command, "-r", 3, *FILES]
+        here, there = run(*words, cwd=EXAMPLES), run(*words, "--scheduler", scheduler[0], cwd=EXAMPLES)
+        # The command may be there before its worker.
+        assert (there.stdout, there.stderr.removeprefix(ABSENT)) == (here.stdout, "")
+    told = run("league", "--scheduler", scheduler[0], "--score", "1/(S-1)", *FILES, cwd=EXAMPLES)
+    assert told.returncode == 1 and "corewar: score 3 DivideByZero" in told.stderr
+
+
+def test_a_worker_dies_and_another_comes(start: Start, scheduler: tuple[str, Any], tmp_path: Path, run: Run) -> None:
+    first = worker(start, scheduler[0])
+    process = begun("-r", LONG, "--scheduler", scheduler[0], "--results", tmp_path / "kept.sqlite")
+    wait_for(lambda: (tmp_path / "kept.sqlite").exists())
+    time.sleep(2)
+    first.kill()
+    assert process.stderr is not None
+    read = process.stderr.readline
+    wait_for(lambda: read() == ABSENT)
+    worker(start, scheduler[0])
+    output, _ = process.communicate(timeout=240)
+    assert output == run("league", "-r", LONG, *FILES, cwd=EXAMPLES).stdout
+
+
+def test_ends(start: Start, scheduler: tuple[str, Any]) -> None:
+    """Ctrl-C, and a scheduler that goes, are told in a line."""
+    worker(start, scheduler[0])
+    for status in (130, 1):
+        process = begun("-r", LONG, "--scheduler", scheduler[0])
+        time.sleep(4)
+        (process if status == 130 else scheduler[1]).send_signal(signal.SIGINT if status == 130 else signal.SIGKILL)
+        output, told = process.communicate(timeout=120)
+        assert (process.returncode, output, told.removeprefix(ABSENT).count("\n")) == (status, "", 1)
+
+
+def test_a_worker_without_the_package(run: Run, start: Start, scheduler: tuple[str, Any]) -> None:
+    worker(start, scheduler[0], path="")
+    told = run("league", "--scheduler", scheduler[0], *FILES, cwd=EXAMPLES)
+    assert told.returncode == 1
+    assert (
+        told.stderr.removeprefix(ABSENT) == "corewar: a worker doesn't have this package: No module named 'corewar'\n"
+    )
+
+
+def test_no_scheduler_and_no_package(run: Run) -> None:
+    told = run("league", "--scheduler", "127.0.0.1:9", "@imp", "@dwarf")
+    assert told.returncode == 1 and told.stderr.startswith("corewar: --scheduler 127.0.0.1:9: ")
+    hidden = "import sys; sys.modules['distributed'] = None; from corewar.cli.main import main; main()"
+    command = [sys.executable, "-c", hidden, "league", "--scheduler", "127.0.0.1:9", "imp.red", "dwarf.red"]
+    environment = {**os.environ, "PYTHONPATH": str(TOP / "python")}
+    done = subprocess.run(command, cwd=EXAMPLES, env=environment, capture_output=True, text=True)
+    assert done.returncode == 1 and done.stderr.endswith("apt-get install python3-distributed\n")

@@ -1,0 +1,383 @@
+"""league: its tables against the program's own, what is kept, faults, and what it writes."""
+from __future__ import annotations
+
+import csv
+import io
+import json
+import os
+import signal
+import sqlite3
+import subprocess
+import sys
+import time
+from pathlib import Path
+from xml.etree import ElementTree
+
+import numpy as np
+import pytest
+from conftest import EXAMPLES, TOP, Run
+from costly import large, slow
+
+from corewar.engine.calls import assemble
+from corewar.league.contest import Contest, Matches, all_pairs
+from corewar.league.places import threads
+from corewar.league.results import Results
+from corewar.league.table import League
+from corewar.model.settings import HILLS, Settings
+from corewar.pictures.shades import LOST, NO_MATCH, TIED, WON, mixed
+
+PROGRAM = TOP / "crates" / "mars" / "out" / "mars"
+NAMES = sorted(path.name for path in EXAMPLES.glob("*.red"))
+FILES = {
+    "stay.red": ";name Stay\njmp 0\n",
+    "same.red": ";name Stay\njmp 0\n",
+    "dead.red": ";name Dead\ndat 0\n",
+    "late.red": ";name Late, later\n;author Me & you\nnop 0\nnop 0\ndat 0\n",
+    "old.load": "JMP 0, 0\n",
+    "unnamed.load": ";load 2 80\n;name \n;author \nJMP 0, 79\n",
+    "broken.red": "mvo 0, 1\n",
+    "alone.red": ";assert WARRIORS == 1\njmp 0\n",
+    "made.red": ";name Made\n;assert WARRIORS == 2 && ROUNDS == 4\njmp 0, WARRIORS\ndat 0, ROUNDS\n",
+    "-dash.red": ";name Dash\njmp 0\n",
+}
+HEAD = "  rank   points   wins   ties losses  warrior\n"
+
+
+@pytest.fixture
+def folder(tmp_path: Path) -> Path:
+    for name, text in FILES.items():
+        (tmp_path / name).write_text(text)
+    return tmp_path
+
+
+def own_rows(folder: Path, words: str) -> list[str]:
+    """The lines of the program's own league, without its head."""
+    done = subprocess.run([PROGRAM, "-b", "--league", *words.split()], cwd=folder, capture_output=True, text=True)
+    assert done.returncode == 0, done.stderr
+    return done.stdout.splitlines()[1:]
+
+
+def rows(told: str) -> list[str]:
+    """The lines of a table without their ranks, which count from 1."""
+    head, *lines = told.splitlines()
+    assert head + "\n" == HEAD and [int(line[:6]) for line in lines] == [*range(1, len(lines) + 1)]
+    return [line[7:] for line in lines]
+
+
+@pytest.mark.parametrize(
+    "words",
+    [
+        "-r 5",
+        "-r 4 --seed 9",
+        "-r 3 --score=1-S*5",
+        "-r 3 --score=(S==1)*7-(S==2)*9",
+        "-r 2 -c 10",
+        "-r 2 -s 8000 -p 8 -l 150 -d 150 --read-limit 400 --write-limit 300",
+    ],
+)
+def test_it_is_the_programs_league(run: Run, words: str) -> None:
+    """The same counts as the program's own: ties, negative points, formulas, limits, and warriors of the same text."""
+    files = [*NAMES, *NAMES[:3]]
+    told = run("league", "--jobs", 3, *words.split(), *files, cwd=EXAMPLES).stdout
+    assert rows(told) == own_rows(EXAMPLES, f"-o {words} {' '.join(files)}")
+
+
+def test_a_hill_is_its_words(run: Run) -> None:
+    files, tiny = ["dwarf.red", "imp.red", "fitted.red"], "-o -r 20 -s 800 -c 8000 -p 800 -l 20"
+    for words, own in (("", "20"), ("-d 300", "300")):
+        told = run("league", "-r", 20, "--hill", "tiny", *words.split(), *files, cwd=EXAMPLES).stdout
+        assert rows(told) == own_rows(EXAMPLES, f"{tiny} -d {own} {' '.join(files)}")
+
+
+def test_files(run: Run, folder: Path) -> None:
+    """Load files, WARRIORS and ROUNDS, standard input, a name with a dash, and the file where there is no name."""
+    own = own_rows(folder, "-o -r 4 old.load made.red unnamed.load late.red dead.red")
+    told = run("league", "-r", 4, "old.load", "made.red", "unnamed.load", "late.red", "dead.red").stdout
+    shown = [line.replace(" Unknown by", " old.load by").replace("   by ", "  unnamed.load by ") for line in own]
+    assert rows(told) == [line.replace("   by", "  unnamed.load by") for line in shown]
+    told = run("league", "/dev/stdin", "late.red", "--", "-dash.red", given=FILES["stay.red"]).stdout
+    assert rows(told) == own_rows(folder, "-o stay.red late.red -- -dash.red")
+    told = run("league", "-r", 4, "-F", 300, "made.red", "dead.red").stdout
+    assert rows(told) == [
+        "      12      4      0      0  Made by Anonymous",
+        "       0      0      0      4  Dead by Anonymous",
+    ]
+
+
+ORDER = ["stay.red", "same.red", "late.red", "dead.red"]
+LAST_FIRST = ["-r", 4, "dead.red", "late.red", "stay.red", "same.red"]
+
+
+def test_csv(run: Run, folder: Path) -> None:
+    """Dead gets nothing. Late outlives it alone, and the two others outlive both and tie."""
+    table = [
+        ["rank", "file", "name", "author", "points", "wins", "ties", "losses"],
+        ["1", "stay.red", "Stay", "Anonymous", "28", "8", "4", "0"],
+        ["2", "same.red", "Stay", "Anonymous", "28", "8", "4", "0"],
+        ["3", "late.red", "Late, later", "Me & you", "12", "4", "0", "8"],
+        ["4", "dead.red", "Dead", "Anonymous", "0", "0", "0", "12"],
+    ]
+    assert [*csv.reader(io.StringIO(run("league", "--format", "csv", *LAST_FIRST).stdout))] == table
+    run("league", "--format", "csv", "--order", "files", "-o", "out.csv", *LAST_FIRST)
+    assert [*csv.reader((folder / "out.csv").open())] == [table[0], *(table[rank] for rank in (4, 3, 1, 2))]
+
+
+def test_json(run: Run, folder: Path) -> None:
+    told = json.loads(run("league", "--format", "json", *LAST_FIRST).stdout)
+    assert told["seed"] == 1 and told["rounds"] == 4 and "--seed=1" in told["words"] and "-r=4" in told["words"]
+    assert [warrior["file"] for warrior in told["warriors"]] == ORDER
+    assert told["warriors"][0] == {
+        **{"rank": 1, "file": "stay.red", "name": "Stay", "author": "Anonymous"},
+        **{"points": 28, "wins": 8, "ties": 4, "losses": 0},
+    }
+    first = {"first": 3, "second": 2, "points": 0, "wins": 0, "ties": 0, "losses": 4, "theirs": 12}
+    assert len(told["matches"]) == 6 and told["matches"][0] == first
+    done = subprocess.run([PROGRAM, "-b", *told["words"], "dead.red", "late.red"], cwd=folder, capture_output=True)
+    assert done.stdout.splitlines()[1].split()[:4] == [b"0", b"0", b"0", b"4"]
+
+
+def test_matrix(run: Run, folder: Path) -> None:
+    assert run("league", "--format", "matrix", *LAST_FIRST).stdout == (
+        "  1 2 3 4  warrior\n1 . 0 4 4  Stay by Anonymous\n2 0 . 4 4  Stay by Anonymous\n"
+        "3 0 0 . 4  Late, later by Me & you\n4 0 0 0 .  Dead by Anonymous\n"
+    )
+
+
+def test_colours() -> None:
+    counts = np.array([[4, 0, 0], [0, 2, 0], [0, 0, 9], [0, 1, 9], [0, 0, 0]])
+    shade = [round((9 * lost + tied) / 10) for lost, tied in zip(LOST, TIED)]
+    assert mixed(counts).tolist() == [[*WON], [*TIED], [*LOST], shade, [NO_MATCH] * 3]
+
+
+def test_picture(run: Run, folder: Path) -> None:
+    told = run("league", "--picture", "m.svg", *LAST_FIRST)
+    assert rows(told.stdout) == own_rows(folder, "-o -r 4 dead.red late.red stay.red same.red")
+    assert ElementTree.parse(folder / "m.svg").getroot().tag.endswith("svg")
+    run("league", "--picture", "m.png", *LAST_FIRST)
+    assert (folder / "m.png").read_bytes().startswith(b"\x89PNG")
+
+
+def test_pages(run: Run, folder: Path) -> None:
+    """A page with table, matrix and settings; a replay of a pair that is named, in a folder named by its files."""
+    run(
+        "league",
+        "--pages",
+        "web",
+        "--page-pairs",
+        "same,./late.red",
+        *LAST_FIRST[:2],
+        "dead.red",
+        "./late.red",
+        "same.red",
+    )
+    page = (folder / "web" / "index.html").read_text()
+    assert "rounds 4 · seed 1" in page and "Late, later by Me &amp; you" in page
+    assert page.count("background:#1e50c8") == 3 and page.count('href="late-same/round-0.html"') == 2
+    assert "<canvas" in (folder / "web" / "late-same" / "round-0.html").read_text()
+    assert [path.name for path in (folder / "web").iterdir() if path.is_dir()] == ["late-same"]
+    told = run("league", "--pages", "web", "--page-pairs", "same,none", *LAST_FIRST)
+    assert told.returncode == 2 and "same,none doesn't name two of the files" in told.stderr
+
+
+def test_faults_of_files(run: Run, folder: Path) -> None:
+    """A file with a fault is told and left out, and what it means; the others fight on."""
+    done = run(
+        "league", "-r", 2, "stay.red", "broken.red", "dead.red", "none.red", "alone.red", "late.red", "/dev/zero"
+    )
+    assert done.returncode == 1 and rows(done.stdout) == own_rows(folder, "-o -r 2 stay.red dead.red late.red")
+    assert done.stderr.splitlines() == [
+        "corewar: broken.red: line 1: 2 Operation",
+        "  `mvo` is read as a label: is MOV meant?",
+        "corewar: none.red: No such file or directory",
+        "corewar: alone.red: line 1: 5 AssertFailed",
+        "  The value of this `;assert` is 0: the warrior isn't made for these settings.",
+        "corewar: /dev/zero: too large",
+    ]
+
+
+@pytest.mark.parametrize(
+    "words, status, told",
+    [
+        ("-r 0", 2, "0 is not in the range 1<=x<=100000"),
+        ("-F 50", 1, "corewar: settings 3 Position"),
+        ("-l 200", 1, "corewar: parameters 6 Distance"),
+        ("--score X", 1, "corewar: formula 1 Expression 2 Unknown"),
+        ("-s 199", 1, "corewar: placement 1 NoRoom"),
+        ("--score 1/(S-1)", 1, "corewar: score 3 DivideByZero"),
+        ("--score 9223372036854775807 same.red", 1, "corewar: score 4 Range"),
+        ("--jobs 0", 2, "0 is not in the range x>=1"),
+        ("--results none/file", 2, "there is no folder none"),
+        ("-o none/file", 2, "there is no folder none"),
+        ("--picture m.gif", 2, "its name ends in .png, .svg or .pdf"),
+        ("--picture none/m.svg", 2, "there is no folder none"),
+        ("--results broken.red", 1, "corewar: broken.red: file is not a database"),
+        ("--scheduler here", 2, "it is HOST:PORT, as in first.lan:8786"),
+        ("--scheduler tls://first.lan:1", 2, "it is HOST:PORT, as in first.lan:8786"),
+        ("--page-pairs stay,dead", 2, "--page-pairs goes with --pages"),
+        ("--format yaml", 2, "'yaml' is not one of 'table', 'csv', 'json', 'matrix'"),
+    ],
+)
+def test_faults_of_words(run: Run, folder: Path, words: str, status: int, told: str) -> None:
+    done = run("league", *words.split(), "stay.red", "dead.red")
+    assert (done.returncode, done.stdout) == (status, "") and told in done.stderr and "Traceback" not in done.stderr
+
+
+def test_two_files_are_asked_for(run: Run, folder: Path) -> None:
+    done = run("league", "stay.red")
+    assert done.returncode == 2 and "at least two files are asked for" in done.stderr
+
+
+def test_no_file_has_a_warrior(run: Run, folder: Path) -> None:
+    done = run("league", "--picture", "m.png", "broken.red", "none.red")
+    assert (done.returncode, done.stdout) == (1, "") and "Traceback" not in done.stderr
+    done = run("league", "--picture", "m.png", "--pages", "web", "stay.red", "none.red")
+    assert done.returncode == 1 and rows(done.stdout) == ["       0      0      0      0  Stay by Anonymous"]
+
+
+def test_source_limit(run: Run, folder: Path) -> None:
+    """A source that takes more than its limit is told and left out; a long fight isn't."""
+    (folder / "slow.red").write_text(slow())
+    (folder / "names.red").write_text(large())
+    for limit, name, told in (("1", "slow.red", "more than 1 s"), ("60,200", "names.red", "more than 200 MB")):
+        done = run("league", "--source-limit", limit, "-r", 4, "stay.red", name, "late.red")
+        assert done.returncode == 1 and rows(done.stdout) == own_rows(folder, "-o -r 4 stay.red late.red")
+        assert done.stderr.startswith(f"corewar: {name}: {told} of ")
+    words = "-c 10000000 -r 30 stay.red same.red"
+    assert rows(run("league", "--source-limit", 1, *words.split()).stdout) == own_rows(folder, f"-o {words}")
+
+
+def count_kept(path: Path) -> int:
+    """How many results a file has, which is sound at any time."""
+    if not path.exists():
+        return 0
+    with sqlite3.connect(path, timeout=60) as file:
+        if not file.execute("SELECT 1 FROM sqlite_master WHERE name = 'fought'").fetchone():
+            return 0
+        assert file.execute("PRAGMA integrity_check").fetchall() == [("ok",)]
+        return int(file.execute("SELECT count(*) FROM fought").fetchone()[0])
+
+
+def begun(folder: Path, *words: object) -> subprocess.Popen[str]:
+    """A league that was started, as it is from a shell: it hears Ctrl-C."""
+    environment = {**os.environ, "PYTHONPATH": str(TOP / "python")}
+    command = [sys.executable, "-m", "corewar.cli.main", "league", *map(str, words)]
+    signal.signal(signal.SIGINT, signal.default_int_handler)
+    return subprocess.Popen(
+        command, cwd=folder, env=environment, stdout=subprocess.PIPE, stderr=subprocess.PIPE, text=True
+    )
+
+
+def wait_for_results(path: Path, count: int) -> None:
+    end = time.monotonic() + 60
+    while count_kept(path) <= count and time.monotonic() < end:
+        time.sleep(0.02)
+
+
+def test_it_goes_on_where_it_was_ended(folder: Path) -> None:
+    """By a kill and by Ctrl-C, which tells how many are kept; then the table is the same, and all are kept."""
+    path, before = folder / "kept.sqlite", 0
+    words = ["-r", 300, "--jobs", 1, "--results", path, *(EXAMPLES / name for name in NAMES[:7])]
+    for how in (signal.SIGKILL, signal.SIGINT):
+        process = begun(folder, *words)
+        wait_for_results(path, before)
+        process.send_signal(how)
+        output, told = process.communicate(timeout=60)
+        kept = count_kept(path)
+        assert before < kept < 21 and output == ""
+        if how == signal.SIGINT:
+            assert (
+                process.returncode == 130
+                and told == f"corewar: {kept} of 21 matches are kept: the same command goes on\n"
+            )
+        before = kept
+    both = [begun(folder, *words) for _ in range(2)]
+    tables = [process.communicate(timeout=300) for process in both]
+    own = own_rows(EXAMPLES, f"-o -r 300 {' '.join(NAMES[:7])}")
+    assert [(rows(output), told) for output, told in tables] == 2 * [(own, "")] and count_kept(path) == 21
+
+
+def test_ctrl_c_without_results(folder: Path) -> None:
+    """What is under way isn't waited for."""
+    os.mkfifo(folder / "pipe")
+    for words in ("pipe", "-c 10000000 -r 100000 same.red"):
+        process = begun(folder, "stay.red", *words.split())
+        time.sleep(1.5)
+        process.send_signal(signal.SIGINT)
+        output, told = process.communicate(timeout=20)
+        assert (process.returncode, output, told.strip()) == (130, "", "corewar: stopped")
+
+
+def test_a_kept_match_is_of_its_contest(folder: Path) -> None:
+    """One that is kept is taken as it is; by another seed, other rounds, or the other way round it is another one."""
+    path = str(folder / "kept.sqlite")
+    warriors = [
+        assemble(text, file=name) for name, text in FILES.items() if name in ("stay.red", "dead.red", "late.red")
+    ]
+
+    def filled(contest: Contest, order: tuple[int, ...] = (0, 1, 2)) -> tuple[Matches, int]:
+        matches = Matches(contest, [warriors[number] for number in order], all_pairs(len(order)))
+        with Results(path, matches) as results:
+            turned = results.find()
+        return matches, turned
+
+    contest = Contest(rounds=4)
+    matches = Matches(contest, warriors, all_pairs(3))
+    with Results(path, matches) as results, threads(matches, 2) as place:
+        for rows_done in place.fight(matches):
+            results.keep(rows_done)
+    kept, turned = filled(contest)
+    assert kept.is_fought.all() and turned == 0 and (kept.counts == matches.counts).all()
+    others = [
+        Contest(rounds=5),
+        Contest(rounds=4, seed=2),
+        Contest(rounds=4, formula="S"),
+        Contest(Settings(cycles=9), 4),
+    ]
+    for other in others:
+        assert not filled(other)[0].is_fought.any()
+    kept, turned = filled(contest, (0, 2, 1, 0))
+    assert kept.is_fought.tolist() == [True, True, False, False, False, False] and turned == 3
+    with sqlite3.connect(path) as file, pytest.raises(sqlite3.IntegrityError):
+        file.execute("UPDATE fought SET wins = 'many'")
+
+
+def test_it_tells_what_is_kept_the_other_way_round(run: Run, folder: Path) -> None:
+    run("league", "--results", "kept.sqlite", "stay.red", "dead.red", "late.red")
+    told = run("league", "--results", "kept.sqlite", "dead.red", "stay.red", "late.red").stderr
+    assert told.startswith("corewar: 1 of 3 matches are kept the other way round alone")
+    assert run("league", "--results", "kept.sqlite", "dead.red", "stay.red", "late.red").stderr == ""
+
+
+def test_progress(folder: Path) -> None:
+    """On a terminal standard error has a bar, and standard output the table alone."""
+    ours, theirs = os.openpty()
+    command = [sys.executable, "-m", "corewar.cli.main", "league", "stay.red", "dead.red", "late.red"]
+    environment = {**os.environ, "PYTHONPATH": str(TOP / "python"), "TERM": "xterm"}
+    done = subprocess.run(command, cwd=folder, env=environment, stdout=subprocess.PIPE, stderr=theirs, text=True)
+    shown = os.read(ours, 10000).decode()
+    os.close(ours)
+    os.close(theirs)
+    assert "3/3" in shown and "matches" in shown and rows(done.stdout)
+
+
+def test_names_that_a_terminal_obeys(run: Run, folder: Path) -> None:
+    (folder / "a\x1b[2Jb.load").write_text(FILES["old.load"])
+    assert "a?[2Jb.load by Anonymous" in run("league", "a\x1b[2Jb.load", "stay.red").stdout
+
+
+def test_a_large_league() -> None:
+    """Bundles cover all pairs once, whatever their size, and the sums are those of the pairs."""
+    contest = Contest(HILLS["nano"], formula="S")
+    warriors = [assemble(f"jmp {number % 5}", contest.settings) for number in range(60)]
+    matches = Matches(contest, warriors, all_pairs(60))
+    assert sorted(np.concatenate([*matches.bundles(contest.settings.cycles * 7)]).tolist()) == [*range(1770)]
+    with threads(matches, 3) as place:
+        assert sum(len(done) for done in place.fight(matches)) == 1770
+    league = League(matches)
+    assert sum(row["points"] for row in league.rows) == matches.counts[:, [0, 4]].sum()
+    assert sorted(league.ranks.values()) == [*range(1, 61)]
+
+
+def test_a_contest_is_words() -> None:
+    words = "-s=8000 -p=8000 -c=80000 -l=100 -d=100 -r=1 --seed=1 -F=200 --score=(W*W-1)/S"
+    assert Contest(position=200).words == words.split()
