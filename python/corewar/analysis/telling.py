@@ -89,7 +89,7 @@ class Teller:
         block = history.block(turn)
         name, cell = self.names[block.following(turn)], self.cell(block.cell(address, turn))
         line = self.sources.lines.get(address)
-        source = f"    ; line {line.number}: {line.text.strip()}" if line else ""
+        source = f"    ; line {line.number}: {line.text}" if line else ""
         return f"next: {name} at {self.where(address)}: {cell}{source}"
 
     def ending(self) -> str:
@@ -123,6 +123,6 @@ class Teller:
             ]
             mark, label = ">" if address == head else " ", self.sources.labels.get(address, "")
             line = self.sources.lines.get(address)
-            source = f"; {line.number}: {line.text.strip()}" if line else ""
+            source = f"; {line.number}: {line.text}" if line else ""
             text = f"{mark} {address:6} {label:10} {self.cell(cells[address]):24} {', '.join(marks):16} {source}"
             yield text.rstrip()

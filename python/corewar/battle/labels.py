@@ -12,7 +12,7 @@ from .history import History
 
 @dataclass(frozen=True)
 class Line:
-    """The line of a source that made a cell: the warrior, the number of the line from 1, and its text."""
+    """The line of a source that made a cell: the warrior, the number of the line from 1, and its text but for a comment."""
 
     warrior: int
     number: int
@@ -31,7 +31,7 @@ class Sources:
             texts = (warrior.source or b"").decode("latin-1").split("\n")
             for place, (line, labels) in enumerate(self._read(history, number)):
                 address = (first + place) % history.core
-                self.lines[address] = Line(number, line, texts[line - 1].rstrip())
+                self.lines[address] = Line(number, line, " ".join(texts[line - 1].partition(";")[0].split()))
                 self._labels += [(number, label, address) for label in labels]
 
     @staticmethod
@@ -41,7 +41,7 @@ class Sources:
             return []
         try:
             return source_lines(source, history.fight.settings, history.fight.rounds, len(history.warriors))
-        except (Fault, AttributeError):
+        except Fault:
             return []
 
     @cached_property

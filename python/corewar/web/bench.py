@@ -211,7 +211,7 @@ class Bench:
                     "address": at,
                     "label": session.sources.labels.get(at, ""),
                     "text": cell_text(cells[at], history.core),
-                    "line": f"{line.number}: {line.text.strip()}" if line else "",
+                    "line": f"{line.number}: {line.text}" if line else "",
                     "owner": int(owners[at]),
                     "processes": counts,
                 }
