@@ -54,8 +54,8 @@ def test_a_session_is_the_program_s(fight: Match, lines: list[str]) -> None:
 def test_moves() -> None:
     session = session_of("dwarf", "imp")
     assert execute(session, "step") == [
-        "turn 1: Dwarf at 0: ADD.AB #4, $3; 3: DAT.F #0, #0 -> DAT.F #0, #4; then at 1",
-        "next: Imp at 1305: MOV.I $0, $1",
+        "turn 1: Dwarf at 0 (loop): ADD.AB #4, $3; 3 (bomb): DAT.F #0, #0 -> DAT.F #0, #4; then at 1",
+        "next: Imp at 1305: MOV.I $0, $1    ; line 5: MOV.I 0, 1",
     ]
     places = [6, 7, 6, 4, 7798, 7, 10, 0, 7798, 0, 7798]
     for line, turn in zip(
@@ -71,15 +71,15 @@ def test_moves() -> None:
 
 def test_searches_go_both_ways() -> None:
     session = session_of("dwarf", "imp")
-    assert execute(session, "continue changes 3")[0] == "changes 3:" and session.turn == 1
+    assert execute(session, "continue changes 3")[0] == "changes 3 (bomb):" and session.turn == 1
     assert execute(session, "c changes 1300..1400 by imp")[0] == "changes 1300..1400 by Imp:" and session.turn == 2
     assert execute(session, "c dies imp")[0] == "dies Imp:" and session.turn == 7798
     assert execute(session, "rc at 0")[1].startswith("turn 7794: Imp") and session.turn == 7794
     assert refused(session, "continue").startswith("there is no break")
-    assert execute(session, "b changes 3") == ["break 0: changes 3"]
-    assert execute(session, "b dies Imp") == ["break 0: changes 3", "break 1: dies Imp"]
+    assert execute(session, "b changes 3") == ["break 0: changes 3 (bomb)"]
+    assert execute(session, "b dies Imp") == ["break 0: changes 3 (bomb)", "break 1: dies Imp"]
     execute(session, "goto 0")
-    assert execute(session, "c")[0] == "changes 3:"
+    assert execute(session, "c")[0] == "changes 3 (bomb):"
     assert refused(session, "delete") == "there is no break ``: delete takes a number, or `all`"
     assert execute(session, "d 0") == ["break 0: dies Imp"]
     assert execute(session, "d all") == []
@@ -91,7 +91,7 @@ def test_searches_go_both_ways() -> None:
 def test_edits_make_futures() -> None:
     session = session_of("dwarf", "imp")
     execute(session, "goto 6")
-    assert execute(session, "edit 0 jmp 2") == ["0: ADD.AB #4, $3 -> JMP.B $2, $0"]
+    assert execute(session, "edit 0 jmp 2") == ["0 (loop): ADD.AB #4, $3 -> JMP.B $2, $0"]
     assert session.history.end == 160000
     assert execute(session, "futures") == [
         "  0: as it was; 7798 turns",
@@ -151,7 +151,7 @@ def test_over_a_pipe(run: Run) -> None:
     lines = done.stdout.splitlines()
     assert (done.returncode, done.stderr) == (0, "")
     assert lines[0].startswith("turn 1: Dwarf") and lines[2] == "`bad` is no command: help tells them"
-    assert lines[-1] == "next: Dwarf at 1: MOV.I $2, @2"
+    assert lines[-1] == "next: Dwarf at 1: MOV.I $2, @2    ; line 10: MOV bomb, @bomb"
     again = run("debug", "@dwarf", "@imp", "--turn", 4, given="source kept\nsource nowhere\n")
     assert again.stdout.splitlines()[0].startswith("turn 6: Imp")
     assert again.stdout.splitlines()[-1] == "nowhere: No such file or directory"

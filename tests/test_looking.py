@@ -43,7 +43,7 @@ def test_a_round_and_names(run: Run) -> None:
 def test_trace(run: Run) -> None:
     told = run("trace", "--from", 1, "--turns", 2, "@dwarf", "@imp").stdout
     assert told == (
-        "turn 1: Dwarf at 0: ADD.AB #4, $3\n    3: DAT.F #0, #0 -> DAT.F #0, #4\n"
+        "turn 1: Dwarf at 0 (loop): ADD.AB #4, $3\n    3 (bomb): DAT.F #0, #0 -> DAT.F #0, #4\n"
         "turn 2: Imp at 1305: MOV.I $0, $1\n    1306: DAT.F $0, $0 -> MOV.I $0, $1\n"
     )
     assert len([line for line in run("trace", "@dwarf", "@imp").stdout.splitlines() if line.startswith("turn")]) == 20

@@ -150,7 +150,7 @@ def test_a_turn_is_what_the_machine_says(site: Site) -> None:
 def test_edits_make_futures(site: Site) -> None:
     site.told("fight", fight("dwarf", "imp"))
     edited = site.told("debug", {"line": "edit 0 dat 0, 0", "turn": 100})
-    assert edited["isOther"] and edited["answer"] == ["0: ADD.AB #4, $3 -> DAT.F $0, $0"]
+    assert edited["isOther"] and edited["answer"] == ["0 (loop): ADD.AB #4, $3 -> DAT.F $0, $0"]
     assert site.told("battle")["outcome"] == "Imp wins"
     assert [one["here"] for one in site.told("battle")["futures"]] == [False, True]
     assert site.told("cell/0/200")["told"] == [

@@ -20,23 +20,51 @@ from corewar.model import cells, faults
 
 ARCHIVE = os.path.join(TOP, "crates", "mars_c", "out", "libmars_c.a")
 HEADER = os.path.join(TOP, "include", "mars.h")
-EXAMPLES = sorted(os.path.join(TOP, "examples", name) for name in os.listdir(os.path.join(TOP, "examples")) if name.endswith(".red"))
+EXAMPLES = sorted(
+    os.path.join(TOP, "examples", name) for name in os.listdir(os.path.join(TOP, "examples")) if name.endswith(".red")
+)
 OPCODES = "DAT MOV ADD SUB MUL DIV MOD JMP JMZ JMN DJN SEQ SNE SLT SPL NOP CMP FOO".split()
 MODES = ["", "#", "$", "*", "@", "{", "<", "}", ">", "?"]
 LINES = ["", "x EQU 3", "i FOR 2", "ROF", "END 1", "ORG 5", ";assert 0", "MOV 1/0, 2", "lab ADD lab, x", "MOV é"]
 # A source for each fault of the assembler.
 FAULTY = [
-    "MOV é", "DAT 1, ?", "FOR 2\nDAT 0", "ROF", "i FOR 10001\nDAT 0\nROF", "lab DAT 0\ni FOR lab\nDAT 0\nROF", "x EQU 1\nx EQU 2\nDAT x",
-    "".join(f"e{i} EQU e{i + 1}\n" for i in range(40)) + "e40 EQU 1\nDAT e0", "i FOR 10000\nj FOR 10000\nDAT 0\nROF\nROF", "i FOR 1/0\nDAT 0\nROF",
-    "FOO 1", "MOV", "MOV 1/0, 2", "MOV 9223372036854775807+1, 2", "MOV x, 1", "MOV 1+, 2", f"MOV {'(' * 65}1{')' * 65}, 2", ";assert 0\nDAT 0",
-    "ORG 5\nDAT 0", "", "DAT 0\n" * 101,
+    "MOV é",
+    "DAT 1, ?",
+    "FOR 2\nDAT 0",
+    "ROF",
+    "i FOR 10001\nDAT 0\nROF",
+    "lab DAT 0\ni FOR lab\nDAT 0\nROF",
+    "x EQU 1\nx EQU 2\nDAT x",
+    "".join(f"e{i} EQU e{i + 1}\n" for i in range(40)) + "e40 EQU 1\nDAT e0",
+    "i FOR 10000\nj FOR 10000\nDAT 0\nROF\nROF",
+    "i FOR 1/0\nDAT 0\nROF",
+    "FOO 1",
+    "MOV",
+    "MOV 1/0, 2",
+    "MOV 9223372036854775807+1, 2",
+    "MOV x, 1",
+    "MOV 1+, 2",
+    f"MOV {'(' * 65}1{')' * 65}, 2",
+    ";assert 0\nDAT 0",
+    "ORG 5\nDAT 0",
+    "",
+    "DAT 0\n" * 101,
 ]
 # A load file for each fault of theirs.
-BAD_LOADS = ["DAT.F #0, #0\nMOV 0\n", "DAT.F #0, #0\n" * 101, "ORG 0\n", "ORG 5\nDAT.F #0, #0\n", ";load 3 8\nDAT.F #0, #0\n"]
+BAD_LOADS = [
+    "DAT.F #0, #0\nMOV 0\n",
+    "DAT.F #0, #0\n" * 101,
+    "ORG 0\n",
+    "ORG 5\nDAT.F #0, #0\n",
+    ";load 3 8\nDAT.F #0, #0\n",
+]
 # Settings that the program takes for bad words, and the fault of each.
 OUT_OF_RANGE = [
-    ({"core": 0}, "parameters 1 CoreSize"), ({"core": 1048577}, "parameters 1 CoreSize"), ({"processes": 0}, "parameters 2 Processes"),
-    ({"cycles": 10000001}, "parameters 3 Cycles"), ({"longest": 0}, "parameters 5 Length"),
+    ({"core": 0}, "parameters 1 CoreSize"),
+    ({"core": 1048577}, "parameters 1 CoreSize"),
+    ({"processes": 0}, "parameters 2 Processes"),
+    ({"cycles": 10000001}, "parameters 3 Cycles"),
+    ({"longest": 0}, "parameters 5 Length"),
 ]
 dice = random.Random(1)
 
@@ -68,14 +96,27 @@ def prefix(tmp_path_factory):
     """The library as it is installed."""
     folder, archive = str(tmp_path_factory.mktemp("prefix")), os.environ.get("MARS_ARCHIVE", ARCHIVE)
     holds(os.path.isfile(archive), "there is no archive: scripts/library proves and makes it")
-    done = subprocess.run([os.path.join(SCRIPTS, "library"), "--archive", archive, folder], capture_output=True, text=True)
+    done = subprocess.run(
+        [os.path.join(SCRIPTS, "library"), "--archive", archive, folder], capture_output=True, text=True
+    )
     check("the library is installed", (done.returncode, done.stderr), (0, ""))
     return folder
 
 
 def words_of(settings):
     """The words of the program for settings."""
-    words = ["-s", settings.core, "-p", settings.processes, "-c", settings.cycles, "-l", settings.longest, "-d", settings.distance]
+    words = [
+        "-s",
+        settings.core,
+        "-p",
+        settings.processes,
+        "-c",
+        settings.cycles,
+        "-l",
+        settings.longest,
+        "-d",
+        settings.distance,
+    ]
     words += ["--read-limit", settings.read_limit] if settings.read_limit else []
     words += ["--write-limit", settings.write_limit] if settings.write_limit else []
     return [str(word) for word in words]
@@ -84,7 +125,9 @@ def words_of(settings):
 def started(*words):
     """What the program writes, or its fault without its own name and that of a file."""
     done = subprocess.run([PROGRAM, *words], capture_output=True)
-    return done.stdout if done.returncode == 0 else re.sub(r"^mars: (\S+/\S+: )?", "", done.stderr.decode().rstrip("\n"))
+    return (
+        done.stdout if done.returncode == 0 else re.sub(r"^mars: (\S+/\S+: )?", "", done.stderr.decode().rstrip("\n"))
+    )
 
 
 def called(call):
@@ -97,7 +140,11 @@ def called(call):
 
 def plain(table):
     """The rows of a table, as numbers; a fault stays as it is."""
-    return table if isinstance(table, str) else [corewar.Row(*map(int, line.split()[:4])) for line in table.decode().splitlines()[1:]]
+    return (
+        table
+        if isinstance(table, str)
+        else [corewar.Row(*map(int, line.split()[:4])) for line in table.decode().splitlines()[1:]]
+    )
 
 
 def operand():
@@ -106,7 +153,10 @@ def operand():
 
 def source():
     """A source of random words; some are faulty."""
-    lines = [f"{dice.choice(OPCODES[:-1] if dice.randrange(20) else OPCODES)} {operand()}, {operand()}" for _ in range(dice.randrange(1, 7))]
+    lines = [
+        f"{dice.choice(OPCODES[:-1] if dice.randrange(20) else OPCODES)} {operand()}, {operand()}"
+        for _ in range(dice.randrange(1, 7))
+    ]
     if dice.randrange(3) == 0:
         lines.insert(dice.randrange(len(lines) + 1), dice.choice(LINES))
     return "\n".join(lines) + "\n"
@@ -117,7 +167,15 @@ def settings():
     core = dice.choice([80, 200, 800])
     longest = dice.randrange(5, 9)
     limit = dice.choice([0, 0, 0, core, core // 2, core + 1 if dice.randrange(10) == 0 else 7])
-    return corewar.Settings(core, dice.choice([1, 8, 80]), dice.choice([10, 200, 800]), longest, longest + dice.randrange(-1, 9) if dice.randrange(8) == 0 else longest, limit, dice.choice([0, limit]))
+    return corewar.Settings(
+        core,
+        dice.choice([1, 8, 80]),
+        dice.choice([10, 200, 800]),
+        longest,
+        longest + dice.randrange(-1, 9) if dice.randrange(8) == 0 else longest,
+        limit,
+        dice.choice([0, limit]),
+    )
 
 
 def test_assemblies(folder):
@@ -144,15 +202,35 @@ def test_faults(folder):
     imp = corewar.assemble("MOV 0, 1")
     for text in BAD_LOADS:
         warriors = [imp, corewar.Warrior(text.encode())]
-        check(f"load file {text[:40]!r}", called(lambda: corewar.match(warriors)), started("-b", *files_of(warriors, folder)))
-        holds(getattr(fault_of(lambda: corewar.match(warriors)), "warrior", 0) == 1, f"{text[:40]!r} isn't the second load file")
+        check(
+            f"load file {text[:40]!r}",
+            called(lambda: corewar.match(warriors)),
+            started("-b", *files_of(warriors, folder)),
+        )
+        holds(
+            getattr(fault_of(lambda: corewar.match(warriors)), "warrior", 0) == 1,
+            f"{text[:40]!r} isn't the second load file",
+        )
     for words, fault in OUT_OF_RANGE:
         check(f"settings {words}", called(lambda: corewar.match([imp], settings=corewar.Settings(**words))), fault)
     for words, call in (([1, 0], corewar.match), ([100001, 1], corewar.match), ([1, 2147483647], corewar.league)):
-        holds(str(fault_of(lambda: call([imp] * 2, *words))).startswith("settings"), f"rounds and seed {words} are taken")
-    for count, position, fault in ((3, 400, "settings 3 Position"), (2, 99, "settings 3 Position"), (2, 7901, "settings 3 Position"), (17, 0, "settings 4 Warriors"), (0, 0, "settings 4 Warriors")):
+        holds(
+            str(fault_of(lambda: call([imp] * 2, *words))).startswith("settings"), f"rounds and seed {words} are taken"
+        )
+    for count, position, fault in (
+        (3, 400, "settings 3 Position"),
+        (2, 99, "settings 3 Position"),
+        (2, 7901, "settings 3 Position"),
+        (17, 0, "settings 4 Warriors"),
+        (0, 0, "settings 4 Warriors"),
+    ):
         check(f"{count} warriors at {position}", called(lambda: corewar.match([imp] * count, position=position)), fault)
-    for history, count, fault in ((0, 1, "settings 6 History"), (1000001, 1, "settings 6 History"), (1, 0, "settings 4 Warriors"), (1, 17, "settings 4 Warriors")):
+    for history, count, fault in (
+        (0, 1, "settings 6 History"),
+        (1000001, 1, "settings 6 History"),
+        (1, 0, "settings 4 Warriors"),
+        (1, 17, "settings 4 Warriors"),
+    ):
         check(f"a history of {history}", called(lambda: debug([imp] * count, history=history)), fault)
 
 
@@ -176,8 +254,14 @@ def files_of(warriors, folder):
 
 def loads():
     """Some random warriors, as load files of version 1; now and then a faulty one."""
-    cell = lambda: f"{dice.choice(OPCODES[:-2])}.{dice.choice(['A', 'B', 'AB', 'BA', 'F', 'X', 'I'])} {dice.choice(MODES[1:-1])}{dice.randrange(-9, 10)}, {dice.choice(MODES[1:-1])}{dice.randrange(-9, 10)}"
-    text = lambda: "ORG 0\n" + "".join(f"{cell()}\n" for _ in range(dice.randrange(1, 6))) + ("X\n" if dice.randrange(60) == 0 else "")
+    cell = (
+        lambda: f"{dice.choice(OPCODES[:-2])}.{dice.choice(['A', 'B', 'AB', 'BA', 'F', 'X', 'I'])} {dice.choice(MODES[1:-1])}{dice.randrange(-9, 10)}, {dice.choice(MODES[1:-1])}{dice.randrange(-9, 10)}"
+    )
+    text = (
+        lambda: "ORG 0\n"
+        + "".join(f"{cell()}\n" for _ in range(dice.randrange(1, 6)))
+        + ("X\n" if dice.randrange(60) == 0 else "")
+    )
     return [corewar.Warrior(text().encode()) for _ in range(dice.choice([1, 2, 2, 2, 2, 3, 5]))]
 
 
@@ -202,8 +286,19 @@ def test_populations():
     warriors = [corewar.read(path) for path in EXAMPLES]
     for position in (0, 400):
         rows = corewar.population(warriors[:3], warriors[3:7], 5, 7, position=position)
-        sums = [[corewar.match([one, other], 5, 7, position=position)[0] for other in warriors[3:7]] for one in warriors[:3]]
-        check(f"population at {position}", rows, [corewar.Row(*(sum(getattr(row, part) for row in all_rows) for part in ("points", "wins", "ties", "losses"))) for all_rows in sums])
+        sums = [
+            [corewar.match([one, other], 5, 7, position=position)[0] for other in warriors[3:7]] for one in warriors[:3]
+        ]
+        check(
+            f"population at {position}",
+            rows,
+            [
+                corewar.Row(
+                    *(sum(getattr(row, part) for row in all_rows) for part in ("points", "wins", "ties", "losses"))
+                )
+                for all_rows in sums
+            ],
+        )
     check("a population without opponents", corewar.population(warriors[:2], []), [corewar.Row(0, 0, 0, 0)] * 2)
 
 
@@ -211,7 +306,11 @@ def test_debugger(folder):
     """The transcript of lines, that of a buffer which has to grow among them."""
     warriors = [corewar.read(path) for path in EXAMPLES[:2]]
     paths = files_of(warriors, folder)
-    for lines in (["run 100", "undo", "show", "queue 0", "step", "goto 5", "no", "edit 5 DAT.F #0, #0", "redo"], ["list 0 8000"], []):
+    for lines in (
+        ["run 100", "undo", "show", "queue 0", "step", "goto 5", "no", "edit 5 DAT.F #0, #0", "redo"],
+        ["list 0 8000"],
+        [],
+    ):
         text = "".join(f"{line}\n" for line in lines)
         done = subprocess.run([PROGRAM, "-e", *paths], input=text.encode(), capture_output=True)
         check(f"debugger: {lines}", debug(warriors, lines).encode(), done.stdout)
@@ -220,52 +319,117 @@ def test_debugger(folder):
 def listed(text, core):
     """A cell as the program lists it, by the numbers of its parts."""
     op, modifier, mode, number, other, second = re.fullmatch(r"(\w+)\.(\w+) (.)(-?\d+), (.)(-?\d+)", text).groups()
-    return cells.OPCODES.index(op), cells.MODIFIERS.index(modifier), cells.MODES.index(mode), cells.MODES.index(other), int(number) % core, int(second) % core
+    return (
+        cells.OPCODES.index(op),
+        cells.MODIFIERS.index(modifier),
+        cells.MODES.index(mode),
+        cells.MODES.index(other),
+        int(number) % core,
+        int(second) % core,
+    )
 
 
 def told_state(lines, core, many):
     """The state that `show`, `list` and `queue` tell, its deaths by warriors."""
     turns, cycle, following = map(int, re.findall(r"turn (\d+) cycle (\d+) next (\d+)", lines[0])[0])
-    deaths = [(w, int(line.split()[3])) for w, line in enumerate(lines[1:1 + many]) if " dead " in line]
-    cells = [listed(line.split(" ", 1)[1], core) for line in lines[2 + many:2 + many + core]]
-    queues = [[int(address) for address in line.split(":")[1].split()] for line in lines[2 + many + core:]]
-    return {"cells": cells, "queues": queues, "deaths": deaths, "turns": turns, "cycle": cycle, "next": following, "over": lines[1 + many] == "battle over"}
+    deaths = [(w, int(line.split()[3])) for w, line in enumerate(lines[1 : 1 + many]) if " dead " in line]
+    cells = [listed(line.split(" ", 1)[1], core) for line in lines[2 + many : 2 + many + core]]
+    queues = [[int(address) for address in line.split(":")[1].split()] for line in lines[2 + many + core :]]
+    return {
+        "cells": cells,
+        "queues": queues,
+        "deaths": deaths,
+        "turns": turns,
+        "cycle": cycle,
+        "next": following,
+        "over": lines[1 + many] == "battle over",
+    }
 
 
 def plain_state(state):
     """A state of the library in the same form."""
-    return {**vars(state), "cells": state.cells.tolist(), "queues": [queue.tolist() for queue in state.queues], "deaths": sorted(state.deaths.tolist())}
+    return {
+        **vars(state),
+        "cells": state.cells.tolist(),
+        "queues": [queue.tolist() for queue in state.queues],
+        "deaths": sorted(state.deaths.tolist()),
+    }
 
 
 def after(state, turn, over):
     """The state after a turn, by its record; whether it is over isn't told there."""
     cells, queues, deaths = list(state["cells"]), [list(queue) for queue in state["queues"]], list(state["deaths"])
-    for address, before, then in turn["change"][:turn["changes"]].tolist():
+    for address, before, then in turn["change"][: turn["changes"]].tolist():
         holds(cells[address] == before, f"the cell before {turn}")
         cells[address] = then
-    holds(turn["warrior"] == state["next"] and queues[turn["warrior"]].pop(0) == turn["address"], f"the process of {turn}")
-    queues[turn["warrior"]] += turn["process"][:turn["queued"]].tolist()
+    holds(
+        turn["warrior"] == state["next"] and queues[turn["warrior"]].pop(0) == turn["address"], f"the process of {turn}"
+    )
+    queues[turn["warrior"]] += turn["process"][: turn["queued"]].tolist()
     deaths += [(int(turn["warrior"]), state["turns"] + 1)] if turn["died"] else []
-    holds(not turn["change"][turn["changes"]:].tobytes().strip(b"\0") and not turn["process"][turn["queued"]:].any(), f"zeros behind {turn}")
-    return {"cells": cells, "queues": queues, "deaths": sorted(deaths), "turns": state["turns"] + 1, "cycle": turn["cycle"], "next": turn["next"], "over": over}
+    holds(
+        not turn["change"][turn["changes"] :].tobytes().strip(b"\0") and not turn["process"][turn["queued"] :].any(),
+        f"zeros behind {turn}",
+    )
+    return {
+        "cells": cells,
+        "queues": queues,
+        "deaths": sorted(deaths),
+        "turns": state["turns"] + 1,
+        "cycle": turn["cycle"],
+        "next": turn["next"],
+        "over": over,
+    }
 
 
 def test_records(folder):
     """Records and states of random battles, also behind lines: each record leads from the state that the debugger lists to the next."""
-    command = lambda core: dice.choice(["step", f"run {dice.randrange(1, 9)}", "undo", "redo", f"edit {dice.randrange(core)} SPL.B $0, $0", "kill 0 0", f"spawn 0 {dice.randrange(core)}", f"move 0 0 {dice.randrange(core)}"])
+    command = lambda core: dice.choice(
+        [
+            "step",
+            f"run {dice.randrange(1, 9)}",
+            "undo",
+            "redo",
+            f"edit {dice.randrange(core)} SPL.B $0, $0",
+            "kill 0 0",
+            f"spawn 0 {dice.randrange(core)}",
+            f"move 0 0 {dice.randrange(core)}",
+        ]
+    )
     turns = 0
     for _ in range(150):
-        warriors, held, seed = loads(), corewar.Settings(80, dice.choice([1, 8]), dice.choice([10, 50]), 8, 8, dice.choice([0, 0, 20]), dice.choice([0, 0, 9])), dice.randrange(1, 1 << 30)
-        lines, first, most = [command(held.core) for _ in range(dice.choice([0, 0, 3]))], dice.choice([0, 0, 2, 9]), dice.choice([0, 9, 30])
+        warriors, held, seed = (
+            loads(),
+            corewar.Settings(
+                80, dice.choice([1, 8]), dice.choice([10, 50]), 8, 8, dice.choice([0, 0, 20]), dice.choice([0, 0, 9])
+            ),
+            dice.randrange(1, 1 << 30),
+        )
+        lines, first, most = (
+            [command(held.core) for _ in range(dice.choice([0, 0, 3]))],
+            dice.choice([0, 0, 2, 9]),
+            dice.choice([0, 9, 30]),
+        )
         words = ["-e", "--seed", str(seed), *words_of(held), *files_of(warriors, folder)]
         ask = ["show", f"list 0 {held.core}", *(f"queue {w}" for w in range(len(warriors)))]
-        size, text = 2 + held.core + 2 * len(warriors), "".join(f"{line}\n" for line in [*lines, *["step"] * first, *ask, *(each for _ in range(most) for each in ["step", *ask])])
+        size, text = 2 + held.core + 2 * len(warriors), "".join(
+            f"{line}\n"
+            for line in [*lines, *["step"] * first, *ask, *(each for _ in range(most) for each in ["step", *ask])]
+        )
         done = subprocess.run([PROGRAM, *words], input=text.encode(), capture_output=True)
         if done.returncode:
-            check(f"record {words}", called(lambda: record(warriors, lines, first, most, seed=seed, settings=held)), re.sub(r"^mars: (\S+/\S+: )?", "", done.stderr.decode().rstrip("\n")))
+            check(
+                f"record {words}",
+                called(lambda: record(warriors, lines, first, most, seed=seed, settings=held)),
+                re.sub(r"^mars: (\S+/\S+: )?", "", done.stderr.decode().rstrip("\n")),
+            )
             continue
-        answers = done.stdout.decode().splitlines()[len(lines) + first:]
-        told = [told_state(answers[at:at + size], held.core, len(warriors)) for at in range(0, len(answers), size + 1) if at == 0 or not answers[at - 1].startswith("refused")]
+        answers = done.stdout.decode().splitlines()[len(lines) + first :]
+        told = [
+            told_state(answers[at : at + size], held.core, len(warriors))
+            for at in range(0, len(answers), size + 1)
+            if at == 0 or not answers[at - 1].startswith("refused")
+        ]
         made = record(warriors, lines, first, most, seed=seed, settings=held)
         check(f"how many records {words} {lines}", len(made), len(told) - 1)
         for before, turn, then in zip(told, made, told[1:]):
@@ -275,10 +439,21 @@ def test_records(folder):
         turns += len(made)
     holds(turns > 200, f"{turns} turns were recorded")
     imp, split = corewar.assemble("MOV 0, 1"), corewar.assemble("SPL 0\nJMP -1")
-    check("later rounds begin in turn", [state([imp] * 3, round=k, seed=7).queues[-k % 3].tolist() for k in range(4)], [[0]] * 4)
-    check("a long queue", len(state([split], turns=20000).queues[0]), int(debug([split], ["run 20000", "show"]).split("processes ")[1].split()[0]))
+    check(
+        "later rounds begin in turn",
+        [state([imp] * 3, round=k, seed=7).queues[-k % 3].tolist() for k in range(4)],
+        [[0]] * 4,
+    )
+    check(
+        "a long queue",
+        len(state([split], turns=20000).queues[0]),
+        int(debug([split], ["run 20000", "show"]).split("processes ")[1].split()[0]),
+    )
     check("no such round", called(lambda: record([imp], round=100000)), "settings 1 Rounds")
-    for fault, call in (("ValueError", lambda: record([imp], first=-1)), ("ValueError", lambda: corewar.match([imp], settings=corewar.Settings(core=1 << 32)))):
+    for fault, call in (
+        ("ValueError", lambda: record([imp], first=-1)),
+        ("ValueError", lambda: corewar.match([imp], settings=corewar.Settings(core=1 << 32))),
+    ):
         check("a number that is none", raised(call), fault)
 
 
@@ -311,8 +486,23 @@ def test_shared(prefix):
 def test_c(folder, prefix):
     """The C program: as it is, under valgrind, and under AddressSanitizer."""
     text, made = os.path.join(os.path.dirname(os.path.abspath(__file__)), "library.c"), os.path.join(folder, "calls")
-    words = ["gcc", "-Wall", "-Wextra", "-Werror", f"-I{prefix}/include", text, "-Wl,--wrap=malloc,--wrap=realloc,--wrap=free", f"{prefix}/lib/libmars.a", "-o", made]
-    for name, more, before in (("C", [], []), ("valgrind", [], ["valgrind", "-q", "--error-exitcode=1", "--leak-check=full"]), ("AddressSanitizer", ["-fsanitize=address"], [])):
+    words = [
+        "gcc",
+        "-Wall",
+        "-Wextra",
+        "-Werror",
+        f"-I{prefix}/include",
+        text,
+        "-Wl,--wrap=malloc,--wrap=realloc,--wrap=free",
+        f"{prefix}/lib/libmars.a",
+        "-o",
+        made,
+    ]
+    for name, more, before in (
+        ("C", [], []),
+        ("valgrind", [], ["valgrind", "-q", "--error-exitcode=1", "--leak-check=full"]),
+        ("AddressSanitizer", ["-fsanitize=address"], []),
+    ):
         built = subprocess.run([*words[:1], *more, *words[1:]], capture_output=True, text=True)
         if before and not shutil.which(before[0]) or more and built.returncode:
             skip(name, "it isn't here", before[0] if before else "gcc")
@@ -327,22 +517,44 @@ def test_rust(folder, prefix):
         skip("the example in Rust", "there is no cargo", "cargo")
         return
     made = {**os.environ, "MARS_LIB": os.path.join(prefix, "lib"), "CARGO_TARGET_DIR": os.path.join(folder, "target")}
-    fight = lambda *words: subprocess.run(["cargo", "run", "--quiet", "--offline", "--", *words], cwd=os.path.join(TOP, "examples", "rust"), env=made, capture_output=True, text=True)
+    fight = lambda *words: subprocess.run(
+        ["cargo", "run", "--quiet", "--offline", "--", *words],
+        cwd=os.path.join(TOP, "examples", "rust"),
+        env=made,
+        capture_output=True,
+        text=True,
+    )
     done = fight("20", *EXAMPLES[:3])
     expected = [line.split()[:4] for line in started("-b", "-r", "20", *EXAMPLES[:3]).decode().splitlines()[1:]]
-    check("the example in Rust", (done.returncode, done.stderr, [line.split()[:4] for line in done.stdout.splitlines()[1:]]), (0, "", expected))
+    check(
+        "the example in Rust",
+        (done.returncode, done.stderr, [line.split()[:4] for line in done.stdout.splitlines()[1:]]),
+        (0, "", expected),
+    )
     path = os.path.join(folder, "source.red")
     with open(path, "w") as file:
         file.write("MOV 0, 1\nFOO 1\n")
     done = fight("20", path)
-    check("its fault", (done.returncode, done.stdout, "answer 5, number 2, problem 0, expression 0, line 2" in done.stderr), (1, "", True))
+    check(
+        "its fault",
+        (done.returncode, done.stdout, "answer 5, number 2, problem 0, expression 0, line 2" in done.stderr),
+        (1, "", True),
+    )
 
 
 def test_header():
     """The numbers and names of the header are those of the package."""
     text = open(HEADER).read()
-    named = {name for _, names in faults.KINDS.values() for name in names} - {*faults.KINDS[2][1], "OutOfMemory", "NoWarrior", "TooMany"}
-    holds(all(re.search(rf"\d {name}\b", text) for name in named | set(faults.PROBLEMS)), "the header lacks a fault's name")
+    named = {name for _, names in faults.KINDS.values() for name in names} - {
+        *faults.KINDS[2][1],
+        "OutOfMemory",
+        "NoWarrior",
+        "TooMany",
+    }
+    holds(
+        all(re.search(rf"\d {name}\b", text) for name in named | set(faults.PROBLEMS)),
+        "the header lacks a fault's name",
+    )
     check("the answers", len(re.findall(r"^ +MARS_\w+ = \d+", text, re.M)), len(faults.KINDS) + 2)
 
 
@@ -350,4 +562,8 @@ def test_script():
     """What `scripts/library` refuses."""
     library = [os.path.join(SCRIPTS, "library")]
     check("wrong words", subprocess.run([*library, "--none"], capture_output=True).returncode, 2)
-    check("no archive", subprocess.run([*library, "--archive", "none", "--out", "none"], capture_output=True, text=True).stderr, "library: no archive: none\n")
+    check(
+        "no archive",
+        subprocess.run([*library, "--archive", "none", "--out", "none"], capture_output=True, text=True).stderr,
+        "library: no archive: none\n",
+    )

@@ -15,7 +15,9 @@ def words_of_the_program():
 
 
 def offered(folder, *words):
-    done = subprocess.run(["bash", "-c", OFFER, os.path.join(FOLDER, "mars.bash"), *words], cwd=folder, capture_output=True, text=True)
+    done = subprocess.run(
+        ["bash", "-c", OFFER, os.path.join(FOLDER, "mars.bash"), *words], cwd=folder, capture_output=True, text=True
+    )
     return sorted(done.stdout.split()), done.stderr
 
 

@@ -48,7 +48,13 @@ def each_assembles(examples):
 
 def none_ends_itself(examples):
     """Those that say that they never hit themselves live on alone."""
-    for words in (["fitted.red"], ["fitted.red", "-s", "800"], ["fitted.red", "-s", "55440"], ["boot.red"], ["vampire.red"]):
+    for words in (
+        ["fitted.red"],
+        ["fitted.red", "-s", "800"],
+        ["fitted.red", "-s", "55440"],
+        ["boot.red"],
+        ["vampire.red"],
+    ):
         if not examples.survives_alone(*words):
             yield " ".join(words)
 
@@ -98,15 +104,22 @@ def glance_strikes(examples):
     aim = len(cells) - 1
     # Two pairs away: aim + 640, and gap cells farther on.
     for place in (aim + 640, aim + 640 + 160):
-        seen = examples.run("-e", "-F", str(place), "quick.red", "gate.red", commands="run 120\nqueue 0\n").splitlines()[-1]
+        seen = examples.run(
+            "-e", "-F", str(place), "quick.red", "gate.red", commands="run 120\nqueue 0\n"
+        ).splitlines()[-1]
         if not strike <= int(seen.split(":")[1]) <= strike + 3:
             yield f"a warrior at {place} isn't struck: {seen}"
-    seen = examples.run("-e", "-F", str(aim + 700), "quick.red", "gate.red", commands="run 120\nqueue 0\n").splitlines()[-1]
+    seen = examples.run(
+        "-e", "-F", str(aim + 700), "quick.red", "gate.red", commands="run 120\nqueue 0\n"
+    ).splitlines()[-1]
     if int(seen.split(":")[1]) <= strike + 3:
         yield f"it strikes at nothing: {seen}"
 
 
-@pytest.mark.parametrize("claim", [each_assembles, none_ends_itself, tailor_is_fitted, stranger_boots, dusk_traps, silk_weaves, glance_strikes])
+@pytest.mark.parametrize(
+    "claim",
+    [each_assembles, none_ends_itself, tailor_is_fitted, stranger_boots, dusk_traps, silk_weaves, glance_strikes],
+)
 def test_claims(claim):
     """What a warrior's comments say of it is so."""
     assert not list(claim(Examples(PROGRAM)))

@@ -94,7 +94,12 @@ class Place:
     def work(self):
         """The files that were left in the crates' work."""
         crates = os.path.join(self.folder, "crates")
-        return sorted(name for crate in os.listdir(crates) for _, _, names in os.walk(os.path.join(crates, crate, "out")) for name in names)
+        return sorted(
+            name
+            for crate in os.listdir(crates)
+            for _, _, names in os.walk(os.path.join(crates, crate, "out"))
+            for name in names
+        )
 
     def leave_out(self, crate, library):
         """Takes a library out of the line of a crate, which still stands on it through others."""
@@ -104,16 +109,30 @@ class Place:
             file.writelines(lines)
 
     def environment(self, fails="", sleeps=""):
-        return {**os.environ, "PATH": self.tools + ":" + os.environ["PATH"], "RT_LOG": self.log, "RT_FAILS": fails, "RT_SLEEPS": sleeps}
+        return {
+            **os.environ,
+            "PATH": self.tools + ":" + os.environ["PATH"],
+            "RT_LOG": self.log,
+            "RT_FAILS": fails,
+            "RT_SLEEPS": sleeps,
+        }
 
     def run(self, *words, script="mars", fails=""):
-        return subprocess.run([os.path.join(self.folder, script), *words], capture_output=True, text=True, env=self.environment(fails))
+        return subprocess.run(
+            [os.path.join(self.folder, script), *words], capture_output=True, text=True, env=self.environment(fails)
+        )
 
     def interrupted(self, sleeps):
         """What a start says that is broken off by Ctrl-C while this crate is proved."""
-        process = subprocess.Popen([os.path.join(self.folder, "mars"), "a.red"], stdout=subprocess.PIPE, stderr=subprocess.PIPE, text=True,
-                                   env=self.environment(sleeps=sleeps), start_new_session=True,
-                                   preexec_fn=lambda: signal.signal(signal.SIGINT, signal.SIG_DFL))  # (what a shell runs behind `&` ignores it)
+        process = subprocess.Popen(
+            [os.path.join(self.folder, "mars"), "a.red"],
+            stdout=subprocess.PIPE,
+            stderr=subprocess.PIPE,
+            text=True,
+            env=self.environment(sleeps=sleeps),
+            start_new_session=True,
+            preexec_fn=lambda: signal.signal(signal.SIGINT, signal.SIG_DFL),
+        )  # (what a shell runs behind `&` ignores it)
         while not os.path.exists(f"{self.log}-{sleeps}"):
             time.sleep(0.05)
         time.sleep(0.5)
@@ -139,7 +158,11 @@ class Place:
 def stands_on(path, but_for="_tests: staticlib:"):
     """What each crate of a crates.txt stands on, of the repository's own, but for crates of tests and libraries for C."""
     names = {line.split(":")[0] for line in open(os.path.join(TOP, "crates.txt")) if line[0].isalpha()}
-    lines = [line.split(":") for line in open(path) if line[0].isalpha() and not any(word in line for word in but_for.split())]
+    lines = [
+        line.split(":")
+        for line in open(path)
+        if line[0].isalpha() and not any(word in line for word in but_for.split())
+    ]
     return {name.split()[0]: set(rest.split()) & names for name, rest in lines}
 
 
@@ -150,7 +173,7 @@ def is_closed(lines):
 
 def is_in_order(order, below):
     """Whether each crate is proved once, and none before those that it stands on."""
-    return sorted(order) == sorted(below) and all(below[name] <= set(order[:order.index(name)]) for name in order)
+    return sorted(order) == sorted(below) and all(below[name] <= set(order[: order.index(name)]) for name in order)
 
 
 def test_first_start(place):
@@ -160,7 +183,11 @@ def test_first_start(place):
     check("each crate once, none before those that it stands on", is_in_order(order, below))
     check("each is told", all(f"mars: proved {name}, " in done.stderr for name in below))
     check("each is counted", f", {len(below)} of {len(below)} (" in done.stderr)
-    check("each has its part of the jobs, the program one", (min(place.jobs().values()) >= 1, place.jobs()["mars"]), (True, 1))
+    check(
+        "each has its part of the jobs, the program one",
+        (min(place.jobs().values()) >= 1, place.jobs()["mars"]),
+        (True, 1),
+    )
     check("the program alone stays", place.work(), ["mars"])
     place.run("again")
     check("what is built isn't proved again", place.proved() == order)
@@ -169,25 +196,38 @@ def test_first_start(place):
     check("nor where a test has changed", (place.proved() == order, done.stdout), (True, "played again\n"))
     place.touch("mars_match")
     place.run("again")
-    check("a changed source is proved, with what it stands on", is_in_order(place.proved()[len(order):], below))
+    check("a changed source is proved, with what it stands on", is_in_order(place.proved()[len(order) :], below))
 
 
 def test_failure(place):
     done = place.run("-b", "a.red", fails="mars_core")
-    check("a failed proof is told", done.returncode == 1 and "mars: mars_core isn't proved" in done.stderr and "no proof of mars_core" in done.stderr)
+    check(
+        "a failed proof is told",
+        done.returncode == 1
+        and "mars: mars_core isn't proved" in done.stderr
+        and "no proof of mars_core" in done.stderr,
+    )
     check("nothing is built on it", ("mars" in place.proved(), done.stdout), (False, ""))
     check("no proof of those beside it is lost", "format" in place.work())
     before = len(place.proved())
     place.touch("redcode_asm")
     place.run("-b", "a.red")
-    check("the next start goes on from there", set(place.proved()[before:]) & {"mars_cell", "redcode_text", "mars_core"}, {"mars_core"})
+    check(
+        "the next start goes on from there",
+        set(place.proved()[before:]) & {"mars_cell", "redcode_text", "mars_core"},
+        {"mars_core"},
+    )
     check("and leaves the program alone", place.work(), ["mars"])
 
 
 def test_changes_meanwhile(place):
     """A source that changes while it is proved is proved again, whether that start came to its end or not."""
     for fails in ("mars_core", ""):
-        subprocess.run([os.path.join(place.folder, "mars")], env={**place.environment(fails), "RT_CHANGES": "mars_cell"}, capture_output=True)
+        subprocess.run(
+            [os.path.join(place.folder, "mars")],
+            env={**place.environment(fails), "RT_CHANGES": "mars_cell"},
+            capture_output=True,
+        )
         before = len(place.proved())
         place.run("-b", "a.red")
         check("what changed meanwhile", "mars_cell" in place.proved()[before:])
@@ -195,7 +235,11 @@ def test_changes_meanwhile(place):
 
 
 def test_stopped(place):
-    check("Ctrl-C ends it in a line", place.interrupted("mars_core"), (True, "", "mars: stopped; what is proved is kept", False))
+    check(
+        "Ctrl-C ends it in a line",
+        place.interrupted("mars_core"),
+        (True, "", "mars: stopped; what is proved is kept", False),
+    )
     before = len(place.proved())
     place.run("-b", "a.red")
     check("what was proved is kept", "mars_cell" in place.proved()[before:], False)
@@ -203,13 +247,21 @@ def test_stopped(place):
 
 def test_two_starts(place):
     """A second start waits for the first one, says so, and finds the program built."""
-    command, how = [os.path.join(place.folder, "mars"), "a.red"], {"stdout": subprocess.PIPE, "stderr": subprocess.PIPE, "text": True}
+    command, how = [os.path.join(place.folder, "mars"), "a.red"], {
+        "stdout": subprocess.PIPE,
+        "stderr": subprocess.PIPE,
+        "text": True,
+    }
     first = subprocess.Popen(command, env={**place.environment(), "RT_SLEEPS": "mars_cell", "RT_SECONDS": "2"}, **how)
     while not os.path.exists(f"{place.log}-mars_cell"):
         time.sleep(0.05)
     second = subprocess.run(command, env=place.environment(), **how)
     check("both play", (first.communicate()[0], second.stdout), ("played a.red\n", "played a.red\n"))
-    check("the second one tells why it waits", second.stderr, "mars: another start is under way here, and this one waits until it has ended\n")
+    check(
+        "the second one tells why it waits",
+        second.stderr,
+        "mars: another start is under way here, and this one waits until it has ended\n",
+    )
     check("each crate is proved once", len(place.proved()), len({*place.proved()}))
 
 
@@ -218,7 +270,10 @@ def test_kept_work(place):
     place.leave_out("mars_match", "redcode_text")
     done = place.run("--keep", script="scripts/prove")
     check("each is proved by rt", (done.returncode, {words[1] for words in place.calls()}), (0, {"rt"}))
-    check("each beside all that it stands on, by itself or through others", all(name in room and is_closed(room) for name, room in place.rooms().items()))
+    check(
+        "each beside all that it stands on, by itself or through others",
+        all(name in room and is_closed(room) for name, room in place.rooms().items()),
+    )
     check("all have all jobs", len({*place.jobs().values()}), 1)
     kept = place.work()
     check("what they made stays", (kept.count("mars"), kept.count("work")), (1, len(place.proved())))
@@ -233,16 +288,22 @@ def test_kept_work(place):
     check("nor beside the library", "mars" in place.proved()[count:], False)
     link = os.path.join(place.folder, "linked")
     os.symlink(os.path.join(place.folder, "mars"), link)
-    check("a link reaches the program", subprocess.run([link, "x"], capture_output=True, text=True).stdout, "played x\n")
+    check(
+        "a link reaches the program", subprocess.run([link, "x"], capture_output=True, text=True).stdout, "played x\n"
+    )
 
 
 def test_terminal(place):
     """What a start writes to a terminal: a line that is written over, and how long the whole took."""
     mine, theirs = os.openpty()
-    subprocess.run([os.path.join(place.folder, "mars")], env=place.environment(), stdout=subprocess.DEVNULL, stderr=theirs)
+    subprocess.run(
+        [os.path.join(place.folder, "mars")], env=place.environment(), stdout=subprocess.DEVNULL, stderr=theirs
+    )
     told = os.read(mine, 100_000).decode().split("\r\n")
     first, last = told[0], told[-2]
-    check("what a start takes is told first", "this start proves 8 crates: 10 to 13 minutes on four processors" in first)
+    check(
+        "what a start takes is told first", "this start proves 8 crates: 10 to 13 minutes on four processors" in first
+    )
     check("what it took at the end", last.rpartition("\r\033[K")[2].startswith("mars: proved 8 crates in 0 min "))
     check("nothing else has a line of its own", (len(told), told[-1]), (3, ""))
     with open(os.path.join(place.folder, "out", "last-start.json")) as file:
@@ -250,7 +311,11 @@ def test_terminal(place):
     environment = {**place.environment(), "PATH": "/usr/bin:/bin"}
     place.touch("mars")
     done = subprocess.run([os.path.join(place.folder, "mars")], env=environment, capture_output=True, text=True)
-    check("without the toolchain it is told what runs without it", (done.returncode, "`rt`" in done.stderr, "scripts/pack" in done.stderr), (1, True, True))
+    check(
+        "without the toolchain it is told what runs without it",
+        (done.returncode, "`rt`" in done.stderr, "scripts/pack" in done.stderr),
+        (1, True, True),
+    )
 
 
 def test_progress(folder):
@@ -261,14 +326,22 @@ def test_progress(folder):
     unknown.keep({"a": 100, "b": 200, "c": 400})
     known = progress.Reckoning(path, ["a", "b", "c"], 600)
     check("as the last one", [known.left({}, 50), known.left({"a": 100}, 150)], [350, 250])
-    check("quicker, and slower", [known.left({"a": 50}, 50), known.left({"a": 200}, 200), known.left({}, 200)], [150, 600, 600])
+    check(
+        "quicker, and slower",
+        [known.left({"a": 50}, 50), known.left({"a": 200}, 200), known.left({}, 200)],
+        [150, 600, 600],
+    )
     check("a crate that isn't known", progress.Reckoning(path, ["a", "d"], 600).due, {"d": 600})
     told, progress.SILENCE = [], 0
     one = progress.Progress(2)
     one.is_terminal, one.tell = False, told.append
     one.add("a")
     one.go_on(["b", "c"])
-    check("each crate, and what goes on", told, ["mars: proved a, 1 of 2 (0 min 0 s)", "mars: 1 of 2 crates proved in 0 min 0 s; b and c under way"])
+    check(
+        "each crate, and what goes on",
+        told,
+        ["mars: proved a, 1 of 2 (0 min 0 s)", "mars: 1 of 2 crates proved in 0 min 0 s; b and c under way"],
+    )
 
 
 def test_library(place):
@@ -278,7 +351,11 @@ def test_library(place):
     check("in the same run", is_in_order(place.proved(), below))
     check("beside the program, in one job", place.jobs()["mars_c"], 1)
     check("what is built of them stays", place.work(), ["libmars_c.a", "mars"])
-    check("what can't be built of that is told", (done.returncode, done.stderr.splitlines()[-1].partition(":")[0]), (1, "library"))
+    check(
+        "what can't be built of that is told",
+        (done.returncode, done.stderr.splitlines()[-1].partition(":")[0]),
+        (1, "library"),
+    )
     count = len(place.proved())
     place.run(script="scripts/library")
     place.run("b.red")
@@ -294,7 +371,12 @@ def test_what_the_gate_leaves(place):
     environment = {**place.environment(), "RT_LOG": os.path.join(place.folder, "of-rt-ci")}
     for crate in ("mars_cell", "redcode_text", "redcode_asm", "mars_core", "mars_session", "mars_match", "mars_app"):
         target = os.path.join("out", "rlib", f"{crate}.rlib")
-        subprocess.run(["rattle", "--crate-name", crate, "--statements", "-o", target], cwd=os.path.join(place.folder, "crates", crate), env=environment, stdout=subprocess.DEVNULL)
+        subprocess.run(
+            ["rattle", "--crate-name", crate, "--statements", "-o", target],
+            cwd=os.path.join(place.folder, "crates", crate),
+            env=environment,
+            stdout=subprocess.DEVNULL,
+        )
     place.run("--library", script="scripts/prove")
     check("what is left", sorted(place.proved()), ["mars", "mars_c"])
     check("the crates' own stays", place.work().count("format"), 7)

@@ -6,14 +6,20 @@ import pytest
 
 from counting import TOP, check
 
-STEPS = ["bin/rt", "scripts/library", *(f"checks/{name}" for name in ("memory", "documents", "tests", "trust", "rules"))]
+STEPS = [
+    "bin/rt",
+    "scripts/library",
+    *(f"checks/{name}" for name in ("memory", "documents", "tests", "trust", "rules")),
+]
 
 
 def gate(**lines):
     """The last lines of the gate, and its status, where a step prints these lines and ends with the status that they begin with, and the others pass one each."""
     with tempfile.TemporaryDirectory() as folder:
         for name in STEPS:
-            path, (status, *told) = os.path.join(folder, name), lines.get(os.path.basename(name), (0, "1 passed, 0 failed"))
+            path, (status, *told) = os.path.join(folder, name), lines.get(
+                os.path.basename(name), (0, "1 passed, 0 failed")
+            )
             os.makedirs(os.path.dirname(path), exist_ok=True)
             with open(path, "w") as file:
                 file.write("#!/bin/sh\n" + "".join(f"echo '{line}'\n" for line in told) + f"exit {status}\n")
@@ -38,9 +44,18 @@ TOLD = "FAILED: no missing package explains that it was skipped: a: it is away"
         ({"library": (1, "library: no")}, (1, ["FAILED: scripts/library", "0 skipped", "6 passed, 1 failed"])),
         ({"memory": (0, "")}, (1, ["FAILED: checks/memory", "0 skipped", "6 passed, 1 failed"])),
         ({"rules": (1, "3 passed, 0 failed")}, (1, ["FAILED: checks/rules", "0 skipped", "9 passed, 1 failed"])),
-        ({"tests": (0, "skipped: a: it is away (package no-such-package)", "4 passed, 0 failed")}, (0, ["1 skipped", "10 passed, 0 failed"])),
-        ({"tests": (0, "skipped: a: it is away (package sh)", "4 passed, 0 failed")}, (1, [TOLD, "1 skipped", "10 passed, 1 failed"])),
-        ({"tests": (0, "skipped: a: it is away", "4 passed, 0 failed")}, (1, [TOLD, "1 skipped", "10 passed, 1 failed"])),
+        (
+            {"tests": (0, "skipped: a: it is away (package no-such-package)", "4 passed, 0 failed")},
+            (0, ["1 skipped", "10 passed, 0 failed"]),
+        ),
+        (
+            {"tests": (0, "skipped: a: it is away (package sh)", "4 passed, 0 failed")},
+            (1, [TOLD, "1 skipped", "10 passed, 1 failed"]),
+        ),
+        (
+            {"tests": (0, "skipped: a: it is away", "4 passed, 0 failed")},
+            (1, [TOLD, "1 skipped", "10 passed, 1 failed"]),
+        ),
     ],
 )
 def test_what_counts(lines, expected):

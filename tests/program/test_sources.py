@@ -84,7 +84,11 @@ def answer(source):
 def test_beginnings():
     for source, answers in BEGINNINGS:
         for length in range(len(source) + 1):
-            check(f"the beginning {source[:length]!r}", answer(source[:length]), [made for first, made in answers if first <= length][-1])
+            check(
+                f"the beginning {source[:length]!r}",
+                answer(source[:length]),
+                [made for first, made in answers if first <= length][-1],
+            )
 
 
 def test_expressions():

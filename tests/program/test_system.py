@@ -20,7 +20,18 @@ WORDS = "-r 2 --seed 1 --score W -s 8000 -c 10 -p 2 -l 1 -d 1 --read-limit 8 --w
 def run(folder, *words, name=PROGRAM, **streams):
     """Runs the program on words, under a name of its own."""
     given = {} if "input" in streams else {"stdin": subprocess.DEVNULL}
-    done = subprocess.run([name, *words], **{"executable": PROGRAM, "cwd": folder, "stdout": subprocess.PIPE, "stderr": subprocess.PIPE, "timeout": 60, **given, **streams})
+    done = subprocess.run(
+        [name, *words],
+        **{
+            "executable": PROGRAM,
+            "cwd": folder,
+            "stdout": subprocess.PIPE,
+            "stderr": subprocess.PIPE,
+            "timeout": 60,
+            **given,
+            **streams,
+        },
+    )
     return done.returncode, (done.stdout or b"").decode(), (done.stderr or b"").decode()
 
 
@@ -57,7 +68,14 @@ def feed(stream, text, size):
 @contextlib.contextmanager
 def debugger(folder, *words):
     """The debugger of an imp over pipes, its faults among its replies. Where it says nothing for long it is ended."""
-    with subprocess.Popen([PROGRAM, "-e", *words, "imp.red"], cwd=folder, stdin=subprocess.PIPE, stdout=subprocess.PIPE, stderr=subprocess.STDOUT, bufsize=0) as process:
+    with subprocess.Popen(
+        [PROGRAM, "-e", *words, "imp.red"],
+        cwd=folder,
+        stdin=subprocess.PIPE,
+        stdout=subprocess.PIPE,
+        stderr=subprocess.STDOUT,
+        bufsize=0,
+    ) as process:
         ending = threading.Timer(60, process.kill)
         ending.start()
         try:
@@ -71,9 +89,15 @@ def test_words(folder):
         check(f"a word that isn't UTF-8, {word!r}", run(folder, word, "imp.red"), (2, "", "mars: bad words\n"))
     check("no word", run(folder), (2, "", "mars: bad words\n"))
     for name in (b"\xff/mars", b"", b"x" * 5000, b"--help"):
-        check(f"started as {name[:10]!r}", run(folder, "--load", *SMALL, "imp.red", name=name), run(folder, "--load", *SMALL, "imp.red"))
+        check(
+            f"started as {name[:10]!r}",
+            run(folder, "--load", *SMALL, "imp.red", name=name),
+            run(folder, "--load", *SMALL, "imp.red"),
+        )
         check(f"a bad word, started as {name[:10]!r}", run(folder, "-x", name=name), (2, "", "mars: bad words\n"))
-    check("a name in UTF-8", run(folder, "--load", *SMALL, "w\u00e4chter.red"), (0, f";load 2 8\n{UNNAMED}{LISTED}", ""))
+    check(
+        "a name in UTF-8", run(folder, "--load", *SMALL, "w\u00e4chter.red"), (0, f";load 2 8\n{UNNAMED}{LISTED}", "")
+    )
     for words in (["imp.red", "--help"], ["--help", "-e", "imp.red"]):
         check(f"a help beside other words, {words}", run(folder, *words), run(folder, "--help"))
 
@@ -83,18 +107,34 @@ def test_many_words(folder):
     table = "  points   wins   ties losses  warrior\n" + 16 * "      60      0     30      0  Unknown by Anonymous\n"
     files = ["imp.red"] * 16
     check("41 words", run(folder, *WORDS, *files), (0, table, ""))
-    check("41 words, of which the last is no file", run(folder, *WORDS, *files[1:], "none.red"), (1, "", "mars: none.red: cannot read\n"))
+    check(
+        "41 words, of which the last is no file",
+        run(folder, *WORDS, *files[1:], "none.red"),
+        (1, "", "mars: none.red: cannot read\n"),
+    )
     check("60 words", run(folder, *WORDS, *files, *["imp.red"] * 19), (2, "", "mars: bad words\n"))
-    check("a number of 5,000 digits", run(folder, "--load", "-s", "8".zfill(5000), *SMALL[2:], "imp.red"), run(folder, "--load", *SMALL, "imp.red"))
+    check(
+        "a number of 5,000 digits",
+        run(folder, "--load", "-s", "8".zfill(5000), *SMALL[2:], "imp.red"),
+        run(folder, "--load", *SMALL, "imp.red"),
+    )
 
 
 def test_names(folder):
     """The name of a file is told whole in the line of its fault, but for control characters."""
     for name in ("x" * 300, "x" * 5000, "\u00e4" * 150, "k\u00e4fer.red", "\u4e16\u754c.red"):
         check(f"{name[:10]}, {len(name)} letters", run(folder, name), (1, "", f"mars: {name}: cannot read\n"))
-    check("a name with control characters", run(folder, "-b", "no\nsuch\x1b[1m\x85\x9b.red"), (1, "", "mars: no?such?[1m??.red: cannot read\n"))
+    check(
+        "a name with control characters",
+        run(folder, "-b", "no\nsuch\x1b[1m\x85\x9b.red"),
+        (1, "", "mars: no?such?[1m??.red: cannot read\n"),
+    )
     write(folder, "b\u00f6se.red", "NOP\nHOP 1\n")
-    check("a fault of a source, with letters outside ASCII", run(folder, "b\u00f6se.red"), (1, "", "mars: b\u00f6se.red: line 2: 2 Operation\n"))
+    check(
+        "a fault of a source, with letters outside ASCII",
+        run(folder, "b\u00f6se.red"),
+        (1, "", "mars: b\u00f6se.red: line 2: 2 Operation\n"),
+    )
     longest = "n" * 251 + ".red"
     write(folder, longest, "MOV 0, 1\n")
     check("the longest name", run(folder, "--load", *SMALL, longest), run(folder, "--load", *SMALL, "imp.red"))
@@ -126,7 +166,10 @@ def test_files(folder):
 
 def test_limits(folder):
     """A source that costs more than the system lets the program have: it is ended, or answers want of memory by name, and writes nothing."""
-    for name, text, seconds, answer in (("slow.red", slow(), 1, (-signal.SIGKILL, "", "")), ("large.red", large(), 60, (1, "", "mars: out of memory\n"))):
+    for name, text, seconds, answer in (
+        ("slow.red", slow(), 1, (-signal.SIGKILL, "", "")),
+        ("large.red", large(), 60, (1, "", "mars: out of memory\n")),
+    ):
         write(folder, name, text)
         command = ["sh", "-c", f'ulimit -t {seconds} && ulimit -v 200000 && exec "$@"', "sh", PROGRAM, "imp.red", name]
         done = subprocess.run(command, cwd=folder, capture_output=True, text=True)
@@ -141,7 +184,11 @@ def test_leave(folder):
     copy = shutil.copy(PROGRAM, os.path.join(folder, "program"))
     user = NOBODY if os.geteuid() == 0 else {}
     try:
-        check("a file that may not be read", run(folder, "closed.red", executable=copy, **user), (1, "", "mars: closed.red: cannot read\n"))
+        check(
+            "a file that may not be read",
+            run(folder, "closed.red", executable=copy, **user),
+            (1, "", "mars: closed.red: cannot read\n"),
+        )
     except PermissionError as fault:
         skip("a file that may not be read", fault)
 
@@ -156,11 +203,17 @@ def test_pipes(folder):
     fifo = os.path.join(folder, "fifo.red")
     os.mkfifo(fifo)
     threading.Thread(target=feed_fifo, args=(fifo, b"NOP\nNOP\nNOP\n", 4), daemon=True).start()
-    check("a FIFO in pieces", run(folder, "--load", "-s", "8", "-l", "3", "-d", "3", "fifo.red"), (0, f";load 2 8\n{UNNAMED}ORG 0\n" + 3 * "NOP.F $0, $0\n", ""))
+    check(
+        "a FIFO in pieces",
+        run(folder, "--load", "-s", "8", "-l", "3", "-d", "3", "fifo.red"),
+        (0, f";load 2 8\n{UNNAMED}ORG 0\n" + 3 * "NOP.F $0, $0\n", ""),
+    )
     write(folder, f"{LARGEST}.red", source(LARGEST))
     whole = run(folder, "--load", *SMALL, f"{LARGEST}.red")
     for size, answer in ((LARGEST, whole), (LARGEST + 1, (1, "", "mars: /dev/stdin: too large\n"))):
-        check(f"{size} bytes by a pipe", run(folder, "--load", *SMALL, "/dev/stdin", input=source(size).encode()), answer)
+        check(
+            f"{size} bytes by a pipe", run(folder, "--load", *SMALL, "/dev/stdin", input=source(size).encode()), answer
+        )
 
 
 def test_long_outputs(folder):
@@ -168,7 +221,10 @@ def test_long_outputs(folder):
     write(folder, "long.red", "".join(f"DAT 0, {number}\n" for number in range(300)))
     text = f";load 2 8000\n{UNNAMED}ORG 0\n" + "".join(f"DAT.F $0, ${number}\n" for number in range(300))
     check("a source of 300 lines", run(folder, "--load", "-l", "300", "-d", "300", "long.red"), (0, text, ""))
-    listing = "".join(f"warrior {number}: Unknown by Anonymous, 1 instructions\n;load 2 8000\n{UNNAMED}{LISTED}\n" for number in range(16))
+    listing = "".join(
+        f"warrior {number}: Unknown by Anonymous, 1 instructions\n;load 2 8000\n{UNNAMED}{LISTED}\n"
+        for number in range(16)
+    )
     table = "  points   wins   ties losses  warrior\n" + 16 * "      15      0      1      0  Unknown by Anonymous\n"
     check("16 warriors listed", run(folder, "-c", "10", *["imp.red"] * 16), (0, listing + table, ""))
     lines = b"edit 1048575 NOP.F $1, $-1\nlist 1048575 2\n"
@@ -178,16 +234,28 @@ def test_long_outputs(folder):
 
 def test_streams(folder):
     full = (1, "", "mars: cannot write\n")
-    for words in (["--help"], ["--load", "imp.red"], ["imp.red"], ["-b", "imp.red"], ["--league", "-b", "imp.red", "imp.red"]):
+    for words in (
+        ["--help"],
+        ["--load", "imp.red"],
+        ["imp.red"],
+        ["-b", "imp.red"],
+        ["--league", "-b", "imp.red", "imp.red"],
+    ):
         with open("/dev/full", "wb") as output:
             check(f"{words} to a full device", run(folder, *words, stdout=output), full)
     with open("/dev/full", "wb") as output:
-        check("a transcript to a full device", run(folder, "-e", *SMALL, "imp.red", input=b"show\n", stdout=output), full)
+        check(
+            "a transcript to a full device", run(folder, "-e", *SMALL, "imp.red", input=b"show\n", stdout=output), full
+        )
     with open("/dev/full", "wb") as faults:
         check("a fault to a full device", run(folder, "none.red", stderr=faults)[0], 1)
         check("bad words to a full device", run(folder, "-x", stderr=faults)[0], 2)
     commands = os.open(folder, os.O_RDONLY)
-    check("commands that can't be read", run(folder, "-e", *SMALL, "imp.red", stdin=commands), (1, "", "mars: cannot read the commands\n"))
+    check(
+        "commands that can't be read",
+        run(folder, "-e", *SMALL, "imp.red", stdin=commands),
+        (1, "", "mars: cannot read the commands\n"),
+    )
     os.close(commands)
 
 
@@ -197,10 +265,17 @@ def test_sizes_of_files(folder):
     for size in (0, 10):
         for is_ignored, ended in ((True, (1, "", "mars: cannot write\n")), (False, (-signal.SIGXFSZ, "", ""))):
             with open(kept, "wb") as output:
-                limited = {"preexec_fn": lambda: resource.setrlimit(resource.RLIMIT_FSIZE, (size, size)), "restore_signals": not is_ignored}
+                limited = {
+                    "preexec_fn": lambda: resource.setrlimit(resource.RLIMIT_FSIZE, (size, size)),
+                    "restore_signals": not is_ignored,
+                }
                 got = run(folder, "--load", *SMALL, "imp.red", stdout=output, **limited)
             with open(kept) as output:
-                check(f"a file of at most {size} bytes, its signal ignored: {is_ignored}", (got, output.read()), (ended, whole[:size]))
+                check(
+                    f"a file of at most {size} bytes, its signal ignored: {is_ignored}",
+                    (got, output.read()),
+                    (ended, whole[:size]),
+                )
 
 
 CONVERSATION = (
@@ -243,7 +318,9 @@ def test_pieces(folder):
             feeding.start()
             got = b"".join(iter(lambda: os.read(process.stdout.fileno(), size), b""))
             feeding.join()
-            differing = [pair for pair in itertools.zip_longest(got.splitlines(), replies.splitlines()) if pair[0] != pair[1]]
+            differing = [
+                pair for pair in itertools.zip_longest(got.splitlines(), replies.splitlines()) if pair[0] != pair[1]
+            ]
             check(f"{len(lines)} bytes in pieces of {size}", (process.wait(), differing[:1]), (0, []))
 
 
@@ -254,4 +331,8 @@ def test_many_reads(folder):
         file.seek(410_000_000)
         file.write(b"\nstep\n")
     with open(path, "rb") as commands:
-        check("a line of 410,000,000 bytes", run(folder, "-e", *SMALL, "imp.red", stdin=commands), (0, "unknown\nturn 1 cycle 1 next 0 alive 1 at 1/1\n", ""))
+        check(
+            "a line of 410,000,000 bytes",
+            run(folder, "-e", *SMALL, "imp.red", stdin=commands),
+            (0, "unknown\nturn 1 cycle 1 next 0 alive 1 at 1/1\n", ""),
+        )

@@ -15,7 +15,13 @@ WORDS = ["-b", "-r", "10", "examples/dwarf.red", "examples/imp.red"]
 
 def tried(folder, *words):
     """The status, the words that `rt` gets, and what is told."""
-    done = subprocess.run([os.path.join(SCRIPTS, "try"), *words], cwd=folder, capture_output=True, text=True, env={**os.environ, "PATH": f"{folder}:{os.environ['PATH']}"})
+    done = subprocess.run(
+        [os.path.join(SCRIPTS, "try"), *words],
+        cwd=folder,
+        capture_output=True,
+        text=True,
+        env={**os.environ, "PATH": f"{folder}:{os.environ['PATH']}"},
+    )
     return done.returncode, done.stdout.split("\n")[:-1], done.stderr
 
 
@@ -29,15 +35,37 @@ def test_words(tmp_path):
         open(os.path.join(folder, name), "w").close()
     status, words, told = tried(folder, "-b", "more/a.red", "x=y.red", "stdin", "none.red", "more/a.red")
     check("in the crate of the program", words[0], os.path.join(TOP, "crates", "mars"))
-    data = [part for name, path in (("a.red", "more/a.red"), ("file-x=y.red", "x=y.red"), ("file-stdin", "stdin")) for part in ("--data", f"{name}={folder}/{path}")]
-    check("files by their last names", words[1:], ["try", *data, "--", "-b", "a.red", "file-x=y.red", "file-stdin", "none.red", "a.red"])
+    data = [
+        part
+        for name, path in (("a.red", "more/a.red"), ("file-x=y.red", "x=y.red"), ("file-stdin", "stdin"))
+        for part in ("--data", f"{name}={folder}/{path}")
+    ]
+    check(
+        "files by their last names",
+        words[1:],
+        ["try", *data, "--", "-b", "a.red", "file-x=y.red", "file-stdin", "none.red", "a.red"],
+    )
     check("the status is that of the run", status, 3)
     check("each run says that nothing is proved", told.startswith("try: nothing is proved of what runs now."))
-    check("two files of one name", tried(folder, "a.red", "more/a.red"), (1, [], "try: two files would have the name a.red in the folder of the run\n"))
+    check(
+        "two files of one name",
+        tried(folder, "a.red", "more/a.red"),
+        (1, [], "try: two files would have the name a.red in the folder of the run\n"),
+    )
     check("no words", (tried(folder)[0], tried(folder, "--help")[0]), (2, 0))
     os.remove(os.path.join(folder, "rt"))
-    done = subprocess.run([os.path.join(SCRIPTS, "try"), "a.red"], cwd=folder, capture_output=True, text=True, env={**os.environ, "PATH": "/usr/bin:/bin"})
-    check("without the toolchain", (done.returncode, done.stderr), (1, "try: the command `rt` of the Rattle toolchain isn't on the path\n"))
+    done = subprocess.run(
+        [os.path.join(SCRIPTS, "try"), "a.red"],
+        cwd=folder,
+        capture_output=True,
+        text=True,
+        env={**os.environ, "PATH": "/usr/bin:/bin"},
+    )
+    check(
+        "without the toolchain",
+        (done.returncode, done.stderr),
+        (1, "try: the command `rt` of the Rattle toolchain isn't on the path\n"),
+    )
 
 
 def test_run():

@@ -62,7 +62,7 @@ class Block:
         address, before, after = change["address"], change["before"].copy(), change["after"]
         used = np.arange(3) < self.records["changes"][:, None]
         for later in (2, 1):
-            for earlier in range(later):
+            for earlier in reversed(range(later)):
                 same = used[:, later] & used[:, earlier] & (address[:, later] == address[:, earlier])
                 if same.any():
                     before[same, later] = before[same, earlier]
