@@ -13,7 +13,7 @@ import pytest
 
 TOP = Path(__file__).resolve().parents[1]
 EXAMPLES = TOP / "examples"
-sys.path.insert(0, str(TOP / "python"))
+sys.path[:0] = [str(TOP / "python"), str(TOP / "tests")]
 
 Run = Callable[..., "subprocess.CompletedProcess[str]"]
 

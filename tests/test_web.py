@@ -177,7 +177,7 @@ def test_a_league_grows_and_is_kept(site: Site) -> None:
 def page(browser: Any, site: Site) -> Any:
     browser.set_window_size(1600, 1000)
     browser.get(site.address)
-    until(browser, "bench.shelf.shown")
+    until(browser, "bench.shelf?.shown")
     return browser
 
 

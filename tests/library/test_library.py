@@ -1,34 +1,24 @@
-#!/usr/bin/python3
-"""Compares the library for C, through python/mars.py, with what the program gives.
-
-usage: scripts/tests/library [--program FILE]
+"""Compares the library for C, through the package, with what the program gives.
 
 Assemblies, matches, leagues and faults of the examples and of random words are those of the program; a population is the sum of
 its matches; records and states are those that the debugger lists; two threads get what one does. A C program calls each export
-with each request for memory refused in turn, as it is, under valgrind and under AddressSanitizer where they are there; the example in
-Rust is built where cargo is. The library is built from the archive that `scripts/library` makes; where that isn't there, or a source
-is newer, all but the header is skipped. The last line is `N passed, M failed`.
+with each request for memory refused in turn, as it is, under valgrind and under AddressSanitizer; the example in Rust is built.
 """
 import os
 import random
 import re
 import shutil
 import subprocess
-import sys
-import tempfile
 from concurrent.futures import ThreadPoolExecutor
 
-from counting import SCRIPTS, TOP, check, finish, holds, program_of, skip
-from proving import ARCHIVE, LIBRARY, is_newer, lines_of
+import pytest
+from counting import PROGRAM, SCRIPTS, TOP, check, holds, skip
 
-PROGRAM = program_of(__doc__)
-sys.path.insert(0, os.path.join(TOP, "python"))
-try:
-    import mars  # noqa: E402
-    MISSING = None
-except ImportError as fault:
-    MISSING = fault.name
+import corewar
+from corewar.engine import calls
+from corewar.model import cells, faults
 
+ARCHIVE = os.path.join(TOP, "crates", "mars_c", "out", "libmars_c.a")
 HEADER = os.path.join(TOP, "include", "mars.h")
 EXAMPLES = sorted(os.path.join(TOP, "examples", name) for name in os.listdir(os.path.join(TOP, "examples")) if name.endswith(".red"))
 OPCODES = "DAT MOV ADD SUB MUL DIV MOD JMP JMZ JMN DJN SEQ SNE SLT SPL NOP CMP FOO".split()
@@ -51,6 +41,38 @@ OUT_OF_RANGE = [
 dice = random.Random(1)
 
 
+def match_of(warriors, seed=1, settings=corewar.Settings(), round=0):
+    return corewar.Match(tuple(warriors), settings, seed, 0, round + 1)
+
+
+def debug(warriors, lines=(), history=200000, **held):
+    """What the debugger answers to lines."""
+    return calls.debug(match_of(warriors, **held), lines, history)
+
+
+def record(warriors, lines=(), first=0, most=1, round=0, **held):
+    return calls.record(match_of(warriors, round=round, **held), round, lines, first, most, 200000)
+
+
+def state(warriors, lines=(), turns=0, round=0, **held):
+    return calls.state(match_of(warriors, round=round, **held), round, lines, turns, 200000)
+
+
+@pytest.fixture
+def folder(tmp_path):
+    return str(tmp_path)
+
+
+@pytest.fixture(scope="module")
+def prefix(tmp_path_factory):
+    """The library as it is installed."""
+    folder, archive = str(tmp_path_factory.mktemp("prefix")), os.environ.get("MARS_ARCHIVE", ARCHIVE)
+    holds(os.path.isfile(archive), "there is no archive: scripts/library proves and makes it")
+    done = subprocess.run([os.path.join(SCRIPTS, "library"), "--archive", archive, folder], capture_output=True, text=True)
+    check("the library is installed", (done.returncode, done.stderr), (0, ""))
+    return folder
+
+
 def words_of(settings):
     """The words of the program for settings."""
     words = ["-s", settings.core, "-p", settings.processes, "-c", settings.cycles, "-l", settings.longest, "-d", settings.distance]
@@ -69,13 +91,13 @@ def called(call):
     """What a call gives, or the text of its fault."""
     try:
         return call()
-    except mars.Fault as fault:
+    except corewar.Fault as fault:
         return str(fault)
 
 
 def plain(table):
     """The rows of a table, as numbers; a fault stays as it is."""
-    return table if isinstance(table, str) else [mars.Row(*map(int, line.split()[:4])) for line in table.decode().splitlines()[1:]]
+    return table if isinstance(table, str) else [corewar.Row(*map(int, line.split()[:4])) for line in table.decode().splitlines()[1:]]
 
 
 def operand():
@@ -95,50 +117,50 @@ def settings():
     core = dice.choice([80, 200, 800])
     longest = dice.randrange(5, 9)
     limit = dice.choice([0, 0, 0, core, core // 2, core + 1 if dice.randrange(10) == 0 else 7])
-    return mars.Settings(core, dice.choice([1, 8, 80]), dice.choice([10, 200, 800]), longest, longest + dice.randrange(-1, 9) if dice.randrange(8) == 0 else longest, limit, dice.choice([0, limit]))
+    return corewar.Settings(core, dice.choice([1, 8, 80]), dice.choice([10, 200, 800]), longest, longest + dice.randrange(-1, 9) if dice.randrange(8) == 0 else longest, limit, dice.choice([0, limit]))
 
 
-def compare_assemblies(folder):
+def test_assemblies(folder):
     """Examples and random sources: the load file, or the fault with its line."""
     sources = [open(path, "rb").read() for path in EXAMPLES] + [source().encode() for _ in range(300)]
     faults = 0
     for text in sources:
-        held, path = settings() if len(text) < 200 else mars.Settings(), os.path.join(folder, "source.red")
+        held, path = settings() if len(text) < 200 else corewar.Settings(), os.path.join(folder, "source.red")
         with open(path, "wb") as file:
             file.write(text)
         expected = started("--load", *words_of(held), path)
         faults += isinstance(expected, str)
-        check(f"assembly of {text!r}", called(lambda: mars.Warrior.assemble(text, held, warriors=1).load), expected)
+        check(f"assembly of {text!r}", called(lambda: corewar.assemble(text, held, warriors=1).load), expected)
     holds(50 < faults < 250, f"{faults} of the random sources are faulty")
 
 
-def compare_faults(folder):
+def test_faults(folder):
     """Each fault of a source, of a load file and of settings, by its numbers and its line."""
     path = os.path.join(folder, "faulty.red")
     for text in FAULTY:
         with open(path, "wb") as file:
             file.write(text.encode())
-        check(f"fault of {text[:40]!r}", called(lambda: mars.Warrior.assemble(text)), started("--load", path))
-    imp = mars.Warrior.assemble("MOV 0, 1")
+        check(f"fault of {text[:40]!r}", called(lambda: corewar.assemble(text)), started("--load", path))
+    imp = corewar.assemble("MOV 0, 1")
     for text in BAD_LOADS:
-        warriors = [imp, mars.Warrior(text.encode())]
-        check(f"load file {text[:40]!r}", called(lambda: mars.match(warriors)), started("-b", *files_of(warriors, folder)))
-        holds(getattr(fault_of(lambda: mars.match(warriors)), "warrior", 0) == 1, f"{text[:40]!r} isn't the second load file")
+        warriors = [imp, corewar.Warrior(text.encode())]
+        check(f"load file {text[:40]!r}", called(lambda: corewar.match(warriors)), started("-b", *files_of(warriors, folder)))
+        holds(getattr(fault_of(lambda: corewar.match(warriors)), "warrior", 0) == 1, f"{text[:40]!r} isn't the second load file")
     for words, fault in OUT_OF_RANGE:
-        check(f"settings {words}", called(lambda: mars.match([imp], settings=mars.Settings(**words))), fault)
-    for words, call in (([1, 0], mars.match), ([100001, 1], mars.match), ([1, 2147483647], mars.league)):
+        check(f"settings {words}", called(lambda: corewar.match([imp], settings=corewar.Settings(**words))), fault)
+    for words, call in (([1, 0], corewar.match), ([100001, 1], corewar.match), ([1, 2147483647], corewar.league)):
         holds(str(fault_of(lambda: call([imp] * 2, *words))).startswith("settings"), f"rounds and seed {words} are taken")
     for count, position, fault in ((3, 400, "settings 3 Position"), (2, 99, "settings 3 Position"), (2, 7901, "settings 3 Position"), (17, 0, "settings 4 Warriors"), (0, 0, "settings 4 Warriors")):
-        check(f"{count} warriors at {position}", called(lambda: mars.match([imp] * count, position=position)), fault)
+        check(f"{count} warriors at {position}", called(lambda: corewar.match([imp] * count, position=position)), fault)
     for history, count, fault in ((0, 1, "settings 6 History"), (1000001, 1, "settings 6 History"), (1, 0, "settings 4 Warriors"), (1, 17, "settings 4 Warriors")):
-        check(f"a history of {history}", called(lambda: mars.debug([imp] * count, "", history=history)), fault)
+        check(f"a history of {history}", called(lambda: debug([imp] * count, history=history)), fault)
 
 
 def fault_of(call):
     """The fault of a call, or None."""
     try:
         call()
-    except mars.Fault as fault:
+    except corewar.Fault as fault:
         return fault
     return None
 
@@ -156,10 +178,10 @@ def loads():
     """Some random warriors, as load files of version 1; now and then a faulty one."""
     cell = lambda: f"{dice.choice(OPCODES[:-2])}.{dice.choice(['A', 'B', 'AB', 'BA', 'F', 'X', 'I'])} {dice.choice(MODES[1:-1])}{dice.randrange(-9, 10)}, {dice.choice(MODES[1:-1])}{dice.randrange(-9, 10)}"
     text = lambda: "ORG 0\n" + "".join(f"{cell()}\n" for _ in range(dice.randrange(1, 6))) + ("X\n" if dice.randrange(60) == 0 else "")
-    return [mars.Warrior(text().encode()) for _ in range(dice.choice([1, 2, 2, 2, 2, 3, 5]))]
+    return [corewar.Warrior(text().encode()) for _ in range(dice.choice([1, 2, 2, 2, 2, 3, 5]))]
 
 
-def compare_contests(folder):
+def test_contests(folder):
     """Random matches and leagues: the rows, or the fault."""
     fought = 0
     for index in range(1000):
@@ -168,39 +190,37 @@ def compare_contests(folder):
         paths = files_of(warriors, folder)
         words = ["-b", "-r", str(rounds), "--seed", str(seed), "--score", formula, *words_of(held), *paths]
         is_league = index % 4 == 0 and len(warriors) > 1
-        call = mars.league if is_league else mars.match
+        call = corewar.league if is_league else corewar.match
         expected = plain(started(*(["--league"] if is_league else []), *words))
         fought += not isinstance(expected, str)
         check(f"{call.__name__} {words}", called(lambda: call(warriors, rounds, seed, held, formula=formula)), expected)
     holds(500 < fought < 990, f"{fought} of 1,000 contests were fought")
 
 
-def compare_populations():
+def test_populations():
     """A population: the sums of its matches; with a position, too."""
-    warriors = [mars.Warrior.read(path, mars.Settings()) for path in EXAMPLES]
+    warriors = [corewar.read(path) for path in EXAMPLES]
     for position in (0, 400):
-        rows = mars.population(warriors[:3], warriors[3:7], 5, 7, position=position)
-        sums = [[mars.match([one, other], 5, 7, position=position)[0] for other in warriors[3:7]] for one in warriors[:3]]
-        check(f"population at {position}", rows, [mars.Row(*(sum(getattr(row, part) for row in all_rows) for part in ("points", "wins", "ties", "losses"))) for all_rows in sums])
-    check("a population without opponents", mars.population(warriors[:2], []), [mars.Row(0, 0, 0, 0)] * 2)
+        rows = corewar.population(warriors[:3], warriors[3:7], 5, 7, position=position)
+        sums = [[corewar.match([one, other], 5, 7, position=position)[0] for other in warriors[3:7]] for one in warriors[:3]]
+        check(f"population at {position}", rows, [corewar.Row(*(sum(getattr(row, part) for row in all_rows) for part in ("points", "wins", "ties", "losses"))) for all_rows in sums])
+    check("a population without opponents", corewar.population(warriors[:2], []), [corewar.Row(0, 0, 0, 0)] * 2)
 
 
-def compare_debugger(folder):
+def test_debugger(folder):
     """The transcript of lines, that of a buffer which has to grow among them."""
-    warriors = [mars.Warrior.read(path) for path in EXAMPLES[:2]]
+    warriors = [corewar.read(path) for path in EXAMPLES[:2]]
     paths = files_of(warriors, folder)
     for lines in (["run 100", "undo", "show", "queue 0", "step", "goto 5", "no", "edit 5 DAT.F #0, #0", "redo"], ["list 0 8000"], []):
         text = "".join(f"{line}\n" for line in lines)
         done = subprocess.run([PROGRAM, "-e", *paths], input=text.encode(), capture_output=True)
-        check(f"debugger: {lines}", mars.debug(warriors, lines).encode(), done.stdout)
-    battle = mars.Battle(warriors)
-    check("a battle goes back", (battle.do("run 10", "undo", "step")[-1:], battle.ask("list 0 1")), (["turn 1 cycle 0 next 1 alive 2 at 1/1"], mars.debug(warriors, ["step", "list 0 1"]).splitlines()[1:]))
+        check(f"debugger: {lines}", debug(warriors, lines).encode(), done.stdout)
 
 
 def listed(text, core):
     """A cell as the program lists it, by the numbers of its parts."""
     op, modifier, mode, number, other, second = re.fullmatch(r"(\w+)\.(\w+) (.)(-?\d+), (.)(-?\d+)", text).groups()
-    return mars.OPCODES.index(op), mars.MODIFIERS.index(modifier), mars.MODES.index(mode), mars.MODES.index(other), int(number) % core, int(second) % core
+    return cells.OPCODES.index(op), cells.MODIFIERS.index(modifier), cells.MODES.index(mode), cells.MODES.index(other), int(number) % core, int(second) % core
 
 
 def told_state(lines, core, many):
@@ -230,36 +250,35 @@ def after(state, turn, over):
     return {"cells": cells, "queues": queues, "deaths": sorted(deaths), "turns": state["turns"] + 1, "cycle": turn["cycle"], "next": turn["next"], "over": over}
 
 
-def compare_records(folder):
+def test_records(folder):
     """Records and states of random battles, also behind lines: each record leads from the state that the debugger lists to the next."""
     command = lambda core: dice.choice(["step", f"run {dice.randrange(1, 9)}", "undo", "redo", f"edit {dice.randrange(core)} SPL.B $0, $0", "kill 0 0", f"spawn 0 {dice.randrange(core)}", f"move 0 0 {dice.randrange(core)}"])
     turns = 0
     for _ in range(150):
-        warriors, held, seed = loads(), mars.Settings(80, dice.choice([1, 8]), dice.choice([10, 50]), 8, 8, dice.choice([0, 0, 20]), dice.choice([0, 0, 9])), dice.randrange(1, 1 << 30)
+        warriors, held, seed = loads(), corewar.Settings(80, dice.choice([1, 8]), dice.choice([10, 50]), 8, 8, dice.choice([0, 0, 20]), dice.choice([0, 0, 9])), dice.randrange(1, 1 << 30)
         lines, first, most = [command(held.core) for _ in range(dice.choice([0, 0, 3]))], dice.choice([0, 0, 2, 9]), dice.choice([0, 9, 30])
         words = ["-e", "--seed", str(seed), *words_of(held), *files_of(warriors, folder)]
         ask = ["show", f"list 0 {held.core}", *(f"queue {w}" for w in range(len(warriors)))]
         size, text = 2 + held.core + 2 * len(warriors), "".join(f"{line}\n" for line in [*lines, *["step"] * first, *ask, *(each for _ in range(most) for each in ["step", *ask])])
         done = subprocess.run([PROGRAM, *words], input=text.encode(), capture_output=True)
         if done.returncode:
-            check(f"record {words}", called(lambda: mars.record(warriors, lines, first, most, seed=seed, settings=held)), re.sub(r"^mars: (\S+/\S+: )?", "", done.stderr.decode().rstrip("\n")))
+            check(f"record {words}", called(lambda: record(warriors, lines, first, most, seed=seed, settings=held)), re.sub(r"^mars: (\S+/\S+: )?", "", done.stderr.decode().rstrip("\n")))
             continue
         answers = done.stdout.decode().splitlines()[len(lines) + first:]
         told = [told_state(answers[at:at + size], held.core, len(warriors)) for at in range(0, len(answers), size + 1) if at == 0 or not answers[at - 1].startswith("refused")]
-        made = mars.record(warriors, lines, first, most, seed=seed, settings=held)
+        made = record(warriors, lines, first, most, seed=seed, settings=held)
         check(f"how many records {words} {lines}", len(made), len(told) - 1)
         for before, turn, then in zip(told, made, told[1:]):
             check(f"record {turn}", after(before, turn, then["over"]), then)
-        state = mars.state(warriors, lines, first + len(made), seed=seed, settings=held)
-        check(f"state {words} {lines}", plain_state(state), told[-1])
+        reached = state(warriors, lines, first + len(made), seed=seed, settings=held)
+        check(f"state {words} {lines}", plain_state(reached), told[-1])
         turns += len(made)
     holds(turns > 200, f"{turns} turns were recorded")
-    imp, split = mars.Warrior.assemble("MOV 0, 1"), mars.Warrior.assemble("SPL 0\nJMP -1")
-    check("later rounds begin in turn", [mars.state([imp] * 3, round=k, seed=7).queues[-k % 3].tolist() for k in range(4)], [[0]] * 4)
-    check("a long queue", len(mars.state([split], turns=20000).queues[0]), int(mars.debug([split], ["run 20000", "show"]).split("processes ")[1].split()[0]))
-    check("a battle's turns and state", (len(mars.Battle([imp]).turns()), mars.cell_text(mars.Battle([imp]).state(1).cells[1])), (80000, "MOV.I $0, $1"))
-    check("no such round", called(lambda: mars.record([imp], round=100000)), "settings 1 Rounds")
-    for fault, call in (("ValueError", lambda: mars.record([imp], first=-1)), ("ValueError", lambda: mars.match([imp], settings=mars.Settings(core=1 << 32)))):
+    imp, split = corewar.assemble("MOV 0, 1"), corewar.assemble("SPL 0\nJMP -1")
+    check("later rounds begin in turn", [state([imp] * 3, round=k, seed=7).queues[-k % 3].tolist() for k in range(4)], [[0]] * 4)
+    check("a long queue", len(state([split], turns=20000).queues[0]), int(debug([split], ["run 20000", "show"]).split("processes ")[1].split()[0]))
+    check("no such round", called(lambda: record([imp], round=100000)), "settings 1 Rounds")
+    for fault, call in (("ValueError", lambda: record([imp], first=-1)), ("ValueError", lambda: corewar.match([imp], settings=corewar.Settings(core=1 << 32)))):
         check("a number that is none", raised(call), fault)
 
 
@@ -271,15 +290,15 @@ def raised(call):
         return type(fault).__name__
 
 
-def compare_threads():
+def test_threads():
     """Two threads that call at once get what one does."""
-    warriors = [mars.Warrior.read(path) for path in EXAMPLES[:3]]
-    work = lambda seed: mars.match(warriors, 3, seed + 1)
+    warriors = [corewar.read(path) for path in EXAMPLES[:3]]
+    work = lambda seed: corewar.match(warriors, 3, seed + 1)
     with ThreadPoolExecutor(2) as pool:
         check("two threads", list(pool.map(work, range(60))), [work(seed) for seed in range(60)])
 
 
-def check_shared(prefix):
+def test_shared(prefix):
     """The shared library is known by its major version, and exports the calls of the header alone."""
     shared = os.path.join(prefix, "lib", "libmars.so")
     said = lambda *words: subprocess.run([*words, shared], capture_output=True, text=True).stdout
@@ -289,9 +308,9 @@ def check_shared(prefix):
     check("what it exports", exported, {*re.findall(r"^uint32_t (mars_\w+)\(", open(HEADER).read(), re.M)})
 
 
-def run_c(folder, prefix):
+def test_c(folder, prefix):
     """The C program: as it is, under valgrind, and under AddressSanitizer."""
-    text, made = os.path.join(SCRIPTS, "tests", "library.c"), os.path.join(folder, "calls")
+    text, made = os.path.join(os.path.dirname(os.path.abspath(__file__)), "library.c"), os.path.join(folder, "calls")
     words = ["gcc", "-Wall", "-Wextra", "-Werror", f"-I{prefix}/include", text, "-Wl,--wrap=malloc,--wrap=realloc,--wrap=free", f"{prefix}/lib/libmars.a", "-o", made]
     for name, more, before in (("C", [], []), ("valgrind", [], ["valgrind", "-q", "--error-exitcode=1", "--leak-check=full"]), ("AddressSanitizer", ["-fsanitize=address"], [])):
         built = subprocess.run([*words[:1], *more, *words[1:]], capture_output=True, text=True)
@@ -302,7 +321,7 @@ def run_c(folder, prefix):
         check(name, (built.stderr, done.stdout, done.stderr, done.returncode), ("", "17 passed, 0 failed\n", "", 0))
 
 
-def run_rust(folder, prefix):
+def test_rust(folder, prefix):
     """The example in Rust: the rows of a match, and the fault of a source."""
     if not shutil.which("cargo"):
         skip("the example in Rust", "there is no cargo", "cargo")
@@ -319,49 +338,16 @@ def run_rust(folder, prefix):
     check("its fault", (done.returncode, done.stdout, "answer 5, number 2, problem 0, expression 0, line 2" in done.stderr), (1, "", True))
 
 
-def check_header():
-    """The numbers and names of the header are those of the module."""
+def test_header():
+    """The numbers and names of the header are those of the package."""
     text = open(HEADER).read()
-    named = {name for _, names in mars.FAULTS.values() for name in names if name not in ("Rounds", "Seed", "Position", "Warriors", "Lengths", "History", "Rows", "Round", "OutOfMemory", "NoWarrior", "TooMany")}
-    holds(all(re.search(rf"\d {name}\b", text) for name in named | set(mars.PROBLEMS)), "the header lacks a fault's name")
-    check("the answers", len(re.findall(r"^ +MARS_\w+ = \d+", text, re.M)), len(mars.FAULTS) + 1)
+    named = {name for _, names in faults.KINDS.values() for name in names} - {*faults.KINDS[2][1], "OutOfMemory", "NoWarrior", "TooMany"}
+    holds(all(re.search(rf"\d {name}\b", text) for name in named | set(faults.PROBLEMS)), "the header lacks a fault's name")
+    check("the answers", len(re.findall(r"^ +MARS_\w+ = \d+", text, re.M)), len(faults.KINDS) + 2)
 
 
-def check_script():
+def test_script():
     """What `scripts/library` refuses."""
     library = [os.path.join(SCRIPTS, "library")]
     check("wrong words", subprocess.run([*library, "--none"], capture_output=True).returncode, 2)
     check("no archive", subprocess.run([*library, "--archive", "none", "--out", "none"], capture_output=True, text=True).stderr, "library: no archive: none\n")
-
-
-def main():
-    check_script()
-    if MISSING:
-        skip("the library", f"Python has no {MISSING}", f"python3-{MISSING}")
-        finish()
-    check_header()
-    if not shutil.which("gcc"):
-        skip("the library", "there is no gcc", "gcc")
-        finish()
-    if not is_newer(ARCHIVE, lines_of(LIBRARY)):
-        skip("the library", "its archive isn't there, or a source is newer: `scripts/library` proves and makes it")
-        finish()
-    with tempfile.TemporaryDirectory() as folder:
-        prefix = os.path.join(folder, "prefix")
-        done = subprocess.run([os.path.join(SCRIPTS, "library"), "--archive", ARCHIVE, prefix], capture_output=True, text=True)
-        check("the library is installed", (done.returncode, done.stderr), (0, ""))
-        os.environ["MARS_LIBRARY"] = os.path.join(prefix, "lib", "libmars.so")
-        compare_assemblies(folder)
-        compare_faults(folder)
-        compare_contests(folder)
-        compare_populations()
-        compare_debugger(folder)
-        compare_records(folder)
-        compare_threads()
-        check_shared(prefix)
-        run_c(folder, prefix)
-        run_rust(folder, prefix)
-    finish()
-
-
-main()

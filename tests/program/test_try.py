@@ -1,17 +1,10 @@
-#!/usr/bin/env python3
 """Tests scripts/try: what it hands to a stand-in for `rt`, and once by the toolchain itself that what runs unproved gives what the program does.
-
-usage: scripts/tests/try [--program FILE]
-
-The last line is `N passed, M failed`; the exit status is 0 where nothing failed.
 """
 import os
 import subprocess
-import tempfile
 
-from counting import SCRIPTS, TOP, check, finish, program_of
+from counting import PROGRAM, SCRIPTS, TOP, check
 
-PROGRAM = program_of(__doc__)
 STAND_IN = """#!/bin/sh
 [ "$1" != doc ] || { echo /kit/START-HERE.md; exit 0; }
 printf '%s\\n' "$PWD" "$@"
@@ -26,7 +19,11 @@ def tried(folder, *words):
     return done.returncode, done.stdout.split("\n")[:-1], done.stderr
 
 
-def check_words(folder):
+def test_words(tmp_path):
+    folder = os.path.realpath(tmp_path)
+    with open(os.path.join(folder, "rt"), "w") as file:
+        file.write(STAND_IN)
+    os.chmod(file.name, 0o755)
     for name in ("a.red", "more/a.red", "x=y.red", "stdin"):
         os.makedirs(os.path.dirname(os.path.join(folder, name)), exist_ok=True)
         open(os.path.join(folder, name), "w").close()
@@ -43,22 +40,9 @@ def check_words(folder):
     check("without the toolchain", (done.returncode, done.stderr), (1, "try: the command `rt` of the Rattle toolchain isn't on the path\n"))
 
 
-def check_run():
+def test_run():
     """The match of the README, unproved and proved."""
     run = lambda program: subprocess.run([program, *WORDS], cwd=TOP, capture_output=True, text=True)
     done = run(os.path.join(SCRIPTS, "try"))
     check("the same match", (done.returncode, done.stdout), (0, run(PROGRAM).stdout))
     check("it ends in proved=no", done.stderr.endswith(" proved=no\n"))
-
-
-def main():
-    with tempfile.TemporaryDirectory() as folder:
-        with open(os.path.join(folder, "rt"), "w") as file:
-            file.write(STAND_IN)
-        os.chmod(file.name, 0o755)
-        check_words(os.path.realpath(folder))
-    check_run()
-    finish()
-
-
-main()

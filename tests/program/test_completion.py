@@ -1,15 +1,9 @@
-#!/usr/bin/env python3
 """Tests the completion of the program's words: that it has all of them and no other, and what bash offers.
-
-usage: scripts/tests/completion [--program FILE]
-
-What is wrong is printed. The last line is `N passed, M failed`; the exit status is 0 where nothing failed.
 """
-import os, re, shutil, subprocess, tempfile
+import os, re, shutil, subprocess
 
-from counting import SCRIPTS, check, finish, program_of, skip
+from counting import PROGRAM, SCRIPTS, check, skip
 
-PROGRAM = program_of(__doc__)
 FOLDER = os.path.join(SCRIPTS, "completion")
 # Offers what bash would for the last of these words.
 OFFER = """source "$0"; COMP_WORDS=(mars "$@"); COMP_CWORD=$#; _mars; printf '%s\\n' "${COMPREPLY[@]}" """
@@ -25,7 +19,16 @@ def offered(folder, *words):
     return sorted(done.stdout.split()), done.stderr
 
 
-def check_bash(folder):
+def test_zsh():
+    zsh = open(os.path.join(FOLDER, "_mars")).read()
+    check("the words for zsh", sorted(re.findall(r"^    '(--?[\w-]+)\[", zsh, re.M)), sorted(words_of_the_program()))
+    if not shutil.which("zsh"):
+        skip("zsh reads it", "it isn't there", "zsh")
+    check("zsh reads it", subprocess.run(["zsh", "-n", os.path.join(FOLDER, "_mars")]).returncode, 0)
+
+
+def test_bash(tmp_path):
+    folder = str(tmp_path)
     for name in ("imp.red", "imp.load", "notes.txt"):
         open(os.path.join(folder, name), "w").close()
     os.mkdir(os.path.join(folder, "more"))
@@ -33,21 +36,3 @@ def check_bash(folder):
     check("a word begun", offered(folder, "-b", "--re"), (["--read-limit"], ""))
     check("nothing behind a word that takes a number", offered(folder, "-s", ""), ([], ""))
     check("all words", offered(folder, "-")[0], sorted(words_of_the_program()))
-
-
-def main():
-    zsh = open(os.path.join(FOLDER, "_mars")).read()
-    check("the words for zsh", sorted(re.findall(r"^    '(--?[\w-]+)\[", zsh, re.M)), sorted(words_of_the_program()))
-    if shutil.which("zsh"):
-        check("zsh reads it", subprocess.run(["zsh", "-n", os.path.join(FOLDER, "_mars")]).returncode, 0)
-    else:
-        skip("zsh reads it", "it isn't there", "zsh")
-    if shutil.which("bash"):
-        with tempfile.TemporaryDirectory() as folder:
-            check_bash(folder)
-    else:
-        skip("bash", "it isn't there", "bash")
-    finish()
-
-
-main()

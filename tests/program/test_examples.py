@@ -1,15 +1,11 @@
-#!/usr/bin/env python3
 """Checks that each warrior of examples/ assembles and does what its comments say.
-
-usage: scripts/tests/examples [--program FILE]
-
-What is wrong is printed. The last line is `N passed, M failed`; the exit status is 0 where nothing failed.
 """
 import glob
 import os
 import subprocess
 
-from counting import TOP, check, finish, program_of
+import pytest
+from counting import PROGRAM, TOP
 
 
 class Examples:
@@ -110,11 +106,7 @@ def glance_strikes(examples):
         yield f"it strikes at nothing: {seen}"
 
 
-def main():
-    program = program_of(__doc__)
-    for it in (each_assembles, none_ends_itself, tailor_is_fitted, stranger_boots, dusk_traps, silk_weaves, glance_strikes):
-        check(it.__doc__, list(it(Examples(program))), [])
-    finish()
-
-
-main()
+@pytest.mark.parametrize("claim", [each_assembles, none_ends_itself, tailor_is_fitted, stranger_boots, dusk_traps, silk_weaves, glance_strikes])
+def test_claims(claim):
+    """What a warrior's comments say of it is so."""
+    assert not list(claim(Examples(PROGRAM)))

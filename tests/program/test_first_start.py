@@ -1,9 +1,12 @@
-#!/usr/bin/env python3
 """Tests ./mars and scripts/prove with a stand-in for the toolchain: which crates are proved, in which order, what a start tells, and what it leaves."""
-import json, os, shutil, signal, stat, subprocess, tempfile, time
+import json, os, shutil, signal, stat, subprocess, sys, tempfile, time
 
-from counting import TOP, check, finish
-import progress
+import pytest
+
+from counting import SCRIPTS, TOP, check
+
+sys.path.insert(0, SCRIPTS)
+import progress  # noqa: E402
 
 # Stands for rt, rattle and rattle-link. It notes each proof, fails or sleeps at a crate that it is told, and makes what the next ones look for.
 STAND_IN = """#!/usr/bin/env python3
@@ -44,6 +47,17 @@ else:
     made("out/incremental/work", False)
     (program if words[0] == "run" else lambda path: None)("out/mars")
 """
+
+
+@pytest.fixture
+def folder():
+    with tempfile.TemporaryDirectory() as folder:
+        yield folder
+
+
+@pytest.fixture
+def place(folder):
+    return Place(folder)
 
 
 class Place:
@@ -139,7 +153,7 @@ def is_in_order(order, below):
     return sorted(order) == sorted(below) and all(below[name] <= set(order[:order.index(name)]) for name in order)
 
 
-def check_first_start(place):
+def test_first_start(place):
     done = place.run("-b", "a.red")
     order, below = place.proved(), stands_on(os.path.join(TOP, "crates.txt"))
     check("the words reach the program", (done.stdout, done.returncode), ("played -b a.red\n", 0))
@@ -158,7 +172,7 @@ def check_first_start(place):
     check("a changed source is proved, with what it stands on", is_in_order(place.proved()[len(order):], below))
 
 
-def check_failure(place):
+def test_failure(place):
     done = place.run("-b", "a.red", fails="mars_core")
     check("a failed proof is told", done.returncode == 1 and "mars: mars_core isn't proved" in done.stderr and "no proof of mars_core" in done.stderr)
     check("nothing is built on it", ("mars" in place.proved(), done.stdout), (False, ""))
@@ -170,7 +184,7 @@ def check_failure(place):
     check("and leaves the program alone", place.work(), ["mars"])
 
 
-def check_changes_meanwhile(place):
+def test_changes_meanwhile(place):
     """A source that changes while it is proved is proved again, whether that start came to its end or not."""
     for fails in ("mars_core", ""):
         subprocess.run([os.path.join(place.folder, "mars")], env={**place.environment(fails), "RT_CHANGES": "mars_cell"}, capture_output=True)
@@ -180,14 +194,14 @@ def check_changes_meanwhile(place):
         place.touch("mars_cell")
 
 
-def check_stopped(place):
+def test_stopped(place):
     check("Ctrl-C ends it in a line", place.interrupted("mars_core"), (True, "", "mars: stopped; what is proved is kept", False))
     before = len(place.proved())
     place.run("-b", "a.red")
     check("what was proved is kept", "mars_cell" in place.proved()[before:], False)
 
 
-def check_two_starts(place):
+def test_two_starts(place):
     """A second start waits for the first one, says so, and finds the program built."""
     command, how = [os.path.join(place.folder, "mars"), "a.red"], {"stdout": subprocess.PIPE, "stderr": subprocess.PIPE, "text": True}
     first = subprocess.Popen(command, env={**place.environment(), "RT_SLEEPS": "mars_cell", "RT_SECONDS": "2"}, **how)
@@ -199,7 +213,7 @@ def check_two_starts(place):
     check("each crate is proved once", len(place.proved()), len({*place.proved()}))
 
 
-def check_kept_work(place):
+def test_kept_work(place):
     """By --keep, and where such work is, `rt` proves in rooms, and what it made stays."""
     place.leave_out("mars_match", "redcode_text")
     done = place.run("--keep", script="scripts/prove")
@@ -222,7 +236,7 @@ def check_kept_work(place):
     check("a link reaches the program", subprocess.run([link, "x"], capture_output=True, text=True).stdout, "played x\n")
 
 
-def check_terminal(place):
+def test_terminal(place):
     """What a start writes to a terminal: a line that is written over, and how long the whole took."""
     mine, theirs = os.openpty()
     subprocess.run([os.path.join(place.folder, "mars")], env=place.environment(), stdout=subprocess.DEVNULL, stderr=theirs)
@@ -239,7 +253,7 @@ def check_terminal(place):
     check("without the toolchain it is told what runs without it", (done.returncode, "`rt`" in done.stderr, "scripts/pack" in done.stderr), (1, True, True))
 
 
-def check_progress(folder):
+def test_progress(folder):
     """How long a start takes still, by the last one; and that one isn't silent where there is no terminal."""
     path = os.path.join(folder, "last-start.json")
     unknown = progress.Reckoning(path, ["a", "b", "c"], 600)
@@ -257,7 +271,7 @@ def check_progress(folder):
     check("each crate, and what goes on", told, ["mars: proved a, 1 of 2 (0 min 0 s)", "mars: 1 of 2 crates proved in 0 min 0 s; b and c under way"])
 
 
-def check_library(place):
+def test_library(place):
     """The library for C is proved in the same run as the program, and anew where a source is newer than its archive."""
     below = {**stands_on(os.path.join(TOP, "crates.txt"), "_tests:"), "mars": {"mars_app"}}
     done = place.run(script="scripts/library")
@@ -275,7 +289,7 @@ def check_library(place):
     check("and the program isn't", "mars" in place.proved()[count:], False)
 
 
-def check_what_the_gate_leaves(place):
+def test_what_the_gate_leaves(place):
     """What `rt ci` leaves of each crate is taken where it is newer than the sources, so that the library alone is left to be proved."""
     environment = {**place.environment(), "RT_LOG": os.path.join(place.folder, "of-rt-ci")}
     for crate in ("mars_cell", "redcode_text", "redcode_asm", "mars_core", "mars_session", "mars_match", "mars_app"):
@@ -287,16 +301,3 @@ def check_what_the_gate_leaves(place):
     place.touch("mars_match")
     place.run("--library", script="scripts/prove")
     check("with a changed crate", sorted(place.proved()[2:]), ["mars", "mars_app", "mars_c", "mars_match"])
-
-
-def main():
-    for test in (check_terminal, check_progress):
-        with tempfile.TemporaryDirectory() as folder:
-            test(Place(folder) if test is check_terminal else folder)
-    for test in (check_first_start, check_failure, check_changes_meanwhile, check_stopped, check_library, check_what_the_gate_leaves, check_two_starts, check_kept_work):
-        with tempfile.TemporaryDirectory() as folder:
-            test(Place(folder))
-    finish()
-
-
-main()

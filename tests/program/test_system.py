@@ -1,16 +1,11 @@
-#!/usr/bin/env python3
 """Tests the program over what the system hands it: words of all kinds, files and pipes of all sizes, streams that fail.
-
-usage: scripts/tests/system [--program FILE]
-
-What is wrong is printed. The last line is `N passed, M failed`; the exit status is 0 where nothing failed.
 """
 import contextlib, fcntl, itertools, os, resource, select, shutil, signal, struct, subprocess, tempfile, termios, threading, time
 
+import pytest
 from costly import large, slow
-from counting import check, finish, program_of, skip
+from counting import PROGRAM, check, skip
 
-PROGRAM = program_of(__doc__)
 LARGEST = 1_048_576
 CORE = ["-s", "8", "-l", "1", "-d", "1"]
 SMALL = [*CORE, "-c", "20"]
@@ -32,6 +27,15 @@ def run(folder, *words, name=PROGRAM, **streams):
 def write(folder, name, text):
     with open(os.path.join(folder, name), "w") as file:
         file.write(text)
+
+
+@pytest.fixture
+def folder():
+    """A folder with an imp, whose name once has a letter that isn't ASCII."""
+    with tempfile.TemporaryDirectory() as folder:
+        for name in ("imp.red", "w\u00e4chter.red"):
+            write(folder, name, "MOV 0, 1\n")
+        yield folder
 
 
 def is_read(stream):
@@ -62,7 +66,7 @@ def debugger(folder, *words):
             ending.cancel()
 
 
-def check_words(folder):
+def test_words(folder):
     for word in (b"\xff.red", b"-\xff", b"--score=\xc3\x28"):
         check(f"a word that isn't UTF-8, {word!r}", run(folder, word, "imp.red"), (2, "", "mars: bad words\n"))
     check("no word", run(folder), (2, "", "mars: bad words\n"))
@@ -74,7 +78,7 @@ def check_words(folder):
         check(f"a help beside other words, {words}", run(folder, *words), run(folder, "--help"))
 
 
-def check_many_words(folder):
+def test_many_words(folder):
     """Each of the words counts, the last one too, and each byte of a long one."""
     table = "  points   wins   ties losses  warrior\n" + 16 * "      60      0     30      0  Unknown by Anonymous\n"
     files = ["imp.red"] * 16
@@ -84,7 +88,7 @@ def check_many_words(folder):
     check("a number of 5,000 digits", run(folder, "--load", "-s", "8".zfill(5000), *SMALL[2:], "imp.red"), run(folder, "--load", *SMALL, "imp.red"))
 
 
-def check_names(folder):
+def test_names(folder):
     """The name of a file is told whole in the line of its fault, but for control characters."""
     for name in ("x" * 300, "x" * 5000, "\u00e4" * 150, "k\u00e4fer.red", "\u4e16\u754c.red"):
         check(f"{name[:10]}, {len(name)} letters", run(folder, name), (1, "", f"mars: {name}: cannot read\n"))
@@ -102,7 +106,7 @@ def source(size):
     return ";" * (size - len(code)) + code
 
 
-def check_files(folder):
+def test_files(folder):
     for size in (4_095, 4_096, 4_097, 65_537, LARGEST):
         name = f"{size}.red"
         write(folder, name, source(size))
@@ -120,7 +124,7 @@ def check_files(folder):
     check("the first file's fault", run(folder, "none.red", "larger.red"), (1, "", "mars: none.red: cannot read\n"))
 
 
-def check_limits(folder):
+def test_limits(folder):
     """A source that costs more than the system lets the program have: it is ended, or answers want of memory by name, and writes nothing."""
     for name, text, seconds, answer in (("slow.red", slow(), 1, (-signal.SIGKILL, "", "")), ("large.red", large(), 60, (1, "", "mars: out of memory\n"))):
         write(folder, name, text)
@@ -129,7 +133,7 @@ def check_limits(folder):
         check(name, (done.returncode, done.stdout, done.stderr), answer)
 
 
-def check_leave(folder):
+def test_leave(folder):
     """A file that may not be read. Who may read all files tries it as nobody, with a copy of the program."""
     write(folder, "closed.red", "MOV 0, 1\n")
     os.chmod(os.path.join(folder, "closed.red"), 0)
@@ -147,7 +151,7 @@ def feed_fifo(path, text, size):
         feed(stream, text, size)
 
 
-def check_pipes(folder):
+def test_pipes(folder):
     """Files that come by a pipe are read whole."""
     fifo = os.path.join(folder, "fifo.red")
     os.mkfifo(fifo)
@@ -158,7 +162,7 @@ def check_pipes(folder):
         check(f"{size} bytes by a pipe", run(folder, "--load", *SMALL, "/dev/stdin", input=source(size).encode()), answer)
 
 
-def check_long_outputs(folder):
+def test_long_outputs(folder):
     """Outputs of more than 4,096 bytes, the most warriors, the greatest core."""
     write(folder, "long.red", "".join(f"DAT 0, {number}\n" for number in range(300)))
     text = f";load 2 8000\n{UNNAMED}ORG 0\n" + "".join(f"DAT.F $0, ${number}\n" for number in range(300))
@@ -171,7 +175,7 @@ def check_long_outputs(folder):
     check("the greatest core", run(folder, "-e", "-s", "1048576", "imp.red", input=lines), (0, replies, ""))
 
 
-def check_streams(folder):
+def test_streams(folder):
     full = (1, "", "mars: cannot write\n")
     for words in (["--help"], ["--load", "imp.red"], ["imp.red"], ["-b", "imp.red"], ["--league", "-b", "imp.red", "imp.red"]):
         with open("/dev/full", "wb") as output:
@@ -186,7 +190,7 @@ def check_streams(folder):
     os.close(commands)
 
 
-def check_sizes_of_files(folder):
+def test_sizes_of_files(folder):
     """A file that may not grow takes a part and fails. Where the signal of that isn't ignored, it ends the program first."""
     whole, kept = run(folder, "--load", *SMALL, "imp.red")[1], os.path.join(folder, "kept")
     for size in (0, 10):
@@ -206,7 +210,7 @@ CONVERSATION = (
 )
 
 
-def check_answers(folder):
+def test_answers(folder):
     """Commands that come byte by byte, and for each a reply before the next one comes."""
     with debugger(folder, *SMALL) as process:
         for line, reply in CONVERSATION:
@@ -229,7 +233,7 @@ def long_session():
     return "".join(f"{line}\n" for line in lines).encode(), "".join(f"{reply}\n" for reply in replies).encode()
 
 
-def check_pieces(folder):
+def test_pieces(folder):
     """Long inputs in pieces near what is read at once, and replies that are taken in such pieces."""
     lines, replies = long_session()
     for size in range(4_094, 4_099):
@@ -242,7 +246,7 @@ def check_pieces(folder):
             check(f"{len(lines)} bytes in pieces of {size}", (process.wait(), differing[:1]), (0, []))
 
 
-def check_many_reads(folder):
+def test_many_reads(folder):
     """A line of 410,000,000 bytes is read in more than 100,000 pieces, and what stands behind it is answered."""
     path = os.path.join(folder, "commands")
     with open(path, "wb") as file:
@@ -250,32 +254,3 @@ def check_many_reads(folder):
         file.write(b"\nstep\n")
     with open(path, "rb") as commands:
         check("a line of 410,000,000 bytes", run(folder, "-e", *SMALL, "imp.red", stdin=commands), (0, "unknown\nturn 1 cycle 1 next 0 alive 1 at 1/1\n", ""))
-
-
-TESTS = (
-    check_words,
-    check_many_words,
-    check_names,
-    check_files,
-    check_limits,
-    check_leave,
-    check_pipes,
-    check_long_outputs,
-    check_streams,
-    check_sizes_of_files,
-    check_answers,
-    check_pieces,
-    check_many_reads,
-)
-
-
-def main():
-    with tempfile.TemporaryDirectory() as folder:
-        for name in ("imp.red", "w\u00e4chter.red"):
-            write(folder, name, "MOV 0, 1\n")
-        for test in TESTS:
-            test(folder)
-    finish()
-
-
-main()

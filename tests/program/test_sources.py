@@ -1,15 +1,9 @@
-#!/usr/bin/env python3
 """Tests the program over sources that break off anywhere, and over expressions as they are written.
-
-usage: scripts/tests/sources [--program FILE]
-
-What is wrong is printed. The last line is `N passed, M failed`; the exit status is 0 where nothing failed.
 """
 import os, subprocess, tempfile
 
-from counting import check, finish, program_of
+from counting import PROGRAM, check
 
-PROGRAM = program_of(__doc__)
 
 EMPTY = "line 0: 7 Empty"
 LOOPS = "FOR 0\nthis is prose\nROF\ni FOR 2\nx&i DAT i, 0\nROF\nDAT x02, x01\n"
@@ -87,24 +81,15 @@ def answer(source):
     return "".join(line for line in done.stdout.splitlines(True) if not line.startswith(";"))
 
 
-def check_beginnings():
+def test_beginnings():
     for source, answers in BEGINNINGS:
         for length in range(len(source) + 1):
             check(f"the beginning {source[:length]!r}", answer(source[:length]), [made for first, made in answers if first <= length][-1])
 
 
-def check_expressions():
+def test_expressions():
     for text, value in VALUES:
         check(f"{text} is {value}", answer(f";assert ({text})==({value})\nNOP\n"), "ORG 0\nNOP.F $0, $0\n")
         check(f"{text} isn't {value}+1", answer(f";assert ({text})==({value}+1)\nNOP\n"), "line 1: 5 AssertFailed")
     for text, fault in FAULTS:
         check(text, answer(f"DAT {text}\n"), f"line 1: 4 Expression {fault}")
-
-
-def main():
-    check_beginnings()
-    check_expressions()
-    finish()
-
-
-main()

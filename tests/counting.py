@@ -1,0 +1,29 @@
+"""What tests of the program and of the library share: where it is, and how they say what holds."""
+from __future__ import annotations
+
+import os
+from pathlib import Path
+
+import pytest
+
+TOP = str(Path(__file__).resolve().parents[1])
+SCRIPTS = os.path.join(TOP, "scripts")
+# The program, which `./mars` or the gate has built; MARS names another one.
+PROGRAM = os.environ.get("MARS") or os.path.join(TOP, "crates", "mars", "out", "mars")
+
+
+def check(name: str, got: object, expected: object = True) -> None:
+    """What came is what was expected."""
+    __tracebackhide__ = True
+    assert got == expected, name
+
+
+def holds(is_so: object, *told: object) -> None:
+    """Something is so."""
+    __tracebackhide__ = True
+    assert is_so, told
+
+
+def skip(name: str, why: str, package: str | None = None) -> None:
+    """Tells what can't be tried on this machine, and the package of Debian's by which it could be."""
+    pytest.skip(f"{name}: {why}" + (f" (package {package})" if package else ""))

@@ -1,0 +1,48 @@
+"""Tests checks/run with stand-ins for its steps: what it counts, and which skipped tests count as failed.
+"""
+import os, shutil, subprocess, tempfile
+
+import pytest
+
+from counting import TOP, check
+
+STEPS = ["bin/rt", "scripts/library", *(f"checks/{name}" for name in ("memory", "documents", "tests", "trust", "rules"))]
+
+
+def gate(**lines):
+    """The last lines of the gate, and its status, where a step prints these lines and ends with the status that they begin with, and the others pass one each."""
+    with tempfile.TemporaryDirectory() as folder:
+        for name in STEPS:
+            path, (status, *told) = os.path.join(folder, name), lines.get(os.path.basename(name), (0, "1 passed, 0 failed"))
+            os.makedirs(os.path.dirname(path), exist_ok=True)
+            with open(path, "w") as file:
+                file.write("#!/bin/sh\n" + "".join(f"echo '{line}'\n" for line in told) + f"exit {status}\n")
+            os.chmod(path, 0o755)
+        shutil.copy(os.path.join(TOP, "checks", "run"), os.path.join(folder, "checks"))
+        shutil.copy(os.path.join(TOP, "scripts", "machine.py"), os.path.join(folder, "scripts"))
+        environment = {**os.environ, "PATH": os.path.join(folder, "bin") + ":" + os.environ["PATH"]}
+        done = subprocess.run([os.path.join(folder, "checks", "run")], capture_output=True, text=True, env=environment)
+        told = done.stdout.splitlines()
+        return done.returncode, [line for line in told if line.startswith("FAILED")] + told[-2:]
+
+
+ALL = (0, ["0 skipped", "7 passed, 0 failed"])
+TOLD = "FAILED: no missing package explains that it was skipped: a: it is away"
+
+
+@pytest.mark.parametrize(
+    "lines, expected",
+    [
+        ({}, ALL),
+        ({"library": (0, "build/libmars.so")}, ALL),
+        ({"library": (1, "library: no")}, (1, ["FAILED: scripts/library", "0 skipped", "6 passed, 1 failed"])),
+        ({"memory": (0, "")}, (1, ["FAILED: checks/memory", "0 skipped", "6 passed, 1 failed"])),
+        ({"rules": (1, "3 passed, 0 failed")}, (1, ["FAILED: checks/rules", "0 skipped", "9 passed, 1 failed"])),
+        ({"tests": (0, "skipped: a: it is away (package no-such-package)", "4 passed, 0 failed")}, (0, ["1 skipped", "10 passed, 0 failed"])),
+        ({"tests": (0, "skipped: a: it is away (package sh)", "4 passed, 0 failed")}, (1, [TOLD, "1 skipped", "10 passed, 1 failed"])),
+        ({"tests": (0, "skipped: a: it is away", "4 passed, 0 failed")}, (1, [TOLD, "1 skipped", "10 passed, 1 failed"])),
+    ],
+)
+def test_what_counts(lines, expected):
+    """What each step prints is counted; one that counts nothing, whose status isn't that of its line, or that skips without a missing package, fails."""
+    assert gate(**lines) == expected
