@@ -20,7 +20,9 @@ Run = Callable[..., "subprocess.CompletedProcess[str]"]
 
 @pytest.fixture
 def run(tmp_path: Path) -> Run:
-    """Runs `corewar` with words in a folder of its own; `given` is its standard input. Files of examples are named by `@dwarf`."""
+    """Runs `corewar` with words in a folder of its own; `given` is its standard input. Files of examples are named by
+    `@dwarf`.
+    """
 
     def started(*words: object, given: str | bytes = "", **how: object) -> subprocess.CompletedProcess[str]:
         named = [str(EXAMPLES / f"{str(word)[1:]}.red") if str(word).startswith("@") else str(word) for word in words]
@@ -32,7 +34,8 @@ def run(tmp_path: Path) -> Run:
         }
         data = given.encode() if isinstance(given, str) else given
         options = {"cwd": tmp_path, "env": environment, "capture_output": True, "timeout": 300, **how}
-        done = subprocess.run([sys.executable, "-m", "corewar.cli.main", *named], input=data, **options)  # type: ignore[call-overload]
+        command: Any = [sys.executable, "-m", "corewar.cli.main", *named]
+        done: Any = subprocess.run(command, input=data, **options)  # type: ignore[call-overload]
         text = [part.decode(errors="replace") if part is not None else "" for part in (done.stdout, done.stderr)]
         return subprocess.CompletedProcess(done.args, done.returncode, *text)
 

@@ -1,7 +1,7 @@
 """The debugger: a session does what the program's debugger does, and commands tell it."""
 from __future__ import annotations
 
-import subprocess
+import os
 
 import pytest
 from battles import edits, matches
@@ -162,7 +162,7 @@ def test_at_a_terminal(tmp_path: object) -> None:
     pexpect = pytest.importorskip("pexpect", reason="package python3-pexpect")
     top = EXAMPLES.parent
     words = ["debug", str(EXAMPLES / "dwarf.red"), str(EXAMPLES / "imp.red")]
-    environment = {**subprocess.os.environ, "XDG_STATE_HOME": str(tmp_path), "TERM": "xterm"}  # type: ignore[attr-defined]
+    environment = {**os.environ, "XDG_STATE_HOME": str(tmp_path), "TERM": "xterm"}
     with pexpect.spawn(str(top / "corewar"), words, env=environment, timeout=20, encoding="utf-8") as child:
         child.expect("Dwarf against Imp; help tells the commands")
         child.expect("turn 0>")

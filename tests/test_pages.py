@@ -1,4 +1,4 @@
-"""Pages and pictures: what a page's frames hold is what the machine says, and what a browser shows is what they hold."""
+"""Pages and pictures: what a page's frames hold is what the machine says, and a browser shows what they hold."""
 from __future__ import annotations
 
 import base64

@@ -194,7 +194,9 @@ def text(browser: Any, name: str) -> str:
 
 
 def test_by_mouse(page: Any, site: Site) -> None:
-    """A fault is shown and mended, a fight is fought, a death and its cause looked at, a cell edited and the edit undone."""
+    """A fault is shown and mended, a fight is fought, a death and its cause looked at, a cell edited and the edit
+    undone.
+    """
     page.find_element("xpath", "//ul[@id='names']//button[text()='dwarf.red']").click()
     page.execute_script("bench.shelf.editor.setValue(bench.shelf.editor.getValue().replace('@bomb', '@bmob'))")
     until(page, "document.getElementById('fault').textContent.includes('bmob')")

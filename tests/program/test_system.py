@@ -157,6 +157,7 @@ def test_pipes(folder):
     os.mkfifo(fifo)
     threading.Thread(target=feed_fifo, args=(fifo, b"NOP\nNOP\nNOP\n", 4), daemon=True).start()
     check("a FIFO in pieces", run(folder, "--load", "-s", "8", "-l", "3", "-d", "3", "fifo.red"), (0, f";load 2 8\n{UNNAMED}ORG 0\n" + 3 * "NOP.F $0, $0\n", ""))
+    write(folder, f"{LARGEST}.red", source(LARGEST))
     whole = run(folder, "--load", *SMALL, f"{LARGEST}.red")
     for size, answer in ((LARGEST, whole), (LARGEST + 1, (1, "", "mars: /dev/stdin: too large\n"))):
         check(f"{size} bytes by a pipe", run(folder, "--load", *SMALL, "/dev/stdin", input=source(size).encode()), answer)

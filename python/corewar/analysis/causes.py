@@ -63,12 +63,14 @@ def executed_told(teller: Teller, turn: int, told: set[tuple[int, int]]) -> Iter
         before = history.block(made - 1).cell(address, made - 1)
         record = history.record(made)
         who = f"{teller.names[record['warrior']]} at {record['address']}"
-        yield f"    {address} was {teller.cell(before)} until turn {made} of {who}: {teller.cell(history.executed(made))}"
+        cell = teller.cell(history.executed(made))
+        yield f"    {address} was {teller.cell(before)} until turn {made} of {who}: {cell}"
 
 
 def death_told(teller: Teller, warrior: int, count: int) -> Iterator[str]:
-    """Why a warrior died, and so many of its turns before that; where in none of them it executed what another had made, the last one
-    further back in which it did. The last process alone counts: others may have ended before."""
+    """Why a warrior died, and so many of its turns before that; where in none of them it executed what another had
+    made, the last one further back in which it did. The last process alone counts: others may have ended before.
+    """
     history, name = teller.history, teller.names[warrior]
     death = history.death(warrior)
     if death is None:

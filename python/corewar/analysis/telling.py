@@ -109,7 +109,9 @@ class Teller:
                 yield f"{name}: {processes(len(self.history.block(turn).queue(number, turn)))}"
 
     def cells(self, turn: int, first: int, count: int) -> Iterator[str]:
-        """Cells from an address on, each with its label, `>` where the next process stands, whose processes stand there, and its line."""
+        """Cells from an address on, each with its label, `>` where the next process stands, whose processes stand
+        there, and its line.
+        """
         history, cells, head = self.history, self.history.block(turn).cells(turn), self.history.head(turn)
         queues = [history.block(turn).queue(number, turn) for number in range(len(self.names))]
         here = Counter((int(at), number) for number, queue in enumerate(queues) for at in queue)

@@ -18,9 +18,10 @@ OF_CELLS, OF_WARRIORS = ("at", "changes"), ("splits", "ends", "dies")
 class Condition:
     """A condition on a place, which is a number of turns made:
 
-    `at`: one of the cells is executed next; `changes`: the last turn changed one of the cells; `splits`, `ends`, `dies`: in the last turn
-    the warrior got a further process, lost one, died. The cells are those from `first` to `last`, around the core; `by` is the warrior
-    whose turn it has to be, where that counts. For a condition on a warrior `first` is its number.
+    `at`: one of the cells is executed next; `changes`: the last turn changed one of the cells; `splits`, `ends`,
+    `dies`: in the last turn the warrior got a further process, lost one, died. The cells are those from `first` to
+    `last`, around the core; `by` is the warrior whose turn it has to be, where that counts. For a condition on a
+    warrior `first` is its number.
     """
 
     word: str
@@ -29,7 +30,9 @@ class Condition:
     by: int | None = None
 
     def places(self, block: Block, core: int) -> NDArray[np.int64]:
-        """The places of a block, in order, where this holds: for `at` from its first one on, else from that behind its first turn."""
+        """The places of a block, in order, where this holds: for `at` from its first one on, else from that behind
+        its first turn.
+        """
         records, changes = block.records, block.changes
         if self.word == "changes":
             held = self._among(changes.addresses, core) & self._of(changes.warriors)

@@ -1,4 +1,6 @@
-"""A battle in frames: some turns each, with the cells that they changed, who did, and where processes stand after them."""
+"""A battle in frames: some turns each, with the cells that they changed, who did, and where processes stand after
+them.
+"""
 from __future__ import annotations
 
 from collections.abc import Iterator
@@ -13,8 +15,9 @@ from .history import BY_HAND, History
 
 @dataclass(frozen=True, eq=False)
 class Frame:
-    """A moment after `turn` turns. `addresses` are the cells that changed since the frame before, in order, `writers` who changed each
-    last, or BY_HAND, and `cells` what is there now."""
+    """A moment after `turn` turns. `addresses` are the cells that changed since the frame before, in order, `writers`
+    who changed each last, or BY_HAND, and `cells` what is there now.
+    """
 
     turn: int
     addresses: NDArray[np.int64]
@@ -24,7 +27,7 @@ class Frame:
 
 
 def parts(first: int, last: int, count: int) -> list[int]:
-    """The ends of so many parts of the turns from the first to the last one, or of fewer where there are fewer turns."""
+    """The ends of so many parts of the turns from the first to the last one; of fewer where there are fewer turns."""
     count = max(1, min(last - first, count))
     return [first + (last - first) * part // count for part in range(count + 1)]
 

@@ -1,7 +1,8 @@
 """A battle in time: any turn forwards and back, who changed a cell, and what edits by hand make of it.
 
-The machine's records of turns are asked for in blocks, each with where the battle stands before it, so any state is that of a block
-and the writes and processes of some turns on, and a question about many turns is one look over an array. All of it is exact.
+The machine's records of turns are asked for in blocks, each with where the battle stands before it, so any state
+is that of a block and the writes and processes of some turns on, and a question about many turns is one look over
+an array. All of it is exact.
 """
 from __future__ import annotations
 
@@ -26,7 +27,9 @@ Owners = NDArray[np.uint8]
 
 @dataclass(frozen=True)
 class Segment:
-    """Turns with no edit among them: the debugger's lines that lead to where it starts, the turn behind which that is, and its last turn."""
+    """Turns with no edit among them: the debugger's lines that lead to where it starts, the turn behind which that
+    is, and its last turn.
+    """
 
     lines: tuple[str, ...]
     first: int
@@ -52,7 +55,9 @@ class Block:
 
     @cached_property
     def changes(self) -> Changes:
-        """What the turns changed. Of several writes of a cell in one turn the first one's cell before and the last one's after count."""
+        """What the turns changed. Of several writes of a cell in one turn the first one's cell before and the last
+        one's after count.
+        """
         change = self.records["change"]
         address, before, after = change["address"], change["before"].copy(), change["after"]
         used = np.arange(3) < self.records["changes"][:, None]
@@ -95,7 +100,9 @@ class Block:
         return found
 
     def queue(self, warrior: int, turn: int) -> NDArray[np.uint32]:
-        """Where the processes of a warrior stand after a turn, the next one first: all that were queued, less one for each of its turns."""
+        """Where the processes of a warrior stand after a turn, the next one first: all that were queued, less one for
+        each of its turns.
+        """
         if turn == self.first:
             return self.start.queues[warrior]
         processes, queued, turns = self._queued[warrior]
@@ -118,8 +125,9 @@ class Block:
 
 
 class History:
-    """The battle of a round from its start to its end, with the edits by hand that were made in it. It never changes: an edit gives
-    another history, which shares what lies before it."""
+    """The battle of a round from its start to its end, with the edits by hand that were made in it. It never changes:
+    an edit gives another history, which shares what lies before it.
+    """
 
     def __init__(self, fight: Match, round: int = 0) -> None:
         self.fight, self.round, self.core = fight, round, fight.settings.core
@@ -249,7 +257,9 @@ class History:
         return np.flatnonzero(cells != self.block(turn).start.cells)
 
     def by_hand(self, address: int, turn: int) -> tuple[int, np.void, np.void] | None:
-        """The last change of a cell by hand up to a turn: the turn behind which it was made, the cell before and the cell after."""
+        """The last change of a cell by hand up to a turn: the turn behind which it was made, the cell before and the
+        cell after.
+        """
         for one, other in reversed([*zip(self.segments, self.segments[1:])]):
             if other.first <= turn:
                 before = state(self.fight, self.round, one.lines, other.first - one.first).cells[address]
@@ -261,7 +271,9 @@ class History:
         return None
 
     def edited(self, turn: int, line: str) -> History:
-        """The history in which a line of the debugger edits the battle after a turn. What followed there is another future."""
+        """The history in which a line of the debugger edits the battle after a turn. What followed there is another
+        future.
+        """
         segment = self._segment(turn)
         lines = (*segment.lines, *run_lines(turn - segment.first), line)
         made = History.__new__(History)

@@ -17,7 +17,8 @@ from .options import Asked, battle_options
 def debug(asked: Asked, turn: int) -> None:
     """Debugs a battle at a prompt, forwards and back.
 
-    At the prompt `help` tells the commands, `help COMMAND` one of them. Without a terminal the lines of standard input are made.
+    At the prompt `help` tells the commands, `help COMMAND` one of them. Without a terminal the lines of standard
+    input are made.
     """
     from ..debugger.prompt import is_terminal, run_lines, run_prompt
     from ..debugger.session import Session

@@ -101,7 +101,9 @@ ROUND = click.option(
 def battle_options(
     *, one_round: bool = False, needs_files: bool = True
 ) -> Callable[[Callable[..., Any]], Callable[..., Any]]:
-    """Gives a command the options of a contest and its files, as its argument `asked`; with `one_round` that of a round, too."""
+    """Gives a command the options of a contest and its files, as its argument `asked`; with `one_round` that of a
+    round, too.
+    """
 
     def decorate(command: Callable[..., Any]) -> Callable[..., Any]:
         @functools.wraps(command)

@@ -61,8 +61,9 @@ def picture(
 ) -> None:
     """Draws a battle: time goes down, the core goes across.
 
-    A warrior's colour is strong where its processes stand, lighter where it wrote, and pale on the cells that it wrote last; of several
-    warriors in a column the one with most cells has it. PNG, SVG or PDF, by the end of the file's name; battle.png without one.
+    A warrior's colour is strong where its processes stand, lighter where it wrote, and pale on the cells that it
+    wrote last; of several warriors in a column the one with most cells has it. PNG, SVG or PDF, by the end of the
+    file's name; battle.png without one.
     """
     from ..pictures.timeline import View, draw
 
@@ -88,7 +89,9 @@ def cells_of(text: str | None, core: int) -> range:
     "--frames", type=click.IntRange(1), help="At most so many frames; without it 600, or each turn where there are few."
 )
 def page(asked: Asked, first: int, turns: int | None, output: str | None, force: bool, frames: int | None) -> None:
-    """Writes a page for a browser that replays a battle, back and forth, with all that it needs in one file; battle.html without -o."""
+    """Writes a page for a browser that replays a battle, back and forth, with all that it needs in one file;
+    battle.html without -o.
+    """
     from ..pages.replay import page_of
 
     output = checked(output or "battle.html", force)

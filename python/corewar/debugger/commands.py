@@ -13,7 +13,8 @@ from ..model.faults import Refused
 from .session import MOST_FILLED, Session
 
 Act = Callable[[Session, str], Iterable[str]]
-# How many cells `list` shows, and how many around each warrior's next process; how many turns of a dead warrior `why` tells.
+# How many cells `list` shows, and how many around each warrior's next process; how many turns of a dead warrior `why`
+# tells.
 CELLS, AROUND, TURNS = 11, 7, 4
 
 
@@ -23,8 +24,9 @@ class Left(Exception):
 
 @dataclass(frozen=True)
 class Command:
-    """A command: its function takes the session and the rest of the line, and gives what it tells. An empty line makes one that repeats
-    again."""
+    """A command: its function takes the session and the rest of the line, and gives what it tells. An empty line
+    makes one that repeats again.
+    """
 
     usage: str
     told: str
@@ -231,9 +233,8 @@ def spawn(session: Session, rest: str) -> Iterator[str]:
     warrior, address = session.warrior(name), session.address(where)
     count = len(session.history.block(session.turn).queue(warrior, session.turn))
     if not 0 < count < session.history.fight.settings.processes:
-        raise Refused(
-            f"{session.names[warrior]} has {processes(count)}, and {'the dead get none' if not count else 'may have no more'}"
-        )
+        why = "may have no more" if count else "the dead get none"
+        raise Refused(f"{session.names[warrior]} has {processes(count)}, and {why}")
     session.edit(f"spawn {warrior} {address}")
     yield from queue(session, name)
 

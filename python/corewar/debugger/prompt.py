@@ -1,5 +1,5 @@
-"""The prompt: completion as one types, lines that are kept, cells in colours, and a bar that says where the battle stands. Without a
-terminal lines are read as they come, and what they tell is plain.
+"""The prompt: completion as one types, lines that are kept, cells in colours, and a bar that says where the battle
+stands. Without a terminal lines are read as they come, and what they tell is plain.
 """
 from __future__ import annotations
 

@@ -1,4 +1,6 @@
-"""A battle that is debugged: where it stands, what was done, and what is to be undone. It changes by moves and edits alone."""
+"""A battle that is debugged: where it stands, what was done, and what is to be undone. It changes by moves and edits
+alone.
+"""
 from __future__ import annotations
 
 import re
@@ -126,7 +128,9 @@ class Session:
         return f"{condition.word} {where}{until}" + ("" if condition.by is None else f" by {self.names[condition.by]}")
 
     def cell(self, address: int, line: str) -> str:
-        """The cell that a line of source makes at an address, as the debugger reads it; labels stand for what they do in the core."""
+        """The cell that a line of source makes at an address, as the debugger reads it; labels stand for what they do
+        in the core.
+        """
         labels = [name for name in self.sources.addresses if name in WORD.findall(line)]
         given = [f"{name} EQU ({self.sources.addresses[name] - address})" for name in labels]
         settings = replace(self.history.fight.settings, longest=1)

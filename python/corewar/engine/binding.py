@@ -1,8 +1,8 @@
 """The library for C as its header declares it: its types as those of NumPy, and its calls.
 
-The library is the file that MARS_LIBRARY names, else build/libmars.so of the checkout that this file stands in, else the one that the
-system finds; the header is the file that MARS_HEADER names, else include/mars.h of the checkout, else the system's. A call lets other
-threads run, and two threads may call at once.
+The library is the file that MARS_LIBRARY names, else build/libmars.so of the checkout that this file stands in,
+else the one that the system finds; the header is the file that MARS_HEADER names, else include/mars.h of the
+checkout, else the system's. A call lets other threads run, and two threads may call at once.
 """
 from __future__ import annotations
 
@@ -38,7 +38,9 @@ def found(variable: str, places: Sequence[Path]) -> str | None:
 
 
 def library() -> tuple[Any, Any]:
-    """The types of the header, and the library: the same for all threads, since the types of two headers don't go together."""
+    """The types of the header, and the library: the same for all threads, since the types of two headers don't go
+    together.
+    """
     with OPENING:
         return opened()
 

@@ -34,8 +34,9 @@ class Match:
 class State:
     """Where a battle stands.
 
-    `cells` is an array with the fields op, modifier, a_mode, b_mode, a, b. `queues` has an array of addresses for each warrior, the next
-    one first, and `deaths` an array with the fields warrior, turns, in order. Warriors count from 0 in the order of their turns.
+    `cells` is an array with the fields op, modifier, a_mode, b_mode, a, b. `queues` has an array of addresses for
+    each warrior, the next one first, and `deaths` an array with the fields warrior, turns, in order. Warriors
+    count from 0 in the order of their turns.
     """
 
     cells: Cells
@@ -77,7 +78,9 @@ def match(
     position: int = 0,
     formula: str = FORMULA,
 ) -> list[Row]:
-    """A match of 1 to 16 warriors: the row of each. `position` is where the second of two starts in each round; 0 is drawn."""
+    """A match of 1 to 16 warriors: the row of each. `position` is where the second of two starts in each round; 0 is
+    drawn.
+    """
     return rows("mars_match", held(settings, rounds, seed, position), formula, warriors, len(warriors))
 
 
@@ -121,10 +124,11 @@ def count_turns(fight: Match, round: int = 0, lines: Sequence[str] = (), history
 def record(
     fight: Match, round: int = 0, lines: Sequence[str] = (), first: int = 0, most: int = 1, history: int = FORWARD_ALONE
 ) -> Records:
-    """The turns of the battle of a round from where the debugger's lines lead it, without the first `first`: at most so many.
+    """The turns of the battle of a round from where the debugger's lines lead it, without the first `first`: at most
+    so many.
 
-    An array with the fields of MarsRecord of the header: warrior, address, next, cycle, died, changes, queued, change (three of address,
-    before, after), process (two). What doesn't apply is 0. A turn takes 120 bytes.
+    An array with the fields of MarsRecord of the header: warrior, address, next, cycle, died, changes, queued,
+    change (three of address, before, after), process (two). What doesn't apply is 0. A turn takes 120 bytes.
     """
     made, count = array("MarsRecord", most), library()[0].new("size_t *")
     call("mars_record", *battle(fight, round, lines, history), number(first), *slice_of("MarsRecord", made), count)

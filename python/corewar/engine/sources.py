@@ -1,5 +1,6 @@
-"""Reads warriors from files. Sources are assembled in a process of their own, which is held to so much time and memory for each: within
-the limits of the language a source of a few lines can take minutes, or all memory there is.
+"""Reads warriors from files. Sources are assembled in a process of their own, which is held to so much time and
+memory for each: within the limits of the language a source of a few lines can take minutes, or all memory there
+is.
 """
 from __future__ import annotations
 
@@ -31,7 +32,9 @@ class Overrun(Refused):
 
 
 class Assembler:
-    """A process that assembles sources one after the other. It begins with the first one, and again where the limit has ended it."""
+    """A process that assembles sources one after the other. It begins with the first one, and again where the limit
+    has ended it.
+    """
 
     def __init__(self, limit: Limit = Limit()) -> None:
         self.limit = limit
@@ -110,7 +113,9 @@ def lower(kind: int, most: int) -> None:
 
 
 def read_file(path: str) -> bytes:
-    """What is in a file, a pipe or `-`, which is standard input; no more of it is read than a warrior may have. Raises FileFault."""
+    """What is in a file, a pipe or `-`, which is standard input; no more of it is read than a warrior may have.
+    Raises FileFault.
+    """
     try:
         with open(0 if path == "-" else path, "rb", closefd=path != "-") as file:
             text = file.read(LARGEST_FILE + 1)
@@ -124,7 +129,9 @@ def read_file(path: str) -> bytes:
 def read_warrior(
     assembler: Assembler, path: str, settings: Settings = Settings(), rounds: int = 1, warriors: int = 2
 ) -> Warrior:
-    """The warrior of a file: a load file where the name ends in .load, else a source. Raises FileFault, and Fault for the settings."""
+    """The warrior of a file: a load file where the name ends in .load, else a source. Raises FileFault, and Fault for
+    the settings.
+    """
     text = read_file(path)
     try:
         if path.endswith(".load"):
@@ -151,7 +158,9 @@ def read_warriors(
     limit: Limit = Limit(),
     warriors: int | None = None,
 ) -> tuple[Warrior, ...]:
-    """The warriors of files, each read once; WARRIORS stands for how many there are unless another number is given. Raises FileFault."""
+    """The warriors of files, each read once; WARRIORS stands for how many there are unless another number is given.
+    Raises FileFault.
+    """
     with Assembler(limit) as assembler:
         count = len(paths) if warriors is None else warriors
         return tuple(read_warrior(assembler, path, settings, rounds, count) for path in paths)

@@ -25,8 +25,8 @@ class Refused(Exception):
 class Fault(Refused):
     """Why a call of the library wasn't done. Its text is what the program says behind the name of a file.
 
-    `code` is the answer of the call, `kind` its name; `number` and `name` are those of the fault. `line` is that of a source or of a
-    load file, from 1, and `warrior` the index of a load file; they are 0 where there is none.
+    `code` is the answer of the call, `kind` its name; `number` and `name` are those of the fault. `line` is that
+    of a source or of a load file, from 1, and `warrior` the index of a load file; they are 0 where there is none.
     """
 
     def __init__(

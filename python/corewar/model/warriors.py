@@ -13,7 +13,9 @@ START = re.compile(rb"(ORG|END)\b\s*([+-]?\d+)?", re.IGNORECASE)
 
 @dataclass(frozen=True)
 class Warrior:
-    """A warrior: its load file of either version; the name of the file that it came of, and the source, where there is one."""
+    """A warrior: its load file of either version; the name of the file that it came of, and the source, where there
+    is one.
+    """
 
     load: bytes
     file: str = ""

@@ -1,7 +1,7 @@
 """The page that replays a battle.
 
-It has the battle in it: a line for its head, and one for each piece of its frames, all of them JSON, deflated, in base64. Each piece has
-the texts of its cells, so that a browser can read the pieces side by side.
+It has the battle in it: a line for its head, and one for each piece of its frames, all of them JSON, deflated, in
+base64. Each piece has the texts of its cells, so that a browser can read the pieces side by side.
 """
 from __future__ import annotations
 
@@ -48,7 +48,9 @@ class Coder:
         self.texts: dict[str, int] = {}
 
     def coded(self, one: Frame, writers: NDArray[np.uint8]) -> dict[str, Any]:
-        """A frame. A cell's text is its number among the texts, which grow by those that are new. A cell that was edited is nobody's."""
+        """A frame. A cell's text is its number among the texts, which grow by those that are new. A cell that was
+        edited is nobody's.
+        """
         block = self.history.block(one.turn)
         before = self.stands
         self.stands = [np.bincount(queue, minlength=self.history.core) for queue in one.queues]

@@ -1,4 +1,6 @@
-"""The colours of warriors: sixteen that are far apart, also for those who see few colours; the first two most, the first eight well."""
+"""The colours of warriors: sixteen that are far apart, also for those who see few colours; the first two most, the
+first eight well.
+"""
 from __future__ import annotations
 
 from ..battle.history import History

@@ -1,5 +1,6 @@
-"""A battle as a picture: time goes down, the core goes across. A warrior's colour is strong where its processes stand, lighter where it
-wrote, and pale on the cells that it wrote last. The end of the file's name chooses PNG, SVG or PDF.
+"""A battle as a picture: time goes down, the core goes across. A warrior's colour is strong where its processes
+stand, lighter where it wrote, and pale on the cells that it wrote last. The end of the file's name chooses PNG,
+SVG or PDF.
 """
 from __future__ import annotations
 
@@ -29,7 +30,7 @@ class View:
     columns: int
 
     def leaders(self, addresses: NDArray[np.int64], warriors: NDArray[np.int64], count: int) -> NDArray[np.int64]:
-        """Of each column the warrior that has most of these cells, the first of several, and -1 where nobody has any."""
+        """Of each column the warrior that has most of these cells, the first of several, -1 where nobody has any."""
         inside = (addresses >= self.cells.start) & (addresses < self.cells.stop) & (warriors < count)
         columns = (addresses[inside] - self.cells.start) * self.columns // len(self.cells)
         sums = np.bincount(warriors[inside] * self.columns + columns, minlength=count * self.columns).reshape(count, -1)

@@ -61,7 +61,7 @@ class Folder:
         ]
 
     def save(self, name: str, text: str, seen: str) -> str:
-        """Writes a source where it came from, if it is there as it was seen; a new name must be free. Raises Refused."""
+        """Writes a source where it came from, if it is there as it was seen; a new name is free. Raises Refused."""
         path = self.files.get(name) or self.new(name)
         there = digest(path.read_text("utf-8", "surrogateescape")) if path.exists() else ""
         if there != seen:
@@ -167,7 +167,9 @@ class Bench:
         return {"turns": ends, "cells": cells, "processes": processes}
 
     def turn(self, turn: int) -> bytes:
-        """A turn: a line of JSON, then a byte for the owner of each cell, one for how lately it was written, and where processes stand."""
+        """A turn: a line of JSON, then a byte for the owner of each cell, one for how lately it was written, and
+        where processes stand.
+        """
         session = self.here()
         history = session.history
         session.turn = turn = max(0, min(turn, history.end))
@@ -223,7 +225,9 @@ class Bench:
         }
 
     def league(self, given: dict[str, Any]) -> Generator[dict[str, Any], None, None]:
-        """Fights a match of every two sources, and tells the counts of matches as they end. Kept results are told at once."""
+        """Fights a match of every two sources, and tells the counts of matches as they end. Kept results are told at
+        once.
+        """
         sources, contest = given["sources"], Contest(Settings(**given["settings"]), given["rounds"], given["seed"])
         warriors = [self.warrior(source, contest.settings, 2, contest.rounds) for source in sources]
         matches = Matches(contest, warriors, all_pairs(len(warriors)))

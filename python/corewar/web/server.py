@@ -127,7 +127,9 @@ async def cell(request: web.Request) -> web.Response:
 
 @routes.post("/league")
 async def league(request: web.Request) -> web.StreamResponse:
-    """The counts of matches as they end, a line of JSON for each bundle; a fault behind the first one is the last line."""
+    """The counts of matches as they end, a line of JSON for each bundle; a fault behind the first one is the last
+    line.
+    """
     fought, loop = bench_of(request).league(await given(request)), asyncio.get_running_loop()
 
     def more() -> dict[str, Any]:
