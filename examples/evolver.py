@@ -3,8 +3,7 @@
 
 usage: examples/evolver.py [SECONDS [SEED]]      60 seconds and seed 1 if left out
 
-It needs Debian's python3-cffi and python3-numpy, and the library: scripts/library builds it into build/, where python/mars.py finds
-it. In each generation the best warriors stay, children of theirs with changed cells take the place of the others, and one call
+It needs the package `corewar` with its library (scripts/setup and scripts/library make both). In each generation the best warriors stay, children of theirs with changed cells take the place of the others, and one call
 fights all of them against all opponents.
 """
 import os
@@ -15,9 +14,11 @@ from dataclasses import dataclass
 
 sys.path.insert(0, os.path.join(os.path.dirname(os.path.realpath(__file__)), "..", "python"))
 try:
-    import mars  # noqa: E402
+    import corewar  # noqa: E402
 except ImportError as fault:
-    sys.exit(f"evolver: {fault}: mars.py is in the kit's folder python/, and needs Debian's python3-cffi and python3-numpy")
+    sys.exit(f"evolver: {fault}: scripts/setup installs what the package corewar stands on")
+
+NANO = corewar.HILLS["nano"]
 
 OPPONENTS = [
     "MOV 0, 1",
@@ -47,7 +48,7 @@ def child(dice, one, other):
 
 
 def warrior(cells):
-    return mars.Warrior("\n".join([";load 2 80", ";name Evolved", ";author evolver.py", "ORG 0", *cells, ""]).encode())
+    return corewar.Warrior("\n".join([";load 2 80", ";name Evolved", ";author evolver.py", "ORG 0", *cells, ""]).encode())
 
 
 @dataclass
@@ -62,7 +63,7 @@ class Candidate:
 
 def fight(candidates, opponents, seed):
     """Lets all candidates fight all opponents, in one call; the best on the mean come first."""
-    rows = mars.population([warrior(one.cells) for one in candidates], opponents, rounds=ROUNDS, seed=seed, settings=mars.NANO)
+    rows = corewar.population([warrior(one.cells) for one in candidates], opponents, rounds=ROUNDS, seed=seed, settings=NANO)
     for one, row in zip(candidates, rows):
         one.points.append(row.points)
     candidates.sort(key=Candidate.mean, reverse=True)
@@ -70,7 +71,7 @@ def fight(candidates, opponents, seed):
 
 def measure(cells, opponents):
     """The points a round of cells in many rounds that no generation has fought."""
-    row = mars.population([warrior(cells)], opponents, rounds=2000, seed=1_000_000_007, settings=mars.NANO)[0]
+    row = corewar.population([warrior(cells)], opponents, rounds=2000, seed=1_000_000_007, settings=NANO)[0]
     return row.points / (2000 * len(opponents))
 
 
@@ -88,7 +89,7 @@ def given():
 def main():
     seconds, seed = given()
     dice, end = random.Random(seed), time.monotonic() + seconds
-    opponents = [mars.Warrior.assemble(text, mars.NANO) for text in OPPONENTS]
+    opponents = [corewar.assemble(text, NANO) for text in OPPONENTS]
     candidates, count = [Candidate([cell(dice) for _ in range(5)], []) for _ in range(SIZE)], 0
     while time.monotonic() < end:
         count += 1
@@ -103,7 +104,7 @@ def main():
 
 try:
     main()
-except (OSError, mars.Fault) as fault:
+except (OSError, corewar.Refused) as fault:
     sys.exit(f"evolver: {fault}")
 except KeyboardInterrupt:
     sys.exit("evolver: stopped")

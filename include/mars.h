@@ -27,7 +27,7 @@ extern "C" {
 
 /* The version of this header: 1000 for each major version, and the minor one. A minor version adds to what is there, a major one
  * changes it. */
-#define MARS_VERSION 1000
+#define MARS_VERSION 1001
 
 /* The version of the library that is called. */
 uint32_t mars_version(void);
@@ -145,6 +145,15 @@ typedef struct {
 uint32_t mars_assemble(const MarsSettings *settings, uint32_t warriors,
                        const uint8_t *source, size_t source_length,
                        uint8_t *buffer, size_t buffer_length, size_t *length, MarsFault *fault);
+
+/* Tells where the instructions of a source stand in it: the buffer begins with a line for each cell of its warrior, in order. It has
+ * the number of the instruction's line, from 1, in decimal, then each of its labels behind a blank, then LF. A line of a loop comes
+ * once for each round, joins and counters are done, and an instruction of an EQU name has the line where the name stands as operation.
+ * A label on a line that is no instruction is that of the next one, if there is one. Arguments and answers are those of mars_assemble;
+ * *length is the length of the text. Since version 1001. */
+uint32_t mars_lines(const MarsSettings *settings, uint32_t warriors,
+                    const uint8_t *source, size_t source_length,
+                    uint8_t *buffer, size_t buffer_length, size_t *length, MarsFault *fault);
 
 /* Fights a match of 1 to 16 warriors. Their load files lie one behind the other in `loads`, `lengths` has the bytes of each, and
  * there is a row for each, in the same order. `formula` is what a survivor gets, as "(W*W-1)/S". */

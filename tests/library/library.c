@@ -38,6 +38,7 @@ void __wrap_free(void *old) {
 
 static const MarsSettings SETTINGS = {800, 800, 8000, 0, 0, 20, 20, 3, 1, 0};
 static const char SOURCE[] = ";name Loops\nstep EQU 4\ni FOR 3\nx&i ADD #step, x01\nROF\nMOV 2, @2\nJMP -2\nEND x02\n";
+static const char PLACES[] = "4 x01\n4 x02\n4 x03\n6\n7\n";
 static const char LINES[] = "step\nrun 5\nundo\nshow\nlist 0 5\nquit\n";
 static const char FORMULA[] = "(W*W-1)/S";
 static uint8_t loads[4096];
@@ -69,6 +70,7 @@ static void call(int which, Left *got) {
     if (which == 4) got->answer = mars_debug(&SETTINGS, loads, all, lengths, 3, 50, (const uint8_t *)LINES, strlen(LINES), got->text, sizeof got->text, &got->length, &got->fault);
     if (which == 5) got->answer = mars_record(&SETTINGS, loads, all, lengths, 3, 2, 50, (const uint8_t *)LINES, strlen(LINES), 4, got->records, 9, &got->length, &got->fault);
     if (which == 6) got->answer = mars_state(&SETTINGS, loads, all, lengths, 3, 2, 50, (const uint8_t *)LINES, strlen(LINES), 4, got->cells, 800, got->counts, 3, got->processes, 20, got->deaths, 3, &got->standing, &got->fault);
+    if (which == 7) got->answer = mars_lines(&SETTINGS, 2, (const uint8_t *)SOURCE, strlen(SOURCE), got->text, sizeof got->text, &got->length, &got->fault);
 }
 
 static int is_kept(const Left *got, const Left *blank) {
@@ -102,6 +104,7 @@ static int are_nulls_taken(void) {
     const uint8_t *source = (const uint8_t *)SOURCE, *formula = (const uint8_t *)FORMULA;
     return mars_assemble(settings, 2, NULL, 0, NULL, 0, &got.length, &got.fault) == MARS_ASSEMBLY && got.fault.number == 7
         && mars_assemble(settings, 2, source, strlen(SOURCE), NULL, 0, &got.length, &got.fault) == MARS_ROOM && got.length == lengths[0]
+        && mars_lines(settings, 2, source, strlen(SOURCE), NULL, 0, &got.length, &got.fault) == MARS_ROOM && got.length == strlen(PLACES)
         && mars_match(settings, NULL, 0, loads, all, lengths, 3, got.rows, 3, &got.fault) == MARS_FORMULA && got.fault.number == 1
         && mars_match(settings, formula, strlen(FORMULA), NULL, 0, &none, 1, got.rows, 1, &got.fault) == MARS_LOAD && got.fault.number == 3
         && mars_league(settings, formula, strlen(FORMULA), NULL, 0, NULL, 0, NULL, 0, &got.fault) == MARS_DONE
@@ -110,6 +113,17 @@ static int are_nulls_taken(void) {
         && mars_record(settings, loads, all, lengths, 3, 0, 9, NULL, 0, 0, NULL, 0, &got.length, &got.fault) == MARS_DONE && got.length > 9
         && mars_state(settings, loads, all, lengths, 3, 0, 9, NULL, 0, 0, NULL, 0, NULL, 0, NULL, 0, NULL, 0, &got.standing, &got.fault) == MARS_ROOM
         && got.standing.processes == 3;
+}
+
+/* The lines of a source's instructions, and a fault as that of its assembly. */
+static int are_lines_told(void) {
+    Left got, other;
+    const uint8_t *wrong = (const uint8_t *)"NOP\nFOO 1";
+    call(7, &got);
+    if (got.length != strlen(PLACES) || memcmp(got.text, PLACES, got.length) || got.text[got.length] != 7) return 0;
+    uint32_t lines = mars_lines(&SETTINGS, 2, wrong, 9, got.text, 9, &got.length, &got.fault);
+    return lines == mars_assemble(&SETTINGS, 2, wrong, 9, other.text, 9, &other.length, &other.fault) && got.fault.line == 2
+        && memcmp(&got.fault, &other.fault, sizeof got.fault) == 0;
 }
 
 /* Whether these calls are refused for this setting, whatever else is wrong. */
@@ -145,16 +159,16 @@ int main(void) {
         lengths[i] = first.length;
         all += first.length;
     }
-    for (int which = 0; which < 7; which++)
+    for (int which = 0; which < 8; which++)
         for (long each = 0; each < 2; each++) {
             int is_so = holds(which, each);
             passed += is_so, failed += !is_so;
             if (!is_so) printf("call %d, %s refused\n", which, each ? "all from one on" : "one");
         }
-    int others[] = {mars_version() == MARS_VERSION, are_nulls_taken(), are_mistakes_told_in_order()};
+    int others[] = {mars_version() == MARS_VERSION, are_nulls_taken(), are_lines_told(), are_mistakes_told_in_order()};
     for (size_t i = 0; i < sizeof others / sizeof *others; i++) {
         passed += others[i], failed += !others[i];
-        if (!others[i]) printf("%s\n", (const char *[]){"the version", "null pointers", "the order of mistakes"}[i]);
+        if (!others[i]) printf("%s\n", (const char *[]){"the version", "null pointers", "the lines of a source", "the order of mistakes"}[i]);
     }
     printf("%d passed, %d failed\n", passed, failed);
     return failed != 0;

@@ -318,7 +318,7 @@ def test_c(folder, prefix):
             skip(name, "it isn't here", before[0] if before else "gcc")
             continue
         done = subprocess.run([*before, made], capture_output=True, text=True, timeout=300)
-        check(name, (built.stderr, done.stdout, done.stderr, done.returncode), ("", "17 passed, 0 failed\n", "", 0))
+        check(name, (built.stderr, done.stdout, done.stderr, done.returncode), ("", "20 passed, 0 failed\n", "", 0))
 
 
 def test_rust(folder, prefix):

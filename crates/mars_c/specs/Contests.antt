@@ -8,6 +8,7 @@ use Rattle.mars_match.specs.Rounds.{table_of}
 use Rattle.mars_match.specs.Tables.{RowValue}
 use Rattle.mars_cell.specs.ParameterFaults.{checked_parameters}
 use Rattle.redcode_asm.specs.LoadFiles.{assembled_load}
+use Rattle.redcode_asm.specs.SourceLines.{source_lines}
 use Rattle.mars_match.specs.Placement.{FitsTwo}
 use Rattle.mars_c.specs.Asked.{AreTerms, asked}
 use Rattle.mars_c.specs.declared.rows.MarsRow.{MarsRow}
@@ -67,6 +68,17 @@ HoldsLoadFile s warriors source count before after = (text : List ℕ) × IsLoad
 -- the load file of a source is longer than the buffer
 abbrev pub OverflowsLoadFile : MarsSettings → ℕ → List ℕ → ℕ → List ℕ → Type 0
 OverflowsLoadFile s warriors source count buffer = (text : List ℕ) × IsLoadFile s warriors source text × Overflows text count buffer
+
+-- where the instructions of a source stand in it
+abbrev pub AreLines : MarsSettings → ℕ → List ℕ → List ℕ → Type 0
+AreLines s warriors source text = (p : Parameters) × (checked_parameters (asked s) ≡ Ok p) × (source_lines p s.rounds warriors source ≡ Ok text)
+
+-- the buffer holds that, or it is longer than the buffer
+abbrev pub HoldsLines : MarsSettings → ℕ → List ℕ → ℕ → List ℕ → List ℕ → Type 0
+HoldsLines s warriors source count before after = (text : List ℕ) × AreLines s warriors source text × BeginsWith text count before after
+
+abbrev pub OverflowsLines : MarsSettings → ℕ → List ℕ → ℕ → List ℕ → Type 0
+OverflowsLines s warriors source count buffer = (text : List ℕ) × AreLines s warriors source text × Overflows text count buffer
 
 -- what a candidate got in its match with an opponent
 abbrev pub IsMet : Terms → WarriorValue → WarriorValue → MarsRow → Type 0

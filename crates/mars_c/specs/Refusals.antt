@@ -6,7 +6,7 @@ use Rattle.mars_cell.specs.ParameterFaults.{checked_parameters}
 use Rattle.mars_cell.specs.Warriors.{WarriorValue}
 use Rattle.mars_cell.specs.declared.fault.LoadFault.{LoadFault}
 use Rattle.redcode_asm.specs.Formula.{formula_of}
-use Rattle.redcode_asm.specs.LoadFiles.{assembled_load}
+use Rattle.redcode_asm.specs.Assembly.{assembly}
 use Rattle.redcode_asm.specs.declared.fault.AsmFault.{AsmFault}
 use Rattle.redcode_asm.specs.declared.fault.AsmProblem.{AsmProblem}
 use Rattle.redcode_asm.specs.declared.fault.AsmProblem.TheVariants as problem
@@ -27,7 +27,7 @@ refusal_at other fault = Assembly fault
 abbrev pub RefusesSource : MarsSettings → ℕ → List ℕ → Refusal → Type 0
 RefusesSource s warriors source OutOfMemory = ⊤
 RefusesSource s warriors source (OfParameters fault) = checked_parameters (asked s) ≡ Err fault
-RefusesSource s warriors source (Assembly fault) = (p : Parameters) × (checked_parameters (asked s) ≡ Ok p) × (assembled_load p s.rounds warriors source ≡ Err fault)
+RefusesSource s warriors source (Assembly fault) = (p : Parameters) × (checked_parameters (asked s) ≡ Ok p) × (assembly p s.rounds warriors source ≡ Err fault)
 RefusesSource s warriors source other = ⊥
 
 -- a caller is told of such a refusal

@@ -7,7 +7,6 @@ ghost use Rattle.mars_core.specs.Limits.{most_warriors};
 
 use crate::faults::{Refusal, refused_fight};
 use crate::loading::{Entry, enter};
-use crate::playing::play_on;
 use crate::ranges::SettingsFault;
 use crate::settings::{MarsSettings, Terms, warriors_fault};
 use mars_app::debug;
@@ -179,6 +178,6 @@ pub fn state_of(
     ensures refused { IfErr result (Refuses settings.now (codes "0") loads.now lengths.now) }
 {
     let mut battle = battle_of(alloc, settings, loads, lengths, round, history, lines)?;
-    play_on(&mut battle, turns);
+    battle.run(turns);
     Ok(battle)
 }

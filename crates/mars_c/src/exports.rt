@@ -1,6 +1,6 @@
 //! What C calls.
 ghost use Rattle.std.specs.Prelude.{◌≡◌, ◌≢◌, ◌≤◌, codes, IfErr, IfOk, false, true};
-ghost use Rattle.mars_c.specs.Contests.{BeginsWith, HoldsLeague, HoldsLoadFile, HoldsMatch, HoldsSums, IsLoadFile, Overflows, OverflowsLoadFile};
+ghost use Rattle.mars_c.specs.Contests.{AreLines, BeginsWith, HoldsLeague, HoldsLines, HoldsLoadFile, HoldsMatch, HoldsSums, IsLoadFile, Overflows, OverflowsLines, OverflowsLoadFile};
 ghost use Rattle.mars_c.specs.Debugging.{HoldsRecords, HoldsState, HoldsTranscript, OverflowsState, OverflowsTranscript};
 ghost use Rattle.mars_c.specs.Refusals.{RefusesSource, Tells, TellsSource};
 ghost use Rattle.mars_c.specs.States.{AreKept};
@@ -16,7 +16,7 @@ use crate::records::MarsRecord;
 use crate::rows::MarsRow;
 use crate::settings::{MarsSettings, parameters};
 use crate::states::{MarsDeath, MarsStanding, give_state};
-use redcode_asm::assemble_load;
+use redcode_asm::{assemble_load, source_lines};
 use std::alloc::Global;
 
 /// Writes a text to the front of a buffer, where it fits. Tells its length, and whether it fits.
@@ -62,13 +62,33 @@ fn load_file(
     }
 }
 
+/// Where the instructions of a source stand in it.
+fn lines(
+    alloc: Global,
+    settings: &MarsSettings,
+    warriors: u32,
+    source: &[u8],
+) -> Result<Vec<u8>, Refusal>
+    ensures made { IfOk result (λ text. AreLines settings.now warriors source.now text.items) }
+    ensures refused { IfErr result (RefusesSource settings.now warriors source.now) }
+{
+    let params = match parameters(settings) {
+        Ok(params) => params,
+        Err(fault) => return Err(Refusal::Parameters(fault)),
+    };
+    match source_lines(alloc, source, &params, settings.rounds, warriors) {
+        Ok(text) => Ok(text),
+        Err(fault) => Err(refused_source(fault)),
+    }
+}
+
 /// The version: 1,000 for each major one, and the minor one. It is MARS_VERSION of `include/mars.h`.
-const VERSION: u32 = 1000;
+const VERSION: u32 = 1001;
 
 /// Tells the version of the library.
 #[unsafe(no_mangle)]
 pub extern "C" fn mars_version() -> u32
-    ensures { result ≡ 1000 }
+    ensures { result ≡ 1001 }
 {
     VERSION
 }
@@ -92,6 +112,30 @@ pub extern "C" fn mars_assemble(
     ensures few { result ≤ 10 }
 {
     match load_file(alloc, settings, warriors, source) {
+        Ok(text) => answer(fault, given(give_text(&text, buffer, length))),
+        Err(refusal) => answer(fault, told(refusal)),
+    }
+}
+
+/// Tells where the instructions of a source stand in it.
+#[unsafe(no_mangle)]
+pub extern "C" fn mars_lines(
+    alloc: Global,
+    settings: &MarsSettings,
+    warriors: u32,
+    source: &[u8],
+    buffer: &mut [u8],
+    length: &mut usize,
+    fault: &mut MarsFault,
+) -> u32
+    ensures told { result ≡ fault.new.code }
+    ensures done { result ≡ 0 → HoldsLines settings.now warriors source.now length.new buffer.old buffer.new }
+    ensures refused { 1 ≤ result → result ≤ 9 → TellsSource settings.now warriors source.now fault.new }
+    ensures room { result ≡ 10 → OverflowsLines settings.now warriors source.now length.new buffer.old }
+    ensures kept { result ≢ 0 → buffer.new ≡ buffer.old }
+    ensures few { result ≤ 10 }
+{
+    match lines(alloc, settings, warriors, source) {
         Ok(text) => answer(fault, given(give_text(&text, buffer, length))),
         Err(refusal) => answer(fault, told(refusal)),
     }

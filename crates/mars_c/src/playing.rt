@@ -7,17 +7,6 @@ ghost use Rattle.mars_c.specs.Records.{AreRecords, IsLeft};
 use crate::records::MarsRecord;
 use mars_core::Battle;
 
-/// Makes so many turns, or as many as there are.
-pub fn play_on(battle: &mut Battle, turns: u32)
-    ensures { battle.new ≡ after_turns turns battle.old }
-{
-    for made in 0..turns {
-        let Ok(_atom) = battle.turn() else {
-            return;
-        };
-    }
-}
-
 /// Makes turns, as many as there are rows for, and writes the record of each.
 fn record_turns(battle: &mut Battle, rows: &mut [MarsRecord])
     ensures rows { rows.new ≡ recorded battle.old rows.old }
@@ -38,7 +27,7 @@ pub fn give_records(battle: Battle, first: u32, rows: &mut [MarsRecord], count: 
     ensures rows { AreRecords (after_turns first battle) count.new rows.old rows.new }
 {
     let mut battle = battle;
-    play_on(&mut battle, first);
+    battle.run(first);
     let before = battle.turns();
     record_turns(&mut battle, rows);
     battle.run_to_end();

@@ -5,4 +5,5 @@ pub mod ForLaws
 pub mod Makes
 pub mod Past
 pub mod Scores
+pub mod SourceLines
 pub mod Tables

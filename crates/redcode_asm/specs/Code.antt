@@ -2,3 +2,4 @@
 pub mod Problems
 pub mod Sources
 pub mod Labels
+pub mod Lines

@@ -2,3 +2,4 @@
 pub mod Warriors
 pub mod Formulas
 pub mod LoadFiles
+pub mod SourceLines

@@ -2,6 +2,7 @@
 pub mod Formula
 pub mod Assembly
 pub mod LoadFiles
+pub mod SourceLines
 pub mod Laws
 pub mod Outcomes
 pub mod Examples

@@ -2,20 +2,21 @@
 ghost use Rattle.std.specs.Prelude.{◌≡◌, All, IfOk};
 ghost use Rattle.mars_cell.specs.Cells.{FitsCore};
 ghost use Rattle.redcode_text.specs.Views.{predefined_of};
-ghost use Rattle.redcode_asm.specs.Assembly.{assembly, predefined};
+ghost use Rattle.redcode_text.specs.Expansion.{expansion};
+ghost use Rattle.redcode_asm.specs.Assembly.{assembly, predefined, text_read};
 ghost use Rattle.redcode_asm.specs.Outcomes.{Answers};
 
 use crate::fault::AsmFault;
 use crate::warriors::program_warrior;
 use mars_cell::{Params, Warrior};
-use redcode_text::{PredefinedNames, expand};
+use redcode_text::{PredefinedNames, Program, expand};
 use std::alloc::Global;
 
 /// What VERSION stands for.
 const VERSION: i64 = 80;
 
 /// The values of the predefined names.
-fn predefined_names(params: &Params, rounds: u32, warriors: u32) -> PredefinedNames
+pub fn predefined_names(params: &Params, rounds: u32, warriors: u32) -> PredefinedNames
     ensures { predefined_of result ≡ predefined params.now rounds warriors }
 {
     PredefinedNames {
@@ -27,6 +28,20 @@ fn predefined_names(params: &Params, rounds: u32, warriors: u32) -> PredefinedNa
         rounds: i64::from(rounds),
         warriors: i64::from(warriors),
         version: VERSION,
+    }
+}
+
+/// The program of a source.
+pub fn read_program(
+    alloc: Global,
+    source: &[u8],
+    predefined: &PredefinedNames,
+) -> Result<Program, AsmFault>
+    ensures { Answers (λ program. program) result (text_read (expansion (predefined_of predefined.now) source.now)) }
+{
+    match expand(alloc, source, predefined) {
+        Ok(program) => Ok(program),
+        Err(fault) => Err(AsmFault::of_text(fault)),
     }
 }
 
@@ -56,10 +71,7 @@ pub fn assemble(
     ensures fits { IfOk result (λ warrior. All (FitsCore params.now.core_size) warrior.cells) }
 {
     let predefined = predefined_names(params, rounds, warriors);
-    let program = match expand(alloc, source, &predefined) {
-        Ok(program) => program,
-        Err(fault) => return Err(AsmFault::of_text(fault)),
-    };
+    let program = read_program(alloc, source, &predefined)?;
     let warrior = program_warrior(alloc, &program, &predefined, params);
     // By a call, since the drop of each of its fields in this body is dear to prove.
     drop(program);

@@ -6,4 +6,6 @@ mod assembler;
 #[cfg(test)]
 mod formula;
 #[cfg(test)]
+mod lines;
+#[cfg(test)]
 mod load;

@@ -1,0 +1,51 @@
+-- A load file, and the lines of a source, fail as its assembly does.
+use Rattle.std.proofs.Common.{◌≡◌, ℕ, List, Result, Ok, Err, ap}
+use Rattle.mars_cell.specs.Parameters.{Parameters}
+use Rattle.mars_cell.specs.ParameterFaults.{checked_parameters}
+use Rattle.redcode_text.specs.Results.{◌>>=◌}
+use Rattle.redcode_text.specs.Expansion.{ProgramValue, expansion}
+use Rattle.redcode_text.specs.Lines.{Predefined}
+use Rattle.redcode_asm.specs.Assembly.{assembly, predefined, text_read, warrior_of}
+use Rattle.redcode_asm.specs.LoadFiles.{assembled_load}
+use Rattle.redcode_asm.specs.Outcomes.{FailsAt}
+use Rattle.redcode_asm.specs.SourceLines.{assembled_lines, program_lines, source_lines}
+use Rattle.redcode_asm.specs.declared.fault.AsmFault.{AsmFault}
+use Rattle.redcode_asm.specs.declared.fault.AsmProblem.{AsmProblem}
+use Rattle.redcode_asm.specs.declared.fault.AsmProblem.TheVariants.{Text, Operation, Operand, Expression, AssertFailed, BadOrigin, Empty, TooLong, OutOfMemory}
+use Rattle.mars_c.specs.Asked.{asked}
+use Rattle.mars_c.specs.Refusals.{RefusesSource, refusal_at}
+use Rattle.mars_c.specs.declared.settings.MarsSettings.{MarsSettings}
+
+-- what is made of a result fails as the result does
+made_of : {A B : Type 0} (r : Result A AsmFault) (f : A → B) (fault : AsmFault) → (r >>= λ x. Ok (f x)) ≡ Err fault → r ≡ Err fault
+made_of (Ok x) f fault told = cc
+made_of (Err e) f fault told = let same : e ≡ fault = cc in ap (λ x. Err x) same
+
+pub load_fails : (p : Parameters) (rounds warriors : ℕ) (source : List ℕ) (fault : AsmFault)
+    → assembled_load p rounds warriors source ≡ Err fault → assembly p rounds warriors source ≡ Err fault
+load_fails p rounds warriors source fault told = made_of (assembly p rounds warriors source) _ fault told
+
+lines_by : (ps : Predefined) (p : Parameters) (read : Result ProgramValue AsmFault) (fault : AsmFault)
+    → (read >>= assembled_lines ps p) ≡ Err fault → (read >>= warrior_of ps p) ≡ Err fault
+lines_by ps p (Ok program) fault told = made_of (warrior_of ps p program) (λ _. program_lines program) fault told
+lines_by ps p (Err e) fault told = let same : e ≡ fault = cc in ap (λ x. Err x) same
+
+pub lines_fail : (p : Parameters) (rounds warriors : ℕ) (source : List ℕ) (fault : AsmFault)
+    → source_lines p rounds warriors source ≡ Err fault → assembly p rounds warriors source ≡ Err fault
+unfolding assembly
+lines_fail p rounds warriors source fault told =
+    lines_by (predefined p rounds warriors) p (text_read (expansion (predefined p rounds warriors) source)) fault told
+
+-- so both refuse a source for the same fault
+pub refuses : {X : Type 0} (s : MarsSettings) (p : Parameters) (warriors : ℕ) (source : List ℕ) (problem : AsmProblem) (fault : AsmFault) (made : Result X AsmFault)
+    → checked_parameters (asked s) ≡ Ok p → FailsAt problem fault made → (made ≡ Err fault → assembly p s.rounds warriors source ≡ Err fault)
+    → RefusesSource s warriors source (refusal_at problem fault)
+refuses s p warriors source OutOfMemory fault made checked told fails = tt
+refuses s p warriors source (Text problem) fault made checked told fails = (p, checked, fails told)
+refuses s p warriors source Operation fault made checked told fails = (p, checked, fails told)
+refuses s p warriors source Operand fault made checked told fails = (p, checked, fails told)
+refuses s p warriors source (Expression problem) fault made checked told fails = (p, checked, fails told)
+refuses s p warriors source AssertFailed fault made checked told fails = (p, checked, fails told)
+refuses s p warriors source BadOrigin fault made checked told fails = (p, checked, fails told)
+refuses s p warriors source Empty fault made checked told fails = (p, checked, fails told)
+refuses s p warriors source TooLong fault made checked told fails = (p, checked, fails told)

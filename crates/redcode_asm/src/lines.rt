@@ -1,0 +1,109 @@
+//! Where the instructions of a source stand in it.
+ghost use Rattle.std.specs.Prelude.{◌≡◌, ◌++◌, IfOk, OnOk, decimal, map};
+ghost use Rattle.mars_cell.specs.Written.{with_newline};
+ghost use Rattle.redcode_text.specs.Views.{line_of, predefined_of};
+ghost use Rattle.redcode_asm.specs.Code.Lines.{lines_behind};
+ghost use Rattle.redcode_asm.specs.Outcomes.{Answers};
+ghost use Rattle.redcode_asm.specs.SourceLines.{assembled_lines, labels_text, program_lines, source_lines};
+
+use crate::assembler::{predefined_names, read_program};
+use crate::fault::AsmFault;
+use crate::warriors::program_warrior;
+use mars_cell::{Line as NumberLine, Params, push_number};
+use redcode_text::{Line, NameTable, PredefinedNames, Program, is_instruction};
+use std::alloc::{AllocError, Global};
+
+// An error of each of these leaves the text as it was, or with a beginning of what was to come.
+
+/// Adds labels to a text, each behind a blank.
+fn push_labels(names: &NameTable, labels: &[usize], text: &mut Vec<u8>) -> Result<(), AllocError>
+    ensures { OnOk result (text.new.items ≡ text.old.items ++ labels_text names.now labels.now) }
+{
+    for label in labels {
+        text.push(b' ')?;
+        text.extend_from_slice(names.name(*label))?;
+    }
+    Ok(())
+}
+
+/// Adds the line of an instruction to a text: the number of its line in the source, and its labels.
+fn push_instruction(number: usize, labels: &[u8], text: &mut Vec<u8>) -> Result<(), AllocError>
+    ensures { OnOk result (text.new.items ≡ text.old.items ++ with_newline (decimal number ++ labels.now)) }
+{
+    let mut digits = NumberLine::new();
+    push_number(&mut digits, number as u64);
+    text.extend_from_slice(digits.as_str().as_bytes())?;
+    text.extend_from_slice(labels)?;
+    text.push(b'\n')?;
+    Ok(())
+}
+
+/// Adds the lines of the instructions among lines to a text. `labels` has the labels that wait for an instruction.
+fn push_lines(
+    names: &NameTable,
+    lines: &[Line],
+    labels: &mut Vec<u8>,
+    text: &mut Vec<u8>,
+) -> Result<(), AllocError>
+    ensures { OnOk result (text.new.items ≡ text.old.items ++ lines_behind names.now labels.old.items (map line_of lines.now)) }
+{
+    for line in lines {
+        push_labels(names, &line.labels, labels)?;
+        if is_instruction(names, line.operation, &line.rest) {
+            push_instruction(line.number, labels, text)?;
+            labels.clear();
+        }
+    }
+    Ok(())
+}
+
+/// The lines of a program's instructions.
+fn lines_of(alloc: Global, program: &Program) -> Result<Vec<u8>, AllocError>
+    ensures { IfOk result (λ text. text.items ≡ program_lines program.now) }
+{
+    let (mut labels, mut text) = (Vec::new(alloc), Vec::new(alloc));
+    push_lines(program.names(), program.lines(), &mut labels, &mut text)?;
+    Ok(text)
+}
+
+/// The lines of the instructions of a program that is assembled, or its first fault.
+fn assembled_lines(
+    alloc: Global,
+    program: &Program,
+    predefined: &PredefinedNames,
+    params: &Params,
+) -> Result<Vec<u8>, AsmFault>
+    ensures { Answers (λ text. text.items) result (assembled_lines (predefined_of predefined.now) params.now program.now) }
+{
+    match program_warrior(alloc, program, predefined, params) {
+        Ok(warrior) => drop(warrior),
+        Err(fault) => return Err(fault),
+    }
+    match lines_of(alloc, program) {
+        Ok(text) => Ok(text),
+        Err(_) => Err(AsmFault::out_of_memory()),
+    }
+}
+
+/// Where the instructions of a source stand in it: a text of a line for each instruction of its warrior, in order.
+///
+/// It has the number of the instruction's line, from 1, in decimal, then each of its labels behind one blank, then LF. Joins and
+/// counters in labels are done. A line of a loop comes once for each round, and for each line of an EQU name that is an operation
+/// there is the line of the use. A label on a line that is no instruction belongs to the next instruction; behind the last one it
+/// is left out. The faults are those of `assemble`, which takes the same arguments.
+pub fn source_lines(
+    alloc: Global,
+    source: &[u8],
+    params: &Params,
+    rounds: u32,
+    warriors: u32,
+) -> Result<Vec<u8>, AsmFault>
+    ensures { Answers (λ text. text.items) result (source_lines params.now rounds warriors source.now) }
+{
+    let predefined = predefined_names(params, rounds, warriors);
+    let program = read_program(alloc, source, &predefined)?;
+    let text = assembled_lines(alloc, &program, &predefined, params);
+    // By a call, since the drop of each of its fields in this body is dear to prove.
+    drop(program);
+    text
+}
