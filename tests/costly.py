@@ -1,7 +1,5 @@
 """Sources that cost more than a limit: one takes a minute of a processor, the other as much memory as there is. Never
 run them without one."""
-
-
 from __future__ import annotations
 
 

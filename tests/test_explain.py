@@ -9,10 +9,10 @@ import pytest
 from conftest import TOP, Run
 
 from corewar.engine.calls import load_file
-from corewar.explain import mend, read_faults, read_otherwise, told
-from corewar.explain.meanings import EXPRESSION, FAULTS, MEANINGS
+from corewar.explain import mend, read_faults, read_otherwise, told, told_of
+from corewar.explain.meanings import EXPRESSION, KINDS
 from corewar.explain.source import MODIFIERS, OPERATIONS, PREDEFINED
-from corewar.model.faults import Fault
+from corewar.model.faults import ASSEMBLY, FORMULA, PROBLEMS, Fault
 from corewar.model.settings import Settings
 
 # A source, the fault that the library finds in it, and what has to be said of it.
@@ -77,21 +77,28 @@ def test_causes(text: str, fault: str, expected: str) -> None:
 
 
 def test_each_fault_has_a_meaning() -> None:
-    """Those that the documents tell, and those that a player can meet; each is read back from its own line."""
+    """Those that the documents tell; each is read back from a line, whatever stands before it."""
     document = (TOP / "docs" / "play" / "LANGUAGE.md").read_text()
     table = document[document.index("## Faults") : document.index("## Differences")]
     names = [line.split("`")[1] for line in table.splitlines() if line.startswith("| `")]
-    kinds = [
-        kind
-        for name in names
-        for kind in ([name] if not name.endswith(" F") else [name[:-1] + one for one in EXPRESSION])
-    ]
-    assert len(kinds) > 20 and {*kinds} <= {*FAULTS} and {*MEANINGS} <= {*FAULTS}
-    for kind in [*kinds, *MEANINGS]:
-        assert told(FAULTS[kind], b"")
-        line = f"bench: mars: a b.red: line 7: {kind}"
-        (read,) = read_faults([line])
-        assert read[1] == "a b.red" and str(read[2]).removeprefix("line 7: ") == kind
+    kinds = {
+        kind for name in names for kind in ([name] if name[-2:] != " F" else [name[:-1] + one for one in EXPRESSION])
+    }
+    assert len(kinds) > 20 and kinds <= {*KINDS}
+    for kind in KINDS:
+        assert told_of(kind, 0, b"") == [KINDS[kind]]
+        assert [*read_faults([f"bench: mars: a b.red: line 7: {kind}"])][0][1:] == ("a b.red", 7, kind)
+
+
+def test_each_fault_of_the_library_is_known() -> None:
+    """The texts are those that faults have."""
+    for number, name in enumerate(("", "Operation", "Operand", "", "AssertFailed", "BadOrigin", "Empty", "TooLong"), 1):
+        assert not name or f"{number} {name}" in KINDS and told(Fault(ASSEMBLY, number, line=1), b"")
+    for number, name in enumerate(PROBLEMS[:-1], 1):
+        assert told(Fault(ASSEMBLY, 1, number, line=1), b"") == [KINDS[f"1 Text {number} {name}"]]
+    for number in range(1, 6):
+        faults = [Fault(ASSEMBLY, 4, 0, number), Fault(ASSEMBLY, 1, 10, number), Fault(FORMULA, number)]
+        assert all(told(fault, b"") for fault in faults)
 
 
 def test_words_are_the_languages() -> None:

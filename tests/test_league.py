@@ -301,7 +301,11 @@ def test_ctrl_c_without_results(folder: Path) -> None:
     os.mkfifo(folder / "pipe")
     for words in ("pipe", "-c 10000000 -r 100000 same.red"):
         process = begun(folder, "stay.red", *words.split())
-        time.sleep(1.5)
+        children, end = Path(f"/proc/{process.pid}/task/{process.pid}/children"), time.monotonic() + 60
+        # Its assembler has begun, so it isn't being loaded any more.
+        while not children.read_text() and time.monotonic() < end:
+            time.sleep(0.01)
+        time.sleep(0.5)
         process.send_signal(signal.SIGINT)
         output, told = process.communicate(timeout=20)
         assert (process.returncode, output, told.strip()) == (130, "", "corewar: stopped")

@@ -6,7 +6,7 @@ import os
 import click
 
 from ..engine.sources import read_file, read_warriors
-from ..explain import excerpt, mend, read_faults, read_otherwise, told
+from ..explain import excerpt, mend, read_faults, read_otherwise, told, told_of
 from ..model.faults import Fault, FileFault, Refused
 from .options import Asked, battle_options
 from .telling import printable
@@ -67,9 +67,9 @@ def explain_lines() -> None:
     found = [*read_faults(text.splitlines())]
     if not found:
         raise Refused("no line tells a fault")
-    for line, path, fault in found:
+    for line, path, number, kind in found:
         source = read_file(path) if os.path.isfile(path) else b""
-        write([line, *excerpt(source, fault.line), *told(fault, source)])
+        write([line, *excerpt(source, number), *told_of(kind, number, source)])
 
 
 def write(lines: list[str]) -> None:

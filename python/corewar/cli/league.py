@@ -15,7 +15,7 @@ import numpy as np
 from rich.console import Console
 from rich.progress import BarColumn, MofNCompleteColumn, Progress, TimeRemainingColumn
 
-from ..league.contest import Contest, Matches, Pairs, all_pairs, enter
+from ..league.contest import Contest, Matches, Rows, all_pairs, enter
 from ..league.places import cluster, threads
 from ..league.results import Results
 from ..league.table import FORMATS, League
@@ -82,7 +82,7 @@ class Hall:
             # A match that is under way isn't waited for.
             os._exit(130)
 
-    def _fight(self, matches: Matches, keep: Callable[[Pairs], None]) -> None:
+    def _fight(self, matches: Matches, keep: Callable[[Rows], None]) -> None:
         place = cluster(matches, self.scheduler) if self.scheduler else threads(matches, self.jobs)
         with progress(matches) as advance, place as here:
             for rows in here.fight(matches):

@@ -5,7 +5,7 @@ import re
 from collections.abc import Iterable, Iterator
 from itertools import islice
 
-from ..model.faults import ASSEMBLY, EXPRESSIONS, KINDS, PROBLEMS, Fault
+from ..model.faults import Fault
 from .causes import CAUSES
 from .source import read_source
 
@@ -20,6 +20,7 @@ EXPRESSION = {
     "5 Depth": "More than 64 parentheses are open, or 64 signs stand in a row.",
 }
 MEANINGS = {
+    "bad words": "The program doesn't take one of its words: `corewar explain mars WORDS` tells which.",
     "out of memory": "Memory was refused.",
     "settings 3 Position": "`-F` goes from the least distance to the core size less that, and asks for two warriors.",
     "parameters 4 Limit": "`--read-limit` or `--write-limit` is above the core size.",
@@ -55,51 +56,32 @@ MEANINGS = {
 }
 
 
+# What stands before the fault of an expression: that of an operand or an assert, of a FOR's count, of a formula.
+OF_EXPRESSIONS = ("4 Expression ", "1 Text 10 Expression ", "formula 1 Expression ")
+KINDS = {**{head + kind: text for head in OF_EXPRESSIONS for kind, text in EXPRESSION.items()}, **MEANINGS}
+# A line that tells a fault, behind the names of programs and of a file.
+TOLD = re.compile(rf"(?:(.*?): )?(?:line (\d{{1,9}}): )?({'|'.join(map(re.escape, KINDS))})$")
+
+
 def told(fault: Fault, source: bytes) -> list[str]:
     """What a fault means and what to do, in one or two sentences: the causes that the source shows, else in general."""
-    kind = text_of(fault)
+    return told_of(re.sub(r"^line \d+: ", "", str(fault)), fault.line, source)
+
+
+def told_of(kind: str, number: int, source: bytes) -> list[str]:
+    """The same of a fault by its text, and the number of its line."""
     causes: list[str] = []
-    if kind in CAUSES and fault.code == ASSEMBLY:
+    if kind in CAUSES:
         text = read_source(source)
-        if 0 < fault.line <= len(text.lines):
-            causes = [*islice(CAUSES[kind](text, text.lines[fault.line - 1]), MOST)]
-    inner = EXPRESSION.get(kind.rpartition("Expression ")[2])
-    return causes or [*filter(None, [MEANINGS.get(kind) or inner])]
+        if 0 < number <= len(text.lines):
+            causes = [*islice(CAUSES[kind](text, text.lines[number - 1]), MOST)]
+    return causes or [KINDS[kind]] if kind in KINDS else []
 
 
-def text_of(fault: Fault) -> str:
-    """The text of a fault without its line."""
-    return re.sub(r"^line \d+: ", "", str(fault))
-
-
-def all_faults() -> Iterator[Fault]:
-    """Each fault that there is, in no line."""
-    for code, (_, names) in KINDS.items():
-        for number in range(1, len(names) + 1) or [0]:
-            if code == ASSEMBLY and number == 1:
-                yield from (Fault(code, 1, problem) for problem in range(1, len(PROBLEMS)))
-                yield from (Fault(code, 1, len(PROBLEMS), one) for one in range(1, len(EXPRESSIONS) + 1))
-            elif code == ASSEMBLY and number == 4:
-                yield from (Fault(code, 4, 0, one) for one in range(1, len(EXPRESSIONS) + 1))
-            else:
-                yield Fault(code, number)
-
-
-FAULTS = {text_of(fault): fault for fault in all_faults()}
-# A line that tells a fault, behind the names of programs and of a file.
-TOLD = re.compile(rf"(?:(.*?): )?(?:line (\d{{1,9}}): )?({'|'.join(map(re.escape, FAULTS))})$")
-
-
-def read_faults(lines: Iterable[str]) -> Iterator[tuple[str, str, Fault]]:
-    """The lines that tell a fault, whatever program wrote them, each with the file, or "", and the fault."""
+def read_faults(lines: Iterable[str]) -> Iterator[tuple[str, str, int, str]]:
+    """The lines that tell a fault, whatever program wrote them, each with the file or "", its line, and the fault."""
     for found in filter(None, (TOLD.match(line.strip()) for line in lines)):
-        yield found[0], *read_fault(found)
-
-
-def read_fault(found: re.Match[str]) -> tuple[str, Fault]:
-    """The file and the fault of a line, by its parts."""
-    parts = (found[1] or "").split(": ")
-    while parts and re.fullmatch(r"[a-z]*", parts[0]):
-        del parts[0]
-    one = FAULTS[found[3]]
-    return ": ".join(parts), Fault(one.code, one.number, one.problem, one.expression, int(found[2] or 0))
+        parts = (found[1] or "").split(": ")
+        while parts and re.fullmatch(r"[a-z]*", parts[0]):
+            del parts[0]
+        yield found[0], ": ".join(parts), int(found[2] or 0), found[3]

@@ -19,6 +19,8 @@ from ..model.warriors import Warrior
 Counts = NDArray[np.int64]
 # Rows of two numbers: which warriors meet, the first one of the match first.
 Pairs = NDArray[np.intp]
+# Which of the pairs of a contest, from 0.
+Rows = NDArray[np.intp]
 
 
 @dataclass(frozen=True)
@@ -75,15 +77,16 @@ class Matches:
     def __len__(self) -> int:
         return len(self.pairs)
 
-    def fill_in(self, rows: Pairs, counts: Counts) -> None:
+    def fill_in(self, rows: Rows, counts: Counts) -> None:
         """Takes the counts of matches, by their rows."""
         self.counts[rows] = counts
         self.is_fought[rows] = True
 
-    def rows_of(self, pairs: Pairs) -> NDArray[np.intp]:
+    def rows_of(self, pairs: Pairs) -> Rows:
         """The row of each of these pairs; -1 where a pair isn't asked for."""
         if not len(self):
             return np.full(len(pairs), -1)
+        # A pair as one number.
         wanted, asked = (numbers[:, 0] * len(self.warriors) + numbers[:, 1] for numbers in (self.pairs, pairs))
         rows = np.searchsorted(wanted, asked).clip(max=len(self) - 1)
         return np.where(wanted[rows] == asked, rows, -1)
@@ -105,10 +108,10 @@ class Matches:
         turned = np.unique(turned[turned >= 0])
         return int((~self.is_fought[turned]).sum())
 
-    def bundles(self, turns: int) -> Iterator[Pairs]:
+    def bundles(self, cycles: int) -> Iterator[Rows]:
         """The rows of what isn't fought yet, in bundles that take so many cycles at most, or one match."""
         rows = np.flatnonzero(~self.is_fought)
-        size = max(1, turns // (self.contest.rounds * self.contest.settings.cycles))
+        size = max(1, cycles // (self.contest.rounds * self.contest.settings.cycles))
         return (rows[at : at + size] for at in range(0, len(rows), size))
 
 

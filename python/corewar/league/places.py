@@ -14,7 +14,7 @@ import numpy as np
 
 from ..model.faults import Refused
 from ..model.warriors import Warrior
-from .contest import Contest, Counts, Matches, Pairs, fight
+from .contest import Contest, Counts, Matches, Pairs, Rows, fight
 
 # How many cycles a bundle takes at most here, which is a quarter of a second, and how many bundles a thread has ahead.
 CYCLES = 6_000_000
@@ -32,16 +32,16 @@ class Place:
     """How a bundle is handed out; how many cycles it takes at most; how many bundles are out at a time; what is done
     now and then while they are waited for; and the counts of one that is done."""
 
-    submit: Callable[[Pairs], Future[Any]]
+    submit: Callable[[Rows], Future[Any]]
     cycles: int
     at_a_time: int
     look: Callable[[], None] = lambda: None
     counts_of: Callable[[Future[Any]], Counts] = Future.result
 
-    def fight(self, matches: Matches) -> Iterator[Pairs]:
+    def fight(self, matches: Matches) -> Iterator[Rows]:
         """Fights what isn't fought yet. Gives the rows of each bundle whose counts are filled in. Raises Refused."""
         bundles = matches.bundles(self.cycles)
-        out: dict[Future[Any], Pairs] = {}
+        out: dict[Future[Any], Rows] = {}
         while True:
             for bundle in islice(bundles, self.at_a_time - len(out)):
                 out[self.submit(bundle)] = bundle
@@ -61,7 +61,7 @@ def threads(matches: Matches, jobs: int) -> Iterator[Place]:
     """So many matches at a time here. What hasn't begun when it is left is dropped."""
     pool = ThreadPoolExecutor(jobs)
 
-    def submit(rows: Pairs) -> Future[Counts]:
+    def submit(rows: Rows) -> Future[Counts]:
         return pool.submit(fight, matches.contest, matches.warriors, matches.pairs[rows])
 
     try:
@@ -126,7 +126,7 @@ def cluster(matches: Matches, address: str) -> Iterator[Place]:
     except (OSError, ValueError) as fault:
         raise Refused(f"--scheduler {address}: {fault}") from None
 
-    def submit(rows: Pairs) -> Future[Any]:
+    def submit(rows: Rows) -> Future[Any]:
         pairs = matches.pairs[rows]
         loads = {number: matches.warriors[number].load for number in np.unique(pairs).tolist()}
         handed_out: Future[Any] = executor.submit(fight_there, matches.contest, loads, pairs)

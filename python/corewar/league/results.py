@@ -14,7 +14,7 @@ from contextlib import contextmanager
 from typing import Any
 
 from ..model.faults import Refused
-from .contest import Matches, Pairs
+from .contest import Matches, Rows
 
 TABLE = """CREATE TABLE IF NOT EXISTS fought (contest TEXT, first BLOB, second BLOB,
 points INTEGER NOT NULL, wins INTEGER NOT NULL, ties INTEGER NOT NULL, losses INTEGER NOT NULL, theirs INTEGER NOT NULL,
@@ -57,7 +57,7 @@ class Results:
         with self.telling():
             return self.matches.take_kept(self.file.execute(FIND, [self.contest]))
 
-    def keep(self, rows: Pairs) -> None:
+    def keep(self, rows: Rows) -> None:
         """Keeps the matches of some rows, which were fought."""
         digests, counts = self.matches.digests, self.matches.counts[rows].tolist()
         for (first, second), numbers in zip(self.matches.pairs[rows].tolist(), counts):

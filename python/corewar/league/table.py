@@ -12,7 +12,6 @@ import numpy as np
 from numpy.typing import NDArray
 
 from ..model.faults import SCORE, Fault
-from ..model.warriors import Warrior
 from .contest import Matches
 
 HEAD = ("points", "wins", "ties", "losses")
@@ -41,12 +40,12 @@ class League:
     @cached_property
     def rows(self) -> list[dict[str, Any]]:
         """A row for each warrior that is shown: rank, file, name, author, points, wins, ties and losses."""
-        sums = self.against.sum(axis=1).tolist()
-        return [self._row(number, self.warriors[number], sums[number]) for number in self.order]
-
-    def _row(self, number: int, one: Warrior, sums: list[int]) -> dict[str, Any]:
-        names = {"rank": self.ranks[number], "file": one.file, "name": one.name, "author": one.author}
-        return {**names, **dict(zip(HEAD, sums))}
+        sums, rows = self.against.sum(axis=1).tolist(), []
+        for number in self.order:
+            one = self.warriors[number]
+            names = {"rank": self.ranks[number], "file": one.file, "name": one.name, "author": one.author}
+            rows.append({**names, **dict(zip(HEAD, sums[number]))})
+        return rows
 
     def titles(self) -> list[str]:
         """Each warrior that is shown, by its name or its file, and its author."""
@@ -87,7 +86,7 @@ def json_of(league: League) -> str:
     """The words, the seed, the warriors as they are shown, and each match with its warriors' places there, from 0."""
     contest = league.matches.contest
     head = {"words": contest.words, "seed": contest.seed, "rounds": contest.rounds}
-    return json.dumps({**head, "warriors": league.rows, "matches": [*matches_of(league)]}, indent=None)
+    return json.dumps({**head, "warriors": league.rows, "matches": [*matches_of(league)]})
 
 
 def matches_of(league: League) -> Iterator[dict[str, int]]:
