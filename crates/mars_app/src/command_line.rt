@@ -35,9 +35,8 @@ More in README.md and docs/play/USING.md.";
 /// What follows a word.
 #[derive(Clone, Copy)]
 enum Value {
-    Nothing,
-    /// Nothing: the word asks for the help.
-    Help,
+    /// Nothing: the word itself does something.
+    Flag(ArgAction),
     /// A number from 1 to a greatest one.
     Number(u32),
     /// A formula of points.
@@ -51,8 +50,7 @@ impl Value {
         ensures local { result.global ≡ arg.entry.global }
     {
         match self {
-            Value::Nothing => arg.action(ArgAction::SetTrue),
-            Value::Help => arg.action(ArgAction::Help),
+            Value::Flag(action) => arg.action(action),
             Value::Formula => arg.value_name("FORMULA"),
             Value::Number(greatest) => arg.value_name("N").value_parser(number_parser(greatest)),
         }
@@ -138,7 +136,7 @@ const CONTEST: [Word; 5] = [
     Word {
         name: "league",
         letter: None,
-        value: Value::Nothing,
+        value: Value::Flag(ArgAction::SetTrue),
         default: None,
         help: "Every pair of warriors fights",
     },
@@ -216,7 +214,7 @@ const DEBUGGER: [Word; 2] = [
     Word {
         name: "debugger",
         letter: Some('e'),
-        value: Value::Nothing,
+        value: Value::Flag(ArgAction::SetTrue),
         default: None,
         help: "Debugs the battle of the first round by the commands of standard input",
     },
@@ -241,28 +239,28 @@ const OUTPUT: [Word; 4] = [
     Word {
         name: "brief",
         letter: Some('b'),
-        value: Value::Nothing,
+        value: Value::Flag(ArgAction::SetTrue),
         default: None,
         help: "No listing of the warriors",
     },
     Word {
         name: "sorted",
         letter: Some('o'),
-        value: Value::Nothing,
+        value: Value::Flag(ArgAction::SetTrue),
         default: None,
         help: "Results sorted by points",
     },
     Word {
         name: "load",
         letter: None,
-        value: Value::Nothing,
+        value: Value::Flag(ArgAction::SetTrue),
         default: None,
         help: "Writes the load file of the one warrior",
     },
     Word {
         name: "help",
         letter: None,
-        value: Value::Help,
+        value: Value::Flag(ArgAction::Help),
         default: None,
         help: "Prints this help",
     },

@@ -2,6 +2,7 @@ pub mod Ascending
 pub mod Draws
 pub mod Ends
 pub mod ForLaws
+pub mod Keeping
 pub mod LeagueTotals
 pub mod Outcomes
 pub mod Pairs

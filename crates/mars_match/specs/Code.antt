@@ -3,3 +3,4 @@ pub mod Tallies
 pub mod LeagueSteps
 pub mod Levels
 pub mod Lineups
+pub mod Keeping

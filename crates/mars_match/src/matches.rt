@@ -1,8 +1,11 @@
 //! Matches of several rounds, and leagues, in which every pair of warriors fights a match.
-ghost use Rattle.std.specs.Prelude.{◌≡◌, ◌+◌, ◌%◌, ◌<◌, ◌≤◌, All, length, ℤ, ◌-◌, Some, None, Ok, Err, IfSome, IfOk, IfErr, ◌≢◌, MatchOption, true, false, MatchResult, Vec, replicate, ◌*◌, drop, [], ◌∷◌};
+ghost use Rattle.std.specs.Prelude.{◌≡◌, ℕ, ◌+◌, ◌%◌, ◌<◌, ◌≤◌, All, length, ℤ, ◌-◌, Some, None, Ok, Err, IfSome, IfOk, IfErr, ◌≢◌, MatchOption, true, false, MatchResult, Vec, replicate, ◌*◌, drop, [], ◌∷◌};
 ghost use Rattle.mars_core.specs.State.{State};
 ghost use Rattle.mars_match.specs.Answers.{IsAnswer};
 ghost use Rattle.mars_match.specs.Battles.{lives, count_fault};
+ghost use Rattle.mars_cell.specs.Parameters.{Parameters};
+ghost use Rattle.redcode_text.specs.Tokens.{Scanned};
+ghost use Rattle.mars_match.specs.Code.Keeping.{AreScores, IsKept};
 ghost use Rattle.mars_match.specs.Code.Lineups.{HasRoom};
 ghost use Rattle.mars_match.specs.Placement.{FitsTwo};
 ghost use Rattle.mars_match.specs.Rounds.{round_score, ended, fits_in_64, checked_rows, table_of};
@@ -20,7 +23,7 @@ use crate::fights::{Lineup, check_count, fight_round};
 use crate::starts::place_round;
 use crate::table::{Row, Table, Tally, add_round, no_rounds};
 use mars_cell::{Params, Warrior};
-use mars_core::Battle;
+use mars_core::{Battle, MOST_WARRIORS};
 use redcode_asm::Formula;
 use redcode_text::ExprFault;
 use std::alloc::Global;
@@ -39,18 +42,47 @@ pub struct Plan {
     pub formula: Formula,
 }
 
-/// What each survivor of a battle gets.
-fn score_round(formula: &Formula, battle: &Battle) -> Result<i64, MatchFault>
-    requires { length battle.now.queues ≤ most_warriors }
+/// What each survivor gets, by how many there are, where it was worked out: that of one survivor is the first.
+type Scores = [Option<i64>; MOST_WARRIORS];
+
+/// What the matches of one call leave to the next.
+#[derive(Drop)]
+pub struct Kept {
+    /// A battle in whose memory another of as many warriors can start.
+    last: Option<Battle>,
+    scores: Scores,
+}
+
+/// Nothing is left by a match.
+fn nothing_kept() -> Kept
+    ensures { (p : Parameters) (count : ℕ) (formula : Scanned) → IsKept p count formula result }
+{
+    Kept {
+        last: None,
+        scores: [None; MOST_WARRIORS],
+    }
+}
+
+/// What each survivor of a battle gets, worked out once for each number of survivors.
+fn score_round(formula: &Formula, battle: &Battle, scores: &mut Scores) -> Result<i64, MatchFault>
+    requires few { length battle.now.queues ≤ most_warriors }
+    requires scores { AreScores formula.now (length battle.now.queues) scores.old }
     ensures value { result ≡ round_score formula.now (lives battle.now) }
+    ensures scores { AreScores formula.now (length battle.now.queues) scores.new }
     ensures no_memory { IfErr result (λ fault. fault ≢ MatchFault.OutOfMemory) }
 {
     let survivors = battle.survivors();
     if survivors == 0 {
         return Ok(0);
     }
+    if let Some(score) = scores[survivors - 1] {
+        return Ok(score);
+    }
     match formula.score(battle.warriors() as i64, survivors as i64) {
-        Ok(score) => Ok(score),
+        Ok(score) => {
+            scores[survivors - 1] = Some(score);
+            Ok(score)
+        }
         Err(fault) => Err(MatchFault::Score(fault)),
     }
 }
@@ -110,7 +142,7 @@ pub fn rows_of(
     Ok(rows)
 }
 
-/// The battle of a round, when it is over, and what each survivor gets. Where there is a last one, it takes no memory.
+/// The battle of a round, when it is over, and what each survivor gets. Where a battle is kept, it takes no memory.
 fn play_round(
     alloc: Global,
     params: &Params,
@@ -118,19 +150,20 @@ fn play_round(
     starts: &[u32],
     round: u32,
     formula: &Formula,
-    last: Option<Battle>,
+    kept: &mut Kept,
 ) -> Result<(Battle, i64), MatchFault>
     requires starts { length starts.now ≡ length lineup.now }
     requires some { 1 ≤ length lineup.now }
     requires few { length lineup.now ≤ most_warriors }
-    requires last { IfSome last (λ battle. HasRoom params.now (length lineup.now) battle) }
+    requires kept { IsKept params.now (length lineup.now) formula.now kept.old }
     ensures outcome { IsAnswer (λ (played : State × ℤ). outcome_by (round % length lineup.now) played.0 played.1)
         (ended params.now lineup.now formula.now starts.now round) result }
     ensures room { IfOk result (λ played. HasRoom params.now (length lineup.now) played.0) }
-    ensures no_memory { IfSome last (λ _. IfErr result (λ fault. fault ≢ MatchFault.OutOfMemory)) }
+    ensures scores { IfOk result (λ _. AreScores formula.now (length lineup.now) kept.new.scores) }
+    ensures no_memory { IfSome kept.old.last (λ _. IfErr result (λ fault. fault ≢ MatchFault.OutOfMemory)) }
 {
-    let battle = fight_round(alloc, params, lineup, starts, round, last)?;
-    let score = score_round(formula, &battle)?;
+    let battle = fight_round(alloc, params, lineup, starts, round, kept.last.take())?;
+    let score = score_round(formula, &battle, &mut kept.scores)?;
     Ok((battle, score))
 }
 
@@ -142,21 +175,23 @@ pub fn play_rounds(
     plan: &Plan,
     first_seed: u32,
     tallies: &mut [Tally],
+    kept: &mut Kept,
 ) -> Result<(), MatchFault>
     requires some { 1 ≤ length lineup.now }
     requires few { length lineup.now ≤ most_warriors }
     requires fixed { IfSome plan.now.fixed (λ position. length lineup.now ≡ 2) }
     requires many { length tallies.old ≡ length lineup.now }
     requires fresh { All (IsOf 0) tallies.old }
+    requires kept { IsKept params.now (length lineup.now) plan.now.formula kept.old }
     ensures sums { IsAnswer (λ _. tallies.new)
         (tallied params.now lineup.now plan.now.formula plan.now.fixed plan.now.rounds 0 first_seed tallies.old) result }
     ensures bounds { IfOk result (λ _. All (IsOf most_rounds) tallies.new) }
+    ensures kept { IfOk result (λ _. IsKept params.now (length lineup.now) plan.now.formula kept.new) }
 {
     let Ok(mut starts) = vec![in alloc; 0u32; lineup.len()] else {
         return Err(MatchFault::OutOfMemory);
     };
     let mut seed = first_seed;
-    let mut last = None;
     for round in 0..plan.rounds {
         seed = place_round(params, plan.fixed, seed, starts.as_mut_slice())?;
         let (battle, score) = play_round(
@@ -166,10 +201,10 @@ pub fn play_rounds(
             starts.as_slice(),
             round,
             &plan.formula,
-            last.take(),
+            kept,
         )?;
         add_round(tallies, &battle, round, score);
-        last = Some(battle);
+        kept.last = Some(battle);
     }
     Ok(())
 }
@@ -200,6 +235,7 @@ pub fn rounds(
         plan,
         plan.seed,
         tallies.as_mut_slice(),
+        &mut nothing_kept(),
     )?;
     let rows = rows_of(alloc, warriors, tallies.as_slice())?;
     Ok(Table { rows })
@@ -237,16 +273,19 @@ fn play_pair(
     first: &Warrior,
     second: &Warrior,
     plan: &Plan,
+    kept: &mut Kept,
 ) -> Result<(Tally, Tally), MatchFault>
+    requires { IsKept params.now 2 plan.now.formula kept.old }
     ensures table { IsAnswer (λ (both : Tally × Tally). row_with first.now both.0 ∷ row_with second.now both.1 ∷ [])
         (table_of params.now (first.now ∷ second.now ∷ []) plan.now.formula plan.now.fixed plan.now.rounds plan.now.seed) result }
     ensures bounds { IfOk result (λ both. IsOf most_rounds both.0 × IsOf most_rounds both.1) }
+    ensures kept { IfOk result (λ _. IsKept params.now 2 plan.now.formula kept.new) }
 {
     let Ok(lineup) = Lineup::pair(alloc, first, second) else {
         return Err(MatchFault::OutOfMemory);
     };
     let mut tallies = [no_rounds(), no_rounds()];
-    play_rounds(alloc, params, &lineup, plan, plan.seed, &mut tallies)?;
+    play_rounds(alloc, params, &lineup, plan, plan.seed, &mut tallies, kept)?;
     check_points(tallies[0])?;
     check_points(tallies[1])?;
     Ok((tallies[0], tallies[1]))
@@ -260,18 +299,21 @@ fn play_others(
     i: usize,
     plan: &Plan,
     tallies: &mut [Tally],
+    kept: &mut Kept,
 ) -> Result<(), MatchFault>
     requires few { length warriors.now ≤ most_of_league }
     requires inside { i < length warriors.now }
     requires many { length tallies.old ≡ length warriors.now }
     requires bounds { All (IsOf (i * most_row)) tallies.old }
+    requires kept { IsKept params.now 2 plan.now.formula kept.old }
     ensures sums { IsAnswer (λ _. tallies.new)
         (after_matches params.now plan.now.formula plan.now.fixed plan.now.rounds plan.now.seed
         (pairs_of_first i (drop i warriors.now)) tallies.old) result }
     ensures bounds { IfOk result (λ _. All (IsOf ((i + 1) * most_row)) tallies.new) }
+    ensures kept { IfOk result (λ _. IsKept params.now 2 plan.now.formula kept.new) }
 {
     for j in i + 1..warriors.len() {
-        let (one, other) = play_pair(alloc, params, &warriors[i], &warriors[j], plan)?;
+        let (one, other) = play_pair(alloc, params, &warriors[i], &warriors[j], plan, kept)?;
         tallies[i] = joined(tallies[i], one);
         tallies[j] = joined(tallies[j], other);
     }
@@ -285,16 +327,18 @@ fn play_all(
     warriors: &[Warrior],
     plan: &Plan,
     tallies: &mut [Tally],
+    kept: &mut Kept,
 ) -> Result<(), MatchFault>
     requires few { length warriors.now ≤ most_of_league }
     requires many { length tallies.old ≡ length warriors.now }
     requires bounds { All (IsOf 0) tallies.old }
+    requires kept { IsKept params.now 2 plan.now.formula kept.old }
     ensures { IsAnswer (λ _. tallies.new)
         (after_matches params.now plan.now.formula plan.now.fixed plan.now.rounds plan.now.seed
         (all_pairs 0 warriors.now) tallies.old) result }
 {
     for i in 0..warriors.len() {
-        play_others(alloc, params, warriors, i, plan, tallies)?;
+        play_others(alloc, params, warriors, i, plan, tallies, kept)?;
     }
     Ok(())
 }
@@ -316,7 +360,14 @@ pub fn league(
         (league_of params.now warriors.now plan.now.formula plan.now.fixed plan.now.rounds plan.now.seed) result }
 {
     let mut tallies = first_tallies(alloc, warriors.len())?;
-    play_all(alloc, params, warriors, plan, tallies.as_mut_slice())?;
+    play_all(
+        alloc,
+        params,
+        warriors,
+        plan,
+        tallies.as_mut_slice(),
+        &mut nothing_kept(),
+    )?;
     let rows = rows_of(alloc, warriors, tallies.as_slice())?;
     Ok(Table { rows })
 }

@@ -1,14 +1,11 @@
--- What several writes, one after the other, did.
+-- Texts behind one another, and a writer that failed in one of them.
 use Rattle.std.proofs.Common.{◌≡◌, refl, ℕ, zero, suc, ◌+◌, ◌<◌, List, [], ◌++◌, Option, ◌⊎◌, inl, inr, arith, append_assoc, add-one, append-nil}
-use Rattle.std.proofs.KnownBytes.{Appends-trans}
-use Rattle.std.specs.Io.KnownBytes.{Appends}
 use Rattle.mars_cell.specs.Output.{CutShort}
-use Rattle.mars_cell.proofs.CallerLemmas.{CutShort-after, CutShort-front}
+use Rattle.mars_cell.proofs.CallerLemmas.{CutShort-front}
 use Rattle.mars_app.specs.Debugger.Readings.{texts}
 
--- three texts went out
-pub Appends-three : (a b c d : Option (List ℕ)) (x y z : List ℕ) → Appends a b x → Appends b c y → Appends c d z → Appends a d (x ++ (y ++ z))
-Appends-three a b c d x y z p q r = Appends-trans a b d x (y ++ z) p (Appends-trans b c d y z q r)
+pub four_texts : (x y z last : List ℕ) → x ++ ((y ++ z) ++ last) ≡ (x ++ y) ++ (z ++ last)
+four_texts x y z last = rw (append_assoc y z last, append_assoc x y (z ++ last)) refl
 
 -- ---- texts by number
 
@@ -21,7 +18,7 @@ module _ (f : ℕ → List ℕ) where
   below_suc i n h = grind arith
 
   -- the texts before one, its own, and those after it
-  texts-around : (n i : ℕ) → i < n → (rest : List ℕ) × (texts f n ≡ texts f i ++ (f i ++ rest))
+  pub texts-around : (n i : ℕ) → i < n → (rest : List ℕ) × (texts f n ≡ texts f i ++ (f i ++ rest))
   unfolding texts
   texts-around zero i h = absurd (omega arith)
   texts-around (suc n) i h = elim (below_suc i n h) [
@@ -32,9 +29,3 @@ module _ (f : ℕ → List ℕ) where
   -- the writer failed before one of the texts
   pub texts_begun : (a b : Option (List ℕ)) (n i : ℕ) → CutShort a b (texts f i) → i < n → CutShort a b (texts f n)
   texts_begun a b n i cut inside = let r = texts-around n i inside in rw r.1 (CutShort-front a b (texts f i) (f i ++ r.0) cut)
-
-  -- the writer failed in one of the texts
-  pub texts_cut : (a b c : Option (List ℕ)) (n i : ℕ) (text : List ℕ) → CutShort b c text → Appends a b (texts f i) → i < n → text ≡ f i → CutShort a c (texts f n)
-  texts_cut a b c n i text cut before inside e =
-      let r = texts-around n i inside in
-      rw r.1 (CutShort-after a b c (texts f i) (f i) r.0 before (rw e at cut))

@@ -1,10 +1,14 @@
 -- Text that waits to be written.
-use Rattle.std.proofs.Common.{◌∙◌, ℕ, List, [], ◌++◌, Option, ap, sym, append-nil, append_assoc}
-use Rattle.std.proofs.KnownBytes.{Appends-trans}
+use Rattle.std.proofs.Common.{◌∙◌, ℕ, List, [], ◌++◌, Option, ap, sym, refl, append-nil, append_assoc}
+use Rattle.std.proofs.KnownBytes.{Appends-nil, Appends-trans}
 use Rattle.std.specs.Io.KnownBytes.{Appends}
 use Rattle.mars_cell.specs.Output.{CutShort}
 use Rattle.mars_cell.proofs.CallerLemmas.{CutShort-back}
 use Rattle.mars_app.specs.Code.Waiting.{Waits}
+
+-- a first text waits
+pub first_waits : (a : Option (List ℕ)) (text : List ℕ) → Waits a a text text
+first_waits a text = ([], refl, Appends-nil a)
 
 -- what waits goes out
 pub sent_all : (a b c : Option (List ℕ)) (waiting text : List ℕ) → Appends b c waiting → Waits a b waiting text → Appends a c text

@@ -4,7 +4,6 @@ use Rattle.std.specs.Prelude.{ℕ, None, Option, Some, pos}
 use Rattle.std.specs.Borrow.{Bor}
 use Rattle.clap.specs.Simple.{new_rule}
 use Rattle.clap.specs.Walk.{Rule, Text}
-use Rattle.clap.specs.declared.builder.action.ArgAction.TheVariants.{Help, SetTrue}
 use Rattle.clap.specs.declared.builder.value_parser.ValueParser.TheVariants as parser
 use Rattle.mars_app.specs.CommandLine.{or_else, short}
 use Rattle.mars_app.specs.declared.command_line.Value.{Value}
@@ -13,8 +12,7 @@ use Rattle.mars_app.specs.declared.command_line.Word.{Word}
 
 -- with the value that follows the word
 abbrev pub valued : Value → Rule → Rule
-valued value.Nothing rule = record rule { action = Some SetTrue }
-valued value.Help rule = record rule { action = Some Help }
+valued (value.Flag action) rule = record rule { action = Some action }
 valued (value.Number greatest) rule = record rule { value_names = 1; parser = Some (parser.Signed (pos 1) (pos greatest)) }
 valued value.Formula rule = record rule { value_names = 1 }
 

@@ -1,5 +1,5 @@
 -- Worked examples: the listing of the warriors, what the options leave open, and the status of faults.
-use Rattle.std.specs.Prelude.{◌≡◌, ℕ, List, [], ◌∷◌, ◌++◌, None, true, false, codes, refl}
+use Rattle.std.specs.Prelude.{◌≡◌, List, [], ◌∷◌, ◌++◌, None, true, false, codes, refl}
 use Rattle.std.specs.Fmt.{digits}
 use Rattle.mars_cell.specs.declared.instruction.Op.TheVariants.{Mov}
 use Rattle.mars_cell.specs.declared.instruction.Modifier.TheVariants.{I}

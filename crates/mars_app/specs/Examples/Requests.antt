@@ -1,5 +1,5 @@
 -- Worked examples: what lines ask for.
-use Rattle.std.specs.Prelude.{◌≡◌, [], ◌∷◌, codes, replicate, refl}
+use Rattle.std.specs.Prelude.{◌≡◌, [], codes, replicate, refl}
 use Rattle.mars_cell.specs.declared.instruction.Op.TheVariants as op
 use Rattle.mars_cell.specs.declared.instruction.Modifier.TheVariants as modifier
 use Rattle.mars_cell.specs.declared.instruction.Mode.TheVariants.{Direct, Immediate}

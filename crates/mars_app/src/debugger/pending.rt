@@ -36,6 +36,15 @@ impl Pending {
         }
     }
 
+    /// A first line waits.
+    pub fn of(line: &Line) -> Self
+        ensures { result ≡ line.now.bytes }
+    {
+        let mut text = ArrayString::new();
+        text.push_str(line.as_str());
+        Pending { text }
+    }
+
     /// Writes all that waits.
     pub fn write<W: Write>(&mut self, writer: &mut W) -> Result<(), WriteFault>
         ensures ok { OnOk result ((old : Option (List ℕ)) (text : List ℕ) → Waits old (W.contents writer.old) self.old text
@@ -68,5 +77,18 @@ impl Pending {
         }
         self.text.push_str(line.as_str());
         Ok(())
+    }
+
+    /// Writes all that waits, and a last line behind it.
+    pub fn finish<W: Write>(&mut self, writer: &mut W, line: &Line) -> Result<(), WriteFault>
+        ensures ok { OnOk result ((old : Option (List ℕ)) (text : List ℕ) → Waits old (W.contents writer.old) self.old text
+            → Appends old (W.contents writer.new) (text ++ line.now.bytes)) }
+        ensures err { OnErr result ((old : Option (List ℕ)) (text : List ℕ) → Waits old (W.contents writer.old) self.old text
+            → CutShort old (W.contents writer.new) (text ++ line.now.bytes)) }
+    {
+        match self.push(writer, line) {
+            Ok(()) => self.write(writer),
+            Err(fault) => Err(fault),
+        }
     }
 }

@@ -1,11 +1,11 @@
 //! Writing what the lines answer that change nothing.
-ghost use Rattle.std.specs.Prelude.{◌≡◌, ◌<◌, ◌≤◌, ◌++◌, length, OnOk, OnErr};
+ghost use Rattle.std.specs.Prelude.{◌≡◌, ◌<◌, ◌≤◌, ◌++◌, codes, OnOk, OnErr};
 ghost use Rattle.std.specs.Io.KnownBytes.{Appends};
 ghost use Rattle.std.specs.List.{flat_map};
 ghost use Rattle.mars_cell.specs.Output.{CutShort};
 ghost use Rattle.mars_core.specs.State.{cell_at, queue_of};
 ghost use Rattle.arrayvec.specs.ArrayString.{array_string_len};
-ghost use Rattle.mars_app.specs.Debugger.Readings.{cell_line, line_at, list_text, most_listed, texts, queue_text, process_text, warrior_text, life_text, death_of, show_text, end_text};
+ghost use Rattle.mars_app.specs.Debugger.Readings.{cell_line, line_at, list_text, most_listed, texts, queue_text, queue_head, process_text, warrior_text, life_text, death_of, show_text, end_text};
 
 use crate::debugger::pending::Pending;
 use crate::debugger::replies::{fixed, refusal_line, standing_line};
@@ -81,18 +81,18 @@ fn process_part(address: u32) -> Line
     numbered(" ", u64::from(address), "")
 }
 
-/// Writes a space and an address for each process of a warrior, the front first.
+/// Writes the addresses of a warrior's processes on one line, the front first.
 fn write_processes<W: Write>(
     writer: &mut W,
     battle: &Battle,
     warrior: usize,
 ) -> Result<(), WriteFault>
     ensures ok { OnOk result (Appends (W.contents writer.old) (W.contents writer.new)
-        (flat_map process_text (queue_of battle.now.queues warrior))) }
+        (queue_head warrior ++ (flat_map process_text (queue_of battle.now.queues warrior) ++ codes "\n"))) }
     ensures err { OnErr result (CutShort (W.contents writer.old) (W.contents writer.new)
-        (flat_map process_text (queue_of battle.now.queues warrior))) }
+        (queue_head warrior ++ (flat_map process_text (queue_of battle.now.queues warrior) ++ codes "\n"))) }
 {
-    let mut pending = Pending::new();
+    let mut pending = Pending::of(&numbered("queue ", warrior as u64, ":"));
     for place in 0..battle.queue_len(warrior) {
         let address = battle.process(warrior, place).unwrap();
         match pending.push(writer, &process_part(address)) {
@@ -100,7 +100,7 @@ fn write_processes<W: Write>(
             Err(fault) => return Err(fault),
         }
     }
-    pending.write(writer)
+    pending.finish(writer, &fixed("\n"))
 }
 
 /// Writes the addresses of a warrior's processes, the front first.
@@ -119,10 +119,7 @@ pub fn write_queue<W: Write>(
             refusal_line(Refusal::NoSuchWarrior).as_str().as_bytes(),
         );
     }
-    let head = numbered("queue ", warrior, ":");
-    write_text(writer, head.as_str().as_bytes())?;
-    write_processes(writer, battle, warrior as usize)?;
-    write_text(writer, b"\n")
+    write_processes(writer, battle, warrior as usize)
 }
 
 /// The death of a warrior, where it died.
@@ -164,20 +161,6 @@ fn warrior_line(battle: &Battle, warrior: usize) -> Line
     line
 }
 
-/// Writes the line of each warrior.
-fn write_warriors<W: Write>(writer: &mut W, battle: &Battle) -> Result<(), WriteFault>
-    ensures ok { OnOk result (Appends (W.contents writer.old) (W.contents writer.new)
-        (texts (warrior_text battle.now) (length battle.now.queues))) }
-    ensures err { OnErr result (CutShort (W.contents writer.old) (W.contents writer.new)
-        (texts (warrior_text battle.now) (length battle.now.queues))) }
-{
-    for warrior in 0..battle.warriors() {
-        let line = warrior_line(battle, warrior);
-        write_text(writer, line.as_str().as_bytes())?;
-    }
-    Ok(())
-}
-
 /// Whether the battle is over.
 fn end_line(battle: &Battle) -> Line
     ensures { result.bytes ≡ end_text battle.now }
@@ -199,7 +182,12 @@ pub fn write_show<W: Write>(
     ensures ok { OnOk result (Appends (W.contents writer.old) (W.contents writer.new) (show_text standing battle.now)) }
     ensures err { OnErr result (CutShort (W.contents writer.old) (W.contents writer.new) (show_text standing battle.now)) }
 {
-    write_text(writer, standing_line(standing).as_str().as_bytes())?;
-    write_warriors(writer, battle)?;
-    write_text(writer, end_line(battle).as_str().as_bytes())
+    let mut pending = Pending::of(&standing_line(standing));
+    for warrior in 0..battle.warriors() {
+        match pending.push(writer, &warrior_line(battle, warrior)) {
+            Ok(()) => {}
+            Err(fault) => return Err(fault),
+        }
+    }
+    pending.finish(writer, &end_line(battle))
 }

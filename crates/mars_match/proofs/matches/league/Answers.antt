@@ -8,6 +8,9 @@ use Rattle.mars_match.proofs.Outcomes.{fault_answer}
 use Rattle.mars_match.proofs.LeagueTotals.{league_err, league_with}
 use Rattle.mars_match.proofs.matches.league.Goals as goal
 
+pub play_all-requires-clause-kept : goal.play_all-requires-clause-kept
+play_all-requires-clause-kept c = c.nothing_kept.ensures _ _ _
+
 pub returns-in_err-play_all : goal.returns-in_err-play_all
 returns-in_err-play_all c =
     let p = err_from_is_err_and c.from_residual-in_err-play_all.result c.from_residual-in_err-play_all.ensures.1 in

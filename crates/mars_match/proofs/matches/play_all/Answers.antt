@@ -23,4 +23,5 @@ loop-i-preserved c =
     record {
       sums = first_more c.args.params.now plan.formula plan.fixed plan.rounds plan.seed ws c.loop-i.i c.loop-i.tallies c.play_others.new.tallies inside c.in_ok-play_others.ensures.sums ∙ c.loop-i.invariant.sums;
       bounds = c.in_ok-play_others.ensures.bounds;
+      kept = c.in_ok-play_others.ensures.kept;
     }

@@ -14,6 +14,7 @@ loop-j-init c =
     record {
       sums = ap (λ pairs. after_matches c.args.params.now plan.formula plan.fixed plan.rounds plan.seed pairs c.args.tallies.now) (from_first c.args.warriors.now i c.requires.inside);
       bounds = all_more (i * most_row) (i * most_row + (i + 1) * most_rounds) c.args.tallies.now (omega arith) c.requires.bounds;
+      kept = c.requires.kept;
     }
 
 pub joined-requires-clause-before : goal.joined-requires-clause-before
@@ -56,6 +57,7 @@ loop-j-preserved c =
       sums = rw (set_both xs i j t u a b no_rounds before inside c.joined.ensures c.joined-in-loop-j.ensures)
           (match_more c.args.params.now plan.formula plan.fixed plan.rounds plan.seed ws i j c.index-warriors-i.result c.index-warriors-j.result xs t u first second c.index-warriors-i.is c.index-warriors-j.is c.in_ok-one.ensures.table ∙ c.loop-j.invariant.sums);
       bounds = all_more (m + most_rounds) (i * most_row + (j + 1) * most_rounds) (set (set xs i a) j b) (omega arith) bounds;
+      kept = c.in_ok-one.ensures.kept;
     }
 
 pub returns-in_err-one-clause-sums : goal.returns-in_err-one-clause-sums

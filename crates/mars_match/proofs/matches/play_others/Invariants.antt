@@ -1,4 +1,5 @@
 use Rattle.std.proofs.Common.{◌≡◌, ◌+◌, ◌*◌, All, drop}
+use Rattle.mars_match.specs.Code.Keeping.{IsKept}
 use Rattle.mars_match.specs.Code.LeagueSteps.{pairs_of_first, after_matches}
 use Rattle.mars_match.specs.Code.Tallies.{IsOf, most_rounds, most_row}
 use Rattle.mars_match.proofs.Pairs.{pairs_left}
@@ -10,4 +11,5 @@ invariant-loop-j l = record {
   sums : after_matches l.params l.plan.formula l.plan.fixed l.plan.rounds l.plan.seed (pairs_left l.i l.j (drop l.i l.warriors) (drop l.j l.warriors)) l.tallies
       ≡ after_matches l.params l.plan.formula l.plan.fixed l.plan.rounds l.plan.seed (pairs_of_first l.i (drop l.i l.warriors)) l.initial.tallies;
   bounds : All (IsOf (l.i * most_row + l.j * most_rounds)) l.tallies;
+  kept : IsKept l.params 2 l.plan.formula l.kept;
 }

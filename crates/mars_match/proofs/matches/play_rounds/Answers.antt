@@ -49,7 +49,7 @@ loop-round-preserved c =
     record {
       sums = rw sums (tallied_more c.args.params.now c.args.lineup.now plan.formula plan.fixed plan.rounds k c.loop-round.seed c.loop-round.tallies more c.place_round.new.starts c.in_ok-seed.seed o good played ∙ c.loop-round.invariant.sums);
       bounds = c.add_round.ensures.bounds;
-      room = c.in_ok-battle.ensures.room;
+      kept = record { room = c.in_ok-battle.ensures.room; scores = c.in_ok-battle.ensures.scores };
       starts = ap length (sym c.as_slice.ensures.value ∙ same) ∙ c.place_round.auto.starts ∙ many;
     }
 

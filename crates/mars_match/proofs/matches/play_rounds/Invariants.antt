@@ -1,6 +1,5 @@
 use Rattle.std.proofs.Common.{◌≡◌, ◌-◌, All, length}
-use Rattle.std.specs.Prelude.{IfSome}
-use Rattle.mars_match.specs.Code.Lineups.{HasRoom}
+use Rattle.mars_match.specs.Code.Keeping.{IsKept}
 use Rattle.mars_match.specs.Code.Tallies.{tallied, IsOf}
 use Rattle.mars_match.proofs.matches.play_rounds.Given as goal
 
@@ -11,5 +10,5 @@ invariant-loop-round l = record {
       ≡ tallied l.params l.lineup l.plan.formula l.plan.fixed l.plan.rounds 0 l.first_seed l.initial.tallies;
   bounds : All (IsOf l.round) l.tallies;
   starts : length l.starts.items ≡ length l.lineup;
-  room : IfSome l.last (λ battle. HasRoom l.params (length l.lineup) battle);
+  kept : IsKept l.params (length l.lineup) l.plan.formula l.kept;
 }

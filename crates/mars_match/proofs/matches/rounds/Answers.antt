@@ -7,6 +7,9 @@ use Rattle.mars_match.proofs.Totals.{table_err, table_with, counted_err, refused
 use Rattle.mars_match.proofs.Outcomes.{fault_answer}
 use Rattle.mars_match.proofs.matches.rounds.Goals as goal
 
+pub play_rounds-requires-clause-kept : goal.play_rounds-requires-clause-kept
+play_rounds-requires-clause-kept c = c.nothing_kept.ensures _ _ _
+
 pub returns-in_err-check_count-clause-table : goal.returns-in_err-check_count-clause-table
 returns-in_err-check_count-clause-table c =
     let p = err_from_is_err_and c.from_residual.result c.from_residual.ensures.1 in

@@ -1,0 +1,23 @@
+use Rattle.std.proofs.Common.{refl}
+use Rattle.mars_app.proofs.options.with_texts.Goals as goal
+
+pub returns : goal.returns
+returns c =
+    rw (
+      c.number.ensures,
+      c.number-2.ensures,
+      c.number-3.ensures,
+      c.number-4.ensures,
+      c.number-5.ensures,
+      c.number-6.ensures,
+      c.given_number.ensures,
+      c.is_given.ensures,
+      c.is_given-2.ensures,
+      c.is_given-3.ensures,
+      c.number-7.ensures,
+      c.is_given-4.ensures,
+      c.is_given-5.ensures,
+      c.given_number-2.ensures,
+      c.given_number-3.ensures,
+      c.number-8.ensures,
+    ) refl
