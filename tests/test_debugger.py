@@ -55,7 +55,7 @@ def test_moves() -> None:
     session = session_of("dwarf", "imp")
     assert execute(session, "step") == [
         "turn 1: Dwarf at 0 (loop): ADD.AB #4, $3; 3 (bomb): DAT.F #0, #0 -> DAT.F #0, #4; then at 1",
-        "next: Imp at 1305: MOV.I $0, $1    ; line 5: MOV.I 0, 1",
+        "next: Imp at 1305: MOV.I $0, $1    ; 5: MOV.I 0, 1",
     ]
     places = [6, 7, 6, 4, 7798, 7, 10, 0, 7798, 0, 7798]
     for line, turn in zip(
@@ -151,7 +151,7 @@ def test_over_a_pipe(run: Run) -> None:
     lines = done.stdout.splitlines()
     assert (done.returncode, done.stderr) == (0, "")
     assert lines[0].startswith("turn 1: Dwarf") and lines[2] == "`bad` is no command: help tells them"
-    assert lines[-1] == "next: Dwarf at 1: MOV.I $2, @2    ; line 10: MOV bomb, @bomb"
+    assert lines[-1] == "next: Dwarf at 1: MOV.I $2, @2    ; 10: MOV bomb, @bomb"
     again = run("debug", "@dwarf", "@imp", "--turn", 4, given="source kept\nsource nowhere\n")
     assert again.stdout.splitlines()[0].startswith("turn 6: Imp")
     assert again.stdout.splitlines()[-1] == "nowhere: No such file or directory"

@@ -87,10 +87,9 @@ class Teller:
         if address is None:
             return self.ending()
         block = history.block(turn)
-        name, cell = self.names[block.following(turn)], self.cell(block.cell(address, turn))
-        line = self.sources.lines.get(address)
-        source = f"    ; line {line.number}: {line.text}" if line else ""
-        return f"next: {name} at {self.where(address)}: {cell}{source}"
+        name, cell = self.names[block.following(turn)], block.cell(address, turn)
+        told = f"next: {name} at {self.where(address)}: {self.cell(cell)}    {self.sources.told(address, cell)}"
+        return told.rstrip()
 
     def ending(self) -> str:
         """How the battle ended."""
@@ -116,13 +115,15 @@ class Teller:
         queues = [history.block(turn).queue(number, turn) for number in range(len(self.names))]
         here = Counter((int(at), number) for number, queue in enumerate(queues) for at in queue)
         for address in ((first + offset) % history.core for offset in range(count)):
-            marks = [
-                name + (f" x {here[address, number]}" if here[address, number] > 1 else "")
-                for number, name in enumerate(self.names)
-                if here[address, number]
-            ]
             mark, label = ">" if address == head else " ", self.sources.labels.get(address, "")
-            line = self.sources.lines.get(address)
-            source = f"; {line.number}: {line.text}" if line else ""
-            text = f"{mark} {address:6} {label:10} {self.cell(cells[address]):24} {', '.join(marks):16} {source}"
+            source = self.sources.told(address, cells[address])
+            times = [(number, here[address, number]) for number in range(len(self.names)) if here[address, number]]
+            plain, painted = self._standing(history.names, times), self._standing(self.names, times)
+            told = painted + " " * max(0, 16 - len(plain))
+            text = f"{mark} {address:6} {label:10} {self.cell(cells[address]):24} {told} {source}"
             yield text.rstrip()
+
+    @staticmethod
+    def _standing(names: Sequence[str], times: Sequence[tuple[int, int]]) -> str:
+        """Whose processes stand at a cell, and how often."""
+        return ", ".join(names[number] + (f" x {count}" if count > 1 else "") for number, count in times)

@@ -5,6 +5,8 @@ from collections import Counter
 from dataclasses import dataclass
 from functools import cached_property
 
+import numpy as np
+
 from ..engine.calls import source_lines, state
 from ..model.faults import Fault
 from .history import History
@@ -12,7 +14,9 @@ from .history import History
 
 @dataclass(frozen=True)
 class Line:
-    """The line of a source that made a cell: the warrior, the number of the line from 1, and its text but for a comment."""
+    """The line of a source that made a cell: the warrior, the number of the line from 1, and its text but for a
+    comment.
+    """
 
     warrior: int
     number: int
@@ -26,6 +30,7 @@ class Sources:
         self.lines: dict[int, Line] = {}
         self._labels: list[tuple[int, str, int]] = []
         start = state(history.fight, history.round)
+        self._loaded = start.cells
         for number, warrior in enumerate(history.warriors):
             first = int(start.queues[number][0]) - warrior.origin
             texts = (warrior.source or b"").decode("latin-1").split("\n")
@@ -33,6 +38,16 @@ class Sources:
                 address = (first + place) % history.core
                 self.lines[address] = Line(number, line, " ".join(texts[line - 1].partition(";")[0].split()))
                 self._labels += [(number, label, address) for label in labels]
+
+    def told(self, address: int, cell: np.void) -> str:
+        """The number of the line that made a cell, and its text; that it was once so where another instruction stands
+        there now.
+        """
+        line = self.lines.get(address)
+        if line is None:
+            return ""
+        once = "" if cell["op"] == self._loaded[address]["op"] else "once "
+        return f"; {once}{line.number}: {line.text}"
 
     @staticmethod
     def _read(history: History, number: int) -> list[tuple[int, list[str]]]:

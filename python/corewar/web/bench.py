@@ -204,14 +204,13 @@ class Bench:
         around = []
         for near in range(address - AROUND, address + AROUND + 1):
             at = near % history.core
-            line = session.sources.lines.get(at)
             counts = [int((queue == at).sum()) for queue in queues]
             around.append(
                 {
                     "address": at,
                     "label": session.sources.labels.get(at, ""),
                     "text": cell_text(cells[at], history.core),
-                    "line": f"{line.number}: {line.text}" if line else "",
+                    "line": session.sources.told(at, cells[at]),
                     "owner": int(owners[at]),
                     "processes": counts,
                 }
