@@ -75,7 +75,10 @@ def test_a_page_is_written(run: Run, tmp_path: Path) -> None:
     assert head["command"].startswith("corewar debug --turn TURN ")
     assert "Imp died in turn 7,798" in text and '<h1 id="title">Dwarf against Imp</h1>' in text
     again = run("page", "@dwarf", "@imp")
-    assert again.returncode == 2 and "battle.html is there already: --force writes over it" in again.stderr
+    assert (
+        again.returncode == 2
+        and "battle.html is there already: --force writes over it, -o names another" in again.stderr
+    )
     assert run("page", "@dwarf", "@imp", "--force", "--turns", 5).stdout == "battle.html: 5 frames\n"
 
 

@@ -20,8 +20,13 @@ def part_options(command: Callable[..., Any]) -> Callable[..., Any]:
     options = [
         click.option("--from", "first", type=click.IntRange(1), default=1, help="The first turn that is shown."),
         click.option("--turns", type=click.IntRange(1), help="How many turns are shown; without it all that follow."),
-        click.option("-o", "--output", type=click.Path(dir_okay=False), help="The file that is written."),
-        click.option("--force", is_flag=True, help="Writes over a file that is there already."),
+        click.option(
+            "-o",
+            "--output",
+            type=click.Path(dir_okay=False),
+            help="The file that is written; one that is there is written over.",
+        ),
+        click.option("--force", is_flag=True, help="Writes over battle.html or battle.png."),
     ]
     for option in reversed(options):
         command = option(command)
@@ -36,11 +41,11 @@ def ends_of(history: History, first: int, turns: int | None, count: int) -> list
     return parts(first - 1, last, count)
 
 
-def checked(output: str, force: bool) -> str:
-    """The name of a file, where it may be written."""
-    if os.path.exists(output) and not force:
-        raise click.BadParameter(f"{output} is there already: --force writes over it", param_hint="--output")
-    return output
+def named(output: str | None, usual: str, force: bool) -> str:
+    """The file that is asked for, else the usual one, which isn't written over unasked."""
+    if output is None and os.path.exists(usual) and not force:
+        raise click.UsageError(f"{usual} is there already: --force writes over it, -o names another file")
+    return output or usual
 
 
 @click.command()
@@ -67,7 +72,7 @@ def picture(
     """
     from ..pictures.timeline import View, draw
 
-    output = checked(output or "battle.png", force)
+    output = named(output, "battle.png", force)
     history = History(asked.fight(), asked.round)
     shown = cells_of(cells, history.core)
     draw(history, View(ends_of(history, first, turns, rows), shown, min(columns, len(shown))), output)
@@ -94,7 +99,7 @@ def page(asked: Asked, first: int, turns: int | None, output: str | None, force:
     """
     from ..pages.replay import page_of
 
-    output = checked(output or "battle.html", force)
+    output = named(output, "battle.html", force)
     history = History(asked.fight(), asked.round)
     ends = ends_of(history, first, turns, frames or (FEW_TURNS if history.end <= FEW_TURNS else FRAMES))
     with open(output, "w", encoding="utf-8") as file:
