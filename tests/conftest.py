@@ -62,3 +62,10 @@ def browser() -> Iterator[Any]:
     started = webdriver.Chrome(service=webdriver.chrome.service.Service(driver), options=options)
     yield started
     started.quit()
+
+
+def until(browser: Any, condition: str) -> None:
+    """Waits until something is so in the page."""
+    from selenium.webdriver.support.ui import WebDriverWait
+
+    WebDriverWait(browser, 20).until(lambda driver: driver.execute_script(f"return !!({condition})"))

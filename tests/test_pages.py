@@ -13,7 +13,7 @@ from typing import Any
 
 import pytest
 from battles import edits, matches
-from conftest import EXAMPLES, Run
+from conftest import EXAMPLES, Run, until
 from hypothesis import given, settings, strategies as st
 
 from corewar.battle.frames import parts
@@ -146,22 +146,19 @@ def test_a_browser_replays(shown: Any) -> None:
     """By buttons, keys, links and the address: the turn that is shown is the one that was asked for."""
     from selenium.webdriver import ActionChains, Keys
 
-    assert text_of(shown, "now").startswith("Turn 0 of 7,798")
+    def at(turn: str) -> None:
+        until(shown, f"document.getElementById('now').textContent.startsWith('Turn {turn} of')")
+
+    at("0")
     shown.find_element("css selector", "#deaths button").click()
-    assert text_of(shown, "now").startswith("Turn 7,798")
+    at("7,798")
     assert text_of(shown, "where") == "The end" and text_of(shown, "outcome") == "Dwarf wins"
-    for keys, turn in (
-        (Keys.HOME, "0"),
-        (Keys.ARROW_RIGHT, "77"),
-        (Keys.ARROW_RIGHT, "155"),
-        (Keys.ARROW_LEFT, "77"),
-        (Keys.END, "7,798"),
-    ):
-        ActionChains(shown).send_keys(keys).perform()
-        assert text_of(shown, "now").startswith(f"Turn {turn} of")
+    keys = [Keys.HOME, Keys.ARROW_RIGHT, Keys.ARROW_RIGHT, Keys.ARROW_LEFT, Keys.END]
+    for key, turn in zip(keys, ["0", "77", "155", "77", "7,798"]):
+        ActionChains(shown).send_keys(key).perform()
+        at(turn)
     shown.execute_script("location.hash = '#turn=200'")
-    shown.implicitly_wait(1)
-    assert text_of(shown, "now").startswith("Turn 233 of")
+    at("233")
     assert text_of(shown, "words").startswith("corewar debug --turn 233 ")
     shown.find_element("css selector", "#cell button").click()
     assert not [entry for entry in shown.get_log("browser") if entry["level"] == "SEVERE"]

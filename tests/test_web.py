@@ -17,7 +17,7 @@ from typing import Any
 
 import numpy as np
 import pytest
-from conftest import EXAMPLES, TOP
+from conftest import EXAMPLES, TOP, until
 
 from corewar.battle.history import History
 from corewar.engine.calls import Match, assemble
@@ -179,13 +179,6 @@ def page(browser: Any, site: Site) -> Any:
     browser.get(site.address)
     until(browser, "bench.shelf?.shown")
     return browser
-
-
-def until(browser: Any, condition: str) -> None:
-    """Waits until something is so in the page."""
-    from selenium.webdriver.support.ui import WebDriverWait
-
-    WebDriverWait(browser, WAIT).until(lambda driver: driver.execute_script(f"return !!({condition})"))
 
 
 def text(browser: Any, name: str) -> str:

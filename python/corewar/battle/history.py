@@ -11,12 +11,13 @@ from dataclasses import dataclass
 from functools import cached_property, lru_cache
 
 import numpy as np
+from numpy.lib.recfunctions import repack_fields
 from numpy.typing import NDArray
 
 from ..engine.calls import Match, State, count_turns, record, state
 from ..model.cells import Cells, Records
 
-# How many turns a block has, and how many blocks are kept: some 10 MB each.
+# How many turns a block has, and how many blocks are kept: 5 to 10 MB each.
 BLOCK, KEPT = 65_536, 24
 # The most turns that a line of the debugger makes.
 LONGEST_RUN = 1_000_000
@@ -47,30 +48,35 @@ class Changes:
     after: Cells
 
 
+def changes_of(first: int, records: Records) -> Changes:
+    """What the turns behind a turn changed. Of several writes of a cell in one turn the first one's cell before and the
+    last one's after count.
+    """
+    change = records["change"]
+    address, before, after = change["address"], change["before"].copy(), change["after"]
+    used = np.arange(3) < records["changes"][:, None]
+    for later in (2, 1):
+        for earlier in reversed(range(later)):
+            same = used[:, later] & used[:, earlier] & (address[:, later] == address[:, earlier])
+            if same.any():
+                before[same, later] = before[same, earlier]
+                used[same, earlier] = False
+    used &= before != after
+    turns = np.broadcast_to(np.arange(first + 1, first + 1 + len(records))[:, None], used.shape)[used]
+    warriors = np.broadcast_to(records["warrior"][:, None], used.shape)[used]
+    return Changes(turns, address[used], warriors, before[used], after[used])
+
+
 class Block:
-    """Turns `first` + 1 to `last` of a battle: their records, and where the battle stands before them."""
+    """Turns `first` + 1 to `last` of a battle: what is in their records besides the writes, what they changed, and where
+    the battle stands before them.
+    """
 
     def __init__(self, first: int, start: State, records: Records) -> None:
-        self.first, self.last, self.start, self.records = first, first + len(records), start, records
-
-    @cached_property
-    def changes(self) -> Changes:
-        """What the turns changed. Of several writes of a cell in one turn the first one's cell before and the last
-        one's after count.
-        """
-        change = self.records["change"]
-        address, before, after = change["address"], change["before"].copy(), change["after"]
-        used = np.arange(3) < self.records["changes"][:, None]
-        for later in (2, 1):
-            for earlier in reversed(range(later)):
-                same = used[:, later] & used[:, earlier] & (address[:, later] == address[:, earlier])
-                if same.any():
-                    before[same, later] = before[same, earlier]
-                    used[same, earlier] = False
-        used &= before != after
-        turns = np.broadcast_to(np.arange(self.first + 1, self.last + 1)[:, None], used.shape)[used]
-        warriors = np.broadcast_to(self.records["warrior"][:, None], used.shape)[used]
-        return Changes(turns, address[used], warriors, before[used], after[used])
+        self.first, self.last, self.start = first, first + len(records), start
+        self.changes = changes_of(first, records)
+        # The writes are four fifths of a record.
+        self.records: Records = repack_fields(records[[name for name in records.dtype.names or () if name != "change"]])
 
     def count(self, turn: int) -> int:
         """How many of the changes there were up to a turn."""
@@ -184,7 +190,7 @@ class History:
             turn = block.first
 
     def record(self, turn: int) -> np.void:
-        """The record of a turn, from 1 on."""
+        """The record of a turn, from 1 on, without its writes."""
         block = self.block_of(turn)
         made: np.void = block.records[turn - block.first - 1]
         return made

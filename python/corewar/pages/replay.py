@@ -18,7 +18,7 @@ from numpy.typing import NDArray
 from ..analysis.captions import command, fate, outcome, settings_told, title
 from ..battle.frames import Frame, frames
 from ..battle.history import BY_HAND, NOBODY, History
-from ..model.cells import cell_text
+from ..model.cells import Cells, cell_text
 from ..pictures.colours import DARK, LIGHT, coloured
 from .render import render
 
@@ -46,6 +46,7 @@ class Coder:
         self.history = history
         self.stands = [np.zeros(history.core, np.int64) for _ in history.warriors]
         self.texts: dict[str, int] = {}
+        self.kinds: dict[bytes, int] = {}
 
     def coded(self, one: Frame, writers: NDArray[np.uint8]) -> dict[str, Any]:
         """A frame. A cell's text is its number among the texts, which grow by those that are new. A cell that was
@@ -54,7 +55,6 @@ class Coder:
         block = self.history.block(one.turn)
         before = self.stands
         self.stands = [np.bincount(queue, minlength=self.history.core) for queue in one.queues]
-        told = [cell_text(cell, self.history.core) for cell in one.cells]
         return {
             "turn": one.turn,
             "cycle": block.cycle(one.turn),
@@ -62,20 +62,29 @@ class Coder:
             "head": self.history.head(one.turn),
             "at": gaps(one.addresses),
             "by": np.where(writers == BY_HAND, NOBODY, writers).tolist(),
-            "text": [self.texts.setdefault(text, len(self.texts)) for text in told],
+            "text": self.numbers(one.cells),
             "moves": [moves(*stands) for stands in zip(before, self.stands)],
         }
 
+    def numbers(self, cells: Cells) -> list[int]:
+        """The number of each cell's text. Most cells stand there more than once, and a text is made once for each kind."""
+        size, raw = cells.dtype.itemsize, np.ascontiguousarray(cells).tobytes()
+        kinds = [raw[at : at + size] for at in range(0, len(raw), size)]
+        for place in {kind: place for place, kind in enumerate(kinds) if kind not in self.kinds}.values():
+            text = cell_text(cells[place], self.history.core)
+            self.kinds[kinds[place]] = self.texts.setdefault(text, len(self.texts))
+        return [self.kinds[kind] for kind in kinds]
+
     def piece(self, coded: Iterable[dict[str, Any]]) -> str:
         """The line of a piece."""
-        self.texts = {}
+        self.texts, self.kinds = {}, {}
         made = list(coded)
         return packed({"texts": list(self.texts), "frames": made})
 
 
 def packed(value: object) -> str:
     """A line of the page's battle."""
-    return base64.b64encode(zlib.compress(json.dumps(value, separators=(",", ":")).encode(), 9)).decode()
+    return base64.b64encode(zlib.compress(json.dumps(value, separators=(",", ":")).encode())).decode()
 
 
 def start_frame(history: History, turn: int) -> Frame:
