@@ -68,8 +68,8 @@ def changes_of(first: int, records: Records) -> Changes:
 
 
 class Block:
-    """Turns `first` + 1 to `last` of a battle: what is in their records besides the writes, what they changed, and where
-    the battle stands before them.
+    """Turns `first` + 1 to `last` of a battle: what is in their records besides the writes, what they changed, and
+    where the battle stands before them.
     """
 
     def __init__(self, first: int, start: State, records: Records) -> None:

@@ -67,7 +67,9 @@ class Coder:
         }
 
     def numbers(self, cells: Cells) -> list[int]:
-        """The number of each cell's text. Most cells stand there more than once, and a text is made once for each kind."""
+        """The number of each cell's text. Most cells stand there more than once, and a text is made once for each
+        kind.
+        """
         size, raw = cells.dtype.itemsize, np.ascontiguousarray(cells).tobytes()
         kinds = [raw[at : at + size] for at in range(0, len(raw), size)]
         for place in {kind: place for place, kind in enumerate(kinds) if kind not in self.kinds}.values():
