@@ -98,6 +98,9 @@ def test_requests_that_are_none(site: Site) -> None:
     for path in ("battle", "overview", "turn/5", "cell/1/1", "search/dies/0/0/on", "replay.html"):
         assert site.ask(path) == (409, b'{"fault": "no battle is laid out yet"}'), path
     assert site.ask("turn/x")[0] == 400
+    none = site.ask("fight", fight())
+    assert none == (409, b'{"fault": "1 to 16 sources fight: mark them in the list"}')
+    assert site.ask("fight", fight(*["imp"] * 17))[0] == 409
 
 
 def test_sources_are_saved_where_they_came_from(site: Site) -> None:

@@ -29,7 +29,7 @@ from ..league.places import threads
 from ..league.results import Results
 from ..model.cells import cell_text
 from ..model.faults import Fault, Refused
-from ..model.settings import Settings
+from ..model.settings import MOST_WARRIORS, Settings
 from ..model.warriors import Warrior
 from ..pages.replay import grave, page_of
 
@@ -114,6 +114,8 @@ class Bench:
     def fight(self, given: dict[str, Any]) -> dict[str, Any]:
         """Lays a battle out, and knows how it ends. Raises Refused."""
         settings, sources = Settings(**given["settings"]), given["sources"]
+        if not 1 <= len(sources) <= MOST_WARRIORS:
+            raise Refused(f"1 to {MOST_WARRIORS} sources fight: mark them in the list")
         warriors = [self.warrior(source, settings, len(sources), given["rounds"]) for source in sources]
         fought = Match(tuple(warriors), settings, given["seed"], 0, given["rounds"])
         history = History(fought, given["round"])

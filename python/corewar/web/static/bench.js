@@ -426,6 +426,7 @@ class League {
     try {
       const body = {settings: this.terms.settings, sources, rounds: this.terms.number("rounds"), seed: this.terms.number("seed")};
       const answer = await fetch("league", {method: "POST", headers: {"Content-Type": "application/json"}, body: JSON.stringify(body)});
+      if (!answer.ok) throw new Error((await answer.json()).fault);
       await this.read(answer.body.pipeThrough(new TextDecoderStream()).getReader());
     } catch (fault) {
       element("kept").textContent = fault.message;
