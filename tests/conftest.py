@@ -10,6 +10,12 @@ from pathlib import Path
 from typing import Any
 
 import pytest
+from hypothesis import settings
+
+# The gate tries the same examples each time; `--hypothesis-profile=wide` tries others, and more of them.
+settings.register_profile("gate", deadline=None, derandomize=True)
+settings.register_profile("wide", deadline=None, max_examples=3000)
+settings.load_profile("gate")
 
 TOP = Path(__file__).resolve().parents[1]
 EXAMPLES = TOP / "examples"

@@ -6,7 +6,7 @@ import os
 import pytest
 from battles import edits, matches
 from conftest import EXAMPLES, Run
-from hypothesis import given, settings, strategies as st
+from hypothesis import given, strategies as st
 
 from corewar.battle.history import History
 from corewar.battle.labels import Sources
@@ -33,7 +33,6 @@ def refused(session: Session, line: str) -> str:
 MOVES = st.one_of(edits(), st.sampled_from(["step", "run 3", "run 11", "undo", "redo"]))
 
 
-@settings(max_examples=200, deadline=None)
 @given(matches(), st.lists(MOVES, max_size=12))
 def test_a_session_is_the_program_s(fight: Match, lines: list[str]) -> None:
     """After any list of commands, accepted or refused, the battle is the one that the program's debugger has."""

@@ -7,7 +7,7 @@ import numpy as np
 import pytest
 from battles import edits, matches
 from conftest import EXAMPLES
-from hypothesis import given, settings, strategies as st
+from hypothesis import given, strategies as st
 
 from corewar.battle import history as module
 from corewar.battle.conditions import Condition, last_change, next_change, search_back, search_forward
@@ -45,7 +45,6 @@ def edited(history: History, places: list[tuple[float, str]]) -> tuple[History, 
 PLACES = st.lists(st.tuples(st.floats(0, 1), edits()), max_size=3)
 
 
-@settings(max_examples=150, deadline=None)
 @given(matches(), st.integers(0, 4), PLACES)
 def test_each_state_is_the_machine_s(fight: Match, round: int, places: list[tuple[float, str]]) -> None:
     history, lines = edited(History(fight, round), places)
@@ -59,7 +58,6 @@ def test_each_state_is_the_machine_s(fight: Match, round: int, places: list[tupl
         assert all(np.array_equal(mine[name], theirs[name]) for name in mine.dtype.names or ())
 
 
-@settings(max_examples=60, deadline=None)
 @given(matches(), st.integers(0, 60))
 def test_a_state_is_what_the_debugger_lists(fight: Match, turn: int) -> None:
     history = History(fight)
@@ -77,7 +75,6 @@ def steps(history: History) -> Iterator[tuple[int, State, State]]:
         yield turn, history.state(turn - 1), history.state(turn)
 
 
-@settings(max_examples=60, deadline=None)
 @given(matches(), st.integers(0, 23))
 def test_searches_are_those_of_single_steps(fight: Match, address: int) -> None:
     history = History(fight)
@@ -93,7 +90,6 @@ def test_searches_are_those_of_single_steps(fight: Match, address: int) -> None:
         assert (back and back[0]) == max((one for one in at + died if one < turn), default=None)
 
 
-@settings(max_examples=60, deadline=None)
 @given(matches(), st.integers(1, 20), PLACES)
 def test_frames_show_who_changed_a_cell_last(fight: Match, count: int, places: list[tuple[float, str]]) -> None:
     history, _ = edited(History(fight), places)
@@ -105,7 +101,6 @@ def test_frames_show_who_changed_a_cell_last(fight: Match, count: int, places: l
         assert all(np.array_equal(*queues) for queues in zip(frame.queues, now.queues))
 
 
-@settings(max_examples=60, deadline=None)
 @given(matches())
 def test_owners_are_those_of_single_steps(fight: Match) -> None:
     history = History(fight)

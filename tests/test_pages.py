@@ -14,7 +14,7 @@ from typing import Any
 import pytest
 from battles import edits, matches
 from conftest import EXAMPLES, Run, until
-from hypothesis import given, settings, strategies as st
+from hypothesis import given, strategies as st
 
 from corewar.battle.frames import parts
 from corewar.battle.history import BY_HAND, NOBODY, History
@@ -49,7 +49,6 @@ def states(
         yield frame, owners, texts, [+counter for counter in processes]
 
 
-@settings(max_examples=60, deadline=None)
 @given(matches(), st.integers(0, 3), st.integers(1, 30), st.lists(edits(), max_size=2))
 def test_frames_are_what_the_machine_says(fight: Match, round: int, count: int, lines: list[str]) -> None:
     history = History(fight, round)
