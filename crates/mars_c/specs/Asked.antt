@@ -27,8 +27,11 @@ abbrev pub position_of : ℕ → Option ℕ
 position_of position = if position == 0 then None else Some position
 
 -- how many rounds a match may have, and from which seeds on
-abbrev pub AreAllowed : ℕ → ℕ → Type 0
-AreAllowed rounds seed = (1 ≤ rounds) × (rounds ≤ 100000) × (1 ≤ seed) × (seed ≤ 2147483646)
+abbrev pub AreRounds : ℕ → Type 0
+AreRounds rounds = (1 ≤ rounds) × (rounds ≤ 100000)
+
+abbrev pub IsSeed : ℕ → Type 0
+IsSeed seed = (1 ≤ seed) × (seed ≤ 2147483646)
 
 -- what settings and a formula come to
 pub record AreTerms (s : MarsSettings) (text : List ℕ) (t : Terms) : Type 0 where
@@ -37,4 +40,5 @@ pub record AreTerms (s : MarsSettings) (text : List ℕ) (t : Terms) : Type 0 wh
   pub rounds : t.plan.rounds ≡ s.rounds
   pub seed : t.plan.seed ≡ s.seed
   pub fixed : t.plan.fixed ≡ position_of s.position
-  pub allowed : AreAllowed s.rounds s.seed
+  pub rounds_allowed : AreRounds s.rounds
+  pub seed_allowed : IsSeed s.seed

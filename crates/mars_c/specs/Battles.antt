@@ -22,6 +22,10 @@ abbrev pub placed_in : Parameters → ℕ → Option ℕ → ℕ → ℕ → Res
 placed_in p w fixed zero seed = placed_for p w fixed seed >>= λ placed. Ok placed.0
 placed_in p w fixed (suc k) seed = placed_for p w fixed seed >>= λ placed. placed_in p w fixed k placed.1
 
+-- the battle of a round, as it starts, or the first fault
+abbrev pub begun : Terms → List WarriorValue → ℕ → Result State MatchFault
+begun t ws round = placed_in t.params (length ws) t.plan.fixed round t.plan.seed >>= λ starts. started t.params ws starts round
+
 -- how the battle of a round starts
 abbrev pub IsRound : Terms → List WarriorValue → ℕ → State → Type 0
 IsRound t ws round s = (starts : List ℕ) × (placed_in t.params (length ws) t.plan.fixed round t.plan.seed ≡ Ok starts)

@@ -1,8 +1,8 @@
 //! The battle of a round, and where the debugger's lines lead it.
-ghost use Rattle.std.specs.Prelude.{◌≡◌, ◌≤◌, [], codes, IfErr, IfOk, IfSome, None, Ok, length, vec_len};
+ghost use Rattle.std.specs.Prelude.{◌≡◌, ◌≤◌, ◌⊎◌, [], Err, IfErr, IfOk, IfSome, None, Ok, length, vec_len};
 ghost use Rattle.mars_match.specs.Placement.{FitsTwo};
-ghost use Rattle.mars_c.specs.Battles.{IsAsked, IsDebugged, IsHistory, IsLed, IsPlayed, IsRound, IsStart, placed_in};
-ghost use Rattle.mars_c.specs.Refusals.{Refuses};
+ghost use Rattle.mars_c.specs.Battles.{IsAsked, IsDebugged, IsHistory, IsLed, IsPlayed, IsRound, IsStart, begun, placed_in};
+ghost use Rattle.mars_c.specs.Refusals.{AreWarriors, RefusesDebugging, RefusesRound, fight_refusal};
 ghost use Rattle.mars_core.specs.Limits.{most_warriors};
 
 use crate::faults::{Refusal, refused_fight};
@@ -32,6 +32,8 @@ fn starts_in(
     ensures many { IfOk result (λ starts. vec_len starts ≡ warriors) }
     ensures value { IfOk result (λ starts. placed_in terms.now.params warriors terms.now.plan.fixed round terms.now.plan.seed
         ≡ Ok starts.items) }
+    ensures fault { IfErr result (λ fault. (fault ≡ MatchFault.OutOfMemory)
+        ⊎ (placed_in terms.now.params warriors terms.now.plan.fixed round terms.now.plan.seed ≡ Err fault)) }
 {
     let fixed = terms.plan.fixed;
     let mut seed = terms.plan.seed;
@@ -53,7 +55,8 @@ fn round_battle(
     requires some { 1 ≤ vec_len warriors }
     requires few { vec_len warriors ≤ most_warriors }
     requires position { FitsTwo terms.now.params (vec_len warriors) terms.now.plan.fixed }
-    ensures { IfOk result (IsRound terms.now warriors.items round) }
+    ensures round { IfOk result (IsRound terms.now warriors.items round) }
+    ensures fault { IfErr result (λ fault. (fight_refusal fault ≡ Refusal.OutOfMemory) ⊎ (begun terms.now warriors.items round ≡ Err fault)) }
 {
     let count = warriors.len();
     let mut starts = starts_in(alloc, terms, count as u32, round)?;
@@ -77,7 +80,7 @@ pub fn start_of(
     requires some { 1 ≤ length lengths.now }
     requires few { length lengths.now ≤ most_warriors }
     ensures start { IfOk result (IsStart settings.now loads.now lengths.now round) }
-    ensures refused { IfErr result (Refuses settings.now (codes "0") loads.now lengths.now) }
+    ensures refused { IfErr result (RefusesRound settings.now loads.now lengths.now round) }
 {
     let Entry { terms, warriors } = enter(alloc, settings, b"0", loads, lengths, lengths.len())?;
     if round >= terms.plan.rounds {
@@ -119,6 +122,8 @@ pub fn asked_fault(warriors: usize, history: u32) -> Option<SettingsFault>
     ensures some { result ≡ None → 1 ≤ warriors }
     ensures few { result ≡ None → warriors ≤ most_warriors }
     ensures history { result ≡ None → IsHistory history }
+    ensures fault { IfSome result (λ fault. ((fault ≡ SettingsFault.Warriors) × (AreWarriors warriors → ⊥))
+        ⊎ ((fault ≡ SettingsFault.History) × (IsHistory history → ⊥))) }
 {
     if history < 1 || history > LONGEST_HISTORY {
         // The count of warriors is judged first.
@@ -151,7 +156,7 @@ pub fn battle_of(
     lines: &[u8],
 ) -> Result<Battle, Refusal>
     ensures led { IfOk result (IsAsked settings.now loads.now lengths.now round history lines.now) }
-    ensures refused { IfErr result (Refuses settings.now (codes "0") loads.now lengths.now) }
+    ensures refused { IfErr result (RefusesDebugging settings.now loads.now lengths.now round history) }
 {
     if let Some(fault) = asked_fault(lengths.len(), history) {
         return Err(Refusal::Settings(fault));
@@ -175,7 +180,7 @@ pub fn state_of(
     turns: u32,
 ) -> Result<Battle, Refusal>
     ensures played { IfOk result (IsPlayed settings.now loads.now lengths.now round history lines.now turns) }
-    ensures refused { IfErr result (Refuses settings.now (codes "0") loads.now lengths.now) }
+    ensures refused { IfErr result (RefusesDebugging settings.now loads.now lengths.now round history) }
 {
     let mut battle = battle_of(alloc, settings, loads, lengths, round, history, lines)?;
     battle.run(turns);

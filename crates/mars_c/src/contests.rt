@@ -1,8 +1,8 @@
 //! Matches and leagues of load files.
-ghost use Rattle.std.specs.Prelude.{◌≡◌, ◌≤◌, IfErr, IfOk, OnErr, OnOk, length};
+ghost use Rattle.std.specs.Prelude.{◌≡◌, ◌≤◌, ◌⊎◌, IfErr, IfOk, OnErr, OnOk, length};
 ghost use Rattle.mars_match.specs.Leagues.{most_of_league};
 ghost use Rattle.mars_c.specs.Contests.{HoldsLeague, HoldsMatch, IsLeague, IsMatch};
-ghost use Rattle.mars_c.specs.Refusals.{Refuses};
+ghost use Rattle.mars_c.specs.Refusals.{FailsLeague, FailsMatch, RefusesEntry, RefusesLeague, RefusesMatch};
 
 use crate::faults::{Refusal, refused_fight};
 use crate::loading::enter;
@@ -24,7 +24,8 @@ fn match_table(
     lengths: &[usize],
 ) -> Result<Table, Refusal>
     ensures table { IfOk result (λ table. IsMatch settings.now formula.now loads.now lengths.now table.rows.items) }
-    ensures refused { IfErr result (Refuses settings.now formula.now loads.now lengths.now) }
+    ensures refused { IfErr result (λ refusal. RefusesEntry settings.now formula.now (length lengths.now) loads.now lengths.now refusal
+        ⊎ FailsMatch settings.now formula.now loads.now lengths.now refusal) }
 {
     let entry = enter(alloc, settings, formula, loads, lengths, lengths.len())?;
     let table = rounds(
@@ -50,7 +51,8 @@ fn league_table(
 ) -> Result<Table, Refusal>
     requires { length lengths.now ≤ most_of_league }
     ensures table { IfOk result (λ table. IsLeague settings.now formula.now loads.now lengths.now table.rows.items) }
-    ensures refused { IfErr result (Refuses settings.now formula.now loads.now lengths.now) }
+    ensures refused { IfErr result (λ refusal. RefusesEntry settings.now formula.now 0 loads.now lengths.now refusal
+        ⊎ FailsLeague settings.now formula.now loads.now lengths.now refusal) }
 {
     // A league has no position: one is judged as if there were no warriors.
     let entry = enter(alloc, settings, formula, loads, lengths, 0)?;
@@ -78,7 +80,7 @@ pub fn match_into(
 ) -> Result<(), Refusal>
     ensures ok { OnOk result (HoldsMatch settings.now formula.now loads.now lengths.now place.new) }
     ensures err { OnErr result (place.new ≡ place.old) }
-    ensures refused { IfErr result (Refuses settings.now formula.now loads.now lengths.now) }
+    ensures refused { IfErr result (RefusesMatch settings.now formula.now loads.now lengths.now (length place.old)) }
 {
     if let Some(fault) = warriors_fault(lengths.len()) {
         return Err(Refusal::Settings(fault));
@@ -104,7 +106,7 @@ pub fn league_into(
 ) -> Result<(), Refusal>
     ensures ok { OnOk result (HoldsLeague settings.now formula.now loads.now lengths.now place.new) }
     ensures err { OnErr result (place.new ≡ place.old) }
-    ensures refused { IfErr result (Refuses settings.now formula.now loads.now lengths.now) }
+    ensures refused { IfErr result (RefusesLeague settings.now formula.now loads.now lengths.now (length place.old)) }
 {
     if lengths.len() > MOST_OF_A_LEAGUE {
         return Err(Refusal::Settings(SettingsFault::Warriors));

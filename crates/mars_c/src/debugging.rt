@@ -1,7 +1,7 @@
 //! The debugger over the first round's battle.
-ghost use Rattle.std.specs.Prelude.{codes, IfErr, IfOk};
+ghost use Rattle.std.specs.Prelude.{IfErr, IfOk};
 ghost use Rattle.mars_c.specs.Debugging.{Debugs};
-ghost use Rattle.mars_c.specs.Refusals.{Refuses};
+ghost use Rattle.mars_c.specs.Refusals.{RefusesDebugging};
 
 use crate::battles::{asked_fault, debugged, start_of};
 use crate::faults::Refusal;
@@ -18,7 +18,7 @@ pub fn transcript(
     lines: &[u8],
 ) -> Result<Vec<u8>, Refusal>
     ensures told { IfOk result (λ text. Debugs settings.now loads.now lengths.now history lines.now text.items) }
-    ensures refused { IfErr result (Refuses settings.now (codes "0") loads.now lengths.now) }
+    ensures refused { IfErr result (RefusesDebugging settings.now loads.now lengths.now 0 history) }
 {
     if let Some(fault) = asked_fault(lengths.len(), history) {
         return Err(Refusal::Settings(fault));

@@ -1,8 +1,8 @@
 //! What C calls.
-ghost use Rattle.std.specs.Prelude.{◌≡◌, ◌≢◌, ◌≤◌, codes, IfErr, IfOk, false, true};
+ghost use Rattle.std.specs.Prelude.{◌≡◌, ◌≢◌, ◌≤◌, IfErr, IfOk, false, length, true};
 ghost use Rattle.mars_c.specs.Contests.{AreLines, BeginsWith, HoldsLeague, HoldsLines, HoldsLoadFile, HoldsMatch, HoldsSums, IsLoadFile, Overflows, OverflowsLines, OverflowsLoadFile};
 ghost use Rattle.mars_c.specs.Debugging.{HoldsRecords, HoldsState, HoldsTranscript, OverflowsState, OverflowsTranscript};
-ghost use Rattle.mars_c.specs.Refusals.{RefusesSource, Tells, TellsSource};
+ghost use Rattle.mars_c.specs.Refusals.{RefusesDebugging, RefusesLeague, RefusesMatch, RefusesPopulation, RefusesSource, Tells};
 ghost use Rattle.mars_c.specs.States.{AreKept};
 
 use crate::battles::{battle_of, state_of};
@@ -106,7 +106,7 @@ pub extern "C" fn mars_assemble(
 ) -> u32
     ensures told { result ≡ fault.new.code }
     ensures done { result ≡ 0 → HoldsLoadFile settings.now warriors source.now length.new buffer.old buffer.new }
-    ensures refused { 1 ≤ result → result ≤ 9 → TellsSource settings.now warriors source.now fault.new }
+    ensures refused { 1 ≤ result → result ≤ 9 → Tells (RefusesSource settings.now warriors source.now) fault.new }
     ensures room { result ≡ 10 → OverflowsLoadFile settings.now warriors source.now length.new buffer.old }
     ensures kept { result ≢ 0 → buffer.new ≡ buffer.old }
     ensures few { result ≤ 10 }
@@ -130,7 +130,7 @@ pub extern "C" fn mars_lines(
 ) -> u32
     ensures told { result ≡ fault.new.code }
     ensures done { result ≡ 0 → HoldsLines settings.now warriors source.now length.new buffer.old buffer.new }
-    ensures refused { 1 ≤ result → result ≤ 9 → TellsSource settings.now warriors source.now fault.new }
+    ensures refused { 1 ≤ result → result ≤ 9 → Tells (RefusesSource settings.now warriors source.now) fault.new }
     ensures room { result ≡ 10 → OverflowsLines settings.now warriors source.now length.new buffer.old }
     ensures kept { result ≢ 0 → buffer.new ≡ buffer.old }
     ensures few { result ≤ 10 }
@@ -153,7 +153,7 @@ pub extern "C" fn mars_match(
     fault: &mut MarsFault,
 ) -> u32
     ensures told { result ≡ fault.new.code }
-    ensures refused { 1 ≤ result → result ≤ 9 → Tells settings.now formula.now loads.now lengths.now fault.new }
+    ensures refused { 1 ≤ result → result ≤ 9 → Tells (RefusesMatch settings.now formula.now loads.now lengths.now (length rows.old)) fault.new }
     ensures done { result ≡ 0 → HoldsMatch settings.now formula.now loads.now lengths.now rows.new }
     ensures kept { result ≢ 0 → rows.new ≡ rows.old }
     ensures few { result ≤ 9 }
@@ -176,7 +176,7 @@ pub extern "C" fn mars_league(
     fault: &mut MarsFault,
 ) -> u32
     ensures told { result ≡ fault.new.code }
-    ensures refused { 1 ≤ result → result ≤ 9 → Tells settings.now formula.now loads.now lengths.now fault.new }
+    ensures refused { 1 ≤ result → result ≤ 9 → Tells (RefusesLeague settings.now formula.now loads.now lengths.now (length rows.old)) fault.new }
     ensures done { result ≡ 0 → HoldsLeague settings.now formula.now loads.now lengths.now rows.new }
     ensures kept { result ≢ 0 → rows.new ≡ rows.old }
     ensures few { result ≤ 9 }
@@ -199,7 +199,7 @@ pub extern "C" fn mars_population(
     fault: &mut MarsFault,
 ) -> u32
     ensures told { result ≡ fault.new.code }
-    ensures refused { 1 ≤ result → result ≤ 9 → Tells settings.now formula.now loads.now lengths.now fault.new }
+    ensures refused { 1 ≤ result → result ≤ 9 → Tells (RefusesPopulation settings.now formula.now loads.now lengths.now (length rows.old)) fault.new }
     ensures done { result ≡ 0 → HoldsSums settings.now formula.now loads.now lengths.now rows.new }
     ensures kept { result ≢ 0 → rows.new ≡ rows.old }
     ensures few { result ≤ 9 }
@@ -224,7 +224,7 @@ pub extern "C" fn mars_debug(
     fault: &mut MarsFault,
 ) -> u32
     ensures told { result ≡ fault.new.code }
-    ensures refused { 1 ≤ result → result ≤ 9 → Tells settings.now (codes "0") loads.now lengths.now fault.new }
+    ensures refused { 1 ≤ result → result ≤ 9 → Tells (RefusesDebugging settings.now loads.now lengths.now 0 history) fault.new }
     ensures done { result ≡ 0 → HoldsTranscript settings.now loads.now lengths.now history lines.now length.new buffer.old buffer.new }
     ensures room { result ≡ 10 → OverflowsTranscript settings.now loads.now lengths.now history lines.now length.new buffer.old }
     ensures kept { result ≢ 0 → buffer.new ≡ buffer.old }
@@ -252,7 +252,7 @@ pub extern "C" fn mars_record(
     fault: &mut MarsFault,
 ) -> u32
     ensures told { result ≡ fault.new.code }
-    ensures refused { 1 ≤ result → result ≤ 9 → Tells settings.now (codes "0") loads.now lengths.now fault.new }
+    ensures refused { 1 ≤ result → result ≤ 9 → Tells (RefusesDebugging settings.now loads.now lengths.now round history) fault.new }
     ensures done { result ≡ 0 → HoldsRecords settings.now loads.now lengths.now round history lines.now first count.new rows.old rows.new }
     ensures kept { result ≢ 0 → rows.new ≡ rows.old }
     ensures uncounted { result ≢ 0 → count.new ≡ count.old }
@@ -286,7 +286,7 @@ pub extern "C" fn mars_state(
     fault: &mut MarsFault,
 ) -> u32
     ensures told { result ≡ fault.new.code }
-    ensures refused { 1 ≤ result → result ≤ 9 → Tells settings.now (codes "0") loads.now lengths.now fault.new }
+    ensures refused { 1 ≤ result → result ≤ 9 → Tells (RefusesDebugging settings.now loads.now lengths.now round history) fault.new }
     ensures done { result ≡ 0 → HoldsState settings.now loads.now lengths.now round history lines.now turns
         cells.old cells.new counts.old counts.new processes.old processes.new deaths.old deaths.new standing.new }
     ensures room { result ≡ 10 → OverflowsState settings.now loads.now lengths.now round history lines.now turns

@@ -1,9 +1,8 @@
 //! Why a call wasn't done, and what a caller is told of it.
-ghost use Rattle.std.specs.Prelude.{◌≡◌, ◌≤◌, ℕ, if◌then◌else◌, List};
+ghost use Rattle.std.specs.Prelude.{◌≡◌, ◌≤◌, if◌then◌else◌};
 ghost use Rattle.mars_c.specs.Codes.{fault_of, numbered as spec_numbered};
-ghost use Rattle.mars_c.specs.Refusals.{Refuses, refusal_at};
+ghost use Rattle.mars_c.specs.Refusals.{fight_refusal, refusal_at};
 ghost use Rattle.mars_c.specs.declared.faults.Refusal.TheVariants as variant;
-ghost use Rattle.mars_c.specs.declared.settings.MarsSettings.{MarsSettings as SettingsValue};
 
 use crate::numbers::{
     assembly_number, battle_number, expression_number, load_line, load_number, parameter_number,
@@ -119,7 +118,7 @@ pub fn given(fits: bool) -> MarsFault
 
 /// The refusal of a fight.
 pub fn refused_fight(fault: MatchFault) -> Refusal
-    ensures { (s : SettingsValue) (text loads lengths : List ℕ) → Refuses s text loads lengths result }
+    ensures { result ≡ fight_refusal fault }
 {
     match fault {
         MatchFault::OutOfMemory => Refusal::OutOfMemory,

@@ -4,7 +4,7 @@ ghost use Rattle.mars_cell.specs.ParameterFaults.{checked_parameters};
 ghost use Rattle.mars_match.specs.Placement.{FitsTwo};
 ghost use Rattle.mars_c.specs.Asked.{AreTerms, asked};
 ghost use Rattle.mars_c.specs.Contests.{AreLoads};
-ghost use Rattle.mars_c.specs.Refusals.{Refuses};
+ghost use Rattle.mars_c.specs.Refusals.{RefusesEntry};
 ghost use Rattle.mars_c.specs.declared.settings.MarsSettings.{MarsSettings as SettingsValue};
 
 use crate::faults::Refusal;
@@ -22,8 +22,8 @@ fn read_all(
 ) -> Result<Vec<Warrior>, Refusal>
     ensures many { IfOk result (λ warriors. vec_len warriors ≡ length lengths.now) }
     ensures loads { IfOk result (λ warriors. AreLoads params.now loads.now lengths.now warriors.items) }
-    ensures refused { (s : SettingsValue) (text : List ℕ) → checked_parameters (asked s) ≡ Ok params.now
-        → IfErr result (Refuses s text loads.now lengths.now) }
+    ensures refused { (s : SettingsValue) (text : List ℕ) (count : ℕ) → checked_parameters (asked s) ≡ Ok params.now
+        → IfErr result (RefusesEntry s text count loads.now lengths.now) }
 {
     let mut warriors = Vec::new(alloc);
     let mut rest = loads;
@@ -67,7 +67,7 @@ pub fn enter(
     ensures position { IfOk result (λ entry. FitsTwo entry.terms.params warriors entry.terms.plan.fixed) }
     ensures many { IfOk result (λ entry. vec_len entry.warriors ≡ length lengths.now) }
     ensures loads { IfOk result (λ entry. AreLoads entry.terms.params loads.now lengths.now entry.warriors.items) }
-    ensures refused { IfErr result (Refuses settings.now formula.now loads.now lengths.now) }
+    ensures refused { IfErr result (RefusesEntry settings.now formula.now warriors loads.now lengths.now) }
 {
     let terms = make_terms(alloc, settings, formula, warriors)?;
     let warriors = read_all(alloc, &terms.params, loads, lengths)?;

@@ -11,26 +11,13 @@ use redcode_text::{ExprFault, TextProblem};
 pub fn parameter_number(fault: ParamFault) -> u32
     ensures { result ≡ codes.parameter_number fault }
 {
-    match fault {
-        ParamFault::CoreSize => 1,
-        ParamFault::Processes => 2,
-        ParamFault::Cycles => 3,
-        ParamFault::Limit => 4,
-        ParamFault::Length => 5,
-        ParamFault::Distance => 6,
-    }
+    fault as u32 + 1
 }
 
 pub fn expression_number(fault: ExprFault) -> u32
     ensures { result ≡ codes.expression_number fault }
 {
-    match fault {
-        ExprFault::Syntax => 1,
-        ExprFault::Unknown => 2,
-        ExprFault::DivideByZero => 3,
-        ExprFault::Range => 4,
-        ExprFault::Depth => 5,
-    }
+    fault as u32 + 1
 }
 
 pub fn load_number(fault: LoadFault) -> u32
@@ -59,24 +46,13 @@ pub fn load_line(fault: LoadFault) -> u64
 pub fn placement_number(fault: PlaceFault) -> u32
     ensures { result ≡ codes.placement_number fault }
 {
-    match fault {
-        PlaceFault::NoRoom => 1,
-        PlaceFault::BadSeed => 2,
-        PlaceFault::OutOfMemory => 3,
-    }
+    fault as u32 + 1
 }
 
 pub fn battle_number(fault: BattleFault) -> u32
     ensures { result ≡ codes.battle_number fault }
 {
-    match fault {
-        BattleFault::NoWarrior => 1,
-        BattleFault::TooMany => 2,
-        BattleFault::Overlap => 3,
-        BattleFault::StartOutside => 4,
-        BattleFault::FieldOutside => 5,
-        BattleFault::OutOfMemory => 6,
-    }
+    fault as u32 + 1
 }
 
 pub fn assembly_number(problem: AsmProblem) -> u32

@@ -1,8 +1,8 @@
 //! A population: each candidate against each opponent.
-ghost use Rattle.std.specs.Prelude.{◌≡◌, IfErr, IfOk, IfSome, OnErr, OnOk};
+ghost use Rattle.std.specs.Prelude.{◌≡◌, IfErr, IfOk, IfSome, OnErr, OnOk, length};
 ghost use Rattle.mars_c.specs.Contests.{AreSums, HoldsSums, IsMet, SumsTo, no_rounds, plus};
 ghost use Rattle.mars_match.specs.Placement.{FitsTwo};
-ghost use Rattle.mars_c.specs.Refusals.{Refuses};
+ghost use Rattle.mars_c.specs.Refusals.{RefusesPopulation};
 
 use crate::faults::{Refusal, refused_fight};
 use crate::loading::enter;
@@ -110,7 +110,7 @@ pub fn population_into(
 ) -> Result<(), Refusal>
     ensures ok { OnOk result (HoldsSums settings.now formula.now loads.now lengths.now place.new) }
     ensures err { OnErr result (place.new ≡ place.old) }
-    ensures refused { IfErr result (Refuses settings.now formula.now loads.now lengths.now) }
+    ensures refused { IfErr result (RefusesPopulation settings.now formula.now loads.now lengths.now (length place.old)) }
 {
     if place.len() > lengths.len() {
         return Err(Refusal::Settings(SettingsFault::Rows));
@@ -123,7 +123,8 @@ pub fn population_into(
     };
     drop(entry);
     if sums.len() != place.len() {
-        return Err(Refusal::Settings(SettingsFault::Rows));
+        // There is a sum for each candidate: this is never reached, and any refusal would do.
+        return Err(Refusal::OutOfMemory);
     }
     place.copy_from_slice(&sums);
     Ok(())

@@ -28,15 +28,6 @@ impl SettingsFault {
     pub fn number(self) -> u32
         ensures { result ≡ settings_number self }
     {
-        match self {
-            SettingsFault::Rounds => 1,
-            SettingsFault::Seed => 2,
-            SettingsFault::Position => 3,
-            SettingsFault::Warriors => 4,
-            SettingsFault::Lengths => 5,
-            SettingsFault::History => 6,
-            SettingsFault::Rows => 7,
-            SettingsFault::Round => 8,
-        }
+        self as u32 + 1
     }
 }

@@ -1,5 +1,5 @@
 //! Rows as numbers.
-ghost use Rattle.std.specs.Prelude.{◌≡◌, ◌≢◌, Err, IfOk, OnErr, OnOk, length, map};
+ghost use Rattle.std.specs.Prelude.{◌≡◌, ◌≢◌, Err, IfErr, IfOk, OnErr, OnOk, length, map};
 ghost use Rattle.mars_c.specs.Contests.{plain_row};
 
 use mars_match::{MatchFault, Row};
@@ -31,7 +31,8 @@ impl MarsRow {
 
 /// The numbers of rows.
 fn plain_rows(alloc: Global, rows: &[Row]) -> Result<Vec<MarsRow>, MatchFault>
-    ensures { IfOk result (λ plain. plain.items ≡ map plain_row rows.now) }
+    ensures plain { IfOk result (λ plain. plain.items ≡ map plain_row rows.now) }
+    ensures memory { IfErr result (λ fault. fault ≡ MatchFault.OutOfMemory) }
 {
     let Ok(mut plain) = Vec::with_capacity(alloc, rows.len()) else {
         return Err(MatchFault::OutOfMemory);
@@ -48,6 +49,7 @@ fn plain_rows(alloc: Global, rows: &[Row]) -> Result<Vec<MarsRow>, MatchFault>
 pub fn give_rows(alloc: Global, rows: &[Row], place: &mut [MarsRow]) -> Result<(), MatchFault>
     ensures ok { OnOk result (place.new ≡ map plain_row rows.now) }
     ensures err { OnErr result (place.new ≡ place.old) }
+    ensures memory { IfErr result (λ fault. fault ≡ MatchFault.OutOfMemory) }
 {
     let plain = plain_rows(alloc, rows)?;
     if plain.len() != place.len() {

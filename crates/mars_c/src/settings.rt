@@ -1,10 +1,10 @@
 //! Settings, and what they come to.
-ghost use Rattle.std.specs.Prelude.{◌≡◌, ◌≤◌, ℕ, IfErr, IfOk, List, None};
+ghost use Rattle.std.specs.Prelude.{◌≡◌, ◌≤◌, ℕ, IfErr, IfOk, IfSome, List, None, Ok};
 ghost use Rattle.mars_cell.specs.ParameterFaults.{checked_parameters};
 ghost use Rattle.mars_core.specs.Limits.{most_warriors};
 ghost use Rattle.mars_match.specs.Placement.{FitsTwo};
-ghost use Rattle.mars_c.specs.Asked.{AreAllowed, AreTerms, asked, limit_of, position_of};
-ghost use Rattle.mars_c.specs.Refusals.{Refuses};
+ghost use Rattle.mars_c.specs.Asked.{AreRounds, AreTerms, IsSeed, asked, limit_of, position_of};
+ghost use Rattle.mars_c.specs.Refusals.{AreWarriors, IsOutside, RefusesEntry};
 
 use crate::faults::Refusal;
 use crate::ranges::SettingsFault;
@@ -78,6 +78,7 @@ pub fn parameters(settings: &MarsSettings) -> Result<Params, ParamFault>
 pub fn warriors_fault(warriors: usize) -> Option<SettingsFault>
     ensures some { result ≡ None → 1 ≤ warriors }
     ensures few { result ≡ None → warriors ≤ most_warriors }
+    ensures fault { IfSome result (λ fault. (fault ≡ SettingsFault.Warriors) × (AreWarriors warriors → ⊥)) }
 {
     if warriors < 1 || warriors > MOST_WARRIORS {
         return Some(SettingsFault::Warriors);
@@ -87,7 +88,9 @@ pub fn warriors_fault(warriors: usize) -> Option<SettingsFault>
 
 /// The fault of the rounds or of the seed.
 fn numbers_fault(settings: &MarsSettings) -> Option<SettingsFault>
-    ensures { result ≡ None → AreAllowed settings.now.rounds settings.now.seed }
+    ensures rounds { result ≡ None → AreRounds settings.now.rounds }
+    ensures seed { result ≡ None → IsSeed settings.now.seed }
+    ensures outside { (warriors : ℕ) (loads lengths : List ℕ) → IfSome result (IsOutside settings.now warriors loads lengths) }
 {
     if settings.rounds < 1 || settings.rounds > MOST_ROUNDS {
         return Some(SettingsFault::Rounds);
@@ -106,6 +109,8 @@ fn position(
 ) -> Result<Option<u32>, SettingsFault>
     ensures fits { IfOk result (λ fixed. FitsTwo params.now warriors fixed) }
     ensures value { IfOk result (λ fixed. fixed ≡ position_of settings.now.position) }
+    ensures outside { (loads lengths : List ℕ) → checked_parameters (asked settings.now) ≡ Ok params.now
+        → IfErr result (IsOutside settings.now warriors loads lengths) }
 {
     let position = settings.position;
     if position == 0 {
@@ -127,7 +132,7 @@ pub fn make_terms(
 ) -> Result<Terms, Refusal>
     ensures fits { IfOk result (λ t. FitsTwo t.params warriors t.plan.fixed) }
     ensures terms { IfOk result (λ t. AreTerms settings.now formula.now t) }
-    ensures refused { (loads lengths : List ℕ) → IfErr result (Refuses settings.now formula.now loads lengths) }
+    ensures refused { (loads lengths : List ℕ) → IfErr result (RefusesEntry settings.now formula.now warriors loads lengths) }
 {
     let params = match parameters(settings) {
         Ok(params) => params,

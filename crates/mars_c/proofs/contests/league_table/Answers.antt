@@ -1,4 +1,22 @@
+use Rattle.std.proofs.Common.{◌≡◌, ◌⊎◌, Err, inl, rules}
+use Rattle.mars_match.specs.Leagues.{league_of}
+use Rattle.mars_match.specs.declared.fault.MatchFault.TheVariants as fight
+use Rattle.mars_c.specs.Refusals.{FailsLeague, RefusesEntry}
+use Rattle.mars_c.proofs.Refused.{fails, memory_or}
 use Rattle.mars_c.proofs.contests.league_table.Goals as goal
 
+pub returns-in_err-entry-clause-refused : goal.returns-in_err-entry-clause-refused
+returns-in_err-entry-clause-refused c =
+    let refusal = c.in_err-entry.field-0.0 in
+    let told : RefusesEntry c.args.settings.now c.args.formula.now 0 c.args.loads.now c.args.lengths.now refusal
+    ⊎ FailsLeague c.args.settings.now c.args.formula.now c.args.loads.now c.args.lengths.now refusal = inl c.in_err-entry.ensures.refused in search rules
+
 pub returns-in-Err-clause-refused : goal.returns-in-Err-clause-refused
-returns-in-Err-clause-refused c = c.refused_fight.ensures c.args.settings.now c.args.formula.now c.args.loads.now c.args.lengths.now
+returns-in-Err-clause-refused c =
+    let t = c.in_ok-entry.entry.terms in
+    let ws = c.in_ok-entry.entry.warriors.items in
+    let fault = c.in-Err.fault in
+    let told : (fault ≡ fight.OutOfMemory) ⊎ (league_of t.params ws t.plan.formula t.plan.fixed t.plan.rounds t.plan.seed ≡ Err fault) = search rules in
+    fails c.args.settings.now c.args.formula.now 0 c.args.loads.now c.args.lengths.now
+    (λ t ws. league_of t.params ws t.plan.formula t.plan.fixed t.plan.rounds t.plan.seed) t ws fault c.refused_fight.result
+    c.in_ok-entry.ensures.terms c.in_ok-entry.ensures.loads (memory_or fault told) c.refused_fight.ensures

@@ -6,4 +6,4 @@ returns-in_err-terms-clause-refused c = let told = c.in_err-terms.ensures.refuse
 
 pub returns-in_err-warriors-clause-refused : goal.returns-in_err-warriors-clause-refused
 returns-in_err-warriors-clause-refused c =
-    let told = c.in_err-warriors.ensures.refused c.args.settings.now c.args.formula.now c.in_ok-terms.ensures.terms.params in search rules
+    let told = c.in_err-warriors.ensures.refused c.args.settings.now c.args.formula.now c.args.warriors c.in_ok-terms.ensures.terms.params in search rules

@@ -1,5 +1,6 @@
 use Rattle.std.proofs.Common.{◌≡◌, Ok, get_or, refl, rules, sym, take}
 use Rattle.mars_cell.specs.Load.{load}
+use Rattle.mars_c.proofs.Refused.{too_few, too_many}
 use Rattle.mars_c.proofs.Steps.{reads_more}
 use Rattle.mars_c.proofs.loading.read_all.Goals as goal
 
@@ -16,3 +17,13 @@ loop-i-preserved c =
       search rules,
       rw (c.in-Ok-push.ensures.items, split.2) (reads_more p n w rest split.0 one c.args.loads.now ns i 0 c.loop-i.warriors.items c.loop-i-test.true refl c.loop-i.invariant.1),
     )
+
+pub returns-in_default-clause-refused : goal.returns-in_default-clause-refused
+returns-in_default-clause-refused c = λ s text count checked.
+    too_few c.args.params.now c.args.loads.now c.args.lengths.now c.loop-i.i c.loop-i.warriors.items c.loop-i.rest.now c.loop-i.invariant.1
+    c.loop-i-test.true c.in_default.ensures.cases
+
+pub returns-then-not-is_empty-clause-refused : goal.returns-then-not-is_empty-clause-refused
+returns-then-not-is_empty-clause-refused c = λ s text count checked.
+    too_many c.args.params.now c.args.loads.now c.args.lengths.now c.loop-i.i c.loop-i.warriors.items c.loop-i.rest.now c.loop-i.invariant.1
+    c.loop-i-test.false c.if-not-is_empty.ensures

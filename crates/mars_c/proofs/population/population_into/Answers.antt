@@ -1,4 +1,4 @@
-use Rattle.std.proofs.Common.{◌≡◌, drop, length, rules, sym, take}
+use Rattle.std.proofs.Common.{◌≡◌, drop, inr, length, rules, sym, take}
 use Rattle.mars_c.specs.Contests.{AreSums}
 use Rattle.mars_c.proofs.population.population_into.Goals as goal
 
@@ -14,4 +14,4 @@ returns-clause-ok c =
     (t, ws, c.in_ok-entry.ensures.terms, c.in_ok-entry.ensures.loads, c.in_ok-entry.ensures.position, given)
 
 pub returns-in-Err-clause-refused : goal.returns-in-Err-clause-refused
-returns-in-Err-clause-refused c = c.refused_fight.ensures c.args.settings.now c.args.formula.now c.args.loads.now c.args.lengths.now
+returns-in-Err-clause-refused c = inr (inr (c.in-Err.fault, c.refused_fight.ensures))

@@ -1,0 +1,8 @@
+use Rattle.std.proofs.Common.{◌∙◌, sym}
+use Rattle.mars_c.proofs.settings.make_terms.Goals as goal
+
+pub returns-in-Some-clause-refused : goal.returns-in-Some-clause-refused
+returns-in-Some-clause-refused c = λ loads lengths. c.in-Some.ensures.outside c.args.warriors loads lengths
+
+pub returns-in-Err-position-clause-refused : goal.returns-in-Err-position-clause-refused
+returns-in-Err-position-clause-refused c = λ loads lengths. c.in-Err-position.ensures.outside loads lengths (sym c.parameters.ensures ∙ c.in-Ok.is)
