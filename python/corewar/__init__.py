@@ -19,6 +19,9 @@ from .model.results import Row
 from .model.settings import HILLS, Settings
 from .model.warriors import Warrior
 
+# The version of the kit: that of the package, the packages of Debian's, and the library (MARS_VERSION in its header).
+__version__ = "1.1"
+
 __all__ = [
     *("History", "Match", "State", "assemble", "debug", "league", "match", "population", "record", "state"),
     *("Limit", "read", "cell_text", "Fault", "FileFault", "Refused", "Row", "HILLS", "Settings", "Warrior"),
