@@ -11,8 +11,12 @@ PREFIX = /usr/local
 ZSH = $(PREFIX)/share/zsh/site-functions
 
 VERSION := $(shell sed -n 's/^__version__ = "\(.*\)"/\1/p' python/corewar/__init__.py)
+# The day of the last commit, so that packing it again gives the same bytes.
+DATE = $(shell git -c safe.directory='*' log -1 --format=%cD 2>/dev/null || date -R)
 PROGRAM = crates/mars/out/mars
 LIBRARY = build/libmars.so.1 build/libmars.a
+# The libraries of the toolchain that the crates stand on.
+LIBRARIES := $(shell sed -n 's/^\w* *\w*: *//p' crates.txt | tr ' ' '\n' | sort -u | grep -vxF "$$(sed -n 's/^\(\w*\).*:.*/\1/p' crates.txt)")
 COREWAR = PYTHONDONTWRITEBYTECODE=1 PYTHONPATH=python /usr/bin/python3 -P
 
 to = $(DESTDIR)$(PREFIX)
@@ -66,6 +70,18 @@ uninstall:
 	rm -f $(to)/include/mars.h $(to)/lib/pkgconfig/mars.pc $(to)/share/man/man1/mars.1 $(to)/share/man/man1/corewar.1 $(to)/share/man/man1/corewar-*.1
 	rm -f $(bash)/mars $(bash)/corewar $(zsh)/_mars $(zsh)/_corewar
 	rm -rf $(documents) $(package)/corewar
+
+packages: $(PROGRAM) $(LIBRARY)
+	rm -rf build/package
+	mkdir -p build/package/licences
+	cp -R packaging/debian build/package
+	printf 'mars ($(VERSION)) unstable; urgency=medium\n\n  * Packed from the kit.\n\n -- %s  %s\n' \
+		"$$(sed -n 's/^Maintainer: //p' packaging/debian/control)" "$(DATE)" >build/package/debian/changelog
+# The licences of the toolchain's libraries that are inside, and the kit's own where there is one.
+	set -e; for library in $(LIBRARIES); do for file in "$$(dirname "$$(rt doc)")"/rattle/$$library/LICENSE*; do \
+		cp "$$file" build/package/licences/$$library-$${file##*/}; done; done
+	$(if $(wildcard LICENSE*),cp $(wildcard LICENSE*) build/package/licences)
+	cd build/package && dpkg-buildpackage -b -us -uc
 
 check:
 	checks/run
