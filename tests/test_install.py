@@ -78,7 +78,7 @@ def test_what_is_installed(prefix: Path) -> None:
 
 def test_it_runs(prefix: Path, run: Run) -> None:
     files = [prefix / "share/doc/mars/examples" / name for name in ("dwarf.red", "imp.red")]
-    words = ["-b", "-r", "10", *files]
+    words = ["-b", "-r", "10", *map(str, files)]
     expected = subprocess.run([PROGRAM, *words], capture_output=True, text=True).stdout
     assert expected and started(prefix, "mars", *words).stdout == expected
     done = started(prefix, "corewar", "why", *files)
@@ -181,7 +181,7 @@ def test_one_list_of_packages(tmp_path: Path) -> None:
     (tmp_path / "dpkg-query").write_text("#!/bin/sh\n")
     (tmp_path / "dpkg-query").chmod(0o755)
     (tmp_path / "python3").symlink_to("/usr/bin/python3")
-    command = [TOP / "scripts" / "setup", "--dry-run"]
+    command = [str(TOP / "scripts" / "setup"), "--dry-run"]
     done = subprocess.run(command, env={"PATH": str(tmp_path)}, capture_output=True, text=True)
     assert done.returncode == 1 and "apt-get install" in done.stderr
     assert asked == {word for word in done.stderr.split() if word.startswith("python3-")}
