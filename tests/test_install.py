@@ -95,6 +95,13 @@ def test_it_calls_what_is_installed(prefix: Path) -> None:
     assert f"{prefix}/lib/libmars.so.1\n" in told and told.endswith(f" {prefix}/share/doc/mars/examples\n")
 
 
+def test_a_library_that_is_not_there_is_told(prefix: Path) -> None:
+    example = prefix / "share/doc/mars/examples/imp.red"
+    done = started(prefix, "sh", "-c", f"MARS_LIBRARY=/none.so corewar why {example}")
+    assert (done.stdout, done.returncode) == ("", 1)
+    assert done.stderr.startswith("corewar: /none.so: ") and done.stderr.count("\n") == 1
+
+
 def test_a_module_of_the_current_folder_is_not_taken(prefix: Path, tmp_path: Path) -> None:
     (tmp_path / "click.py").write_text("raise SystemExit('the wrong one')\n")
     assert started(prefix, "corewar", "--version", cwd=tmp_path).returncode == 0
