@@ -10,6 +10,7 @@
 
 It calls the library that `scripts/library` builds, and needs Debian's python3-cffi and python3-numpy.
 """
+from . import league as _league  # (loaded first, so that `corewar.league` stays the call below)
 from .battle.history import History
 from .engine.calls import Match, State, assemble, debug, league, match, population, record, state
 from .engine.sources import Limit, read
