@@ -3,10 +3,13 @@ import re
 import sys
 from inspect import cleandoc
 
-from click_man.core import write_man_pages
+try:
+    from click_man.core import write_man_pages
 
-from corewar import __version__
-from corewar.cli.main import COMMANDS, commands
+    from corewar import __version__
+    from corewar.cli.main import COMMANDS, commands
+except ImportError as fault:
+    sys.exit(f"the man pages can't be made: {fault}: scripts/setup installs it")
 
 # click-man asks for commands that stand in the group and for texts without their margin, and cuts what it finds itself
 # as the first sentence at 45 letters.
