@@ -1,4 +1,4 @@
-"""What a machine has for proofs: the toolchain, its processors, and the memory that is free."""
+"""What a machine has: the toolchain, its processors, the memory that is free, and packages of Debian's."""
 import os, re, shutil, subprocess
 
 # The limit of a control group and what it uses, of either version; without a limit the first is no number, or a huge one.
@@ -35,3 +35,11 @@ def free_memory():
 def at_a_time(memory):
     """How many processes of so much memory, in bytes, there are processors and memory for: one at least."""
     return max(1, min(len(os.sched_getaffinity(0)), free_memory() // memory))
+
+
+def is_missing(package):
+    """Whether neither Debian's package is there nor a command of its name from elsewhere."""
+    if shutil.which(package):
+        return False
+    words = ["dpkg-query", "--show", "--showformat=${db:Status-Status}", package]
+    return not shutil.which(words[0]) or subprocess.run(words, capture_output=True, text=True).stdout != "installed"

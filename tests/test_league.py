@@ -18,6 +18,7 @@ import pytest
 from conftest import EXAMPLES, TOP, Run
 from costly import large, slow
 
+import corewar
 from corewar.engine.calls import assemble
 from corewar.league.contest import Contest, Matches, all_pairs
 from corewar.league.places import threads
@@ -385,3 +386,9 @@ def test_a_large_league() -> None:
 def test_a_contest_is_words() -> None:
     words = "-s=8000 -p=8000 -c=80000 -l=100 -d=100 -r=1 --seed=1 -F=200 --score=(W*W-1)/S"
     assert Contest(position=200).words == words.split()
+
+
+def test_the_call_keeps_its_name() -> None:
+    """The package `league`, which this file imports from, doesn't hide the call."""
+    imp = corewar.assemble("MOV 0, 1")
+    assert [row.ties for row in corewar.league([imp, imp], rounds=2)] == [2, 2]

@@ -10,6 +10,7 @@
 
 It calls the library that `scripts/library` builds, and needs Debian's python3-cffi and python3-numpy.
 """
+from . import league as _league  # (loaded first, so that `corewar.league` stays the call below)
 from .battle.history import History
 from .engine.calls import Match, State, assemble, debug, league, match, population, record, state
 from .engine.sources import Limit, read
@@ -18,6 +19,9 @@ from .model.faults import Fault, FileFault, Refused
 from .model.results import Row
 from .model.settings import HILLS, Settings
 from .model.warriors import Warrior
+
+# The version of the kit: that of the package, the packages of Debian's, and the library (MARS_VERSION in its header).
+__version__ = "1.1"
 
 __all__ = [
     *("History", "Match", "State", "assemble", "debug", "league", "match", "population", "record", "state"),

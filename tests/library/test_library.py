@@ -92,14 +92,13 @@ def folder(tmp_path):
 
 
 @pytest.fixture(scope="module")
-def prefix(tmp_path_factory):
-    """The library as it is installed."""
-    folder, archive = str(tmp_path_factory.mktemp("prefix")), os.environ.get("MARS_ARCHIVE", ARCHIVE)
+def built(tmp_path_factory):
+    """The folder with the library as it is built."""
+    folder, archive = str(tmp_path_factory.mktemp("built")), os.environ.get("MARS_ARCHIVE", ARCHIVE)
     holds(os.path.isfile(archive), "there is no archive: scripts/library proves and makes it")
-    done = subprocess.run(
-        [os.path.join(SCRIPTS, "library"), "--archive", archive, folder], capture_output=True, text=True
-    )
-    check("the library is installed", (done.returncode, done.stderr), (0, ""))
+    library = [os.path.join(SCRIPTS, "library"), "--archive", archive, "--out", folder]
+    done = subprocess.run(library, capture_output=True, text=True)
+    check("the library is built", (done.returncode, done.stderr), (0, ""))
     return folder
 
 
@@ -473,9 +472,9 @@ def test_threads():
         check("two threads", list(pool.map(work, range(60))), [work(seed) for seed in range(60)])
 
 
-def test_shared(prefix):
+def test_shared(built):
     """The shared library is known by its major version, and exports the calls of the header alone."""
-    shared = os.path.join(prefix, "lib", "libmars.so")
+    shared = os.path.join(built, "libmars.so")
     said = lambda *words: subprocess.run([*words, shared], capture_output=True, text=True).stdout
     check("a link to its major version", os.readlink(shared), "libmars.so.1")
     holds("soname: [libmars.so.1]" in said("readelf", "--dynamic"), "the soname is another")
@@ -483,7 +482,7 @@ def test_shared(prefix):
     check("what it exports", exported, {*re.findall(r"^uint32_t (mars_\w+)\(", open(HEADER).read(), re.M)})
 
 
-def test_c(folder, prefix):
+def test_c(folder, built):
     """The C program: as it is, under valgrind, and under AddressSanitizer."""
     text, made = os.path.join(os.path.dirname(os.path.abspath(__file__)), "library.c"), os.path.join(folder, "calls")
     words = [
@@ -491,10 +490,10 @@ def test_c(folder, prefix):
         "-Wall",
         "-Wextra",
         "-Werror",
-        f"-I{prefix}/include",
+        f"-I{os.path.dirname(HEADER)}",
         text,
         "-Wl,--wrap=malloc,--wrap=realloc,--wrap=free",
-        f"{prefix}/lib/libmars.a",
+        f"{built}/libmars.a",
         "-o",
         made,
     ]
@@ -511,12 +510,12 @@ def test_c(folder, prefix):
         check(name, (built.stderr, done.stdout, done.stderr, done.returncode), ("", "20 passed, 0 failed\n", "", 0))
 
 
-def test_rust(folder, prefix):
+def test_rust(folder, built):
     """The example in Rust: the rows of a match, and the fault of a source."""
     if not shutil.which("cargo"):
         skip("the example in Rust", "there is no cargo", "cargo")
         return
-    made = {**os.environ, "MARS_LIB": os.path.join(prefix, "lib"), "CARGO_TARGET_DIR": os.path.join(folder, "target")}
+    made = {**os.environ, "MARS_LIB": built, "CARGO_TARGET_DIR": os.path.join(folder, "target")}
     fight = lambda *words: subprocess.run(
         ["cargo", "run", "--quiet", "--offline", "--", *words],
         cwd=os.path.join(TOP, "examples", "rust"),

@@ -2,9 +2,9 @@
 """
 import os, re, shutil, subprocess
 
-from counting import PROGRAM, SCRIPTS, check, skip
+from counting import PROGRAM, TOP, check, skip
 
-FOLDER = os.path.join(SCRIPTS, "completion")
+FOLDER = os.path.join(TOP, "packaging", "completion")
 # Offers what bash would for the last of these words.
 OFFER = """source "$0"; COMP_WORDS=(mars "$@"); COMP_CWORD=$#; _mars; printf '%s\\n' "${COMPREPLY[@]}" """
 

@@ -313,7 +313,7 @@ def test_terminal(place):
     done = subprocess.run([os.path.join(place.folder, "mars")], env=environment, capture_output=True, text=True)
     check(
         "without the toolchain it is told what runs without it",
-        (done.returncode, "`rt`" in done.stderr, "scripts/pack" in done.stderr),
+        (done.returncode, "`rt`" in done.stderr, "make packages" in done.stderr),
         (1, True, True),
     )
 

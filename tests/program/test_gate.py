@@ -25,7 +25,8 @@ def gate(**lines):
                 file.write("#!/bin/sh\n" + "".join(f"echo '{line}'\n" for line in told) + f"exit {status}\n")
             os.chmod(path, 0o755)
         shutil.copy(os.path.join(TOP, "checks", "run"), os.path.join(folder, "checks"))
-        shutil.copy(os.path.join(TOP, "scripts", "machine.py"), os.path.join(folder, "scripts"))
+        for name in ("machine.py", "setup"):
+            shutil.copy(os.path.join(TOP, "scripts", name), os.path.join(folder, "scripts"))
         environment = {**os.environ, "PATH": os.path.join(folder, "bin") + ":" + os.environ["PATH"]}
         done = subprocess.run([os.path.join(folder, "checks", "run")], capture_output=True, text=True, env=environment)
         told = done.stdout.splitlines()

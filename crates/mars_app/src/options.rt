@@ -106,20 +106,8 @@ fn matches_of<'a>(alloc: Global, words: &'a [String]) -> Result<ArgMatches<'a>, 
 fn options_of(alloc: Global, matches: &ArgMatches<'_>) -> Result<Options, AllocError>
     ensures { IfOk result (λ options. value_of options ≡ options_of (rows_of (found_of matches.now))) }
 {
-    let files = files(alloc, matches)?;
-    let score = score(alloc, matches)?;
-    Ok(with_texts(matches, files, score))
-}
-
-/// What the words say, beside the texts that they give.
-fn with_texts(matches: &ArgMatches<'_>, files: Vec<String>, score: String) -> Options
-    ensures { value_of result ≡ record (options_of (rows_of (found_of matches.now))) {
-      files = map (λ name. string_bytes name) files.items;
-      score = string_bytes score;
-    } }
-{
-    Options {
-        files,
+    Ok(Options {
+        files: files(alloc, matches)?,
         rounds: number(matches, "rounds"),
         core: number(matches, "core"),
         cycles: number(matches, "cycles"),
@@ -131,13 +119,13 @@ fn with_texts(matches: &ArgMatches<'_>, files: Vec<String>, score: String) -> Op
         brief: is_given(matches, "brief"),
         sorted: is_given(matches, "sorted"),
         seed: number(matches, "seed"),
-        score,
+        score: score(alloc, matches)?,
         league: is_given(matches, "league"),
         load: is_given(matches, "load"),
         read_limit: given_number(matches, "read-limit"),
         write_limit: given_number(matches, "write-limit"),
         history: number(matches, "history"),
-    }
+    })
 }
 
 /// Whether what the words say is allowed.

@@ -11,6 +11,7 @@
 
 mod fault;
 mod fights;
+mod kept;
 pub mod laws;
 mod matches;
 mod placement;

@@ -1,14 +1,12 @@
 //! Matches of several rounds, and leagues, in which every pair of warriors fights a match.
-ghost use Rattle.std.specs.Prelude.{◌≡◌, ℕ, ◌+◌, ◌%◌, ◌<◌, ◌≤◌, All, length, ℤ, ◌-◌, Some, None, Ok, Err, IfSome, IfOk, IfErr, ◌≢◌, MatchOption, true, false, MatchResult, Vec, replicate, ◌*◌, drop, [], ◌∷◌};
+ghost use Rattle.std.specs.Prelude.{◌≡◌, ◌+◌, ◌%◌, ◌<◌, ◌≤◌, All, length, ℤ, ◌-◌, Some, None, Ok, Err, IfSome, IfOk, IfErr, ◌≢◌, MatchOption, true, false, MatchResult, Vec, replicate, ◌*◌, drop, [], ◌∷◌};
 ghost use Rattle.mars_core.specs.State.{State};
 ghost use Rattle.mars_match.specs.Answers.{IsAnswer};
-ghost use Rattle.mars_match.specs.Battles.{lives, count_fault};
-ghost use Rattle.mars_cell.specs.Parameters.{Parameters};
-ghost use Rattle.redcode_text.specs.Tokens.{Scanned};
+ghost use Rattle.mars_match.specs.Battles.{count_fault};
 ghost use Rattle.mars_match.specs.Code.Keeping.{AreScores, IsKept};
 ghost use Rattle.mars_match.specs.Code.Lineups.{HasRoom};
 ghost use Rattle.mars_match.specs.Placement.{FitsTwo};
-ghost use Rattle.mars_match.specs.Rounds.{round_score, ended, fits_in_64, checked_rows, table_of};
+ghost use Rattle.mars_match.specs.Rounds.{ended, fits_in_64, checked_rows, table_of};
 ghost use Rattle.mars_match.specs.declared.table.Table.{Table};
 ghost use Rattle.mars_match.specs.Tables.{RowValue};
 ghost use Rattle.mars_match.specs.Code.Tallies.{no_rounds as spec_no_rounds, most_before, most_rounds, most_row, outcome_by, tallied, IsOf, row_with, rows_with};
@@ -20,10 +18,11 @@ ghost use Rattle.mars_match.specs.declared.table.Tally.{Tally};
 
 use crate::fault::MatchFault;
 use crate::fights::{Lineup, check_count, fight_round};
+use crate::kept::{Kept, nothing_kept, score_round};
 use crate::starts::place_round;
 use crate::table::{Row, Table, Tally, add_round, no_rounds};
 use mars_cell::{Params, Warrior};
-use mars_core::{Battle, MOST_WARRIORS};
+use mars_core::Battle;
 use redcode_asm::Formula;
 use redcode_text::ExprFault;
 use std::alloc::Global;
@@ -40,51 +39,6 @@ pub struct Plan {
     pub fixed: Option<u32>,
     /// What each survivor of a round gets.
     pub formula: Formula,
-}
-
-/// What each survivor gets, by how many there are, where it was worked out: that of one survivor is the first.
-type Scores = [Option<i64>; MOST_WARRIORS];
-
-/// What the matches of one call leave to the next.
-#[derive(Drop)]
-pub struct Kept {
-    /// A battle in whose memory another of as many warriors can start.
-    last: Option<Battle>,
-    scores: Scores,
-}
-
-/// Nothing is left by a match.
-fn nothing_kept() -> Kept
-    ensures { (p : Parameters) (count : ℕ) (formula : Scanned) → IsKept p count formula result }
-{
-    Kept {
-        last: None,
-        scores: [None; MOST_WARRIORS],
-    }
-}
-
-/// What each survivor of a battle gets, worked out once for each number of survivors.
-fn score_round(formula: &Formula, battle: &Battle, scores: &mut Scores) -> Result<i64, MatchFault>
-    requires few { length battle.now.queues ≤ most_warriors }
-    requires scores { AreScores formula.now (length battle.now.queues) scores.old }
-    ensures value { result ≡ round_score formula.now (lives battle.now) }
-    ensures scores { AreScores formula.now (length battle.now.queues) scores.new }
-    ensures no_memory { IfErr result (λ fault. fault ≢ MatchFault.OutOfMemory) }
-{
-    let survivors = battle.survivors();
-    if survivors == 0 {
-        return Ok(0);
-    }
-    if let Some(score) = scores[survivors - 1] {
-        return Ok(score);
-    }
-    match formula.score(battle.warriors() as i64, survivors as i64) {
-        Ok(score) => {
-            scores[survivors - 1] = Some(score);
-            Ok(score)
-        }
-        Err(fault) => Err(MatchFault::Score(fault)),
-    }
 }
 
 /// A tally for each of so many warriors.

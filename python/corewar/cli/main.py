@@ -7,6 +7,7 @@ from importlib import import_module
 
 import click
 
+from .. import __version__
 from ..model.faults import Refused
 from .options import HELP
 from .telling import tell, tell_fault
@@ -42,7 +43,7 @@ class Commands(click.Group):
 
 
 @click.command(cls=Commands, context_settings=HELP)
-@click.version_option("1.0", prog_name="corewar")
+@click.version_option(__version__, prog_name="corewar")
 def commands() -> None:
     """Core War over a proved machine: fights, leagues, pictures, and a debugger that goes back and forth."""
 

@@ -6,11 +6,11 @@ from pathlib import Path
 
 import click
 
-from ..engine.binding import CHECKOUT
+from ..engine.binding import CHECKOUT, INSTALLED
 from ..model.faults import Refused
 
-# Where examples lie: those of the checkout, or of the package.
-EXAMPLES = [CHECKOUT / "examples", Path("/usr/share/doc/mars/examples"), Path("/usr/local/share/doc/mars/examples")]
+# Where examples lie: those of the checkout, or those that are installed.
+EXAMPLES = [CHECKOUT / "examples", *(folder / "share" / "doc" / "mars" / "examples" for folder in INSTALLED)]
 
 
 @click.command()

@@ -1,12 +1,12 @@
 """The library for C as its header declares it: its types as those of NumPy, and its calls.
 
-The library is the file that MARS_LIBRARY names, else build/libmars.so of the checkout that this file stands in,
-else the one that the system finds; the header is the file that MARS_HEADER names, else include/mars.h of the
-checkout, else the system's. A call lets other threads run, and two threads may call at once.
+The library is the file that MARS_LIBRARY names, else build/libmars.so of the checkout that this file stands in, else
+lib/libmars.so.1 of the folder that the package is installed below, or of the system; the header is the file that
+MARS_HEADER names, else include/mars.h of the same folders. A call lets other threads run, and two threads may call at
+once.
 """
 from __future__ import annotations
 
-import ctypes.util
 import os
 import re
 from collections.abc import Sequence
@@ -24,8 +24,10 @@ from ..model.faults import Fault, Refused
 # The answer of a call whose buffer is too short, which isn't a fault.
 ROOM = 10
 OPENING = Lock()
-CHECKOUT = Path(__file__).resolve().parents[3]
-SYSTEM = [Path(folder) for folder in ("/usr/local", "/usr")]
+HERE = Path(__file__).resolve()
+CHECKOUT = HERE.parents[3]
+# What `make install` installs stands below one of these: first the one that this file itself is installed below.
+INSTALLED = [*HERE.parents[5:6], Path("/usr/local"), Path("/usr")]
 
 
 class NoLibrary(Refused):
@@ -48,13 +50,13 @@ def library() -> tuple[Any, Any]:
 @lru_cache(maxsize=None)
 def opened() -> tuple[Any, Any]:
     """The types of the header, and the library."""
-    shared = found("MARS_LIBRARY", [CHECKOUT / "build" / "libmars.so"]) or ctypes.util.find_library("mars")
+    built = [CHECKOUT / "build" / "libmars.so", *(folder / "lib" / "libmars.so.1" for folder in INSTALLED)]
+    shared = found("MARS_LIBRARY", built)
     if shared is None:
         raise NoLibrary("libmars.so isn't found: scripts/library builds it, and MARS_LIBRARY names it")
-    beside = [Path(shared).resolve().parent.parent, *SYSTEM]
-    header = found("MARS_HEADER", [folder / "include" / "mars.h" for folder in (CHECKOUT, *beside)])
+    header = found("MARS_HEADER", [folder / "include" / "mars.h" for folder in (CHECKOUT, *INSTALLED)])
     if header is None:
-        raise NoLibrary("mars.h isn't found: scripts/library installs it, and MARS_HEADER names it")
+        raise NoLibrary("mars.h isn't found: `make install` installs it, and MARS_HEADER names it")
     ffi = cffi.FFI()
     ffi.cdef(declarations(Path(header).read_text()))
     try:

@@ -16,6 +16,7 @@ from typing import Any
 from ..model.faults import ASSEMBLY, LOAD, MEMORY, Fault, FileFault, Refused
 from ..model.settings import LARGEST_FILE, Settings
 from ..model.warriors import Warrior
+from .binding import library
 from .calls import load_file, match
 
 
@@ -76,6 +77,8 @@ class Assembler:
         return bytes(load)
 
     def _begin(self) -> None:
+        # (a library that isn't there is told by this call, and not by that process)
+        library()
         # A process with threads isn't forked: the library is to be called in what comes of it.
         context: Any = multiprocessing.get_context("fork" if threading.active_count() == 1 else "spawn")
         self._pipe, theirs = context.Pipe()

@@ -4,7 +4,7 @@ use Rattle.mars_cell.specs.Parameters.{Parameters}
 use Rattle.redcode_text.specs.Tokens.{Scanned}
 use Rattle.redcode_asm.specs.Formula.{score_of}
 use Rattle.mars_match.specs.Code.Lineups.{HasRoom}
-use Rattle.mars_match.specs.declared.matches.Kept.{Kept}
+use Rattle.mars_match.specs.declared.kept.Kept.{Kept}
 
 -- what each survivor gets is right, where it is known: that of s survivors stands at place s-1
 abbrev pub AreScores : Scanned → ℕ → List (Option ℤ) → Type 0

@@ -1,0 +1,87 @@
+# Installs what is proved and built, takes it away again, and packs it for Debian.
+#
+#   make install      program, library, package, man pages, completion, documents and examples below PREFIX
+#   make uninstall    takes them away
+#   make man          the man pages, in build/man
+#   make packages     the Debian packages `mars` and `corewar`, in build
+#   make check        the merge gate
+#
+# DESTDIR stands before PREFIX where a package is made. Nothing is proved here: what isn't built is told.
+PREFIX = /usr/local
+ZSH = $(PREFIX)/share/zsh/site-functions
+
+VERSION := $(shell sed -n 's/^__version__ = "\(.*\)"/\1/p' python/corewar/__init__.py)
+# The day of the last commit, so that packing it again gives the same bytes.
+DATE = $(shell git -c safe.directory='*' log -1 --format=%cD 2>/dev/null || date -R)
+PROGRAM = crates/mars/out/mars
+LIBRARY = build/libmars.so.1 build/libmars.a
+# The libraries of the toolchain that the crates stand on.
+LIBRARIES := $(shell sed -n 's/^\w* *\w*: *//p' crates.txt | tr ' ' '\n' | sort -u | grep -vxF "$$(sed -n 's/^\(\w*\).*:.*/\1/p' crates.txt)")
+COREWAR = PYTHONDONTWRITEBYTECODE=1 PYTHONPATH=python /usr/bin/python3 -P
+
+to = $(DESTDIR)$(PREFIX)
+bash = $(to)/share/bash-completion/completions
+zsh = $(DESTDIR)$(ZSH)
+documents = $(to)/share/doc/mars
+package = $(to)/lib/python3/dist-packages
+# Copies files and folders, read from the folder $(1), to the folder $(2), without what was made in them.
+copy = mkdir -p $(2) && tar -c -C $(1) --mode=u=rwX,go=rX --exclude=__pycache__ --exclude=target --exclude=Cargo.lock $(3) | tar -x -C $(2) --no-same-owner
+
+.PHONY: all install uninstall man completion packages check
+
+all: man completion
+
+$(PROGRAM):
+	@echo "$@ isn't built: ./mars --help proves and builds it" >&2; exit 1
+
+$(LIBRARY):
+	@echo "$@ isn't built: scripts/library proves and builds it" >&2; exit 1
+
+man:
+	rm -rf build/man
+	mkdir -p build/man
+	cp docs/mars.1 build/man
+	$(COREWAR) packaging/man.py build/man
+
+completion:
+	mkdir -p build/completion
+	_COREWAR_COMPLETE=bash_source $(COREWAR) -m corewar.cli.main >build/completion/corewar.bash
+# A function that zsh loads by itself completes when it is loaded, too.
+	_COREWAR_COMPLETE=zsh_source $(COREWAR) -m corewar.cli.main | sed 's/^compdef _corewar_completion corewar;/_corewar_completion "$$@"/' >build/completion/_corewar
+
+install: $(PROGRAM) $(LIBRARY) man completion
+	rm -rf $(documents) $(package)/corewar
+	install -D -m 755 $(PROGRAM) $(to)/bin/mars
+	install -D -m 755 packaging/corewar $(to)/bin/corewar
+	install -D -m 644 -t $(to)/lib $(LIBRARY)
+	ln -sf libmars.so.1 $(to)/lib/libmars.so
+	install -D -m 644 -t $(to)/include include/mars.h
+	install -d $(to)/lib/pkgconfig
+	sed 's|@PREFIX@|$(PREFIX)|; s|@VERSION@|$(VERSION)|' packaging/mars.pc >$(to)/lib/pkgconfig/mars.pc
+	$(call copy,python,$(package),corewar)
+	install -D -m 644 -t $(to)/share/man/man1 build/man/*.1
+	install -D -m 644 packaging/completion/mars.bash $(bash)/mars
+	install -D -m 644 build/completion/corewar.bash $(bash)/corewar
+	install -D -m 644 -t $(zsh) packaging/completion/_mars build/completion/_corewar
+	$(call copy,.,$(documents),--exclude=mars.1 README.md docs examples)
+
+uninstall:
+	rm -f $(to)/bin/mars $(to)/bin/corewar $(to)/lib/libmars.so $(to)/lib/libmars.so.1 $(to)/lib/libmars.a
+	rm -f $(to)/include/mars.h $(to)/lib/pkgconfig/mars.pc $(to)/share/man/man1/mars.1 $(to)/share/man/man1/corewar.1 $(to)/share/man/man1/corewar-*.1
+	rm -f $(bash)/mars $(bash)/corewar $(zsh)/_mars $(zsh)/_corewar
+	rm -rf $(documents) $(package)/corewar
+
+packages: $(PROGRAM) $(LIBRARY)
+	rm -rf build/package
+	mkdir -p build/package/licences
+	cp -R packaging/debian build/package
+	printf 'mars ($(VERSION)) unstable; urgency=medium\n\n  * Packed from the kit.\n\n -- %s  %s\n' \
+		"$$(sed -n 's/^Maintainer: //p' packaging/debian/control)" "$(DATE)" >build/package/debian/changelog
+# The licences of the toolchain's libraries that are inside, and the kit's own where there is one.
+	set -e; for library in $(LIBRARIES); do for file in "$$(dirname "$$(rt doc)")"/rattle/$$library/LICENSE*; do \
+		cp "$$file" build/package/licences/$$library-$${file##*/}; done; done
+	$(if $(wildcard LICENSE*),cp $(wildcard LICENSE*) build/package/licences)
+	cd build/package && dpkg-buildpackage -b -us -uc
+
+check:
+	checks/run
