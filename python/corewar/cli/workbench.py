@@ -8,6 +8,7 @@ import click
 
 from ..engine.binding import CHECKOUT
 from ..model.faults import Refused
+from .options import Output
 
 # Where examples lie: those of the checkout, or of the package.
 EXAMPLES = [CHECKOUT / "examples", Path("/usr/share/doc/mars/examples"), Path("/usr/local/share/doc/mars/examples")]
@@ -17,7 +18,7 @@ EXAMPLES = [CHECKOUT / "examples", Path("/usr/share/doc/mars/examples"), Path("/
 @click.option("--port", type=click.IntRange(0, 65535), default=0, help="The port; a free one without it.")
 @click.option("--browser/--no-browser", default=True, help="Whether the browser is opened.")
 @click.option(
-    "--results", type=click.Path(dir_okay=False), help="Keeps the results of leagues here, as `corewar league` does."
+    "--results", type=Output(dir_okay=False), help="Keeps the results of leagues here, as `corewar league` does."
 )
 @click.argument("files", nargs=-1, type=click.Path(exists=True))
 def web(port: int, browser: bool, results: str | None, files: tuple[str, ...]) -> None:
