@@ -2,17 +2,18 @@
 from __future__ import annotations
 
 import os
+from pathlib import Path
 
 import pytest
 from battles import edits, matches
 from conftest import EXAMPLES, Run
 from hypothesis import given, strategies as st
 
-from corewar.battle.history import History
+from corewar.battle.history import History, distinct
 from corewar.battle.labels import Sources
 from corewar.debugger.commands import COMMANDS, Left, execute, find_command
 from corewar.debugger.session import Session
-from corewar.engine.calls import Match, debug
+from corewar.engine.calls import Match, assemble, debug
 from corewar.engine.sources import read
 from corewar.model.cells import cell_text
 from corewar.model.faults import Refused
@@ -154,6 +155,44 @@ def test_over_a_pipe(run: Run) -> None:
     again = run("debug", "@dwarf", "@imp", "--turn", 4, given="source kept\nsource nowhere\n")
     assert again.stdout.splitlines()[0].startswith("turn 6: Imp")
     assert again.stdout.splitlines()[-1] == "nowhere: No such file or directory"
+
+
+def test_deaths_and_cells_by_hand() -> None:
+    """What an edit did is told as that, also before the first turn."""
+    session = session_of("dwarf", "imp")
+    execute(session, "kill imp 0")
+    assert execute(session, "why") == ["Imp was killed by hand behind turn 0."]
+    execute(session, "futures 0")
+    execute(session, "goto 5")
+    execute(session, "kill imp 0")
+    assert execute(session, "why imp") == ["Imp was killed by hand behind turn 5."]
+    execute(session, "futures 0")
+    execute(session, "goto 7797")
+    execute(session, "edit . jmp 0")
+    assert "It became" not in "".join(execute(session, "why"))
+
+
+def test_a_number_is_one_before_a_name() -> None:
+    fight = Match(tuple(assemble(f";name {name}\nnop 0\n", file=f"{name}.red") for name in ("1", "0", "Imp", "imp")))
+    session = Session(History(fight), Sources(History(fight)))
+    named = ["0", "1", "Imp", "imp", "IMP", "imp.red"]
+    assert [session.warrior(name) for name in named] == [0, 1, 2, 3, 2, 3]
+    assert distinct(["Imp", "Imp", "Imp 1"]) == ["Imp 2", "Imp 3", "Imp 1"]
+
+
+def test_numbers_of_thousands_of_digits_are_refused() -> None:
+    session, long = session_of("imp"), "1" * 5000
+    for line in ("list", "delete", "queue", "why", "changed", "spawn 0", "move 0 0", "continue at", "fill 0"):
+        assert long in refused(session, f"{line} {long}" + (" nop" if line == "fill 0" else ""))
+
+
+def test_files_of_lines(run: Run, tmp_path: Path) -> None:
+    """Their commands have short names, too; a file that names itself, or is the log, ends."""
+    (tmp_path / "self").write_text("source self\nstep\n")
+    assert run("debug", "@imp", given="source self\n").stdout.splitlines()[-2].startswith("turn 8: ")
+    told = run("debug", "@imp", given="lo kept\nstep\nso kept\nlog\nlog a\0b\nsource a\0b\n").stdout.splitlines()
+    assert told[2].startswith("turn 2: ") and told[4:] == ["a\0b: embedded null byte", "a\0b: cannot read"]
+    assert (tmp_path / "kept").read_text() == "step\nstep\n"
 
 
 def test_at_a_terminal(tmp_path: object) -> None:

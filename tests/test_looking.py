@@ -1,6 +1,13 @@
 """why, trace and changed: what is told of a battle."""
 from __future__ import annotations
 
+import os
+import signal
+import subprocess
+import sys
+import time
+from pathlib import Path
+
 from conftest import EXAMPLES, Run
 
 DEATH = """Imp died in turn 7798:
@@ -21,7 +28,7 @@ def test_why(run: Run) -> None:
     alone = run("why", "@imp")
     assert alone.stdout == "Nobody died: the battle is over: Imp lives.\n"
     bad = run("why", "--of", "nobody", "@dwarf", "@imp")
-    assert bad.returncode == 2 and "nobody is none of Dwarf, Imp" in bad.stderr
+    assert bad.returncode == 2 and "`nobody` is no warrior: 0 Dwarf, 1 Imp" in bad.stderr
 
 
 def test_why_tells_what_another_made(run: Run) -> None:
@@ -92,3 +99,68 @@ def test_a_source_is_held_to_its_limit(run: Run, tmp_path: object) -> None:
     wide = f"i FOR 10000\n{'a' * 20000}&i DAT 0\nROF\n"
     large = run("why", "--source-limit", "60,20", "-", given=wide)
     assert (large.returncode, large.stderr) == (1, "corewar: -: more than 20 MB of memory\n")
+
+
+def test_streams_that_are_closed_or_no_text(run: Run) -> None:
+    """A stream that isn't there takes nothing and gives nothing; bytes that are no text are no end of a session."""
+    words = "import os, sys; [os.close(n) for n in map(int, sys.argv[1])]; os.execv(sys.argv[2], sys.argv[2:])"
+    for closed in ("0", "1", "01", "012"):
+        for command in ("why", "debug"):
+            given = [sys.executable, "-c", words, closed, str(EXAMPLES.parent / "corewar"), command]
+            done = subprocess.run(
+                [*given, str(EXAMPLES / "imp.red")], stdin=subprocess.DEVNULL, capture_output=True, text=True
+            )
+            assert (done.returncode, done.stderr) == (0, ""), (closed, command)
+    assert run("debug", "@imp", given=b"step\n\xff\nstep\n").stdout.count("turn 2:") == 1
+
+
+def test_names_of_files_that_are_no_text(run: Run, tmp_path: Path) -> None:
+    """A file's name stands in for a warrior's, with `?` for what a terminal or a page can't be given."""
+    name = os.fsdecode(b"a\xff\x1b[31m.red")
+    (tmp_path / name).write_text("mov 0, 1\n")
+    assert run("why", name).stdout == "Nobody died: the battle is over: a??[31m.red lives.\n"
+    assert run("page", "-o", "a.html", name).returncode == 0
+    assert run("rounds", "--pages", "folder", name).returncode == 0
+    assert "a??[31m.red by Anonymous" in run("fight", name).stdout
+    pages = run("league", "--pages", "league", "--page-pairs", f"{name},imp", name, "@imp")
+    assert pages.returncode == 0 and 'href="a%FF%1B%5B31m-imp/' in (tmp_path / "league" / "index.html").read_text()
+
+
+def test_names_are_no_formulas(run: Run, tmp_path: Path) -> None:
+    """`$` and `_` have a meaning in matplotlib."""
+    (tmp_path / "odd.red").write_text(";name _a$x^$\n;author $\\frac$\nmov 0, 1\n")
+    for words in (["picture", "-o", "a.svg"], ["league", "--picture", "b.svg", "@dwarf"]):
+        done = run(*words, "odd.red")
+        assert (done.returncode, done.stderr) == (0, ""), words
+
+
+def test_numbers_and_names_that_none_has(run: Run) -> None:
+    """Neither a number of thousands of digits nor an empty name of a file is a traceback, or is passed over."""
+    long = "1" * 5000
+    for words, told in (
+        (["why", "--of", long, "@imp"], "is no warrior"),
+        (["changed", "--cell", long, "@imp"], "is no label"),
+        (["picture", "--cells", f"0-{long}", "@imp"], "isn't A-B"),
+        (["why", "--source-limit", long, "@imp"], "isn't S or S,MB"),
+        (["debug", "--round", long[:30], "@imp"], "is not in the range"),
+        (["picture", "-o", "a.xyz", "@imp"], "its name ends in .png, .svg or .pdf"),
+        (["page", "-o", "", "@imp"], "a name is asked for"),
+        (["rounds", "--pages", "", "@imp"], "a name is asked for"),
+        (["league", "--results", "", "@imp", "@dwarf"], "a name is asked for"),
+    ):
+        done = run(*words)
+        assert done.returncode == 2 and told in done.stderr and "Traceback" not in done.stderr, words
+    memory = run("picture", "-o", "a.png", "--rows", 1000000, "--columns", 8000, "-c", 1000000, "@imp")
+    assert (memory.returncode, memory.stderr) == (1, "corewar: out of memory\n")
+
+
+def test_ctrl_c_ends_a_match(tmp_path: Path) -> None:
+    """One call of the library fights all rounds, and isn't waited for."""
+    words = ["fight", "-r", "100000", "-c", "10000000", *[str(EXAMPLES / f"{name}.red") for name in ("imp", "dwarf")]]
+    with subprocess.Popen([EXAMPLES.parent / "corewar", *words], stderr=subprocess.PIPE, text=True) as process:
+        status = Path(f"/proc/{process.pid}/task")
+        while process.poll() is None and len([*status.iterdir()]) < 2:
+            time.sleep(0.05)
+        time.sleep(0.5)
+        process.send_signal(signal.SIGINT)
+        assert process.communicate(timeout=20) == (None, "\ncorewar: stopped\n") and process.returncode == 130

@@ -1,7 +1,6 @@
 """What pictures and pages say of a battle: who fought, how it ended, and by which settings."""
 from __future__ import annotations
 
-import os
 import shlex
 
 from ..battle.history import History
@@ -52,7 +51,8 @@ def words(history: History) -> list[str]:
         text for name, value in numbers.items() if value != usual[name] for text in (NUMBERS[name].word, str(value))
     ]
     told += ["--round", str(history.round)] if history.round else []
-    return [*told, *(os.fspath(warrior.file) for warrior in fight.warriors)]
+    # The name of a file isn't taken for an option.
+    return [*told, *(f"./{one.file}" if one.file[:1] == "-" < one.file else one.file for one in fight.warriors)]
 
 
 def command(history: History, subcommand: str) -> str:

@@ -32,8 +32,8 @@ def cause_told(teller: Teller, address: int, turn: int) -> list[str]:
     """How a cell came about up to a turn: its last change, and that of its opcode."""
     history = teller.history
     found, became = last_change(history, address, turn), last_change(history, address, turn, "op")
-    told = change_told(teller, address, turn)
-    if found is not None and became not in (None, found):
+    by_hand, told = history.by_hand(address, turn), change_told(teller, address, turn)
+    if found is not None and became not in (None, found) and (by_hand is None or by_hand[0] < (became or 0)):
         opcode = OPCODES[history.block(turn).cell(address, turn)["op"]]
         told += [f"It became a {opcode} in turn {became}:", *teller.lines(became or 0)]
     return told
@@ -75,6 +75,9 @@ def death_told(teller: Teller, warrior: int, count: int) -> Iterator[str]:
     death = history.death(warrior)
     if death is None:
         yield f"{name} lives after turn {history.end}, the last one."
+        return
+    if history.is_killed(warrior):
+        yield f"{name} was killed by hand behind turn {death}."
         return
     yield f"{name} died in turn {death}:"
     yield from teller.lines(death)

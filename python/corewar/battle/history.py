@@ -8,7 +8,8 @@ from __future__ import annotations
 
 from collections.abc import Iterator
 from dataclasses import dataclass
-from functools import cached_property, lru_cache
+from functools import cached_property, lru_cache, partial
+from itertools import count
 
 import numpy as np
 from numpy.lib.recfunctions import repack_fields
@@ -16,6 +17,8 @@ from numpy.typing import NDArray
 
 from ..engine.calls import Match, State, count_turns, record, state
 from ..model.cells import Cells, Records
+from ..model.faults import Refused
+from ..model.settings import whole
 
 # How many turns a block has, and how many blocks are kept: 5 to 10 MB each.
 BLOCK, KEPT = 65_536, 24
@@ -140,8 +143,22 @@ class History:
         self.warriors = fight.warriors[round % len(fight.warriors) :] + fight.warriors[: round % len(fight.warriors)]
         self.names = distinct([warrior.called for warrior in self.warriors])
         self.segments = [Segment((), 0, count_turns(fight, round))]
-        self._blocks = lru_cache(maxsize=KEPT)(self._ask)
+        self._blocks = lru_cache(maxsize=KEPT)(partial(ask, fight, round))
         self._written: dict[int, tuple[Owners, NDArray[np.int64]]] = {}
+
+    def warrior(self, named: str) -> int:
+        """A warrior by its number in the order of turns, by its name or by its file. Raises Refused."""
+        number = whole(named)
+        if number is not None and number < len(self.names):
+            return number
+        for names, name in ((self.names, named), ([name.lower() for name in self.names], named.lower())):
+            if name in names:
+                return names.index(name)
+        for number, warrior in enumerate(self.warriors):
+            if named and named in warrior.files:
+                return number
+        told = ", ".join(f"{number} {name}" for number, name in enumerate(self.names))
+        raise Refused(f"`{named}` is no warrior: {told}")
 
     @property
     def end(self) -> int:
@@ -152,10 +169,6 @@ class History:
     def edits(self) -> tuple[tuple[int, str], ...]:
         """The edits by hand, each a line of the debugger, with the turn behind which it was made."""
         return tuple((segment.first, segment.lines[-1]) for segment in self.segments[1:])
-
-    def _ask(self, lines: tuple[str, ...], first: int, skipped: int, count: int) -> Block:
-        start = state(self.fight, self.round, lines, skipped)
-        return Block(first + skipped, start, record(self.fight, self.round, lines, skipped, count))
 
     def _segment(self, turn: int) -> Segment:
         """The segment in which the battle stands after a turn, and after the edits that were made behind it."""
@@ -226,6 +239,14 @@ class History:
         """The turn in which a warrior dies."""
         return next((int(turns) for number, turns in self.ending.deaths.tolist() if number == warrior), None)
 
+    def is_killed(self, warrior: int) -> bool:
+        """Whether a warrior died by hand, and not in a turn of its own."""
+        turn = self.death(warrior)
+        if turn is None or turn == 0:
+            return turn == 0
+        record = self.record(turn)
+        return not record["died"] or int(record["warrior"]) != warrior
+
     def owners(self, turn: int) -> Owners:
         """Of each cell who changed it last up to a turn, or was loaded there: a warrior's number, NOBODY or BY_HAND."""
         return self.written(turn)[0]
@@ -292,13 +313,23 @@ class History:
         return made
 
 
+def ask(fight: Match, round: int, lines: tuple[str, ...], first: int, skipped: int, count: int) -> Block:
+    """So many turns of a segment, without the first `skipped`, by the machine."""
+    start = state(fight, round, lines, skipped)
+    return Block(first + skipped, start, record(fight, round, lines, skipped, count))
+
+
 def run_lines(turns: int) -> list[str]:
     """The lines of the debugger that make so many turns."""
     return [f"run {min(LONGEST_RUN, turns - made)}" for made in range(0, turns, LONGEST_RUN)]
 
 
 def distinct(names: list[str]) -> list[str]:
-    """Names that tell warriors apart: those of several have a number behind them."""
-    return [
-        f"{name} {names[:place].count(name) + 1}" if names.count(name) > 1 else name for place, name in enumerate(names)
-    ]
+    """Names that tell warriors apart: those of several have a number behind them that makes none of the others."""
+    made: list[str] = []
+    for name in names:
+        new, numbers = name, count(1)
+        while names.count(name) > 1 and new in (*names, *made):
+            new = f"{name} {next(numbers)}"
+        made.append(new)
+    return made

@@ -29,6 +29,6 @@ def rounds_of(fight: Match, count: int) -> Iterator[Round]:
         yield Round(history, tuple("loss" if place in dead else survived for place in places))
 
 
-def sums(rounds: list[Round]) -> list[list[int]]:
-    """For each warrior how many rounds it has won, tied and lost."""
-    return [[told.count(outcome) for outcome in OUTCOMES] for told in zip(*(one.outcomes for one in rounds))]
+def sums(outcomes: list[tuple[str, ...]]) -> list[list[int]]:
+    """For each warrior how many rounds it has won, tied and lost, by the outcomes of each."""
+    return [[told.count(outcome) for outcome in OUTCOMES] for told in zip(*outcomes)]

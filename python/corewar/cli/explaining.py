@@ -8,8 +8,8 @@ import click
 from ..engine.sources import read_file, read_warriors
 from ..explain import excerpt, mend, read_faults, read_otherwise, told, told_of
 from ..model.faults import Fault, FileFault, Refused
+from ..model.warriors import printable
 from .options import Asked, battle_options
-from .telling import printable
 
 
 class Explain(click.Command):

@@ -20,11 +20,10 @@ from ..league.places import cluster, threads
 from ..league.results import Results
 from ..league.table import FORMATS, League
 from ..model.faults import FileFault
-from ..model.warriors import Warrior
-from .options import Asked, battle_options
-from .telling import printable, tell, tell_fault
+from ..model.warriors import Warrior, printable
+from .options import Asked, Output, Picture, battle_options
+from .telling import tell, tell_fault
 
-PICTURES = (".png", ".svg", ".pdf")
 ADDRESS = re.compile(r"(tcp://)?(\[[0-9a-fA-F:]+\]|[^\s/:\[\]]+):\d+")
 TURNED = "{} of {} matches are kept the other way round alone: those are other matches, so these are fought"
 
@@ -33,8 +32,6 @@ def writable(context: click.Context, param: click.Parameter, path: str | None) -
     """A file that can be made where it isn't there."""
     if path is not None and not Path(path).absolute().parent.is_dir():
         raise click.BadParameter(f"there is no folder {Path(path).parent}")
-    if path is not None and param.name == "picture" and not path.endswith(PICTURES):
-        raise click.BadParameter(f"its name ends in {', '.join(PICTURES[:-1])} or {PICTURES[-1]}")
     return path
 
 
@@ -44,7 +41,7 @@ def address(context: click.Context, param: click.Parameter, given: str | None) -
     return given
 
 
-FILE = click.Path(dir_okay=False, writable=True)
+FILE = Output(dir_okay=False, writable=True)
 PLACE = [
     click.option("--results", type=FILE, callback=writable, help="Keeps results here, and fights none that are here."),
     click.option(
@@ -147,8 +144,13 @@ def write(text: str, output: str | None) -> None:
 )
 @click.option("--format", "form", type=click.Choice(list(FORMATS)), default="table", show_default=True)
 @click.option("-o", "--output", type=FILE, callback=writable, help="Writes the table there.")
-@click.option("--picture", type=FILE, callback=writable, help="Draws who beats whom, as .png, .svg or .pdf.")
-@click.option("--pages", type=click.Path(file_okay=False), help="Writes index.html there, with table and matrix.")
+@click.option(
+    "--picture",
+    type=Picture(dir_okay=False, writable=True),
+    callback=writable,
+    help="Draws who beats whom, as .png, .svg or .pdf.",
+)
+@click.option("--pages", type=Output(file_okay=False), help="Writes index.html there, with table and matrix.")
 @click.option("--page-pairs", "named", multiple=True, metavar="A,B", help="Two files that have a replay, too.")
 def league(asked: Asked, hall: Hall, order: str, form: str, **files: Any) -> int:
     """Fights a match of every two warriors.
@@ -179,15 +181,10 @@ def league(asked: Asked, hall: Hall, order: str, form: str, **files: Any) -> int
 
 def pair_of(warriors: Sequence[Warrior], names: str) -> tuple[int, int]:
     """The two warriors that `A,B` names, by their files with or without folder and ending, in the order of files."""
-    found = [number for name in names.split(",") for number, one in enumerate(warriors) if name in names_of(one)]
+    found = [number for name in names.split(",") for number, one in enumerate(warriors) if name in one.files]
     if len(found) != 2 or found[0] == found[1] or names.count(",") != 1:
         raise click.BadParameter(f"{names} doesn't name two of the files, as in dwarf,imp", param_hint="--page-pairs")
     return min(found), max(found)
-
-
-def names_of(warrior: Warrior) -> tuple[str, str, str]:
-    path = Path(warrior.file)
-    return warrior.file, path.name, path.stem
 
 
 def write_pages(result: League, folder: str, pairs: list[tuple[int, int]]) -> None:
@@ -230,5 +227,5 @@ def lines_of(matches: Matches) -> list[str]:
     opponents = [matches.warriors[number] for number in matches.pairs[:, 1].tolist()]
     width = max((len(one.file) for one in opponents), default=0)
     lines = sorted(zip(matches.counts.tolist(), opponents), key=lambda line: -int(line[0][0]))
-    told = [f"{row_of(counts)}  {printable(one.file):{width}}  {one.title}" for counts, one in lines]
+    told = [f"{row_of(counts)}  {printable(one.file):{width}}  {printable(one.title)}" for counts, one in lines]
     return ["  points   wins   ties losses   theirs  opponent", *told]

@@ -7,7 +7,9 @@ from ..analysis.causes import change_told, death_told
 from ..analysis.telling import Teller
 from ..battle.history import History
 from ..battle.labels import Sources
-from .options import Asked, battle_options, warrior_of
+from ..model.faults import Refused
+from ..model.settings import whole
+from .options import Asked, battle_options
 
 TURNS = click.option("--turns", type=click.IntRange(1), help="How many turns are told.")
 
@@ -15,6 +17,13 @@ TURNS = click.option("--turns", type=click.IntRange(1), help="How many turns are
 def teller_of(asked: Asked) -> Teller:
     history = History(asked.fight(), asked.round)
     return Teller(history, Sources(history))
+
+
+def warrior_of(history: History, named: str) -> int:
+    try:
+        return history.warrior(named)
+    except Refused as fault:
+        raise click.BadParameter(str(fault), param_hint="--of") from None
 
 
 @click.command()
@@ -60,8 +69,8 @@ def trace(asked: Asked, first: int | None, turns: int | None) -> None:
 def changed(asked: Asked, named: str, before: int | None) -> None:
     """Tells the last turn that changed a cell."""
     teller = teller_of(asked)
-    address = teller.sources.addresses.get(named, int(named) if named.isdecimal() else -1)
-    if not 0 <= address < teller.history.core:
+    address = teller.sources.addresses.get(named, whole(named))
+    if address is None or address >= teller.history.core:
         raise click.BadParameter(
             f"{named} is no label, and no address below {teller.history.core}", param_hint="--cell"
         )

@@ -48,8 +48,19 @@ def commands() -> None:
     """Core War over a proved machine: fights, leagues, pictures, and a debugger that goes back and forth."""
 
 
+def open_streams() -> None:
+    """A stream that was closed before the start is the null device, and what is no text in another one is `?`."""
+    for name, mode in (("stdin", "r"), ("stdout", "w"), ("stderr", "w")):
+        stream = getattr(sys, name)
+        if stream is None:
+            setattr(sys, name, open(os.devnull, mode))
+        else:
+            stream.reconfigure(errors="replace")
+
+
 def main() -> None:
     """Runs the command. What can't be done is told in one line, and no traceback reaches a user."""
+    open_streams()
     try:
         status = commands.main(prog_name="corewar", standalone_mode=False)
         sys.stdout.flush()
@@ -62,6 +73,9 @@ def main() -> None:
         sys.exit(130)
     except Refused as fault:
         tell_fault(fault)
+        sys.exit(1)
+    except MemoryError:
+        tell("out of memory")
         sys.exit(1)
     except OSError as fault:
         if not isinstance(fault, BrokenPipeError):

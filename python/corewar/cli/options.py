@@ -2,18 +2,17 @@
 from __future__ import annotations
 
 import functools
-import os
 from collections.abc import Callable
 from dataclasses import dataclass, replace
 from typing import Any
 
 import click
 
-from ..battle.history import History
 from ..engine.calls import Match
 from ..engine.sources import Limit, read_warriors
-from ..model.settings import FORMULA, HILLS, NUMBERS, Settings
+from ..model.settings import FORMULA, HILLS, NUMBERS, Settings, whole
 
+PICTURES = (".png", ".svg", ".pdf")
 HELP = {"help_option_names": ["-h", "--help"], "max_content_width": 120}
 
 
@@ -36,16 +35,22 @@ class Asked:
         return Match(warriors, self.settings, self.seed, self.position, self.rounds)
 
 
-def warrior_of(history: History, named: str) -> int:
-    """The number of a warrior in the order of turns, by that, by its name or by its file."""
-    files = [os.path.basename(warrior.file) for warrior in history.warriors]
-    stems = [file.removesuffix(".red") for file in files]
-    for names in (history.names, files, stems, [name.lower() for name in history.names]):
-        if named in names:
-            return names.index(named)
-    if named.isdecimal() and int(named) < len(files):
-        return int(named)
-    raise click.BadParameter(f"{named} is none of {', '.join(history.names)}")
+class Output(click.Path):
+    """A file or a folder that is written. Its name isn't empty."""
+
+    def convert(self, value: Any, param: click.Parameter | None, context: click.Context | None) -> Any:
+        if not value:
+            self.fail("a name is asked for", param, context)
+        return super().convert(value, param, context)
+
+
+class Picture(Output):
+    """A file that is a picture, of the kind that its name ends in."""
+
+    def convert(self, value: Any, param: click.Parameter | None, context: click.Context | None) -> Any:
+        if not str(value).endswith(PICTURES):
+            self.fail(f"its name ends in {', '.join(PICTURES[:-1])} or {PICTURES[-1]}", param, context)
+        return super().convert(value, param, context)
 
 
 class LimitType(click.ParamType):
@@ -56,10 +61,10 @@ class LimitType(click.ParamType):
     def convert(self, value: Any, param: click.Parameter | None, context: click.Context | None) -> Limit:
         if isinstance(value, Limit):
             return value
-        parts = str(value).split(",")
-        if not 1 <= len(parts) <= 2 or not all(part.isdecimal() and 0 < int(part) <= 1_000_000 for part in parts):
+        numbers = [whole(part) or 0 for part in str(value).split(",")]
+        if not 1 <= len(numbers) <= 2 or not all(1 <= number <= 1_000_000 for number in numbers):
             self.fail(f"{value} isn't S or S,MB, with numbers from 1 to 1000000", param, context)
-        return replace(Limit(), **dict(zip(("seconds", "megabytes"), map(int, parts))))
+        return replace(Limit(), **dict(zip(("seconds", "megabytes"), numbers)))
 
 
 def number_option(name: str, **how: Any) -> Callable[[Any], Any]:
@@ -94,7 +99,11 @@ CONTEST = [
     ),
 ]
 ROUND = click.option(
-    "--round", "round_", type=click.IntRange(0), default=0, help="Which round of the match, from 0 on."
+    "--round",
+    "round_",
+    type=click.IntRange(0, NUMBERS["rounds"].greatest - 1),
+    default=0,
+    help="Which round of the match, from 0 on.",
 )
 
 

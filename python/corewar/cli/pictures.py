@@ -3,34 +3,35 @@ from __future__ import annotations
 
 import os
 from collections.abc import Callable
+from pathlib import Path
 from typing import Any
 
 import click
 
 from ..battle.frames import parts
 from ..battle.history import History
-from .options import Asked, battle_options
+from ..model.settings import whole
+from .options import Asked, Output, Picture, battle_options
 
 # A battle of few turns is shown turn by turn.
 FEW_TURNS, FRAMES = 2000, 600
 
 
-def part_options(command: Callable[..., Any]) -> Callable[..., Any]:
-    """The options that say which part of a battle is shown, and where."""
+def part_options(kind: Output) -> Callable[[Callable[..., Any]], Callable[..., Any]]:
+    """The options that say which part of a battle is shown, and in which kind of file."""
     options = [
         click.option("--from", "first", type=click.IntRange(1), default=1, help="The first turn that is shown."),
         click.option("--turns", type=click.IntRange(1), help="How many turns are shown; without it all that follow."),
-        click.option(
-            "-o",
-            "--output",
-            type=click.Path(dir_okay=False),
-            help="The file that is written; one that is there is written over.",
-        ),
+        click.option("-o", "--output", type=kind, help="The file that is written; one that is there is written over."),
         click.option("--force", is_flag=True, help="Writes over battle.html or battle.png."),
     ]
-    for option in reversed(options):
-        command = option(command)
-    return command
+
+    def decorate(command: Callable[..., Any]) -> Callable[..., Any]:
+        for option in reversed(options):
+            command = option(command)
+        return command
+
+    return decorate
 
 
 def ends_of(history: History, first: int, turns: int | None, count: int) -> list[int]:
@@ -50,7 +51,7 @@ def named(output: str | None, usual: str, force: bool) -> str:
 
 @click.command()
 @battle_options(one_round=True)
-@part_options
+@part_options(Picture(dir_okay=False))
 @click.option("--cells", metavar="A-B", help="The cells that are shown; without it the whole core.")
 @click.option("--columns", type=click.IntRange(1), default=400, show_default=True, help="At most so many columns.")
 @click.option("--rows", type=click.IntRange(1), default=300, show_default=True, help="At most so many rows.")
@@ -81,15 +82,16 @@ def picture(
 
 def cells_of(text: str | None, core: int) -> range:
     """The cells that `A-B` says, or the whole core."""
-    low, _, high = (text or f"0-{core - 1}").partition("-")
-    if not (low.isdecimal() and high.isdecimal() and int(low) <= int(high) < core):
+    first, _, last = (text or f"0-{core - 1}").partition("-")
+    low, high = whole(first), whole(last)
+    if low is None or high is None or not low <= high < core:
         raise click.BadParameter(f"{text} isn't A-B, from 0 to {core - 1}", param_hint="--cells")
-    return range(int(low), int(high) + 1)
+    return range(low, high + 1)
 
 
 @click.command()
 @battle_options(one_round=True)
-@part_options
+@part_options(Output(dir_okay=False))
 @click.option(
     "--frames", type=click.IntRange(1), help="At most so many frames; without it 600, or each turn where there are few."
 )
@@ -97,11 +99,11 @@ def page(asked: Asked, first: int, turns: int | None, output: str | None, force:
     """Writes a page for a browser that replays a battle, back and forth, with all that it needs in one file;
     battle.html without -o.
     """
+    from ..pages.render import write_page
     from ..pages.replay import page_of
 
     output = named(output, "battle.html", force)
     history = History(asked.fight(), asked.round)
     ends = ends_of(history, first, turns, frames or (FEW_TURNS if history.end <= FEW_TURNS else FRAMES))
-    with open(output, "w", encoding="utf-8") as file:
-        file.write(page_of(history, ends))
+    write_page(Path(output), page_of(history, ends))
     click.echo(f"{output}: {len(ends) - 1} frames")

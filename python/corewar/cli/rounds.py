@@ -1,14 +1,35 @@
 """`fight` and `rounds`: a match, and how each of its rounds ends."""
 from __future__ import annotations
 
+from concurrent.futures import Future
+from threading import Thread
+
 import click
 
 from ..analysis.captions import command
 from ..battle.rounds import rounds_of, sums
-from ..engine.calls import match
+from ..engine.calls import Match, match
 from ..model.faults import Refused
-from .options import Asked, battle_options
-from .telling import printable
+from ..model.results import Row
+from ..model.settings import FORMULA
+from ..model.warriors import printable
+from .options import Asked, Output, battle_options
+
+
+def rows_of(asked: Asked, fought: Match, formula: str) -> list[Row]:
+    """The rows of a match, of which one call of the library fights all rounds. Ctrl-C doesn't wait for it, since it is
+    made by another thread.
+    """
+    rows: Future[list[Row]] = Future()
+
+    def call() -> None:
+        try:
+            rows.set_result(match(fought.warriors, asked.rounds, asked.seed, asked.settings, asked.position, formula))
+        except Exception as fault:
+            rows.set_exception(fault)
+
+    Thread(target=call, daemon=True).start()
+    return rows.result()
 
 
 @click.command()
@@ -16,7 +37,7 @@ from .telling import printable
 def fight(asked: Asked) -> None:
     """Fights a match, and writes its table: points, wins, ties and losses of each warrior."""
     fought = asked.fight()
-    rows = match(fought.warriors, asked.rounds, asked.seed, asked.settings, asked.position, asked.formula)
+    rows = rows_of(asked, fought, asked.formula)
     click.echo("  points   wins   ties losses  warrior")
     for row, warrior in zip(rows, fought.warriors):
         click.echo(f"{row.points:8} {row.wins:6} {row.ties:6} {row.losses:6}  {printable(warrior.title)}")
@@ -27,7 +48,7 @@ def fight(asked: Asked) -> None:
 @click.option(
     "--pages",
     metavar="FOLDER",
-    type=click.Path(file_okay=False),
+    type=Output(file_okay=False),
     help="Writes a page for each round there, and an index.",
 )
 def rounds(asked: Asked, pages: str | None) -> None:
@@ -37,19 +58,23 @@ def rounds(asked: Asked, pages: str | None) -> None:
     for number, warrior in enumerate(fought.warriors):
         click.echo(f"warrior {number}: {printable(warrior.title)}")
     click.echo(f"round {'outcome':{width}} {'turns':>7}  to debug it")
-    played = []
+    if pages:
+        from ..pages.match import Pages
+
+        written = Pages(pages, fought)
+    outcomes = []
     for one in rounds_of(fought, asked.rounds):
         told, words = "".join(f"{what:5}" for what in one.outcomes), printable(command(one.history, "debug"))
         click.echo(f"{one.history.round:5} {told:{max(width, 7)}} {one.history.end:7}  {words}")
-        played.append(one)
-    counted = sums(played)
+        outcomes.append(one.outcomes)
+        if pages:
+            written.write_round(one)
+    counted = sums(outcomes)
     for number, (wins, ties, losses) in enumerate(counted):
         click.echo(f"warrior {number}: {wins} wins, {ties} ties, {losses} losses")
-    rows = match(fought.warriors, asked.rounds, asked.seed, asked.settings, asked.position)
+    rows = rows_of(asked, fought, FORMULA)
     if counted != [[row.wins, row.ties, row.losses] for row in rows]:
         raise Refused("the table of the match has other sums")
     if pages:
-        from ..pages.match import write_match
-
-        write_match(pages, played)
-        click.echo(f"{pages}: {len(played)} pages")
+        written.write_index()
+        click.echo(f"{printable(pages)}: {len(outcomes)} pages")

@@ -5,11 +5,7 @@ import click
 
 from ..explain import told
 from ..model.faults import Fault, FileFault, Refused
-
-
-def printable(text: str) -> str:
-    """The text with `?` for each character that isn't shown, or that a terminal obeys: names may be a stranger's."""
-    return "".join(letter if letter.isprintable() else "?" for letter in text)
+from ..model.warriors import printable
 
 
 def tell(text: str) -> None:

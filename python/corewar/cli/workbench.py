@@ -8,6 +8,7 @@ import click
 
 from ..engine.binding import CHECKOUT, INSTALLED
 from ..model.faults import Refused
+from .options import Output
 
 # Where examples lie: those of the checkout, or those that are installed.
 EXAMPLES = [CHECKOUT / "examples", *(folder / "share" / "doc" / "mars" / "examples" for folder in INSTALLED)]
@@ -17,7 +18,7 @@ EXAMPLES = [CHECKOUT / "examples", *(folder / "share" / "doc" / "mars" / "exampl
 @click.option("--port", type=click.IntRange(0, 65535), default=0, help="The port; a free one without it.")
 @click.option("--browser/--no-browser", default=True, help="Whether the browser is opened.")
 @click.option(
-    "--results", type=click.Path(dir_okay=False), help="Keeps the results of leagues here, as `corewar league` does."
+    "--results", type=Output(dir_okay=False), help="Keeps the results of leagues here, as `corewar league` does."
 )
 @click.argument("files", nargs=-1, type=click.Path(exists=True))
 def web(port: int, browser: bool, results: str | None, files: tuple[str, ...]) -> None:

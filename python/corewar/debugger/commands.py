@@ -10,6 +10,7 @@ from ..analysis.causes import cause_told, change_told, death_told
 from ..analysis.telling import processes
 from ..battle.history import History
 from ..model.faults import Refused
+from ..model.settings import whole
 from .session import MOST_FILLED, Session
 
 Act = Callable[[Session, str], Iterable[str]]
@@ -167,10 +168,11 @@ def set_break(session: Session, rest: str) -> Iterator[str]:
 def delete(session: Session, rest: str) -> Iterator[str]:
     if rest == "all":
         session.breaks.clear()
-    elif rest.isdecimal() and int(rest) < len(session.breaks):
-        del session.breaks[int(rest)]
     else:
-        raise Refused(f"there is no break `{rest}`: delete takes a number, or `all`")
+        number = whole(rest)
+        if number is None or number >= len(session.breaks):
+            raise Refused(f"there is no break `{rest}`: delete takes a number, or `all`")
+        del session.breaks[number]
     yield from set_break(session, "")
 
 

@@ -19,12 +19,15 @@ from prompt_toolkit.lexers import PygmentsLexer
 from pygments.lexers.esoteric import RedcodeLexer
 
 from ..battle.conditions import OF_CELLS, OF_WARRIORS
+from ..engine.sources import read_file
 from ..model.faults import Refused
 from .commands import COMMANDS, Command, Left, execute, find_command
 from .session import Session
 
 # The colours of warriors, as a terminal numbers them.
 PAINTS = (91, 94, 92, 93, 95, 96, 31, 34, 32, 33, 35, 36)
+# So deep files of lines may name files of lines.
+DEEPEST = 8
 
 
 def paint(number: int, text: str) -> str:
@@ -70,35 +73,54 @@ class Runner:
     def __init__(self, session: Session, show: Callable[[str], None]) -> None:
         self.session, self.show = session, show
         self.log: TextIO | None = None
+        self.depth = 0
 
     def make(self, line: str) -> None:
         """Makes a line, and shows what it tells. Raises Left."""
         word, _, file = line.strip().partition(" ")
         try:
-            if word == "log":
+            name = find_command(word).name if word else ""
+            if name == "log":
                 self.begin_log(file)
-            elif word == "source":
+            elif name == "source":
                 self.make_all(file)
-            elif word:
+            elif name:
                 self.show("\n".join(execute(self.session, line)))
-                if self.log:
-                    print(line.strip(), file=self.log, flush=True)
+                self.keep(line.strip())
         except Refused as fault:
             self.show(str(fault))
-        except OSError as fault:
-            self.show(f"{file}: {fault.strerror}")
 
     def begin_log(self, file: str) -> None:
         """From here on writes each line that was made into a file, which `source` makes again."""
-        if self.log:
-            self.log.close()
-        self.log = open(file, "x") if file else None
+        log, self.log = self.log, None
+        if log:
+            log.close()
+        try:
+            self.log = open(file, "x") if file else None
+        except (OSError, ValueError) as fault:
+            raise Refused(f"{file}: {fault.strerror if isinstance(fault, OSError) else fault}") from None
+
+    def keep(self, line: str) -> None:
+        """Writes a line that was made. Where that can't be done, no further one is written."""
+        if self.log is None:
+            return
+        try:
+            print(line, file=self.log, flush=True)
+        except OSError as fault:
+            name, self.log = self.log.name, None
+            raise Refused(f"{name}: {fault.strerror}") from None
 
     def make_all(self, file: str) -> None:
-        """Makes the lines of a file."""
-        with open(file, errors="replace") as lines:
-            for line in lines:
+        """Makes the lines of a file, of which some may name files, too."""
+        if self.depth == DEEPEST:
+            raise Refused(f"{file}: files name files more than {DEEPEST} deep")
+        self.depth += 1
+        try:
+            # All of it is read first: it may be the log, which grows.
+            for line in read_file(file).decode("utf-8", "replace").splitlines():
                 self.make(line)
+        finally:
+            self.depth -= 1
 
 
 COMMANDS["source"] = Command("source FILE", "makes the lines of a file", (), False, lambda *_: [])
@@ -119,13 +141,13 @@ def run_lines(session: Session, lines: Iterable[str]) -> None:
 
 def state_file() -> Path | None:
     """The file of the lines that were typed before, where it can be written."""
-    folder = Path(os.environ.get("XDG_STATE_HOME") or Path.home() / ".local" / "state") / "corewar"
     try:
+        folder = Path(os.environ.get("XDG_STATE_HOME") or Path.home() / ".local" / "state") / "corewar"
         folder.mkdir(parents=True, exist_ok=True)
         (folder / "debug").touch()
-    except OSError:
+    except (OSError, RuntimeError):
         return None
-    return folder / "debug"
+    return folder / "debug" if (folder / "debug").is_file() else None
 
 
 def run_prompt(session: Session, coloured: bool) -> None:

@@ -13,6 +13,7 @@ from ..battle.history import History
 from ..battle.labels import Sources
 from ..engine.calls import load_file
 from ..model.faults import Fault, Refused
+from ..model.settings import whole
 
 # The most cells that one edit fills, as the debugger of the program has it.
 MOST_FILLED = 1_000_000
@@ -83,29 +84,23 @@ class Session:
         return found[1]
 
     def number(self, text: str, what: str) -> int:
-        if not text.isdecimal() or len(text) > 18:
+        found = whole(text)
+        if found is None:
             raise Refused(f"`{text}` is no number of {what}")
-        return int(text)
+        return found
 
     def address(self, text: str) -> int:
         """An address: a number, a label, or `.`, where the next process stands; each with +N or -N behind it."""
         found = re.fullmatch(r"(\.|[\w.]+?)((?:[+-]\d{1,9})*)", text)
         base = found[1] if found else ""
-        at: int | None = self.history.head(self.turn) if base == "." else self.sources.addresses.get(base)
-        if at is None and not (base.isdecimal() and int(base) < self.history.core):
+        at = self.history.head(self.turn) if base == "." else self.sources.addresses.get(base, whole(base))
+        if found is None or at is None or at >= self.history.core:
             raise Refused(f"`{text}` is no address: a number below {self.history.core}, a label, or `.`, with +N or -N")
-        offset = sum(map(int, re.findall(r"[+-]\d+", found[2]))) if found else 0
-        return ((int(base) if at is None else at) + offset) % self.history.core
+        return (at + sum(map(int, re.findall(r"[+-]\d+", found[2])))) % self.history.core
 
     def warrior(self, text: str) -> int:
-        """A warrior by its number or its name."""
-        names = [name.lower() for name in self.names]
-        if text.lower() in names:
-            return names.index(text.lower())
-        if text.isdecimal() and int(text) < len(names):
-            return int(text)
-        told = ", ".join(f"{number} {name}" for number, name in enumerate(self.names))
-        raise Refused(f"`{text}` is no warrior: {told}")
+        """A warrior by its number, its name or its file."""
+        return self.history.warrior(text)
 
     def condition(self, words: Sequence[str]) -> Condition:
         """The condition that words say."""

@@ -122,8 +122,8 @@ def read_file(path: str) -> bytes:
     try:
         with open(0 if path == "-" else path, "rb", closefd=path != "-") as file:
             text = file.read(LARGEST_FILE + 1)
-    except OSError as fault:
-        raise FileFault(path, fault.strerror or "cannot read") from None
+    except (OSError, ValueError) as fault:
+        raise FileFault(path, getattr(fault, "strerror", "") or "cannot read") from None
     if len(text) > LARGEST_FILE:
         raise FileFault(path, "too large")
     return text

@@ -6,6 +6,7 @@ last second. Several processes may use one file.
 """
 from __future__ import annotations
 
+import os
 import shlex
 import sqlite3
 import time
@@ -34,7 +35,8 @@ class Results:
         self.new: list[tuple[Any, ...]] = []
         self.written = time.monotonic()
         with self.telling():
-            self.file = sqlite3.connect(path, timeout=PATIENCE)
+            # Some names mean no file to SQLite; a path isn't one of them.
+            self.file = sqlite3.connect(os.path.abspath(path), timeout=PATIENCE)
             self.file.execute(TABLE)
 
     def __enter__(self) -> Results:

@@ -49,7 +49,7 @@ class League:
 
     def titles(self) -> list[str]:
         """Each warrior that is shown, by its name or its file, and its author."""
-        return [f"{self.warriors[number].called} by {self.warriors[number].author}" for number in self.order]
+        return [self.warriors[number].title for number in self.order]
 
     def balances(self) -> NDArray[np.int64]:
         """The wins, ties and losses of each that is shown against each, in this order."""

@@ -4,10 +4,17 @@ from __future__ import annotations
 from dataclasses import dataclass
 
 FORMULA = "(W*W-1)/S"
+# No number that is asked for has more digits.
+MOST_DIGITS = 18
 # The most warriors of a match, and of a league.
 MOST_WARRIORS, MOST_OF_LEAGUE = 16, 65_536
 # The longest source or load file that is read, in bytes.
 LARGEST_FILE = 1_048_576
+
+
+def whole(text: str) -> int | None:
+    """The number that digits are; None for another text, and for more digits than any number that is asked for."""
+    return int(text) if text.isdecimal() and len(text) <= MOST_DIGITS else None
 
 
 @dataclass(frozen=True)

@@ -4,11 +4,17 @@ from __future__ import annotations
 import re
 from dataclasses import dataclass
 from functools import cached_property
+from pathlib import Path
 
 # The head of a load file of version 2.
 HEAD = re.compile(rb";load 2 \d+\n;name (.*)\n;author (.*)\n")
 # A start, which is an instruction's index.
 START = re.compile(rb"(ORG|END)\b\s*([+-]?\d+)?", re.IGNORECASE)
+
+
+def printable(text: str) -> str:
+    """The text with `?` for each character that isn't shown, or that a terminal obeys: names may be a stranger's."""
+    return "".join(letter if letter.isprintable() else "?" for letter in text)
 
 
 @dataclass(frozen=True)
@@ -36,13 +42,19 @@ class Warrior:
 
     @property
     def title(self) -> str:
-        """Its name and its author, as tables have them."""
-        return f"{self.name} by {self.author}"
+        """What it is called, and its author, as tables have them."""
+        return f"{self.called} by {self.author}"
 
     @property
     def called(self) -> str:
-        """Its name; that of its file where its text gives none."""
-        return self.file if self.name in ("", "Unknown") and self.file else self.name or "Unknown"
+        """Its name, which is printable; that of its file where its text gives none."""
+        return printable(self.file if self.name in ("", "Unknown") and self.file else self.name or "Unknown")
+
+    @property
+    def files(self) -> tuple[str, str, str]:
+        """By what its file is named: as it was given, without its folder, and without its ending, too."""
+        path = Path(self.file)
+        return self.file, path.name, path.stem
 
     @cached_property
     def _extent(self) -> tuple[int, int]:

@@ -1,16 +1,18 @@
 """The page of a league: its table, who beats whom, and links to the replays of some pairs."""
 from __future__ import annotations
 
+import os
 from collections.abc import Sequence
 from pathlib import Path
 from typing import Any
+from urllib.parse import quote
 
 from ..battle.frames import parts
 from ..battle.history import History, distinct
 from ..engine.calls import Match
 from ..league.table import League
 from ..pictures.shades import mixed
-from .render import render
+from .render import render, write_page
 from .replay import page_of
 
 # The matrix of more warriors is too much for a browser.
@@ -22,13 +24,13 @@ class Pages:
     """A folder with the page of a league, index.html, and a folder for each pair with a replay, named by its files."""
 
     def __init__(self, folder: Path, league: League, pairs: Sequence[tuple[int, int]]) -> None:
-        self.folder, self.league, self.pairs = folder, league, pairs
-        self.stems = distinct([Path(one.file).stem for one in league.warriors])
+        self.folder, self.league = folder, league
+        stems, pairs = [one.files[2] for one in league.warriors], [*dict.fromkeys(pairs)]
+        self.folders = dict(zip(pairs, distinct([f"{stems[one]}-{stems[other]}" for one, other in pairs])))
 
     def replay(self, one: int, other: int) -> str:
         """Where the replay of the first round of two warriors' match stands, below the folder."""
-        first, second = sorted((one, other))
-        return f"{self.stems[first]}-{self.stems[second]}/round-0.html"
+        return f"{self.folders[min(one, other), max(one, other)]}/round-0.html"
 
     def write_index(self) -> None:
         """Writes the page of the league, with links to replays that are to be written."""
@@ -45,10 +47,10 @@ class Pages:
             rows=[{**row, "title": title} for row, title in zip(league.rows, league.titles())],
             settings=[*told, f"points {contest.formula}"],
             lines=self.lines() if len(league.order) <= LARGEST_MATRIX else [],
-            is_linked=bool(self.pairs),
+            is_linked=bool(self.folders),
         )
         self.folder.mkdir(parents=True, exist_ok=True)
-        (self.folder / "index.html").write_text(page, encoding="utf-8", errors="replace")
+        write_page(self.folder / "index.html", page)
 
     def lines(self) -> list[list[dict[str, Any] | None]]:
         """The cells of the matrix, line by line; none where a warrior would meet itself."""
@@ -66,8 +68,8 @@ class Pages:
         wins, ties, losses = counts
         told = f"{wins} wins, {ties} ties, {losses} losses against {self.league.warriors[other].called}"
         ink = "#000" if sum(colour) > 3 * 130 else "#fff"
-        is_linked = (one, other) in self.pairs or (other, one) in self.pairs
-        link = self.replay(one, other) if is_linked else ""
+        is_linked = (min(one, other), max(one, other)) in self.folders
+        link = quote(os.fsencode(self.replay(one, other))) if is_linked else ""
         return {"wins": wins, "told": told, "ground": f"#{bytes(colour).hex()}", "ink": ink, "link": link}
 
     def write_replay(self, first: int, second: int) -> None:
@@ -76,5 +78,5 @@ class Pages:
         fighters = (warriors[first], warriors[second])
         history = History(Match(fighters, contest.settings, contest.seed, contest.position, contest.rounds))
         path = self.folder / self.replay(first, second)
-        path.parent.mkdir(parents=True, exist_ok=True)
-        path.write_text(page_of(history, parts(0, history.end, FRAMES)), encoding="utf-8", errors="replace")
+        path.parent.mkdir(exist_ok=True)
+        write_page(path, page_of(history, parts(0, history.end, FRAMES)))

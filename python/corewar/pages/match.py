@@ -1,25 +1,37 @@
 """The folder of a match: a page for each round, and an index."""
 from __future__ import annotations
 
-import os
+from pathlib import Path
+from typing import Any
 
 from ..analysis.captions import command
 from ..battle.frames import parts
 from ..battle.rounds import Round, sums
-from .render import render
+from ..engine.calls import Match
+from .render import render, write_page
 from .replay import page_of
 
 FRAMES = 600
 
 
-def write_match(folder: str, rounds: list[Round]) -> None:
-    """Writes index.html and the pages of these rounds into a folder, which is made where it isn't there."""
-    os.makedirs(folder, exist_ok=True)
-    told = []
-    for one in rounds:
-        page = f"round-{one.history.round}.html"
-        with open(os.path.join(folder, page), "w", encoding="utf-8") as file:
-            file.write(page_of(one.history, parts(0, one.history.end, FRAMES)))
-        told.append({"page": page, "one": one, "words": command(one.history, "debug")})
-    with open(os.path.join(folder, "index.html"), "w", encoding="utf-8") as file:
-        file.write(render("match.html.j2", warriors=rounds[0].history.fight.warriors, sums=sums(rounds), rounds=told))
+class Pages:
+    """A folder with a page for each round of a match, as it is played, and index.html behind the last one."""
+
+    def __init__(self, folder: str, fight: Match) -> None:
+        self.folder, self.fight = Path(folder), fight
+        self.rounds: list[dict[str, Any]] = []
+        self.folder.mkdir(parents=True, exist_ok=True)
+
+    def write_round(self, one: Round) -> None:
+        """Writes the page of a round."""
+        history = one.history
+        page = f"round-{history.round}.html"
+        write_page(self.folder / page, page_of(history, parts(0, history.end, FRAMES)))
+        told = {"number": history.round, "outcomes": one.outcomes, "end": history.end}
+        self.rounds.append({**told, "page": page, "words": command(history, "debug")})
+
+    def write_index(self) -> None:
+        """Writes the page of all rounds."""
+        counted = sums([one["outcomes"] for one in self.rounds])
+        index = render("match.html.j2", warriors=self.fight.warriors, sums=counted, rounds=self.rounds)
+        write_page(self.folder / "index.html", index)

@@ -2,6 +2,7 @@
 from __future__ import annotations
 
 from importlib.resources import files
+from pathlib import Path
 
 from jinja2 import Environment, PackageLoader, StrictUndefined
 from markupsafe import Markup
@@ -27,3 +28,8 @@ environment.globals["static"] = static
 def render(template: str, **fields: object) -> str:
     """A template with these fields."""
     return environment.get_template(template).render(**fields)
+
+
+def write_page(path: Path, text: str) -> None:
+    """Writes a page. What is no text in the name of a file is `?` in it."""
+    path.write_text(text, encoding="utf-8", errors="replace")

@@ -111,8 +111,7 @@ def pieces(history: History, ends: list[int]) -> Iterator[str]:
 def grave(history: History, warrior: int) -> int | None:
     """Where the process stood by whose end a warrior died; None where it lives, or died by hand."""
     death = history.death(warrior)
-    record = history.record(death) if death else None
-    return int(record["address"]) if record is not None and record["died"] and record["warrior"] == warrior else None
+    return None if death is None or history.is_killed(warrior) else int(history.record(death)["address"])
 
 
 def head_of(history: History) -> dict[str, Any]:

@@ -4,6 +4,7 @@ from __future__ import annotations
 from collections.abc import Sequence
 
 import numpy as np
+from matplotlib import rc_context
 from matplotlib.figure import Figure
 from matplotlib.patches import Patch
 from numpy.typing import NDArray
@@ -14,6 +15,8 @@ from .shades import LOST, TIED, WON, mixed
 CELL, SIDE, LETTER = 0.25, 20.0, 4.0
 
 
+# A name with `$` is no formula.
+@rc_context({"text.parse_math": False})  # type: ignore[misc]
 def draw(titles: Sequence[str], ranks: Sequence[int], balances: NDArray[np.int64], path: str) -> None:
     """Draws the wins, ties and losses of each against each, of the kind that the file's name ends in."""
     side = min(CELL * len(titles), SIDE)

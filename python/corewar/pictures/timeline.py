@@ -7,6 +7,7 @@ from __future__ import annotations
 from dataclasses import dataclass
 
 import numpy as np
+from matplotlib import rc_context
 from matplotlib.colors import to_rgb
 from matplotlib.figure import Figure
 from matplotlib.patches import Patch
@@ -63,6 +64,8 @@ def points(history: History, view: View) -> NDArray[np.float64]:
     return made
 
 
+# A name with `$` is no formula.
+@rc_context({"text.parse_math": False})  # type: ignore[misc]
 def draw(history: History, view: View, path: str) -> None:
     """Writes the picture of a battle to a file."""
     figure = Figure(figsize=(10, 7.5), layout="constrained")
@@ -78,7 +81,8 @@ def draw(history: History, view: View, path: str) -> None:
         death = history.death(warrior)
         if death is not None and first < death <= last:
             axes.axhline(death, color=colour, linestyle="dashed")
-    labels = [f"{name} {fate(history, number)}" for number, name in enumerate(history.names)]
+    # A label that begins with an underscore would be left out.
+    labels = [f" {name} {fate(history, number)}" for number, name in enumerate(history.names)]
     handles = [Patch(color=colour, label=label) for colour, label in zip(colours, labels)]
     axes.legend(
         handles=handles, loc="upper center", bbox_to_anchor=(0.5, -0.08), ncols=min(4, len(handles)), fontsize=8
