@@ -103,6 +103,22 @@ def test_requests_that_are_none(site: Site) -> None:
     assert site.ask("fight", fight(*["imp"] * 17))[0] == 409
 
 
+def test_numbers_beyond_the_battle(site: Site) -> None:
+    """As another window may ask for, behind whose back the battle has changed."""
+    end = site.told("fight", fight("dwarf", "imp"))["last"]
+    assert site.told("search/dies/0/999999999/back") == {"turn": None}
+    assert site.told(f"search/splits/0/{10 ** 30}/on") == {"turn": None} and site.ask("search/x/0/0/on")[0] == 400
+    assert site.told("search/at/0/-5/on")["turn"] > 0
+    assert json.loads(site.ask(f"turn/{10 ** 30}")[1].partition(b"\n")[0])["turn"] == end
+    assert site.ask("debug", {"line": "show", "turn": float("inf")})[0] == 400
+
+
+def test_a_source_that_is_gone_is_left_out(site: Site) -> None:
+    (site.folder / "dwarf.red").unlink()
+    names = [one["name"] for one in site.told("sources") if not one["example"]]
+    assert names == ["imp.red"]
+
+
 def test_sources_are_saved_where_they_came_from(site: Site) -> None:
     first = next(one for one in site.told("sources") if one["name"] == "imp.red")
     assert not first["example"]

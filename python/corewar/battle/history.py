@@ -253,7 +253,8 @@ class History:
 
     def written(self, turn: int) -> tuple[Owners, NDArray[np.int64]]:
         """Of each cell its owner, and the turn that changed it last; 0 where none did."""
-        near = max((at for at in self._written if at <= turn), default=None)
+        # The keys are listed at once: another thread may add some.
+        near = max((at for at in [*self._written] if at <= turn), default=None)
         owners, turns = self._loaded() if near is None else self._written[near]
         owners, turns = owners.copy(), turns.copy()
         for block in self.blocks(near or 0, turn):

@@ -57,6 +57,7 @@ class Folder:
         return [
             {"name": name, "text": text, "seen": digest(text), "example": is_example}
             for name, path, is_example in found
+            if path.is_file()
             for text in [path.read_text("utf-8", "surrogateescape")]
         ]
 
@@ -248,7 +249,7 @@ class Bench:
         history = self.here().history
         numbers = [address] if word in OF_CELLS else range(len(history.warriors))
         conditions = [Condition(word, number, number) for number in numbers]
-        found = (search_forward if forward else search_back)(history, conditions, turn)
+        found = (search_forward if forward else search_back)(history, conditions, max(0, min(turn, history.end)))
         return {"turn": found and found[0]}
 
     def replay(self) -> str:

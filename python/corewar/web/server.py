@@ -12,7 +12,7 @@ from typing import Any
 
 from aiohttp import web
 
-from ..model.faults import Fault, Refused
+from ..model.faults import Refused
 from ..model.settings import HILLS, Settings
 from ..pages.render import render
 from ..pictures.colours import DARK, LIGHT
@@ -63,9 +63,9 @@ async def told(request: web.Request, handler: Handler) -> web.StreamResponse:
     """What can't be done is told as a text, with the status of a conflict."""
     try:
         return await handler(request)
-    except (Refused, Fault, OSError) as fault:
+    except (Refused, OSError) as fault:
         return web.json_response({"fault": str(fault)}, status=409)
-    except (KeyError, TypeError, ValueError) as fault:
+    except (LookupError, TypeError, ValueError, ArithmeticError, RecursionError) as fault:
         return web.json_response({"fault": f"no request of the page: {fault}"}, status=400)
 
 

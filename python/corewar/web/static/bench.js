@@ -275,13 +275,19 @@ class Time {
 
   async fetch() {
     this.isAsking = true;
-    do {
-      const {wanted} = this, answer = await fetch(`turn/${wanted}`);
-      if (!answer.ok) break;
-      this.live.take(await answer.arrayBuffer());
-      this.draw();
-    } while (this.live.moment.turn !== this.wanted);
-    this.isAsking = false;
+    try {
+      do {
+        const {wanted} = this, answer = await fetch(`turn/${wanted}`);
+        if (!answer.ok) throw new Error((await answer.json()).fault);
+        this.live.take(await answer.arrayBuffer());
+        this.draw();
+      } while (this.live.moment.turn !== this.wanted);
+    } catch (fault) {
+      this.play(false);
+      throw fault;
+    } finally {
+      this.isAsking = false;
+    }
     this.look();
   }
 
@@ -482,6 +488,11 @@ class League {
     return made;
   }
 }
+
+/** What went wrong is told where the outcome stands: a request that fails, a server that is gone. */
+addEventListener("unhandledrejection", ({reason}) => {
+  element("outcome").textContent = reason instanceof TypeError ? `The workbench doesn’t answer: ${reason.message}` : reason.message;
+});
 
 (async () => {
   const terms = new Terms();
