@@ -4,6 +4,7 @@ from __future__ import annotations
 import hashlib
 import json
 import os
+import shutil
 from collections.abc import Generator
 from contextlib import ExitStack
 from dataclasses import dataclass, field
@@ -67,7 +68,15 @@ class Folder:
         there = digest(path.read_text("utf-8", "surrogateescape")) if path.exists() else ""
         if there != seen:
             raise Refused(f"{name} was changed by something else: it isn't written over")
-        path.write_text(text, "utf-8", "surrogateescape")
+        # It is written beside the source first: a full disk leaves that as it was.
+        part = path.with_name(f".{path.name}.part")
+        try:
+            part.write_text(text, "utf-8", "surrogateescape")
+            if path.exists():
+                shutil.copymode(path, part)
+            os.replace(part, path)
+        finally:
+            part.unlink(missing_ok=True)
         self.files[name] = path
         return digest(text)
 
