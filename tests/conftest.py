@@ -3,6 +3,7 @@ from __future__ import annotations
 
 import os
 import shutil
+import signal
 import subprocess
 import sys
 from collections.abc import Callable, Iterator
@@ -16,6 +17,9 @@ from hypothesis import settings
 settings.register_profile("gate", deadline=None, derandomize=True)
 settings.register_profile("wide", deadline=None, max_examples=3000)
 settings.load_profile("gate")
+
+# What tests start hears Ctrl-C, though a shell that ran the tests behind it (`&`) has it ignored.
+signal.signal(signal.SIGINT, signal.default_int_handler)
 
 TOP = Path(__file__).resolve().parents[1]
 EXAMPLES = TOP / "examples"
