@@ -35,17 +35,17 @@ class Site:
     address: str
     folder: Path
 
-    def ask(self, path: str, body: object = None, **headers: str) -> tuple[int, bytes]:
+    def ask(self, path: str, body: object = None, desk: str = "one", **headers: str) -> tuple[int, bytes]:
         data = None if body is None else json.dumps(body).encode()
-        request = urllib.request.Request(self.address + path, data, headers)
+        request = urllib.request.Request(f"{self.address}{path}?desk={desk}", data, headers)
         try:
             with urllib.request.urlopen(request, timeout=WAIT) as answer:
                 return answer.status, answer.read()
         except urllib.error.HTTPError as fault:
             return fault.code, fault.read()
 
-    def told(self, path: str, body: object = None) -> Any:
-        return json.loads(self.ask(path, body)[1])
+    def told(self, path: str, body: object = None, desk: str = "one") -> Any:
+        return json.loads(self.ask(path, body, desk)[1])
 
 
 @pytest.fixture
@@ -97,7 +97,6 @@ def test_requests_that_are_none(site: Site) -> None:
         assert site.ask(path, body)[0] in (400, 409), path
     for path in ("battle", "overview", "turn/5", "cell/1/1", "search/dies/0/0/on", "replay.html"):
         assert site.ask(path) == (409, b'{"fault": "no battle is laid out yet"}'), path
-    assert site.ask("turn/x")[0] == 400
     none = site.ask("fight", fight())
     assert none == (409, b'{"fault": "1 to 16 sources fight: mark them in the list"}')
     assert site.ask("fight", fight(*["imp"] * 17))[0] == 409
@@ -111,6 +110,19 @@ def test_numbers_beyond_the_battle(site: Site) -> None:
     assert site.told("search/at/0/-5/on")["turn"] > 0
     assert json.loads(site.ask(f"turn/{10 ** 30}")[1].partition(b"\n")[0])["turn"] == end
     assert site.ask("debug", {"line": "show", "turn": float("inf")})[0] == 400
+    assert site.ask("turn/x")[0] == 400
+
+
+def test_each_tab_has_its_battle(site: Site) -> None:
+    """A battle is that of its tab, until many others were looked at since."""
+    first = site.told("fight", fight("dwarf", "imp"), "first")
+    site.told("fight", fight("imp"), "second")
+    assert [site.told("battle", desk=desk)["outcome"] for desk in ("first", "second")] == ["Dwarf wins", "Imp lives"]
+    for number in range(3):
+        site.told("battle", desk="first")
+        site.told("fight", fight("imp"), str(number))
+    assert site.told("battle", desk="first") == first
+    assert site.ask("battle", desk="second") == (409, b'{"fault": "no battle is laid out yet"}')
 
 
 def test_a_source_that_is_gone_is_left_out(site: Site) -> None:
@@ -124,6 +136,10 @@ def test_sources_are_saved_where_they_came_from(site: Site) -> None:
     assert not first["example"]
     saved = site.told("save", {"name": "imp.red", "text": "MOV 0, 1\n", "seen": first["seen"]})
     assert (site.folder / "imp.red").read_text() == "MOV 0, 1\n"
+    ends = "MOV 0, 1\r\nDAT 0\n\udcff\r"
+    site.told("save", {"name": "imp.red", "text": ends, "seen": saved["seen"]})
+    assert (site.folder / "imp.red").read_bytes() == b"MOV 0, 1\r\nDAT 0\n\xff\r"
+    assert ends in [one["text"] for one in site.told("sources")]
     (site.folder / "imp.red").write_text("changed")
     again = site.ask("save", {"name": "imp.red", "text": "lost?", "seen": saved["seen"]})
     assert again[0] == 409 and b"changed by something else" in again[1]
@@ -226,7 +242,9 @@ def test_by_mouse(page: Any, site: Site) -> None:
     until(page, "bench.time.turn === 7797")
     page.execute_script("bench.time.keep(0); bench.time.go(100)")
     until(page, "document.getElementById('where').textContent === 'Cell 0' && bench.time.turn === 100")
-    until(page, "!bench.time.isAsking && document.querySelector('#listing li:nth-child(5) span').textContent === '0'")
+    until(
+        page, "!bench.time.isAsking && document.querySelector('#listing li:nth-child(5) .address').textContent === '0'"
+    )
     time.sleep(0.3)
     page.find_element("css selector", "#listing li:nth-child(5) .text").click()
     page.find_element("css selector", "#listing input").send_keys("dat 0, 0\n")
@@ -269,6 +287,56 @@ def test_by_keyboard(page: Any) -> None:
     page.execute_script("document.getElementById('core').focus()")
     press(Keys.ARROW_RIGHT)
     until(page, "bench.time.kept !== null")
+
+
+def test_a_cell_is_edited_by_keyboard(page: Any) -> None:
+    from selenium.webdriver import ActionChains, Keys
+
+    page.find_element("id", "fight").click()
+    until(page, "document.getElementById('outcome').textContent.startsWith('Dwarf wins')")
+    page.execute_script("bench.time.keep(0)")
+    until(page, "document.getElementById('where').textContent === 'Cell 0'")
+    time.sleep(0.3)
+    page.execute_script("document.querySelector('#listing li:nth-child(5) .address').focus()")
+    ActionChains(page).send_keys(Keys.TAB, Keys.ENTER, "dat 0, 0", Keys.ENTER).perform()
+    until(page, "document.getElementById('outcome').textContent.startsWith('Imp wins')")
+    time.sleep(0.3)
+    assert page.execute_script("return document.activeElement.textContent") == "DAT.F $0, $0"
+
+
+def test_a_tab_that_is_loaded_anew(page: Any, site: Site) -> None:
+    """The battle, the place in it, the terms, and what isn't saved are there again; another tab has none of them."""
+    site.told("save", {"name": "crlf.red", "text": "MOV 0, 1\r\nDAT 0\r\n", "seen": ""})
+    page.refresh()
+    until(page, "bench.shelf?.shown")
+    page.execute_script("document.getElementById('seed').value = 7")
+    page.execute_script("document.getElementById('seed').dispatchEvent(new Event('change', {bubbles: true}))")
+    page.execute_script("bench.shelf.show(bench.shelf.find('imp.red')); bench.shelf.editor.setValue('MOV 0, 1 ; mine')")
+    page.find_element("id", "fight").click()
+    until(page, "document.getElementById('outcome').textContent.includes('turns')")
+    page.execute_script("bench.time.go(100)")
+    until(page, "bench.time.turn === 100")
+    time.sleep(0.5)
+    page.refresh()
+    until(page, "bench.time?.turn === 100")
+    assert page.execute_script("return bench.shelf.editor.getValue()") == "MOV 0, 1 ; mine"
+    assert text(page, "saved") == "not saved" and "turns" in text(page, "outcome")
+    assert page.execute_script("return document.getElementById('seed').value") == "7"
+    page.find_element("id", "save").click()
+    until(page, "document.getElementById('saved').textContent === 'saved'")
+    assert (site.folder / "imp.red").read_text() == "MOV 0, 1 ; mine"
+    page.execute_script(
+        "bench.shelf.show(bench.shelf.find('crlf.red')); bench.shelf.editor.replaceRange('X', {line: 0, ch: 0})"
+    )
+    page.execute_script("bench.shelf.save()")
+    until(page, "document.getElementById('saved').textContent === 'saved'")
+    assert (site.folder / "crlf.red").read_bytes() == b"XMOV 0, 1\r\nDAT 0\r\n"
+    page.switch_to.new_window("tab")
+    page.get(site.address)
+    until(page, "bench.shelf?.shown")
+    assert text(page, "outcome") == "" and page.execute_script("return document.getElementById('seed').value") == "1"
+    page.close()
+    page.switch_to.window(page.window_handles[0])
 
 
 @pytest.mark.parametrize("width", [390, 800, 1600])

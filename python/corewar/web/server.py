@@ -17,6 +17,7 @@ from ..model.settings import HILLS, Settings
 from ..pages.render import render
 from ..pictures.colours import DARK, LIGHT
 from .bench import Bench
+from .desk import Desk
 
 HERE = Path(__file__).parent / "static"
 SHARED = Path(__file__).parents[1] / "pages" / "static"
@@ -34,6 +35,11 @@ routes = web.RouteTableDef()
 def bench_of(request: web.Request) -> Bench:
     found: Bench = request.app["bench"]
     return found
+
+
+def desk_of(request: web.Request) -> Desk:
+    """The desk of the tab that asks."""
+    return bench_of(request).desk(request.query.get("desk", ""))
 
 
 async def given(request: web.Request) -> Any:
@@ -100,29 +106,31 @@ async def assemble(request: web.Request) -> web.Response:
 
 @routes.post("/fight")
 async def fight(request: web.Request) -> web.Response:
-    return web.json_response(await asyncio.to_thread(bench_of(request).fight, await given(request)))
+    return web.json_response(
+        await asyncio.to_thread(bench_of(request).fight, request.query.get("desk", ""), await given(request))
+    )
 
 
 @routes.get("/battle")
 async def battle(request: web.Request) -> web.Response:
-    return web.json_response(await asyncio.to_thread(bench_of(request).battle))
+    return web.json_response(await asyncio.to_thread(desk_of(request).battle))
 
 
 @routes.get("/overview")
 async def overview(request: web.Request) -> web.Response:
-    return web.json_response(await asyncio.to_thread(bench_of(request).overview))
+    return web.json_response(await asyncio.to_thread(desk_of(request).overview))
 
 
 @routes.get("/turn/{turn}")
 async def turn(request: web.Request) -> web.Response:
-    made = await asyncio.to_thread(bench_of(request).turn, int(request.match_info["turn"]))
+    made = await asyncio.to_thread(desk_of(request).turn, int(request.match_info["turn"]))
     return web.Response(body=made, content_type="application/octet-stream")
 
 
 @routes.get("/cell/{address}/{turn}")
 async def cell(request: web.Request) -> web.Response:
     numbers = int(request.match_info["address"]), int(request.match_info["turn"])
-    return web.json_response(await asyncio.to_thread(bench_of(request).cell, *numbers))
+    return web.json_response(await asyncio.to_thread(desk_of(request).cell, *numbers))
 
 
 @routes.post("/league")
@@ -155,19 +163,19 @@ async def league(request: web.Request) -> web.StreamResponse:
 async def search(request: web.Request) -> web.Response:
     asked = request.match_info
     numbers = int(asked["address"]), int(asked["turn"]), asked["way"] == "on"
-    return web.json_response(await asyncio.to_thread(bench_of(request).search, asked["word"], *numbers))
+    return web.json_response(await asyncio.to_thread(desk_of(request).search, asked["word"], *numbers))
 
 
 @routes.post("/debug")
 async def debug(request: web.Request) -> web.Response:
     asked = await given(request)
-    return web.json_response(await asyncio.to_thread(bench_of(request).debug, asked["line"], int(asked["turn"])))
+    return web.json_response(await asyncio.to_thread(desk_of(request).debug, asked["line"], int(asked["turn"])))
 
 
 @routes.get("/replay.html")
 async def replay(request: web.Request) -> web.Response:
     """The page that replays the battle, to be kept or sent."""
-    text = await asyncio.to_thread(bench_of(request).replay)
+    text = await asyncio.to_thread(desk_of(request).replay)
     name = {"Content-Disposition": 'attachment; filename="battle.html"'}
     return web.Response(text=text, content_type="text/html", headers=name)
 

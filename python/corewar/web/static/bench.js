@@ -2,9 +2,21 @@
 /* The workbench: sources in an editor, and a battle of which each turn is asked of the server when it is shown. The grid, the track and
  * the palette are those of the page that replays a battle (core.js). */
 
+/** What this tab finds again when it is loaded anew: the name under which the server has its battle, the terms, and what isn't saved. */
+const kept = JSON.parse(sessionStorage.bench ?? "{}");
+const keep = changes => {
+  Object.assign(kept, changes);
+  try { sessionStorage.bench = JSON.stringify(kept); } catch { /* more than a tab may keep: the browser asks before the tab is left */ }
+};
+keep({desk: kept.desk ?? crypto.randomUUID()});
+
+/** Where this tab's battle is asked for, and what is posted there. */
+const at = path => `${path}?desk=${kept.desk}`;
+const posted = body => ({method: "POST", headers: {"Content-Type": "application/json"}, body: JSON.stringify(body)});
+
 /** What the server answers to a path, and to a body where one is sent. */
 async function ask(path, body) {
-  const answer = await fetch(path, body === undefined ? {} : {method: "POST", headers: {"Content-Type": "application/json"}, body: JSON.stringify(body)});
+  const answer = await fetch(at(path), body === undefined ? {} : posted(body));
   const told = await answer.json();
   if (!answer.ok) throw new Error(told.fault ?? answer.statusText);
   return told;
@@ -14,6 +26,12 @@ const make = (kind, properties = {}, ...children) => {
   const made = Object.assign(document.createElement(kind), properties);
   made.append(...children);
   return made;
+};
+/** Puts other parts into an element. The button that had the focus gives it to the one in its place. */
+const refill = (name, ...parts) => {
+  const place = [...element(name).querySelectorAll("button")].indexOf(document.activeElement);
+  element(name).replaceChildren(...parts);
+  element(name).querySelectorAll("button")[place]?.focus();
 };
 const settle = (action, wait) => {
   let waiting;
@@ -76,20 +94,38 @@ class Shelf {
     this.editor = CodeMirror(element("editor"), {mode: "redcode", lineNumbers: true, gutters: ["CodeMirror-lint-markers"],
       lint: {getAnnotations: (text, done) => this.lint(text, done), async: true, delay: 300},
       extraKeys: {"Ctrl-S": () => this.save(), Tab: false, "Shift-Tab": false}});
-    this.editor.on("changes", () => this.sign());
+    this.editor.on("changes", () => { this.sign(); this.draft(); });
+    this.draft = settle(() => this.keepDrafts(), 300);
+    addEventListener("beforeunload", event => { if (!this.sources.every(Shelf.isSaved)) event.preventDefault(); });
     element("save").onclick = () => this.save();
     element("new").onclick = () => this.create();
   }
 
   async load() {
     for (const source of await ask("sources")) this.add(source);
+    for (const {name, text, seen, example} of kept.drafts ?? []) {
+      const source = this.find(name) ?? this.add({name, text: "", seen, example});
+      source.doc.setValue(text);
+      Object.assign(source, {seen, example});
+    }
     const own = this.sources.filter(({example}) => !example);
-    (own.length > 1 ? own : this.sources).slice(0, own.length > 1 ? 16 : 2).forEach(source => { source.box.checked = true; });
-    this.show(this.sources[0]);
+    const marked = kept.marked?.map(name => this.find(name)) ?? (own.length > 1 ? own.slice(0, 16) : this.sources.slice(0, 2));
+    marked.forEach(source => { if (source) source.box.checked = true; });
+    element("names").onchange = () => keep({marked: this.sources.filter(({box}) => box.checked).map(({name}) => name)});
+    this.show(this.find(kept.shown) ?? this.sources[0]);
   }
 
+  static isSaved({doc, saved}) { return doc.getValue() === saved; }
+
+  keepDrafts() {
+    const drafts = this.sources.filter(source => !Shelf.isSaved(source));
+    keep({drafts: drafts.map(({name, doc, seen, example}) => ({name, text: doc.getValue(), seen, example}))});
+  }
+
+  /** A source whose lines end as in its file; where they end in both ways, the editor shows each carriage return. */
   add({name, text, seen, example}) {
-    const source = {name, seen, example, saved: text, doc: CodeMirror.Doc(text, "redcode"), box: make("input", {type: "checkbox"})};
+    const ends = /\r\n/.test(text) && !/(^|[^\r])\n/.test(text) ? "\r\n" : "\n";
+    const source = {name, seen, example, saved: text, doc: CodeMirror.Doc(text, "redcode", 0, ends), box: make("input", {type: "checkbox"})};
     source.box.setAttribute("aria-label", `${name} fights`);
     source.open = make("button", {textContent: name, onclick: () => this.show(source)});
     source.row = make("li", {}, source.box, source.open, make("small", {textContent: example ? "example" : ""}));
@@ -104,6 +140,7 @@ class Shelf {
 
   show(source) {
     this.shown = source;
+    keep({shown: source.name});
     this.sources.forEach(({row, open}) => { row.className = row === source.row ? "shown" : ""; open.setAttribute("aria-current", row === source.row); });
     this.editor.swapDoc(source.doc);
     this.editor.performLint();
@@ -112,7 +149,7 @@ class Shelf {
 
   /** Says whether the source is saved. */
   sign() {
-    const {shown} = this, isSaved = shown && shown.doc.getValue() === shown.saved;
+    const {shown} = this, isSaved = !shown || Shelf.isSaved(shown);
     shown?.open.replaceChildren(shown.name + (isSaved ? "" : " •"));
     element("saved").textContent = isSaved ? "" : shown.example ? "an example: it is saved beside your sources" : "not saved";
   }
@@ -138,6 +175,7 @@ class Shelf {
       shown.seen = (await ask("save", {name: shown.name, text, seen: shown.example ? "" : shown.seen})).seen;
       Object.assign(shown, {saved: text, example: false});
       this.sign();
+      this.draft();
       element("saved").textContent = "saved";
     } catch (fault) {
       element("saved").textContent = fault.message;
@@ -149,8 +187,9 @@ class Shelf {
     while (this.find(`warrior-${number}.red`)) number++;
     const source = this.add({name: `warrior-${number}.red`, text: `;redcode-94\n;name Warrior ${number}\n;author \n\n        MOV 0, 1\n`, seen: "", example: false});
     Object.assign(source, {saved: ""});
-    source.box.checked = true;
+    source.box.click();
     this.show(source);
+    this.draft();
     this.editor.focus();
   }
 
@@ -165,7 +204,13 @@ class Shelf {
 
 /** The settings of the fight. */
 class Terms {
-  async load() { this.hills = await ask("settings"); }
+  async load() {
+    this.hills = await ask("settings");
+    const fields = ["hill", "seed", "rounds", "round"].map(element);
+    fields.forEach(field => { field.value = kept.terms?.[field.id] ?? field.value; });
+    element("terms").addEventListener("change", () => keep({terms: Object.fromEntries(fields.map(({id, value}) => [id, value]))}));
+  }
+
   get settings() { return this.hills[element("hill").value]; }
   number(name) { return +element(name).value; }
 }
@@ -228,6 +273,7 @@ class Time {
     try {
       const {settings} = this.terms, numbers = {seed: this.terms.number("seed"), rounds: Math.max(this.terms.number("rounds"), round + 1)};
       await this.show(await ask("fight", {settings, sources, round, ...numbers}));
+      keep({hasFought: true});
       element("answers").textContent = "";
     } catch (fault) {
       element("outcome").textContent = fault.message;
@@ -244,7 +290,7 @@ class Time {
     element("title").textContent = battle.title;
     element("outcome").textContent = `${battle.outcome} after ${number(battle.last)} turns`;
     element("settings").textContent = battle.settings.join(" · ");
-    element("deaths").replaceChildren(...battle.warriors.filter(({death}) => death !== null).map(({name, death}) =>
+    refill("deaths", ...battle.warriors.filter(({death}) => death !== null).map(({name, death}) =>
       make("button", {className: "link", textContent: `${name} died in turn ${number(death)}`, onclick: () => this.go(death)})));
     element("legend").replaceChildren(...battle.warriors.map(({name}, who) => {
       const row = make("tr", {}, make("td", {}, make("button", {title: "Shows it alone", onclick: () => this.choose(who)}, make("i"),
@@ -252,9 +298,10 @@ class Time {
       row.style.setProperty("--warrior", `var(--warrior-${who})`);
       return row;
     }));
-    element("futures").replaceChildren(...battle.futures.length < 2 ? [] : battle.futures.map(({edits, end, here}, i) =>
+    refill("futures", ...battle.futures.length < 2 ? [] : battle.futures.map(({edits, end, here}, i) =>
       make("li", {className: here ? "here" : ""}, make("button", {textContent: `${edits.join("; ") || "as it was"}: ${number(end)} turns`,
         onclick: () => this.debug(`futures ${i}`)}))));
+    this.tellBreaks(battle.breaks);
     this.grid = new Grid(element("core"), this.live);
     this.track = new Track(element("overview"), element("time"), this.live);
     this.wanted = battle.turn;
@@ -277,7 +324,7 @@ class Time {
     this.isAsking = true;
     try {
       do {
-        const {wanted} = this, answer = await fetch(`turn/${wanted}`);
+        const {wanted} = this, answer = await fetch(at(`turn/${wanted}`));
         if (!answer.ok) throw new Error((await answer.json()).fault);
         this.live.take(await answer.arrayBuffer());
         this.draw();
@@ -368,32 +415,41 @@ class Time {
     if (element("listing").querySelector("input")) return;
     element("where").textContent = this.kept !== null ? `Cell ${number(focus)}` : moment.head === null ? "The end" : `Next: ${warriors[moment.next].name} at ${number(focus)}`;
     element("listing").style.setProperty("--digits", `${String(this.live.battle.size - 1).length}ch`);
-    element("listing").replaceChildren(...told.around.map(cell => this.line(cell)));
+    refill("listing", ...told.around.map(cell => this.line(cell)));
     element("cell").textContent = told.told.join("\n");
     const changes = [["◀ changed", told.before], ["changes ▶", told.after]].filter(([, at]) => at !== null)
       .map(([text, at]) => make("button", {textContent: `${text} in turn ${number(at)}`, onclick: () => this.go(at === turn ? at - 1 : at)}));
     const acts = [["break at", `break at ${focus}`], ["break at changes", `break changes ${focus}`]]
       .map(([textContent, line]) => make("button", {textContent, onclick: () => this.debug(line)}));
     const spawns = warriors.map(({name}, who) => make("button", {textContent: `spawn ${name}`, onclick: () => this.debug(`spawn ${who} ${focus}`)}));
-    element("acts").replaceChildren(...changes, ...acts, ...spawns);
+    refill("acts", ...changes, ...acts, ...spawns);
   }
 
-  /** A line of the listing. A click on its cell edits it. */
+  /** A line of the listing: its address is looked at, its cell edited. */
   line({address, label, text, line, owner, processes}) {
     const {warriors} = this.live.battle, standing = processes.flatMap((count, who) => count ? [warriors[who].name + (count > 1 ? ` ×${count}` : "")] : []);
-    const cell = make("span", {className: "text", textContent: text, title: "A click edits it"});
-    const made = make("li", {title: line}, make("span", {textContent: address}), make("b", {textContent: label}), cell, make("em", {textContent: standing.join(", ") || line}));
+    const where = make("button", {className: "address", textContent: address, title: "Looks at it", onclick: () => this.keep(address)});
+    const cell = make("button", {className: "text", textContent: text, title: "Edits it"});
+    const made = make("li", {title: line}, where, make("b", {textContent: label}), cell, make("em", {textContent: standing.join(", ") || line}));
     made.style.setProperty("--warrior", owner < warriors.length ? `var(--warrior-${owner})` : "transparent");
-    made.firstChild.onclick = () => this.keep(address);
     cell.onclick = () => {
       const input = make("input", {value: text, onblur: () => { input.replaceWith(cell); this.look(); }, onkeydown: event => {
         if (event.key === "Enter") this.debug(`edit ${address} ${input.value}`);
-        if (event.key === "Enter" || event.key === "Escape") input.blur();
+        if (event.key !== "Enter" && event.key !== "Escape") return;
+        event.preventDefault();
+        input.blur();
+        cell.focus();
       }});
+      input.setAttribute("aria-label", `Cell ${address}`);
       cell.replaceWith(input);
       input.select();
     };
     return made;
+  }
+
+  tellBreaks(breaks) {
+    refill("breaks", ...breaks.map((text, i) => make("li", {}, `break ${i}: ${text} `,
+      make("button", {textContent: "delete", onclick: () => this.debug(`delete ${i}`)}))));
   }
 
   async leap(word, address, way) {
@@ -408,8 +464,7 @@ class Time {
     const {turn, answer, breaks, isOther} = await ask("debug", {line, turn: this.turn});
     element("answers").textContent += `> ${line}\n${answer.join("\n")}\n`;
     element("answers").scrollTop = 1e9;
-    element("breaks").replaceChildren(...breaks.map((text, i) => make("li", {}, `break ${i}: ${text} `,
-      make("button", {textContent: "delete", onclick: () => this.debug(`delete ${i}`)}))));
+    this.tellBreaks(breaks);
     if (isOther) await this.show(await ask("battle"));
     else this.go(turn);
     this.look();
@@ -431,7 +486,7 @@ class League {
     element("done").hidden = false;
     try {
       const body = {settings: this.terms.settings, sources, rounds: this.terms.number("rounds"), seed: this.terms.number("seed")};
-      const answer = await fetch("league", {method: "POST", headers: {"Content-Type": "application/json"}, body: JSON.stringify(body)});
+      const answer = await fetch(at("league"), posted(body));
       if (!answer.ok) throw new Error((await answer.json()).fault);
       await this.read(answer.body.pipeThrough(new TextDecoderStream()).getReader());
     } catch (fault) {
@@ -472,7 +527,7 @@ class League {
       onclick: () => { this.sorted = i; this.draw(); }})));
     const lines = order.map((who, rank) => make("tr", {}, make("td", {textContent: rank + 1}), make("td", {textContent: this.sources[who].name}),
       ...sums[who].map(value => make("td", {textContent: number(value)})), ...order.map(other => this.cell(who, other))));
-    element("table").replaceChildren(make("tr", {}, make("th"), make("th", {textContent: "warrior"}), ...heads,
+    refill("table", make("tr", {}, make("th"), make("th", {textContent: "warrior"}), ...heads,
       ...order.map((_, rank) => make("th", {textContent: rank + 1}))), ...lines);
   }
 
@@ -501,5 +556,7 @@ addEventListener("unhandledrejection", ({reason}) => {
   element("hill").onchange = () => shelf.editor.performLint();
   element("terms").onsubmit = event => { event.preventDefault(); time.fight(shelf.fighters); };
   window.bench = {terms, shelf, time, league: new League(shelf, terms, time)};
+  element("replay").href = at("replay.html");
   await shelf.load();
+  if (kept.hasFought) await time.show(await ask("battle"));
 })();

@@ -1,0 +1,167 @@
+"""A battle that a tab of the browser shows, with all its futures."""
+from __future__ import annotations
+
+import json
+from dataclasses import dataclass
+from typing import Any
+
+import numpy as np
+
+from ..analysis.captions import fate, outcome, settings_told, title
+from ..analysis.causes import change_told
+from ..battle.conditions import OF_CELLS, Condition, last_change, next_change, search_back, search_forward
+from ..battle.frames import frames, parts
+from ..battle.history import BY_HAND, NOBODY, History
+from ..battle.labels import Sources
+from ..debugger.commands import Left, execute
+from ..debugger.session import Session
+from ..engine.calls import Match
+from ..model.cells import cell_text
+from ..model.faults import Refused
+from ..pages.replay import grave, page_of
+
+# How many moments the overview has; a cell that was written within so many of them is shown as lately written.
+MOMENTS, FADING = 600, 16
+# How many cells stand before and behind the one that is looked at.
+AROUND = 4
+
+
+@dataclass
+class Desk:
+    """The debugger's session over a battle: its place in time and its futures."""
+
+    session: Session
+
+    @classmethod
+    def of(cls, fought: Match, round: int) -> Desk:
+        """A round of a match, laid out, with how it ends."""
+        history = History(fought, round)
+        return cls(Session(history, Sources(history)))
+
+    def battle(self) -> dict[str, Any]:
+        """What the page shows of a battle besides its turns."""
+        session = self.session
+        history = session.history
+        warriors = [
+            {
+                "name": history.names[number],
+                "author": warrior.author,
+                "file": warrior.file,
+                "death": history.death(number),
+                "grave": grave(history, number),
+                "fate": fate(history, number),
+            }
+            for number, warrior in enumerate(history.warriors)
+        ]
+        futures = [
+            {"edits": [f"turn {turn}: {line}" for turn, line in one.edits], "end": one.end, "here": one is history}
+            for one in session.futures
+        ]
+        return {
+            "size": history.core,
+            "last": history.end,
+            "warriors": warriors,
+            "outcome": outcome(history),
+            "title": title(history),
+            "settings": settings_told(history),
+            "turn": session.turn,
+            "futures": futures,
+            "breaks": self.breaks(),
+        }
+
+    def overview(self) -> dict[str, Any]:
+        """For some moments of the battle how many cells each warrior owns, and how many processes it has."""
+        history = self.session.history
+        count, ends = len(history.warriors), parts(0, history.end, MOMENTS)
+        owners, cells, processes = history.owners(0).copy(), [], []
+        for frame in frames(history, ends):
+            owners[frame.addresses] = frame.writers
+            cells.append(np.bincount(owners, minlength=256)[:count].tolist())
+            processes.append([len(queue) for queue in frame.queues])
+        return {"turns": ends, "cells": cells, "processes": processes}
+
+    def turn(self, turn: int) -> bytes:
+        """A turn: a line of JSON, then a byte for the owner of each cell, one for how lately it was written, and
+        where processes stand.
+        """
+        session = self.session
+        history = session.history
+        session.turn = turn = max(0, min(turn, history.end))
+        block, teller = history.block(turn), session.teller
+        owners, written = history.written(turn)
+        queues = [block.queue(number, turn) for number in range(len(history.warriors))]
+        grain = max(1, history.end / MOMENTS)
+        ages = np.where(written > 0, np.minimum((turn - written) / grain, FADING), FADING).astype(np.uint8)
+        head = history.head(turn)
+        line = session.sources.lines.get(head) if head is not None else None
+        told = {
+            "turn": turn,
+            "cycle": block.cycle(turn),
+            "next": block.following(turn),
+            "head": head,
+            "told": teller.turn(turn) if turn else "the start",
+            "following": teller.following(turn),
+            "line": line and {"file": history.warriors[line.warrior].file, "number": line.number},
+            "cells": np.bincount(owners, minlength=256)[: len(queues)].tolist(),
+            "processes": [len(queue) for queue in queues],
+        }
+        shown = np.where(owners == BY_HAND, NOBODY, owners).astype(np.uint8)
+        return json.dumps(told).encode() + b"\n" + shown.tobytes() + ages.tobytes() + np.concatenate(queues).tobytes()
+
+    def cell(self, address: int, turn: int) -> dict[str, Any]:
+        """A cell with its neighbours, and the turns that changed it last and will change it next."""
+        session = self.session
+        history = session.history
+        turn, address = max(0, min(turn, history.end)), address % history.core
+        block, owners, cells = history.block(turn), history.owners(turn), history.block(turn).cells(turn)
+        queues = [block.queue(number, turn) for number in range(len(history.warriors))]
+        around = []
+        for near in range(address - AROUND, address + AROUND + 1):
+            at = near % history.core
+            counts = [int((queue == at).sum()) for queue in queues]
+            around.append(
+                {
+                    "address": at,
+                    "label": session.sources.labels.get(at, ""),
+                    "text": cell_text(cells[at], history.core),
+                    "line": session.sources.told(at, cells[at]),
+                    "owner": int(owners[at]),
+                    "processes": counts,
+                }
+            )
+        return {
+            "address": address,
+            "around": around,
+            "told": change_told(session.teller, address, turn),
+            "before": last_change(history, address, turn),
+            "after": next_change(history, address, turn),
+        }
+
+    def search(self, word: str, address: int, turn: int, forward: bool) -> dict[str, Any]:
+        """The next turn, or the last one before, of which something is so for a cell, or for any warrior."""
+        history = self.session.history
+        numbers = [address] if word in OF_CELLS else range(len(history.warriors))
+        conditions = [Condition(word, number, number) for number in numbers]
+        found = (search_forward if forward else search_back)(history, conditions, max(0, min(turn, history.end)))
+        return {"turn": found and found[0]}
+
+    def replay(self) -> str:
+        """The page that replays the battle."""
+        history = self.session.history
+        return page_of(history, parts(0, history.end, MOMENTS))
+
+    def debug(self, line: str, turn: int) -> dict[str, Any]:
+        """Makes a line of the debugger at a turn."""
+        session = self.session
+        session.turn, before = max(0, min(turn, session.history.end)), session.history
+        try:
+            answer = execute(session, line)
+        except Left:
+            answer = ["close the page to leave"]
+        except Refused as fault:
+            answer = [str(fault)]
+        is_other = session.history is not before
+        return {"turn": session.turn, "answer": answer, "breaks": self.breaks(), "isOther": is_other}
+
+    def breaks(self) -> list[str]:
+        return [self.session.told(condition) for condition in self.session.breaks]
