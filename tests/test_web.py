@@ -125,10 +125,11 @@ def test_each_tab_has_its_battle(site: Site) -> None:
     assert site.ask("battle", desk="second") == (409, b'{"fault": "no battle is laid out yet"}')
 
 
-def test_a_source_that_is_gone_is_left_out(site: Site) -> None:
+def test_sources_are_those_that_are_there_now(site: Site) -> None:
     (site.folder / "dwarf.red").unlink()
+    (site.folder / "new.red").write_text("MOV 0, 1\n")
     names = [one["name"] for one in site.told("sources") if not one["example"]]
-    assert names == ["imp.red"]
+    assert names == ["imp.red", "new.red"]
 
 
 def test_sources_are_saved_where_they_came_from(site: Site) -> None:

@@ -26,16 +26,12 @@ def web(port: int, browser: bool, results: str | None, files: tuple[str, ...]) -
 
     FILES are sources, or folders of them; without any those of the current folder. It serves this machine alone.
     """
-    from ..web.bench import Bench, Folder
+    from ..web.bench import Bench, Folder, sources_of
     from ..web.server import serve
 
-    folder = Folder(sources_of(files or (".",)), sources_of([str(path) for path in EXAMPLES if path.is_dir()][:1]))
-    if not folder.files and not folder.examples:
+    folder = Folder(
+        [Path(name) for name in files or (".",)], sources_of([path for path in EXAMPLES if path.is_dir()][:1])
+    )
+    if not folder.all():
         raise Refused("there is no source: a file or a folder with files that end in .red is asked for")
     asyncio.run(serve(Bench(folder, results), port, browser, click.echo))
-
-
-def sources_of(paths: tuple[str, ...] | list[str]) -> dict[str, Path]:
-    """The sources of files and folders, by their names."""
-    found = [file for path in map(Path, paths) for file in (sorted(path.glob("*.red")) if path.is_dir() else [path])]
-    return {file.name: file.resolve() for file in found}

@@ -5,7 +5,7 @@ import hashlib
 import os
 import shutil
 from collections import OrderedDict
-from collections.abc import Generator
+from collections.abc import Generator, Iterable
 from contextlib import ExitStack
 from dataclasses import dataclass, field
 from pathlib import Path
@@ -43,16 +43,24 @@ def read(path: Path) -> str:
     return path.read_bytes().decode("utf-8", "surrogateescape")
 
 
+def sources_of(paths: Iterable[Path]) -> dict[str, Path]:
+    """The sources of files and folders, by their names."""
+    found = [file for path in paths for file in (sorted(path.glob("*.red")) if path.is_dir() else [path])]
+    return {file.name: file.resolve() for file in found}
+
+
 @dataclass
 class Folder:
-    """The sources that are edited: files, and examples, which stay as they are."""
+    """The sources that are edited, in files and folders, and examples, which stay as they are."""
 
-    files: dict[str, Path]
+    paths: list[Path]
     examples: dict[str, Path]
 
     def all(self) -> list[dict[str, Any]]:
-        found = [(name, path, False) for name, path in self.files.items()]
-        found += [(name, path, True) for name, path in self.examples.items() if name not in self.files]
+        """The sources that are there now."""
+        files = sources_of(self.paths)
+        found = [(name, path, False) for name, path in files.items()]
+        found += [(name, path, True) for name, path in self.examples.items() if name not in files]
         return [
             {"name": name, "text": text, "seen": digest(text), "example": is_example}
             for name, path, is_example in found
@@ -62,7 +70,7 @@ class Folder:
 
     def save(self, name: str, text: str, seen: str) -> str:
         """Writes a source where it came from, if it is there as it was seen; a new name is free. Raises Refused."""
-        path = self.files.get(name) or self.new(name)
+        path = sources_of(self.paths).get(name) or self.new(name)
         there = digest(read(path)) if path.exists() else ""
         if there != seen:
             raise Refused(f"{name} was changed by something else: it isn't written over")
@@ -75,15 +83,16 @@ class Folder:
             os.replace(part, path)
         finally:
             part.unlink(missing_ok=True)
-        self.files[name] = path
+        if name not in sources_of(self.paths):
+            self.paths.append(path)
         return digest(text)
 
     def new(self, name: str) -> Path:
-        """Where a new source goes: beside the first one."""
+        """Where a new source goes: into the first folder, or beside the first file."""
         if not name or name != Path(name).name or not name.endswith(".red"):
             raise Refused(f"`{name}` is no name of a source: it ends in .red, and has no folder before it")
-        folder = next(iter(self.files.values())).parent if self.files else Path.cwd()
-        return folder / name
+        first = self.paths[0]
+        return (first if first.is_dir() else first.parent) / name
 
 
 @dataclass
