@@ -93,7 +93,7 @@ class Shelf {
     Object.assign(this, {terms, sources: [], shown: null, moving: null});
     this.editor = CodeMirror(element("editor"), {mode: "redcode", lineNumbers: true, gutters: ["CodeMirror-lint-markers"],
       lint: {getAnnotations: (text, done) => this.lint(text, done), async: true, delay: 300},
-      extraKeys: {"Ctrl-S": () => this.save(), Tab: false, "Shift-Tab": false}});
+      extraKeys: {"Ctrl-S": () => this.save(), Tab: "insertSoftTab", "Shift-Tab": false, Esc: () => element("save").focus()}, tabSize: 8});
     this.editor.on("changes", () => { this.sign(); this.draft(); });
     this.draft = settle(() => this.keepDrafts(), 300);
     addEventListener("beforeunload", event => { if (!this.sources.every(Shelf.isSaved)) event.preventDefault(); });
@@ -142,6 +142,7 @@ class Shelf {
     this.shown = source;
     keep({shown: source.name});
     this.sources.forEach(({row, open}) => { row.className = row === source.row ? "shown" : ""; open.setAttribute("aria-current", row === source.row); });
+    source.row.scrollIntoView({block: "nearest"});
     this.editor.swapDoc(source.doc);
     this.editor.performLint();
     this.sign();
@@ -286,12 +287,13 @@ class Time {
     this.play(false);
     const overview = await ask("overview");
     Object.assign(this, {live: new Live(battle, overview), palette: null, kept: null, alone: null});
+    element("bench").classList.remove("empty");
     this.rate = Math.max(1, battle.last / LENGTH);
     element("title").textContent = battle.title;
     element("outcome").textContent = `${battle.outcome} after ${number(battle.last)} turns`;
     element("settings").textContent = battle.settings.join(" · ");
-    refill("deaths", ...battle.warriors.filter(({death}) => death !== null).map(({name, death}) =>
-      make("button", {className: "link", textContent: `${name} died in turn ${number(death)}`, onclick: () => this.go(death)})));
+    refill("deaths", ...battle.warriors.filter(({death}) => death !== null).map(({name, death, grave}) =>
+      make("button", {className: "link", textContent: `${name} died in turn ${number(death)}`, onclick: () => { this.go(death); this.keep(grave); }})));
     element("legend").replaceChildren(...battle.warriors.map(({name}, who) => {
       const row = make("tr", {}, make("td", {}, make("button", {title: "Shows it alone", onclick: () => this.choose(who)}, make("i"),
         make("span", {}, make("strong", {textContent: name}), make("small")))), make("td"), make("td"));
