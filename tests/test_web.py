@@ -237,8 +237,9 @@ def test_by_mouse(page: Any, site: Site) -> None:
     page.find_element("css selector", "#deaths button").click()
     until(page, "bench.time.turn === 7798")
     assert "it dies" in text(page, "told")
-    page.execute_script("bench.time.keep(5203)")
+    assert page.execute_script("return bench.time.kept") == 5203
     until(page, "document.getElementById('acts').textContent.includes('◀ changed in turn 7,797')")
+    time.sleep(0.3)
     page.find_element("xpath", "//button[text()='◀ changed in turn 7,797']").click()
     until(page, "bench.time.turn === 7797")
     page.execute_script("bench.time.keep(0); bench.time.go(100)")
@@ -335,7 +336,10 @@ def test_a_tab_that_is_loaded_anew(page: Any, site: Site) -> None:
     page.switch_to.new_window("tab")
     page.get(site.address)
     until(page, "bench.shelf?.shown")
-    assert text(page, "outcome").startswith("Mark") and page.execute_script("return document.getElementById('seed').value") == "1"
+    assert (
+        text(page, "outcome").startswith("Mark")
+        and page.execute_script("return document.getElementById('seed').value") == "1"
+    )
     page.close()
     page.switch_to.window(page.window_handles[0])
 
