@@ -94,8 +94,8 @@ class FromNothing:
         self.lines, self.kit, self.most = lines, toolchain(), at_a_time(MEMORY_OF_A_JOB)
 
     def jobs(self, at_once):
-        """The jobs of a crate of so many that are proved at once: they are at work all the time, so each crate has its part."""
-        return max(1, self.most // at_once)
+        """The jobs of a crate of so many that are proved at once. Each begins and ends with one at work, so the others have more than their part."""
+        return max(1, self.most - at_once + 1)
 
     def proved(self):
         """What needn't be proved: nothing has changed since the program or the archive was built, or since the crate was proved in this way."""
@@ -113,7 +113,7 @@ class FromNothing:
         return is_newer(made, [name]) and not is_whole and builder_of(made) == builder_of(f"{self.kit}/rlibs/std.rlib")
 
     def prove(self, name, jobs):
-        """Proves a crate in so many jobs. The program and the archive take one, since each further one would read once more what all crates state."""
+        """Proves a crate in so many jobs. The program takes one, since each further one would read once more what all crates state."""
         made = made_of(name)
         if name not in BUILT:
             shutil.rmtree(os.path.dirname(made), ignore_errors=True)
@@ -122,11 +122,11 @@ class FromNothing:
             self.build(name, ["--jobs", str(jobs), "--statements", "-o", made])
             return
         os.makedirs(os.path.dirname(made), exist_ok=True)
-        words = ["--jobs", "1", "--toolchain", f"{self.kit}/toolchain"]
+        words = ["--toolchain", f"{self.kit}/toolchain", "--jobs"]
         if name == LIBRARY:
-            self.build(name, [*words, "--crate-type", "staticlib", "-o", made])
+            self.build(name, [*words, str(jobs), "--crate-type", "staticlib", "-o", made])
         else:
-            self.build(name, [*words, "-o", f"{made}.o"])
+            self.build(name, [*words, "1", "-o", f"{made}.o"])
             self.link(f"{made}.o", made)
 
     def build(self, name, words):

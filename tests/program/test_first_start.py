@@ -349,7 +349,7 @@ def test_library(place):
     below = {**stands_on(os.path.join(TOP, "crates.txt"), "_tests:"), "mars": {"mars_app"}}
     done = place.run(script="scripts/library")
     check("in the same run", is_in_order(place.proved(), below))
-    check("beside the program, in one job", place.jobs()["mars_c"], 1)
+    check("beside the program, which takes one job", place.jobs()["mars"], 1)
     check("what is built of them stays", place.work(), ["libmars_c.a", "mars"])
     check(
         "what can't be built of that is told",
