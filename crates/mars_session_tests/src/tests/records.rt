@@ -1,15 +1,16 @@
 //! The records between places.
 
 use super::{
-    BLANK, COPIER, Check, IDLE, Start, battle_in, check_call, check_cell, check_queue,
-    check_script, lone_tape, params_of, warrior_of,
+    BLANK, Check, Start, battle_in, check_call, check_cell, check_queue, check_script, lone_tape,
+    params_of, warrior_of,
 };
 use mars_cell::{Cell, Mode, Modifier, Op};
-use mars_core::{Edit, Work};
 use mars_session::{Call, DeltaTape, Reply, RingTape, Session, Standing, Tape, WholeTape};
 use std::alloc::Global;
 use std::process::Abort;
 use std::test::Fail;
+
+mod places;
 
 const SPLIT: Cell = direct!(Op::Spl, Modifier::B, 0, 0);
 
@@ -329,37 +330,4 @@ fn split_of_a_full_queue(rt: HostRuntime) -> Result<(), Fail> {
     check_split::<DeltaTape>(&rt, alloc)?;
     check_split::<RingTape>(&rt, alloc)?;
     check_split_record(&rt, alloc)
-}
-
-/// Makes an edit, and goes back over it and the turn before it.
-fn edit_and_back(tape: &mut DeltaTape) -> Result<(), Fail> {
-    tape.cut();
-    tape.reserve(1)?;
-    let edit = Edit::SetCell(7, IDLE);
-    if tape.now().edit_fault(edit).is_some() {
-        return Err("edit".into());
-    }
-    tape.edit(edit);
-    tape.back();
-    tape.back();
-    Ok(())
-}
-
-/// The records are those of a turn and of an edit.
-fn check_records(rt: &impl Abort, tape: &DeltaTape) -> Result<(), Fail> {
-    let first = tape.atom(0).ok_or("a record")?;
-    assert_eq!(rt; first.work, Work::Turn(0, 0));
-    assert_eq!(rt; first.cells.len(), 1);
-    let second = tape.atom(1).ok_or("a record")?;
-    assert_eq!(rt; second.work, Work::SetCell);
-    assert!(rt; tape.atom(2).is_none());
-    Ok(())
-}
-
-/// A tape of records has one for each place after the first, also for those that follow the present one.
-#[test]
-fn records_between_places(rt: HostRuntime) -> Result<(), Fail> {
-    let mut tape = one_turn(lone_tape(rt.alloc(), 8, &[COPIER])?)?;
-    edit_and_back(&mut tape)?;
-    check_records(&rt, &tape)
 }

@@ -1,0 +1,201 @@
+//! The help, and the words behind the name of the program.
+use crate::tests::{Outcome, answer, check_fault, memory_files};
+use mars_app::start;
+use std::alloc::Global;
+use std::env::{Env, FillError};
+use std::test::Fail;
+
+/// The whole help.
+const HELP: &str =
+    "Core War: fights matches and leagues of warriors, and debugs battles forwards and backwards
+
+Usage: mars [OPTIONS] <FILE>...
+
+Arguments:
+  <FILE>...  1 to 16 warriors: sources of Redcode, and load files, whose names end in .load
+
+Contest:
+  -r <N>                 Rounds, 1 to 100000 [default: 1]
+  -F <N>                 Position of warrior 2, from the least distance to the core size less that
+      --seed <N>         Seed of the positions, 1 to 2147483646 [default: 1]
+      --score <FORMULA>  What a survivor gets, W being the warriors and S the survivors [default: (W*W-1)/S]
+      --league           Every pair of warriors fights
+
+Core:
+  -s <N>                 Core size, 1 to 1048576 [default: 8000]
+  -c <N>                 Cycle limit, 1 to 10000000 [default: 80000]
+  -p <N>                 Process limit, 1 to 65536 [default: 8000]
+  -l <N>                 Longest warrior, 1 to the core size [default: 100]
+  -d <N>                 Least distance, from the longest warrior to the core size [default: 100]
+      --read-limit <N>   How far is read, 1 to the core size [default: core size]
+      --write-limit <N>  How far is written, 1 to the core size [default: core size]
+
+Debugger:
+  -e                 Debugs the battle of the first round by the commands of standard input
+      --history <N>  Places that the history keeps, 1 to 1000000 [default: 200000]
+
+Output:
+  -b          No listing of the warriors
+  -o          Results sorted by points
+      --load  Writes the load file of the one warrior
+      --help  Prints this help
+
+At most one of -e, --league and --load is given; -F is for two files, and for no league.
+
+Commands of the debugger, one a line:
+  step, run N, until C, undo, redo, goto T
+  edit A CELL, fill A B CELL, move W I A, kill W I, spawn W A
+  list A N, queue W, show, quit
+
+Status: 0 done, 1 a fault of input or files, 2 a fault of the words.
+
+Example: mars -r 100 -b -o imp.red dwarf.red
+More in README.md and docs/play/USING.md.
+";
+
+#[test]
+fn help(rt: HostRuntime) -> Result<(), Fail> {
+    let answer = answer(rt.alloc(), &["--help"], b"")?;
+    assert_eq!(rt; answer.status, 0);
+    assert!(rt; answer.faults.is_empty());
+    assert!(rt; answer.output.as_slice() == HELP.as_bytes());
+    // A bad word before it, or a number out of its range, is judged first.
+    for word in ["x", "0", "100001"] {
+        check_fault(
+            &rt,
+            rt.alloc(),
+            &["-r", word, "--help"],
+            2,
+            b"mars: bad words\n",
+        )?;
+    }
+    Ok(())
+}
+
+/// An environment of these arguments, of which the first is the program's name, and of no variables.
+#[derive(Drop)]
+struct Arguments(&'static [&'static [u8]]);
+
+impl Env for Arguments {
+    fn arg(&self, i: usize, buf: &mut [u8]) -> Result<usize, FillError> {
+        let Some(argument) = self.0.get(i) else {
+            return Err(FillError::NotPresent);
+        };
+        if argument.len() > buf.len() {
+            return Err(FillError::TooLong);
+        }
+        buf[..argument.len()].copy_from_slice(argument);
+        Ok(argument.len())
+    }
+
+    fn var(&self, _name: &str, _buf: &mut [u8]) -> Result<usize, FillError> {
+        Err(FillError::NotPresent)
+    }
+
+    fn var_at(&self, _i: usize, _buf: &mut [u8]) -> Result<usize, FillError> {
+        Err(FillError::NotPresent)
+    }
+}
+
+/// What a program answers that was started with these arguments.
+fn started(alloc: Global, arguments: &'static [&'static [u8]]) -> Result<Outcome, Fail> {
+    let (mut output, mut faults) = (Vec::new(alloc), Vec::new(alloc));
+    let mut input = b"".as_slice();
+    let files = memory_files(alloc)?;
+    let environment = Arguments(arguments);
+    let status = start(
+        alloc,
+        &environment,
+        &files,
+        &mut input,
+        &mut output,
+        &mut faults,
+    );
+    drop(files);
+    Ok(Outcome {
+        status,
+        output,
+        faults,
+    })
+}
+
+/// Arguments, and the status and what is written with them.
+type Start = (&'static [&'static [u8]], u8, &'static [u8], &'static [u8]);
+
+/// The name need not be text, and isn't one of the words; each of these must be text, and counts: of 41 the last is no file.
+const STARTS: &[Start] = &[
+    (
+        &[b"\xff", b"--load", b"imp.load"],
+        0,
+        b";load 2 8000\n;name Unknown\n;author Anonymous\nORG 0\nMOV.I $0, $1\n",
+        b"",
+    ),
+    (
+        &[b"mars", b"imp.load", b"\xff"],
+        2,
+        b"",
+        b"mars: bad words\n",
+    ),
+    (
+        &[
+            b"mars",
+            b"-r",
+            b"1",
+            b"--seed",
+            b"1",
+            b"--score",
+            b"W",
+            b"-s",
+            b"8000",
+            b"-c",
+            b"10",
+            b"-p",
+            b"2",
+            b"-l",
+            b"1",
+            b"-d",
+            b"1",
+            b"--read-limit",
+            b"8",
+            b"--write-limit",
+            b"8",
+            b"--history",
+            b"5",
+            b"-b",
+            b"-o",
+            b"--league",
+            b"imp.load",
+            b"imp.load",
+            b"imp.load",
+            b"imp.load",
+            b"imp.load",
+            b"imp.load",
+            b"imp.load",
+            b"imp.load",
+            b"imp.load",
+            b"imp.load",
+            b"imp.load",
+            b"imp.load",
+            b"imp.load",
+            b"imp.load",
+            b"imp.load",
+            b"none.load",
+        ],
+        1,
+        b"",
+        b"mars: none.load: cannot read\n",
+    ),
+    (&[b"--help"], 2, b"", b"mars: bad words\n"),
+];
+
+#[test]
+fn words_behind_the_name(rt: HostRuntime) -> Result<(), Fail> {
+    for (arguments, status, output, faults) in STARTS {
+        let answer = started(rt.alloc(), arguments)?;
+        let written = (answer.output.as_slice(), answer.faults.as_slice());
+        let is_right = answer.status == *status && written == (*output, *faults);
+        drop(answer);
+        assert!(&rt; is_right, "{status}");
+    }
+    Ok(())
+}

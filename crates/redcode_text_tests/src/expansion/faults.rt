@@ -1,0 +1,111 @@
+//! The faults of sources, each at its line.
+use super::{
+    COPIES, LOOPS, NAMES, at, check_faults, check_no_faults, copies, fault, fault_of, joined,
+};
+use redcode_text::{ExprFault, Program, TextProblem, expand};
+use std::alloc::Global;
+use std::process::Abort;
+use std::test::Fail;
+
+const FAULTS_OF_LOOPS: &[(&[u8], usize, TextProblem)] = &[
+    (b"FOR -1\nROF\n", 1, TextProblem::BadCount),
+    (b"FOR 10001\nROF\n", 1, TextProblem::BadCount),
+    (b"FOR lab\nROF\nlab DAT 0\n", 1, TextProblem::LabelInCount),
+    (
+        b"FOR 1/0\nROF\n",
+        1,
+        TextProblem::Expression(ExprFault::DivideByZero),
+    ),
+    (b"DAT 0\nROF\n", 2, TextProblem::RofAlone),
+    (b"5 FOR 1\nROF\n", 1, TextProblem::BadToken),
+    (b"i FOR 1\ni FOR 1\nROF\nROF\n", 2, TextProblem::BadToken),
+    (b"i FOR 1\nROF\nx&i DAT 0\n", 3, TextProblem::BadToken),
+];
+
+#[test]
+fn faults_of_loops(rt: HostRuntime) {
+    check_faults(&rt, rt.alloc(), FAULTS_OF_LOOPS);
+    let read: [&[u8]; 2] = [b"FOR 10000\nROF\n", b"FOR WARRIORS+CURLINE-2\nROF\n"];
+    check_no_faults(&rt, rt.alloc(), &read);
+}
+
+const FAULTS_OF_EQUATES: &[(&[u8], usize, TextProblem)] = &[
+    (b"CORESIZE EQU 1\n", 1, TextProblem::Duplicate),
+    (b"DAT 0\n EQU 1\n", 2, TextProblem::BadToken),
+    (b"a EQU 1\nFOR 0\nROF\n EQU 2\n", 4, TextProblem::BadToken),
+    (b"a EQU 1\na EQU 2\n", 2, TextProblem::Duplicate),
+    (b"a DAT 0\na EQU 2\n", 2, TextProblem::Duplicate),
+    (b"a\na DAT 0\n", 2, TextProblem::Duplicate),
+    (b"a a DAT 0\n", 1, TextProblem::Duplicate),
+    (b"a EQU 1\n EQU 2\nFOR a\nROF\n", 3, TextProblem::BadToken),
+    (b"x EQU x\nx\n", 2, TextProblem::EquDepth),
+    (b"x EQU x\nFOR x\nROF\n", 2, TextProblem::EquDepth),
+];
+
+#[test]
+fn faults_of_equates(rt: HostRuntime) {
+    check_faults(&rt, rt.alloc(), FAULTS_OF_EQUATES);
+    let read: [&[u8]; 1] = [b"a EQU 1\n; here\n\n EQU 2\n"];
+    check_no_faults(&rt, rt.alloc(), &read);
+}
+
+const FIRST_FAULTS: &[(&[u8], usize, TextProblem)] = &[
+    (b"\xC8 ? DAT\n", 1, TextProblem::NotAscii),
+    (b"? \xC8 DAT\n", 1, TextProblem::BadToken),
+    (b"a a ?\n", 1, TextProblem::BadToken),
+    (b"5 FOR 10001\nROF\n", 1, TextProblem::BadToken),
+    (b"FOR x/0\nROF\n", 1, TextProblem::LabelInCount),
+    (b"FOR ?\n", 1, TextProblem::UnclosedFor),
+    (b"ROF ?\n", 1, TextProblem::RofAlone),
+    (b"FOR 0\nROF ?\n", 2, TextProblem::BadToken),
+    (b"CORESIZE EQU 1 ?\n", 1, TextProblem::BadToken),
+    (b"x EQU x\na a x\n", 2, TextProblem::Duplicate),
+    (b"DAT \xC8\nROF\n", 1, TextProblem::NotAscii),
+];
+
+#[test]
+fn the_first_fault_of_a_line(rt: HostRuntime) {
+    check_faults(&rt, rt.alloc(), FIRST_FAULTS);
+}
+
+/// The first line has tokens of line 4 alone, and they can't be replaced.
+fn check_use(rt: &impl Abort, alloc: Global, program: &Program) -> Result<(), Fail> {
+    let line = program.lines().first().ok_or("line")?;
+    assert_eq!(rt; line.rest.first().map(|token| token.line), Some(4));
+    assert_eq!(rt; line.rest.last().map(|token| token.line), Some(4));
+    let fault = program.substitute(alloc, &line.rest).err();
+    assert_eq!(rt; fault, at(4, TextProblem::EquDepth));
+    Ok(())
+}
+
+#[test]
+fn a_fault_has_the_line_of_the_use(rt: HostRuntime) -> Result<(), Fail> {
+    let source = b"x EQU x\nm EQU DAT x\nn EQU m\nn x\n";
+    let program = expand(rt.alloc(), source, &NAMES)?;
+    let checked = check_use(&rt, rt.alloc(), &program);
+    drop(program);
+    checked
+}
+
+#[test]
+fn long_words_that_are_no_tokens(rt: HostRuntime) -> Result<(), Fail> {
+    let alloc = rt.alloc();
+    let bad = at(1, TextProblem::BadToken);
+    let zeros = joined(alloc, &[&copies(alloc, b"0", 300)?, b"x"])?;
+    assert_eq!(rt; fault_of(alloc, &zeros), bad);
+    let word = joined(alloc, &[&copies(alloc, b"x", 300)?, b"&i"])?;
+    assert_eq!(rt; fault_of(alloc, &word), bad);
+    Ok(())
+}
+
+/// A source that is cut off anywhere has a program or a fault.
+#[test]
+fn each_beginning_of_a_source_is_answered(rt: HostRuntime) {
+    for len in 0..LOOPS.len() {
+        let fault = fault_of(rt.alloc(), &LOOPS[..len]);
+        assert!(rt; fault != at(0, TextProblem::OutOfMemory));
+    }
+    for len in 0..COPIES.len() {
+        assert_eq!(rt; fault_of(rt.alloc(), &COPIES[..len]), None);
+    }
+}

@@ -1,0 +1,206 @@
+//! Limits of a source, at their value and one past it.
+use super::{NAMES, at, check_copies, copies, fault, fault_of, first_labels, joined};
+use redcode_text::{Program, TextFault, TextProblem, expand};
+use std::alloc::Global;
+use std::process::Abort;
+use std::test::Fail;
+
+#[test]
+fn as_many_lines_as_may_be_read(rt: HostRuntime) -> Result<(), Fail> {
+    let alloc = rt.alloc();
+    check_copies(&rt, alloc, b"\n", 65_536, None)?;
+    let too_long = at(65_537, TextProblem::TooLong);
+    check_copies(&rt, alloc, b"\n", 65_537, too_long)?;
+    let empty = b"FOR 10000\nFOR 10000\nROF\nROF\n";
+    assert_eq!(rt; fault_of(alloc, empty), None);
+    let eight = b"FOR 10000\n\n\n\n\n\n\n\n\nROF\n";
+    assert_eq!(rt; fault_of(alloc, eight), at(9, TextProblem::TooLong));
+    Ok(())
+}
+
+#[test]
+fn as_many_tokens_as_may_be_read(rt: HostRuntime) -> Result<(), Fail> {
+    check_copies(&rt, rt.alloc(), b"0 ", 65_536, None)?;
+    let too_long = at(1, TextProblem::TooLong);
+    check_copies(&rt, rt.alloc(), b"0 ", 65_537, too_long)
+}
+
+/// So many loops in one another with these lines within have this fault.
+fn check_loops(
+    rt: &impl Abort,
+    alloc: Global,
+    count: usize,
+    within: &[u8],
+    fault: Option<TextFault>,
+) -> Result<(), Fail> {
+    let opened = copies(alloc, b"FOR 1\n", count)?;
+    let closed = copies(alloc, b"ROF\n", count)?;
+    let source = joined(alloc, &[&opened, within, &closed])?;
+    assert_eq!(rt; fault_of(alloc, &source), fault);
+    Ok(())
+}
+
+#[test]
+fn as_many_loops_as_may_be_open(rt: HostRuntime) -> Result<(), Fail> {
+    check_loops(&rt, rt.alloc(), 32, b"DAT 0\n", None)?;
+    let too_long = at(33, TextProblem::TooLong);
+    check_loops(&rt, rt.alloc(), 33, b"", too_long)
+}
+
+/// EQU names `e0`, which stands for a leaf, up to `e` and this number, of which each stands for two of the one before, and
+/// a text behind them.
+fn doublings(alloc: Global, leaf: &str, last: usize, behind: &str) -> Result<Vec<u8>, Fail> {
+    let first = format!(in alloc; "e0 EQU {leaf}\n")?;
+    let mut source = Vec::from_slice(alloc, first.as_bytes())?;
+    for before in 0..last {
+        let index = before + 1;
+        let line = format!(in alloc; "e{index} EQU e{before}+e{before}\n")?;
+        source.extend_from_slice(line.as_bytes())?;
+    }
+    source.extend_from_slice(behind.as_bytes())?;
+    Ok(source)
+}
+
+/// How many tokens the rest of the last line of a program has, where EQU names are replaced.
+fn last_len(alloc: Global, program: &Program) -> Result<usize, TextFault> {
+    let mut len = 0;
+    for line in program.lines() {
+        len = program.substitute(alloc, &line.rest)?.len();
+    }
+    Ok(len)
+}
+
+/// The same of the program of a source.
+fn substituted_len(alloc: Global, source: &[u8]) -> Result<usize, TextFault> {
+    let program = expand(alloc, source, &NAMES)?;
+    let len = last_len(alloc, &program);
+    drop(program);
+    len
+}
+
+/// So many doublings of 1, and a text behind them, have a last line of so many tokens, or this fault.
+fn check_doublings(
+    rt: &impl Abort,
+    alloc: Global,
+    last: usize,
+    behind: &str,
+    len: Result<usize, TextFault>,
+) -> Result<(), Fail> {
+    let source = doublings(alloc, "1", last, behind)?;
+    assert_eq!(rt; substituted_len(alloc, &source), len);
+    Ok(())
+}
+
+#[test]
+fn as_many_names_as_may_be_replaced(rt: HostRuntime) -> Result<(), Fail> {
+    let alloc = rt.alloc();
+    check_doublings(&rt, alloc, 15, "DAT e15\n", Ok(65_535))?;
+    let too_long = fault(18, TextProblem::TooLong);
+    check_doublings(&rt, alloc, 16, "DAT e16\n", Err(too_long))?;
+    let depth = fault(3, TextProblem::EquDepth);
+    let len = substituted_len(alloc, b"x EQU y+y\ny EQU x+x\nDAT x\n");
+    assert_eq!(rt; len, Err(depth));
+    let several = fault(3, TextProblem::BadToken);
+    let len = substituted_len(alloc, b"x EQU 1\n EQU 2\nDAT x\n");
+    assert_eq!(rt; len, Err(several));
+    Ok(())
+}
+
+/// `e15` takes 65,535 replacements and makes 65,535 tokens.
+#[test]
+fn as_many_tokens_as_replacements_may_make(rt: HostRuntime) -> Result<(), Fail> {
+    let alloc = rt.alloc();
+    check_doublings(&rt, alloc, 15, "DAT e15 1\n", Ok(65_536))?;
+    let too_long = fault(17, TextProblem::TooLong);
+    check_doublings(&rt, alloc, 15, "DAT e15 1 1\n", Err(too_long))?;
+    check_doublings(&rt, alloc, 15, "z EQU\nDAT z e15\n", Ok(65_535))?;
+    let too_long = fault(18, TextProblem::TooLong);
+    check_doublings(&rt, alloc, 15, "z EQU\nDAT z z e15\n", Err(too_long))
+}
+
+#[test]
+fn as_long_as_names_may_be(rt: HostRuntime) -> Result<(), Fail> {
+    for len in 60..62 {
+        let name = copies(rt.alloc(), b"x", len)?;
+        let source = joined(rt.alloc(), &[b";name ", &name])?;
+        let program = expand(rt.alloc(), &source, &NAMES)?;
+        assert_eq!(rt; program.name().len(), 60);
+        drop(program);
+    }
+    Ok(())
+}
+
+/// So many EQU names of which each stands for the one before, and a line that uses the last as its operation.
+fn chain(alloc: Global, count: usize) -> Result<Vec<u8>, Fail> {
+    let mut source = Vec::from_slice(alloc, b"e1 EQU DAT 5\n")?;
+    for before in 1..count {
+        let index = before + 1;
+        let line = format!(in alloc; "e{index} EQU e{before}\n")?;
+        source.extend_from_slice(line.as_bytes())?;
+    }
+    let use_line = format!(in alloc; "e{count}\nDAT e{count}\n")?;
+    source.extend_from_slice(use_line.as_bytes())?;
+    Ok(source)
+}
+
+#[test]
+fn as_deep_as_names_may_be_replaced(rt: HostRuntime) -> Result<(), Fail> {
+    let alloc = rt.alloc();
+    let most = chain(alloc, 32)?;
+    assert_eq!(rt; fault_of(alloc, &most), None);
+    assert_eq!(rt; substituted_len(alloc, &most), Ok(2));
+    let more = chain(alloc, 33)?;
+    assert_eq!(rt; fault_of(alloc, &more), at(34, TextProblem::EquDepth));
+    Ok(())
+}
+
+/// Names `a0`, `a1` and so on, each with these bytes behind it.
+fn numbered(alloc: Global, count: usize, behind: &str) -> Result<Vec<u8>, Fail> {
+    let mut source = Vec::new(alloc);
+    for index in 0..count {
+        let name = format!(in alloc; "a{index}{behind}")?;
+        source.extend_from_slice(name.as_bytes())?;
+    }
+    Ok(source)
+}
+
+#[test]
+fn as_many_labels_as_there_may_be(rt: HostRuntime) -> Result<(), Fail> {
+    let alloc = rt.alloc();
+    let lines = numbered(alloc, 65_536, "\n")?;
+    assert_eq!(rt; fault_of(alloc, &lines), None);
+    let line = numbered(alloc, 65_536, " ")?;
+    assert_eq!(rt; first_labels(alloc, &line)?, 65_536);
+    let equates = numbered(alloc, 32_768, " EQU\n")?;
+    assert_eq!(rt; fault_of(alloc, &equates), None);
+    Ok(())
+}
+
+/// Five doublings of a leaf, and a text behind them, give so many lines.
+fn check_count(
+    rt: &impl Abort,
+    alloc: Global,
+    leaf: &str,
+    behind: &str,
+    count: usize,
+) -> Result<(), Fail> {
+    let source = doublings(alloc, leaf, 5, behind)?;
+    let program = expand(alloc, &source, &NAMES)?;
+    assert_eq!(rt; program.lines().len(), count);
+    drop(program);
+    Ok(())
+}
+
+/// Counts of many tokens are kept, where their names still stand for the same.
+#[test]
+fn counts_that_are_met_again(rt: HostRuntime) -> Result<(), Fail> {
+    let alloc = rt.alloc();
+    let loops = "FOR e5\nDAT 0\nROF\nx EQU 2\nFOR e5\nDAT 0\nROF\nFOR e5\nDAT 0\nROF\n";
+    check_count(&rt, alloc, "1", loops, 96)?;
+    check_count(&rt, alloc, "WARRIORS", loops, 192)?;
+    let lines = "FOR e5\nROF\nDAT 0\nFOR e5\nDAT 1\nROF\nFOR e5\nDAT 1\nROF\n";
+    check_count(&rt, alloc, "CURLINE", lines, 1 + 32 + 32 * 33)?;
+    let labels = doublings(alloc, "1", 5, "FOR e5\nROF\nFOR e5+y\nROF\n")?;
+    assert_eq!(rt; fault_of(alloc, &labels), at(9, TextProblem::LabelInCount));
+    Ok(())
+}
