@@ -2,7 +2,7 @@
 ghost use Rattle.std.specs.Prelude.{◌≡◌, ◌++◌, ◌+◌, ◌≤◌, List, OnOk, OnErr, IsOk, Result, length, vec_len, vec_capacity};
 ghost use Rattle.mars_session.specs.declared.calls.Standing.{Standing};
 ghost use Rattle.mars_session.specs.declared.calls.Refusal.{Refusal};
-ghost use Rattle.mars_session.specs.Script.{SessionValue, standing_of, EachAnswers, ScriptAnswers, Answers};
+ghost use Rattle.mars_session.specs.Script.{SessionValue, standing_of, EachAnswers, Answers};
 
 use crate::calls::{Call, Refusal, Reply, Standing};
 use crate::tapes::Tape;
@@ -28,7 +28,7 @@ impl<T: Tape> Model for Session<T> {
     ghost Value = { SessionValue };
 
     ghost view = { λ s. record {
-      state = record { history = T.history s.tape; limit = s.limit; memory = T.memory s.tape };
+      state = record { history = T.history s.tape; limit = s.limit; retention = T.retention s.tape };
       room = T.room s.tape;
     } };
 }
@@ -36,7 +36,7 @@ impl<T: Tape> Model for Session<T> {
 impl<T: Tape> Session<T> {
     /// A session over a tape, with the most places that may stand after the first one, where the tape keeps all of them.
     pub fn new(tape: T, limit: u64) -> Self
-        ensures state { result.state ≡ record { history = T.history tape; limit = limit; memory = T.memory tape } }
+        ensures state { result.state ≡ record { history = T.history tape; limit = limit; retention = T.retention tape } }
         ensures room { result.room ≡ T.room tape }
     {
         Session { tape, limit }
@@ -45,7 +45,7 @@ impl<T: Tape> Session<T> {
     /// The tape of all places: what a tape alone can tell, as [`crate::DeltaTape::atom`], is asked of it.
     pub fn tape(&self) -> &T
         ensures history { T.history result.now ≡ self.now.state.history }
-        ensures memory { T.memory result.now ≡ self.now.state.memory }
+        ensures retention { T.retention result.now ≡ self.now.state.retention }
         ensures room { T.room result.now ≡ self.now.room }
     {
         &self.tape
@@ -54,7 +54,7 @@ impl<T: Tape> Session<T> {
     /// Gives the tape back, at the place where the session stands.
     pub fn into_tape(self) -> T
         ensures history { T.history result ≡ self.state.history }
-        ensures memory { T.memory result ≡ self.state.memory }
+        ensures retention { T.retention result ≡ self.state.retention }
         ensures room { T.room result ≡ self.room }
     {
         self.tape
@@ -195,7 +195,7 @@ impl<T: Tape> Session<T> {
     /// call may need; how much room a call leaves isn't said.
     pub fn apply_all(&mut self, calls: &[Call], out: &mut Vec<Reply>) -> Result<(), AllocError>
         ensures ok { OnOk result ((replies : List (Result Standing Refusal)) × (out.new.items ≡ out.old.items ++ replies)
-            × ScriptAnswers self.old.state calls.now replies self.new.state × EachAnswers self.old calls.now replies self.new) }
+            × EachAnswers self.old calls.now replies self.new) }
         ensures enough { vec_len out.old + length calls.now ≤ vec_capacity out.old → IsOk result }
         ensures err { OnErr result ((self.new ≡ self.old) × (out.new.items ≡ out.old.items)) }
     {
