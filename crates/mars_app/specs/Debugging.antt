@@ -25,7 +25,7 @@ first_round o p warriors =
 
 -- a session at the start of a battle, whose history keeps so many places beside the last one
 abbrev pub session_at : ℕ → State → SessionState
-session_at most s = record { history = beginning s; limit = most; memory = record { most = Some most; forgotten = false } }
+session_at most s = record { history = beginning s; limit = most; retention = record { most = Some most; forgotten = false } }
 
 -- the debugger came to quit or to the end over a session that began here
 abbrev pub DebugsWell : SessionState → ℕ → Option (List ℕ) → Option (List ℕ) → Option (List ℕ) → Option (List ℕ) → Type 0

@@ -6,7 +6,7 @@ use Rattle.mars_core.specs.State.{State}
 use Rattle.mars_session.specs.declared.calls.Standing.{Standing}
 use Rattle.mars_session.specs.declared.calls.Refusal.{Refusal}
 use Rattle.mars_session.specs.History.{Place, History, cut, marked, append, append_all}
-use Rattle.mars_session.specs.Memory.{Memory, left, kept, too_many, noted}
+use Rattle.mars_session.specs.Retention.{Retention, left, kept, too_many, noted}
 use Rattle.mars_session.specs.Script.{standing_of, appended}
 use Rattle.mars_session.specs.Code.Appending.{Kept, go_on, go_on_all}
 
@@ -45,20 +45,20 @@ noted_again (Some k) f ps =
     (λ e. let l : k < length ps = ltb-true k (length ps) e in lt-ltb k (suc (length ps)) (omega (arith, l)))
     (λ e. let l : length ps ≤ k = ltb-false k (length ps) e in rw (take_all k ps l) refl)
 
-go_on_twice : (h : History) (m : Memory) (s t : State) → go_on (go_on (record { history = h; memory = m }) s) t ≡ go_on (record { history = append h s; memory = m }) t
+go_on_twice : (h : History) (m : Retention) (s t : State) → go_on (go_on (record { history = h; retention = m }) s) t ≡ go_on (record { history = append h s; retention = m }) t
 go_on_twice h m s t =
     rw (left_again m.most (record { state = s; mark = false }) (h.present ∷ h.before), noted_again m.most m.forgotten (h.present ∷ h.before)) refl
 
 -- from a first place on
-pub all_kept : (h : History) (m : Memory) (s : State) (ss : List State)
-    → go_on_all (go_on (record { history = h; memory = m }) s) ss ≡ record { history = kept m.most (append_all (append h s) ss); memory = noted m (append_all (append h s) ss) }
+pub all_kept : (h : History) (m : Retention) (s : State) (ss : List State)
+    → go_on_all (go_on (record { history = h; retention = m }) s) ss ≡ record { history = kept m.most (append_all (append h s) ss); retention = noted m (append_all (append h s) ss) }
 all_kept h m s [] = refl
 all_kept h m s (t ∷ ss) = ap (λ (k : Kept). go_on_all k ss) (go_on_twice h m s t) ∙ all_kept (append h s) m t ss
 
 -- a command that has room
-pub command_made : (m n : Memory) (h end : History) (s : State) (ss : List State) (o : Option Refusal) (one all : Kept) (standing : Standing)
-    → o ≡ None → one ≡ go_on (record { history = cut (marked h); memory = m }) s → all ≡ go_on_all one ss → end ≡ marked all.history → n ≡ all.memory → standing ≡ standing_of end
-    → appended m h (s, ss) o ≡ record { history = end; memory = n; reply = Ok standing }
+pub command_made : (m n : Retention) (h end : History) (s : State) (ss : List State) (o : Option Refusal) (one all : Kept) (standing : Standing)
+    → o ≡ None → one ≡ go_on (record { history = cut (marked h); retention = m }) s → all ≡ go_on_all one ss → end ≡ marked all.history → n ≡ all.retention → standing ≡ standing_of end
+    → appended m h (s, ss) o ≡ record { history = end; retention = n; reply = Ok standing }
 command_made m n h end s ss o one all standing room first others marks remembers stands =
     let made = others ∙ ap (λ (k : Kept). go_on_all k ss) first ∙ all_kept (cut (marked h)) m s ss in
     rw (room, stands, marks, remembers, made) refl

@@ -2,16 +2,12 @@
 use Rattle.std.proofs.Common.{◌≡◌, ℕ, zero, suc, ◌+◌, Bool, true, false, List, [], ◌∷◌, ◌++◌, length, Option, Some, None, refl, ap, sym, ◌∙◌, arith, ◌⊎◌, inl, inr, if◌then◌else◌}
 use Rattle.std.specs.Prelude.{option_and_then, IsOk, IsTrue, Result, Ok, Err}
 use Rattle.mars_core.specs.State.{State}
-use Rattle.mars_core.specs.declared.battle.edit.Edit.{Edit}
-use Rattle.mars_core.specs.declared.battle.edit.Edit.TheVariants as edits
-use Rattle.mars_session.specs.History.{Place, History, position_of, append, append_all, accepted, cut, marked, marked_before, undo, marked_after, redo, goto, first_turns, last_turns}
+use Rattle.mars_session.specs.History.{Place, History, position_of, append, append_all, accepted, cut, marked, marked_before, undo, marked_after, redo}
 use Rattle.mars_session.specs.declared.calls.Call.{Call}
-use Rattle.mars_session.specs.declared.calls.Call.TheVariants.{Step, Run, Until, SetCell, Fill, MoveProcess, Kill, Spawn, Undo, Redo, Goto}
 use Rattle.mars_session.specs.declared.calls.Refusal.{Refusal}
-use Rattle.mars_session.specs.declared.calls.Refusal.TheVariants.{NothingToRedo, NotInHistory}
-use Rattle.mars_session.specs.Commands.{States, step_states, run_states, until_bound, until_states, edit_states, cells_between, fill_states}
-use Rattle.mars_session.specs.Memory.{Memory, never, kept, noted}
-use Rattle.mars_session.specs.Script.{outcome, commanded, appended, moved, no_undo, no_room, history_after, first, rest}
+use Rattle.mars_session.specs.Commands.{States}
+use Rattle.mars_session.specs.Retention.{Retention, never, kept, noted}
+use Rattle.mars_session.specs.Script.{CallKind, Command, Move, kind_of, outcome_of, outcome, commanded, appended, moved, no_room, first, rest, script}
 use Rattle.mars_session.specs.Laws.{command_places, times, is_command, count_of, appended_by, AllAccepted, UndosGiveBack, RedosGiveAgain, RedoAfterUndo}
 
 -- the present place is marked, and these places follow
@@ -84,80 +80,67 @@ pub redo_undo : RedoAfterUndo
 redo_undo h back m u = redo_undo_from h.before h.present h.after h back u (rw m refl)
 
 -- an accepted command reaches n states
-pub record Accepted (m : Memory) (n : ℕ) (h new : History) : Type 0 where
+pub record Accepted (m : Retention) (n : ℕ) (h new : History) : Type 0 where
   pub first : State
   pub others : List State
   pub count : n ≡ suc (length others)
   pub is : new ≡ kept m.most (accepted h first others)
 
-accepted_room : (m : Memory) (h : History) (states : States) (o : Option Refusal) → IsOk (appended m h states o).reply → Accepted m (suc (length states.1)) h (appended m h states o).history
+accepted_room : (m : Retention) (h : History) (states : States) (o : Option Refusal) → IsOk (appended m h states o).reply → Accepted m (suc (length states.1)) h (appended m h states o).history
 accepted_room m h states (Some r) ok = absurd (let e : false ≡ true = ok in cc)
 accepted_room m h states None ok = record { first = states.0; others = states.1; count = refl; is = refl }
 
-accepted_command : (m : Memory) (limit bound : ℕ) (poor : Bool) (h : History) (x : Result States Refusal) → IsOk (commanded m limit bound poor h x).reply → Accepted m (count_of x) h (commanded m limit bound poor h x).history
+accepted_command : (m : Retention) (limit bound : ℕ) (poor : Bool) (h : History) (x : Result States Refusal) → IsOk (commanded m limit bound poor h x).reply → Accepted m (count_of x) h (commanded m limit bound poor h x).history
 accepted_command m limit bound poor h (Err r) ok = absurd (let e : false ≡ true = ok in cc)
 accepted_command m limit bound poor h (Ok states) ok = accepted_room m h states (no_room m limit bound poor h) ok
 
-accepted_edit : (m : Memory) (limit : ℕ) (poor : Bool) (h : History) (e : Edit) → IsOk (commanded m limit 1 poor h (edit_states e h.present.state)).reply → Accepted m (count_of (edit_states e h.present.state)) h (commanded m limit 1 poor h (edit_states e h.present.state)).history
-accepted_edit m limit poor h e ok = accepted_command m limit 1 poor h (edit_states e h.present.state) ok
+accepted_kind : (m : Retention) (limit : ℕ) (call : CallKind) (poor : Bool) (h : History) → IsTrue (is_command call) → IsOk (outcome_of m limit call poor h).reply
+    → Accepted m (appended_by call h.present.state) h (outcome_of m limit call poor h).history
+accepted_kind m limit (Move refusal move) poor h c ok = absurd (let e : false ≡ true = c in cc)
+accepted_kind m limit (Command bound states) poor h c ok = accepted_command m limit (bound h.present.state) poor h (states h.present.state) ok
 
-pub accepted_call : (m : Memory) (limit : ℕ) (call : Call) (poor : Bool) (h : History) → IsTrue (is_command call) → IsOk (outcome m limit call poor h).reply → Accepted m (appended_by call h.present.state) h (outcome m limit call poor h).history
-accepted_call m limit Undo poor h c ok = absurd (let e : false ≡ true = c in cc)
-accepted_call m limit Redo poor h c ok = absurd (let e : false ≡ true = c in cc)
-accepted_call m limit (Goto t) poor h c ok = absurd (let e : false ≡ true = c in cc)
-accepted_call m limit Step poor h c ok = accepted_command m limit 1 poor h (step_states h.present.state) ok
-accepted_call m limit (Run n) poor h c ok = accepted_command m limit n poor h (run_states n h.present.state) ok
-accepted_call m limit (Until t) poor h c ok = accepted_command m limit (until_bound t h.present.state) poor h (until_states t h.present.state) ok
-accepted_call m limit (Fill from to cell) poor h c ok = accepted_command m limit (cells_between from to) poor h (fill_states from to cell h.present.state) ok
-accepted_call m limit (SetCell address cell) poor h c ok = accepted_edit m limit poor h (edits.SetCell address cell) ok
-accepted_call m limit (MoveProcess w i address) poor h c ok = accepted_edit m limit poor h (edits.MoveProcess w i address) ok
-accepted_call m limit (Kill w i) poor h c ok = accepted_edit m limit poor h (edits.KillProcess w i) ok
-accepted_call m limit (Spawn w address) poor h c ok = accepted_edit m limit poor h (edits.Spawn w address) ok
+pub accepted_call : (m : Retention) (limit : ℕ) (call : Call) (poor : Bool) (h : History) → IsTrue (is_command (kind_of call)) → IsOk (outcome m limit call poor h).reply
+    → Accepted m (appended_by (kind_of call) h.present.state) h (outcome m limit call poor h).history
+accepted_call m limit call poor h c ok = accepted_kind m limit (kind_of call) poor h c ok
 
 -- what a call remembers: as much as before, or what is noted of a history
-abbrev Remembers : Memory → Memory → Type 0
+abbrev Remembers : Retention → Retention → Type 0
 Remembers m n = (n ≡ m) ⊎ ((x : History) × (n ≡ noted m x))
 
-remembers_room : (m : Memory) (h : History) (states : States) (o : Option Refusal) → Remembers m (appended m h states o).memory
+remembers_room : (m : Retention) (h : History) (states : States) (o : Option Refusal) → Remembers m (appended m h states o).retention
 remembers_room m h states (Some r) = inl refl
 remembers_room m h states None = inr (accepted h states.0 states.1, refl)
 
-remembers_command : (m : Memory) (limit bound : ℕ) (poor : Bool) (h : History) (x : Result States Refusal) → Remembers m (commanded m limit bound poor h x).memory
+remembers_command : (m : Retention) (limit bound : ℕ) (poor : Bool) (h : History) (x : Result States Refusal) → Remembers m (commanded m limit bound poor h x).retention
 remembers_command m limit bound poor h (Err r) = inl refl
 remembers_command m limit bound poor h (Ok states) = remembers_room m h states (no_room m limit bound poor h)
 
-remembers_move : (m : Memory) (h : History) (r : Refusal) (x : Option History) → Remembers m (moved m h r x).memory
+remembers_move : (m : Retention) (h : History) (r : Refusal) (x : Option History) → Remembers m (moved m h r x).retention
 remembers_move m h r None = inl refl
 remembers_move m h r (Some to) = inl refl
 
-remembers_call : (m : Memory) (limit : ℕ) (call : Call) (poor : Bool) (h : History) → Remembers m (outcome m limit call poor h).memory
-remembers_call m limit Step poor h = remembers_command m limit 1 poor h (step_states h.present.state)
-remembers_call m limit (Run n) poor h = remembers_command m limit n poor h (run_states n h.present.state)
-remembers_call m limit (Until t) poor h = remembers_command m limit (until_bound t h.present.state) poor h (until_states t h.present.state)
-remembers_call m limit (Fill from to cell) poor h = remembers_command m limit (cells_between from to) poor h (fill_states from to cell h.present.state)
-remembers_call m limit (SetCell address cell) poor h = remembers_command m limit 1 poor h (edit_states (edits.SetCell address cell) h.present.state)
-remembers_call m limit (MoveProcess w i address) poor h = remembers_command m limit 1 poor h (edit_states (edits.MoveProcess w i address) h.present.state)
-remembers_call m limit (Kill w i) poor h = remembers_command m limit 1 poor h (edit_states (edits.KillProcess w i) h.present.state)
-remembers_call m limit (Spawn w address) poor h = remembers_command m limit 1 poor h (edit_states (edits.Spawn w address) h.present.state)
-remembers_call m limit Undo poor h = remembers_move m h (no_undo m) (undo h)
-remembers_call m limit Redo poor h = remembers_move m h NothingToRedo (redo h)
-remembers_call m limit (Goto t) poor h = remembers_move m h (NotInHistory (first_turns h) (last_turns h)) (goto t h)
+remembers_kind : (m : Retention) (limit : ℕ) (call : CallKind) (poor : Bool) (h : History) → Remembers m (outcome_of m limit call poor h).retention
+remembers_kind m limit (Command bound states) poor h = remembers_command m limit (bound h.present.state) poor h (states h.present.state)
+remembers_kind m limit (Move refusal move) poor h = remembers_move m h (refusal m h) (move h)
 
-never_remembered : (n : Memory) → Remembers never n → n ≡ never
+remembers_call : (m : Retention) (limit : ℕ) (call : Call) (poor : Bool) (h : History) → Remembers m (outcome m limit call poor h).retention
+remembers_call m limit call poor h = remembers_kind m limit (kind_of call) poor h
+
+never_remembered : (n : Retention) → Remembers never n → n ≡ never
 never_remembered n (inl e) = e
 never_remembered n (inr e) = e.1
 
 -- where all places are kept, so they are after each call
-pub stays_never : (limit : ℕ) (call : Call) (poor : Bool) (h : History) → (outcome never limit call poor h).memory ≡ never
-stays_never limit call poor h = never_remembered (outcome never limit call poor h).memory (remembers_call never limit call poor h)
+pub stays_never : (limit : ℕ) (call : Call) (poor : Bool) (h : History) → (outcome never limit call poor h).retention ≡ never
+stays_never limit call poor h = never_remembered (outcome never limit call poor h).retention (remembers_call never limit call poor h)
 
-most_remembered : (m n : Memory) → Remembers m n → n.most ≡ m.most
-most_remembered m n (inl e) = ap (λ (x : Memory). x.most) e
-most_remembered m n (inr e) = ap (λ (x : Memory). x.most) e.1
+most_remembered : (m n : Retention) → Remembers m n → n.most ≡ m.most
+most_remembered m n (inl e) = ap (λ (x : Retention). x.most) e
+most_remembered m n (inr e) = ap (λ (x : Retention). x.most) e.1
 
 -- as many places are kept after each call
-pub same_most : (m : Memory) (limit : ℕ) (call : Call) (poor : Bool) (h : History) → (outcome m limit call poor h).memory.most ≡ m.most
-same_most m limit call poor h = most_remembered m (outcome m limit call poor h).memory (remembers_call m limit call poor h)
+pub same_most : (m : Retention) (limit : ℕ) (call : Call) (poor : Bool) (h : History) → (outcome m limit call poor h).retention.most ≡ m.most
+same_most m limit call poor h = most_remembered m (outcome m limit call poor h).retention (remembers_call m limit call poor h)
 
 -- from the end, n undos lead to h and the places after it, and n redos lead from there to the end
 pub record Undone (n : ℕ) (h end : History) : Type 0 where
@@ -173,7 +156,7 @@ one_undone n h end s ss u = record {
 }
 
 all_undone : (limit : ℕ) (calls : List Call) (poor : List Bool) (h : History) (s : State) (ss : List State) → AllAccepted limit calls poor (accepted h s ss)
-    → Undone (length calls) (accepted h s ss) (history_after never limit calls poor (accepted h s ss))
+    → Undone (length calls) (accepted h s ss) (script never limit calls poor (accepted h s ss)).history
 all_undone limit [] poor h s ss a = record { follow = []; back = ap (λ (k : History). Some k) (sym (base_accepted h s ss)); again = ap (λ (k : History). Some k) (base_accepted h s ss) }
 all_undone limit (call ∷ calls) poor h s ss a =
     let k : History = accepted h s ss in
@@ -182,7 +165,7 @@ all_undone limit (call ∷ calls) poor h s ss a =
     rw (stays_never limit call (first poor) k) (one_undone (length calls) k _ one.first one.others (rw one.is (all_undone limit calls (rest poor) k one.first one.others more)))
 
 -- as many undos, from wherever the commands began
-some_undone : (limit : ℕ) (call : Call) (calls : List Call) (poor : List Bool) (h : History) → AllAccepted limit (call ∷ calls) poor h → Undone (suc (length calls)) h (history_after never limit (call ∷ calls) poor h)
+some_undone : (limit : ℕ) (call : Call) (calls : List Call) (poor : List Bool) (h : History) → AllAccepted limit (call ∷ calls) poor h → Undone (suc (length calls)) h (script never limit (call ∷ calls) poor h).history
 some_undone limit call calls poor h a =
     let one = accepted_call never limit call (first poor) h a.0 a.1 in
     let more : AllAccepted limit calls (rest poor) (accepted h one.first one.others) = rw one.is at a.2 in

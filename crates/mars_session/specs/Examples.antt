@@ -13,8 +13,8 @@ use Rattle.mars_session.specs.declared.calls.Call.{Call}
 use Rattle.mars_session.specs.declared.calls.Standing.{Standing}
 use Rattle.mars_session.specs.declared.calls.Refusal.{Refusal}
 use Rattle.mars_session.specs.History.{beginning}
-use Rattle.mars_session.specs.Memory.{never}
-use Rattle.mars_session.specs.Script.{replies_of}
+use Rattle.mars_session.specs.Retention.{never}
+use Rattle.mars_session.specs.Script.{script}
 
 -- a lone warrior that copies its cell to the next one, over and over
 abbrev pub imp : State
@@ -26,8 +26,8 @@ stands turns position last = Ok (record { turns = turns; cycle = turns; next = 0
 
 -- the replies to its calls where all places are kept, at most so many after the first
 abbrev pub IsToldWithin : ℕ → List Call → List (Result Standing Refusal) → Type 0
-IsToldWithin limit calls replies = replies_of never limit calls [] (beginning imp) ≡ replies
+IsToldWithin limit calls replies = (script never limit calls [] (beginning imp)).replies ≡ replies
 
 -- the replies to its calls where so many places are kept beside the last one
 abbrev pub IsToldKeeping : ℕ → List Call → List (Result Standing Refusal) → Type 0
-IsToldKeeping k calls replies = replies_of (record { most = Some k; forgotten = false }) 0 calls [] (beginning imp) ≡ replies
+IsToldKeeping k calls replies = (script (record { most = Some k; forgotten = false }) 0 calls [] (beginning imp)).replies ≡ replies

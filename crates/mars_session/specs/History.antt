@@ -7,7 +7,8 @@ pub record Place : Type 0 where
   pub state : State
   pub mark : Bool
 
--- places in order, one of them the present one: those before it, the nearest first, and those after it, in order
+-- Places in order, one of them the present one: those before it, the nearest first, and those after it, in order. Laws say of `places`, the whole list, what
+-- is defined here by steps from the present place: commands_append, undo_finds_nearest, redo_finds_nearest, goto_finds_first, moves_keep_places.
 pub record History : Type 0 where
   pub before : List Place
   pub present : Place

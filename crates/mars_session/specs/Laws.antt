@@ -1,19 +1,25 @@
 -- Laws over the definitions alone: what undo and redo give back, and what holds along a tape.
-use Rattle.std.specs.Prelude.{All, ◌≡◌, ◌≢◌, ◌≤◌, ◌<◌, ◌+◌, ◌↔◌, ◌⊎◌, ◌==◌, ◌++◌, ℕ, zero, suc, Bool, true, false, List, [], ◌∷◌, length, take, replicate, Option, None, Some, Result, Ok, Err, is_ok, IsTrue, IsOk, IsErr, IsSome, IsSomeAnd, option_and_then, option_map}
+use Rattle.std.specs.Prelude.{All, ◌≡◌, ◌≢◌, ◌≤◌, ◌<◌, ◌+◌, ◌↔◌, ◌⊎◌, ◌==◌, ◌++◌, ℕ, zero, suc, Bool, true, false, List, [], ◌∷◌, length, map, take, replicate, Option, None, Some, Result, Ok, Err, is_ok, IsTrue, IsOk, IsErr, IsSome, IsSomeAnd, option_and_then, option_map}
 use Rattle.std.specs.List.{filter, list_all}
 use Rattle.mars_core.specs.State.{State}
 use Rattle.mars_core.specs.Validity.{IsValid}
-use Rattle.mars_core.specs.declared.battle.edit.Edit.TheVariants as edits
 use Rattle.mars_session.specs.declared.calls.Call.{Call}
-use Rattle.mars_session.specs.declared.calls.Call.TheVariants.{Step, Run, Until, SetCell, Fill, MoveProcess, Kill, Spawn, Undo, Redo, Goto}
+use Rattle.mars_session.specs.declared.calls.Call.TheVariants.{Undo, Redo}
 use Rattle.mars_session.specs.declared.calls.Standing.{Standing}
 use Rattle.mars_session.specs.declared.calls.Refusal.{Refusal}
 use Rattle.mars_session.specs.declared.calls.Refusal.TheVariants.{JournalFull, OutOfMemory}
 use Rattle.mars_session.specs.History.{Place, History, beginning, places, position_of, last_of, accepted, undo, redo, goto, first_turns, last_turns}
-use Rattle.mars_session.specs.Memory.{Memory, never}
-use Rattle.mars_session.specs.Commands.{States, step_states, run_states, in_cycle, until_states, edit_states, fill_states}
+use Rattle.mars_session.specs.Retention.{Retention, never}
+use Rattle.mars_session.specs.Commands.{States, in_cycle, until_states}
 use Rattle.mars_session.specs.Tapes.{Steps, IsTape, IsTapeOf, RisesFrom}
-use Rattle.mars_session.specs.Script.{outcome, replies_of, history_after, memory_after, first, rest}
+use Rattle.mars_session.specs.Script.{SessionValue, CallKind, Command, Move, kind_of, outcome, is_poor, EachAnswers, script, first, rest}
+
+-- calls that are answered one after another leave what the script does, and have its replies, where memory was wanting at just those whose reply says so
+abbrev pub CallsAreScripts : Type 0
+CallsAreScripts = (old new : SessionValue) (calls : List Call) (replies : List (Result Standing Refusal)) → EachAnswers old calls replies new
+    → (script old.state.retention old.state.limit calls (map is_poor replies) old.state.history
+    ≡ record { history = new.state.history; retention = new.state.retention; replies = replies })
+    × (new.state.limit ≡ old.state.limit)
 
 -- a move so many times, where each time it is accepted
 abbrev pub times : ℕ → (History → Option History) → History → Option History
@@ -21,42 +27,33 @@ times zero move h = Some h
 times (suc n) move h = option_and_then (times n move) (move h)
 
 -- it is no move
-abbrev pub is_command : Call → Bool
-is_command Step = true
-is_command (Run n) = true
-is_command (Until c) = true
-is_command (SetCell address cell) = true
-is_command (Fill from to cell) = true
-is_command (MoveProcess w i address) = true
-is_command (Kill w i) = true
-is_command (Spawn w address) = true
-is_command Undo = false
-is_command Redo = false
-is_command (Goto t) = false
+abbrev pub is_command : CallKind → Bool
+is_command (Command bound states) = true
+is_command (Move refusal move) = false
 
 -- the calls are commands, and each is accepted
 abbrev pub AllAccepted : ℕ → List Call → List Bool → History → Type 0
 AllAccepted limit [] poor h = Unit {0}
 AllAccepted limit (call ∷ calls) poor h =
-    IsTrue (is_command call) × IsOk (outcome never limit call (first poor) h).reply
+    IsTrue (is_command (kind_of call)) × IsOk (outcome never limit call (first poor) h).reply
     × AllAccepted limit calls (rest poor) (outcome never limit call (first poor) h).history
 
 -- as many undos as there were accepted commands are accepted, and give back the state and the position
 abbrev pub UndosGiveBack : Type 0
 UndosGiveBack = (limit : ℕ) (calls : List Call) (poor : List Bool) (h : History) → AllAccepted limit calls poor h
-    → IsSomeAnd (times (length calls) undo (history_after never limit calls poor h))
+    → IsSomeAnd (times (length calls) undo (script never limit calls poor h).history)
     (λ back. (back.present.state ≡ h.present.state) × (position_of back ≡ position_of h))
 
 -- as many redos after them are accepted, and give the very history from after the commands
 abbrev pub RedosGiveAgain : Type 0
 RedosGiveAgain = (limit : ℕ) (calls : List Call) (poor : List Bool) (h back : History) → AllAccepted limit calls poor h
-    → times (length calls) undo (history_after never limit calls poor h) ≡ Some back
-    → times (length calls) redo back ≡ Some (history_after never limit calls poor h)
+    → times (length calls) undo (script never limit calls poor h).history ≡ Some back
+    → times (length calls) redo back ≡ Some (script never limit calls poor h).history
 
 -- a refused call, want of memory included, changes nothing
 abbrev pub RefusalsChangeNothing : Type 0
-RefusalsChangeNothing = (m : Memory) (limit : ℕ) (call : Call) (poor : Bool) (h : History) → IsErr (outcome m limit call poor h).reply
-    → ((outcome m limit call poor h).history ≡ h) × ((outcome m limit call poor h).memory ≡ m)
+RefusalsChangeNothing = (m : Retention) (limit : ℕ) (call : Call) (poor : Bool) (h : History) → IsErr (outcome m limit call poor h).reply
+    → ((outcome m limit call poor h).history ≡ h) × ((outcome m limit call poor h).retention ≡ m)
 
 -- where places are forgotten, no call is refused for want of room or of memory
 abbrev pub NeverFull : Type 0
@@ -69,19 +66,19 @@ abbrev pub accepted_count : List (Result Standing Refusal) → ℕ
 accepted_count replies = length (filter is_ok replies)
 
 -- so many calls of Undo, made at end, are all accepted, and lead back to the state of h; as many calls of Redo are then all accepted, and lead to the very end
-pub record GoesBackAndOn (m : Memory) (limit count : ℕ) (undo_poor redo_poor : List Bool) (h back end : History) : Type 0 where
-  pub undone : IsTrue (list_all is_ok (replies_of m limit (replicate count Undo) undo_poor end))
-  pub memory : memory_after m limit (replicate count Undo) undo_poor end ≡ m
+pub record GoesBackAndOn (m : Retention) (limit count : ℕ) (undo_poor redo_poor : List Bool) (h back end : History) : Type 0 where
+  pub undone : IsTrue (list_all is_ok (script m limit (replicate count Undo) undo_poor end).replies)
+  pub retention : (script m limit (replicate count Undo) undo_poor end).retention ≡ m
   pub state : back.present.state ≡ h.present.state
-  pub redone : IsTrue (list_all is_ok (replies_of m limit (replicate count Redo) redo_poor back))
-  pub same : history_after m limit (replicate count Redo) redo_poor back ≡ end
+  pub redone : IsTrue (list_all is_ok (script m limit (replicate count Redo) redo_poor back).replies)
+  pub same : (script m limit (replicate count Redo) redo_poor back).history ≡ end
 
 -- after any list of commands, refused ones among them, it is so with as many calls as commands were accepted, and the position comes back too
 abbrev pub CommandsAreUndone : Type 0
-CommandsAreUndone = (limit : ℕ) (calls : List Call) (poor undo_poor redo_poor : List Bool) (h : History) → IsTrue (list_all is_command calls)
-    → let count = accepted_count (replies_of never limit calls poor h) in
-    let end = history_after never limit calls poor h in
-    let back = history_after never limit (replicate count Undo) undo_poor end in
+CommandsAreUndone = (limit : ℕ) (calls : List Call) (poor undo_poor redo_poor : List Bool) (h : History) → IsTrue (list_all is_command (map kind_of calls))
+    → let count = accepted_count (script never limit calls poor h).replies in
+    let end = (script never limit calls poor h).history in
+    let back = (script never limit (replicate count Undo) undo_poor end).history in
     GoesBackAndOn never limit count undo_poor redo_poor h back end × (position_of back ≡ position_of h)
 
 -- how many states a command reaches
@@ -90,35 +87,26 @@ count_of (Err r) = 0
 count_of (Ok states) = suc (length states.1)
 
 -- how many places a call appends, where there is room
-abbrev pub appended_by : Call → State → ℕ
-appended_by Step s = count_of (step_states s)
-appended_by (Run n) s = count_of (run_states n s)
-appended_by (Until c) s = count_of (until_states c s)
-appended_by (SetCell address cell) s = count_of (edit_states (edits.SetCell address cell) s)
-appended_by (Fill from to cell) s = count_of (fill_states from to cell s)
-appended_by (MoveProcess w i address) s = count_of (edit_states (edits.MoveProcess w i address) s)
-appended_by (Kill w i) s = count_of (edit_states (edits.KillProcess w i) s)
-appended_by (Spawn w address) s = count_of (edit_states (edits.Spawn w address) s)
-appended_by Undo s = 0
-appended_by Redo s = 0
-appended_by (Goto t) s = 0
+abbrev pub appended_by : CallKind → State → ℕ
+appended_by (Command bound states) s = count_of (states s)
+appended_by (Move refusal move) s = 0
 
 -- how many places calls append together
-abbrev pub appended_together : Memory → ℕ → List Call → List Bool → History → ℕ
+abbrev pub appended_together : Retention → ℕ → List Call → List Bool → History → ℕ
 appended_together m limit [] poor h = 0
 appended_together m limit (call ∷ calls) poor h =
     let one = outcome m limit call (first poor) h in
-    appended_by call h.present.state + appended_together one.memory limit calls (rest poor) one.history
+    appended_by (kind_of call) h.present.state + appended_together one.retention limit calls (rest poor) one.history
 
 -- where k places are kept, it is so for commands that append at most k places together; the position may be another one
 abbrev pub FewCommandsAreUndone : Type 0
-FewCommandsAreUndone = (k : ℕ) (forgotten : Bool) (limit : ℕ) (calls : List Call) (poor undo_poor redo_poor : List Bool) (h : History) → IsTrue (list_all is_command calls)
-    → let m : Memory = record { most = Some k; forgotten = forgotten } in
+FewCommandsAreUndone = (k : ℕ) (forgotten : Bool) (limit : ℕ) (calls : List Call) (poor undo_poor redo_poor : List Bool) (h : History) → IsTrue (list_all is_command (map kind_of calls))
+    → let m : Retention = record { most = Some k; forgotten = forgotten } in
     appended_together m limit calls poor h ≤ k
-    → let count = accepted_count (replies_of m limit calls poor h) in
-    let end = history_after m limit calls poor h in
-    let after = memory_after m limit calls poor h in
-    let back = history_after after limit (replicate count Undo) undo_poor end in
+    → let count = accepted_count (script m limit calls poor h).replies in
+    let end = (script m limit calls poor h).history in
+    let after = (script m limit calls poor h).retention in
+    let back = (script after limit (replicate count Undo) undo_poor end).history in
     GoesBackAndOn after limit count undo_poor redo_poor h back end
 
 -- from a marked place, redo after an accepted undo gives back the history
@@ -135,7 +123,7 @@ CallsKeepTapes = (limit : ℕ) (call : Call) (poor : Bool) (h : History) → IsT
 
 -- so does every list of calls
 abbrev pub ScriptsKeepTapes : Type 0
-ScriptsKeepTapes = (limit : ℕ) (calls : List Call) (poor : List Bool) (h : History) → IsTape h → IsTape (history_after never limit calls poor h)
+ScriptsKeepTapes = (limit : ℕ) (calls : List Call) (poor : List Bool) (h : History) → IsTape h → IsTape (script never limit calls poor h).history
 
 -- every call keeps a tape within the limit
 abbrev pub CallsKeepLimit : Type 0
@@ -144,7 +132,7 @@ CallsKeepLimit = (limit : ℕ) (call : Call) (poor : Bool) (h : History) → IsT
 -- where k places are kept, every list of calls keeps such a tape
 abbrev pub ScriptsForgetTapes : Type 0
 ScriptsForgetTapes = (k : ℕ) (forgotten : Bool) (limit : ℕ) (calls : List Call) (poor : List Bool) (h : History)
-    → IsTapeOf k h → IsTapeOf k (history_after (record { most = Some k; forgotten = forgotten }) limit calls poor h)
+    → IsTapeOf k h → IsTapeOf k (script (record { most = Some k; forgotten = forgotten }) limit calls poor h).history
 
 -- each place of a tape is valid
 abbrev pub PlacesAreValid : Type 0

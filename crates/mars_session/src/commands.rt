@@ -6,7 +6,7 @@ ghost use Rattle.mars_core.specs.State.{is_over_of};
 ghost use Rattle.mars_core.specs.Turn.{turn_of};
 ghost use Rattle.mars_core.specs.Edit.{edit_fault};
 ghost use Rattle.mars_session.specs.Code.Appending.{go_on_all};
-ghost use Rattle.mars_session.specs.Script.{standing_of, no_room, is_memory, is_poor, commanded, IsAnswer};
+ghost use Rattle.mars_session.specs.Script.{standing_of, no_room, is_out_of_memory, is_poor, commanded, IsAnswer};
 
 use crate::calls::{Call, Refusal, Standing};
 use crate::tapes::Tape;
@@ -37,14 +37,14 @@ fn prepare<T: Tape>(tape: &mut T, limit: u64, bound: u64) -> Result<(), Refusal>
     requires { 1 ≤ bound }
 
     // Whether there is room, by the definition; memory is wanting only where the tape has less.
-    ensures room { OnOk result (no_room (T.memory tape.old) limit bound false (T.history tape.old) ≡ None) }
-    ensures refused { IfErr result (λ r. no_room (T.memory tape.old) limit bound (is_memory r) (T.history tape.old) ≡ Some r) }
+    ensures room { OnOk result (no_room (T.retention tape.old) limit bound false (T.history tape.old) ≡ None) }
+    ensures refused { IfErr result (λ r. no_room (T.retention tape.old) limit bound (is_out_of_memory r) (T.history tape.old) ≡ Some r) }
     ensures memory { result ≡ Err Refusal.OutOfMemory → T.room tape.old < bound }
 
     // The place is marked and what followed is dropped, or all is as it was.
     ensures ok { OnOk result (T.history tape.new ≡ cut (marked (T.history tape.old))) }
     ensures reserved { OnOk result (bound ≤ T.room tape.new) }
-    ensures kept { T.memory tape.new ≡ T.memory tape.old }
+    ensures kept { T.retention tape.new ≡ T.retention tape.old }
     ensures err { OnErr result (T.history tape.new ≡ T.history tape.old) }
 {
     if !T::FORGETS {
@@ -77,8 +77,8 @@ fn stops(battle: &Battle, cycle: Option<u64>) -> bool
 fn turn_until<T: Tape>(tape: &mut T, n: u64, cycle: Option<u64>)
     requires last { (T.history tape.old).after ≡ [] }
     requires room { n ≤ T.room tape.old }
-    ensures { record { history = T.history tape.new; memory = T.memory tape.new }
-        ≡ go_on_all (record { history = T.history tape.old; memory = T.memory tape.old })
+    ensures { record { history = T.history tape.new; retention = T.retention tape.new }
+        ≡ go_on_all (record { history = T.history tape.old; retention = T.retention tape.old })
         (turns_until (stops_at cycle) n (T.history tape.old).present.state) }
 {
     let mut left = n;
@@ -97,9 +97,9 @@ fn make_turns<T: Tape>(
 ) -> Result<Standing, Refusal>
     requires some { 1 ≤ count }
     requires runs { is_over_of (T.history tape.old).present.state ≡ false }
-    ensures answer { let next = turn_of (T.history tape.old).present.state in commanded (T.memory tape.old) limit count
+    ensures answer { let next = turn_of (T.history tape.old).present.state in commanded (T.retention tape.old) limit count
         (is_poor result) (T.history tape.old) (Ok (next, turns_until (stops_at cycle) (count - 1) next))
-        ≡ record { history = T.history tape.new; memory = T.memory tape.new; reply = result } }
+        ≡ record { history = T.history tape.new; retention = T.retention tape.new; reply = result } }
     ensures memory { result ≡ Err Refusal.OutOfMemory → T.room tape.old < count }
 {
     prepare(tape, limit, count)?;
@@ -111,7 +111,7 @@ fn make_turns<T: Tape>(
 
 /// One turn.
 pub fn step<T: Tape>(tape: &mut T, limit: u64) -> Result<Standing, Refusal>
-    ensures answer { IsAnswer (T.memory tape.old) limit Call.Step (T.history tape.old) result (T.history tape.new) (T.memory tape.new) }
+    ensures answer { IsAnswer (T.retention tape.old) limit Call.Step (T.history tape.old) result (T.history tape.new) (T.retention tape.new) }
     ensures memory { result ≡ Err Refusal.OutOfMemory → T.room tape.old < 1 }
 {
     if tape.now().is_over() {
@@ -122,7 +122,7 @@ pub fn step<T: Tape>(tape: &mut T, limit: u64) -> Result<Standing, Refusal>
 
 /// So many turns, or as many as there are.
 pub fn run<T: Tape>(tape: &mut T, limit: u64, n: u64) -> Result<Standing, Refusal>
-    ensures answer { IsAnswer (T.memory tape.old) limit (Call.Run n) (T.history tape.old) result (T.history tape.new) (T.memory tape.new) }
+    ensures answer { IsAnswer (T.retention tape.old) limit (Call.Run n) (T.history tape.old) result (T.history tape.new) (T.retention tape.new) }
     ensures memory { result ≡ Err Refusal.OutOfMemory → T.room tape.old < n }
 {
     if n == 0 || n > COMMAND_LIMIT {
@@ -143,8 +143,8 @@ fn few_turns(cycles: u64, warriors: u64) -> Option<u64>
 
 /// Turns up to a cycle, or as many as there are.
 pub fn until<T: Tape>(tape: &mut T, limit: u64, cycle: u64) -> Result<Standing, Refusal>
-    ensures answer { IsAnswer (T.memory tape.old) limit (Call.Until cycle) (T.history tape.old) result (T.history tape.new)
-        (T.memory tape.new) }
+    ensures answer { IsAnswer (T.retention tape.old) limit (Call.Until cycle) (T.history tape.old) result (T.history tape.new)
+        (T.retention tape.new) }
     ensures memory { result ≡ Err Refusal.OutOfMemory → T.room tape.old < until_bound cycle (T.history tape.old).present.state }
 {
     let now = tape.now();
@@ -177,9 +177,9 @@ fn refusal(fault: EditFault) -> Refusal
 
 /// One edit.
 pub fn edit<T: Tape>(tape: &mut T, limit: u64, edit: Edit) -> Result<Standing, Refusal>
-    ensures answer { commanded (T.memory tape.old) limit 1 (is_poor result) (T.history tape.old)
+    ensures answer { commanded (T.retention tape.old) limit 1 (is_poor result) (T.history tape.old)
         (edit_states edit (T.history tape.old).present.state)
-        ≡ record { history = T.history tape.new; memory = T.memory tape.new; reply = result } }
+        ≡ record { history = T.history tape.new; retention = T.retention tape.new; reply = result } }
     ensures memory { result ≡ Err Refusal.OutOfMemory → T.room tape.old < 1 }
 {
     if let Some(fault) = tape.now().edit_fault(edit) {
@@ -197,8 +197,8 @@ fn fill_cells<T: Tape>(tape: &mut T, first: u64, last: u64, cell: Cell)
     requires last { (T.history tape.old).after ≡ [] }
     requires room { last - first ≤ T.room tape.old }
     requires accepted { edit_fault (T.history tape.old).present.state (Edit.SetCell last cell) ≡ None }
-    ensures { record { history = T.history tape.new; memory = T.memory tape.new }
-        ≡ go_on_all (record { history = T.history tape.old; memory = T.memory tape.old })
+    ensures { record { history = T.history tape.new; retention = T.retention tape.new }
+        ≡ go_on_all (record { history = T.history tape.old; retention = T.retention tape.old })
         (fills (last - first) (first + 1) cell (T.history tape.old).present.state) }
 {
     let mut address = first;
@@ -217,8 +217,8 @@ pub fn fill<T: Tape>(
     to: u64,
     cell: Cell,
 ) -> Result<Standing, Refusal>
-    ensures answer { IsAnswer (T.memory tape.old) limit (Call.Fill from to cell) (T.history tape.old) result (T.history tape.new)
-        (T.memory tape.new) }
+    ensures answer { IsAnswer (T.retention tape.old) limit (Call.Fill from to cell) (T.history tape.old) result (T.history tape.new)
+        (T.retention tape.new) }
     ensures memory { result ≡ Err Refusal.OutOfMemory → T.room tape.old < cells_between from to }
 {
     if from <= to && to - from >= COMMAND_LIMIT {

@@ -2,7 +2,7 @@
 ghost use Rattle.std.proofs.Common.{refl, rules};
 ghost use Rattle.std.specs.Prelude.{◌≡◌, ◌+◌, ◌-◌, ◌<◌, ◌≤◌, None, false, true, MatchOption, MatchResult, vec_capacity, IsOk};
 ghost use Rattle.mars_session.specs.History.{beginning, places, last_of, cut, back, forward};
-ghost use Rattle.mars_session.specs.Memory.{never};
+ghost use Rattle.mars_session.specs.Retention.{never};
 ghost use Rattle.mars_session.specs.Tapes.{LeadsAt};
 
 use crate::tapes::Tape;
@@ -72,7 +72,7 @@ impl Tape for DeltaTape {
 
     ghost room = { λ t. t.room };
 
-    ghost memory = { λ t. never };
+    ghost retention = { λ t. never };
 
     ghost forgets = { λ t. refl };
 

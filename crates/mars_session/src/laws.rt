@@ -1,5 +1,10 @@
 //! Laws of the history, over the definitions alone.
-ghost use Rattle.mars_session.specs.Laws.{UndosGiveBack, RedosGiveAgain, RefusalsChangeNothing, NeverFull, CommandsAreUndone, FewCommandsAreUndone, RedoAfterUndo, MovesKeepPlaces, UndoFindsNearest, RedoFindsNearest, GotoFindsFirst, CommandsAppend, BeginningIsTape, CallsKeepTapes, ScriptsKeepTapes, ScriptsForgetTapes, GotoBetween, TurnsAndCyclesRise, UntilArrives, CallsKeepLimit, PlacesAreValid};
+ghost use Rattle.mars_session.specs.Laws.{CallsAreScripts, UndosGiveBack, RedosGiveAgain, RefusalsChangeNothing, NeverFull, CommandsAreUndone, FewCommandsAreUndone, RedoAfterUndo, MovesKeepPlaces, UndoFindsNearest, RedoFindsNearest, GotoFindsFirst, CommandsAppend, BeginningIsTape, CallsKeepTapes, ScriptsKeepTapes, ScriptsForgetTapes, GotoBetween, TurnsAndCyclesRise, UntilArrives, CallsKeepLimit, PlacesAreValid};
+
+/// Calls that are answered one after another leave what the definition of a script says, and have its replies.
+pub fn calls_are_scripts()
+    ensures { CallsAreScripts }
+{}
 
 /// After accepted commands as many undos are accepted, and give back the state and the position.
 pub fn undos_give_back()

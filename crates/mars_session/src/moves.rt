@@ -12,7 +12,7 @@ fn go_back<T: Tape>(tape: &mut T, position: u64)
     requires { position ≤ position_of (T.history tape.old) }
     ensures places { rewound (T.history tape.new) ≡ rewound (T.history tape.old) }
     ensures position { position_of (T.history tape.new) ≡ position }
-    ensures memory { T.memory tape.new ≡ T.memory tape.old }
+    ensures retention { T.retention tape.new ≡ T.retention tape.old }
 {
     'back: while tape.position() > position {
         tape.back();
@@ -25,7 +25,7 @@ fn go_on<T: Tape>(tape: &mut T, position: u64)
     requires inside { position ≤ last_of (T.history tape.old) }
     ensures places { rewound (T.history tape.new) ≡ rewound (T.history tape.old) }
     ensures position { position_of (T.history tape.new) ≡ position }
-    ensures memory { T.memory tape.new ≡ T.memory tape.old }
+    ensures retention { T.retention tape.new ≡ T.retention tape.old }
 {
     'on: while tape.position() < position {
         tape.forward();
@@ -34,7 +34,7 @@ fn go_on<T: Tape>(tape: &mut T, position: u64)
 
 /// Why there is no marked place before.
 fn no_marked_place<T: Tape>(tape: &T) -> Refusal
-    ensures why { result ≡ no_undo (T.memory tape.now) }
+    ensures why { result ≡ no_undo (T.retention tape.now) }
     ensures never { result ≢ Refusal.OutOfMemory }
 {
     if tape.forgotten() {
@@ -46,8 +46,8 @@ fn no_marked_place<T: Tape>(tape: &T) -> Refusal
 
 /// To the nearest marked place before.
 pub fn undo<T: Tape>(tape: &mut T) -> Result<Standing, Refusal>
-    ensures answer { moved (T.memory tape.old) (T.history tape.old) (no_undo (T.memory tape.old)) (undo (T.history tape.old))
-        ≡ record { history = T.history tape.new; memory = T.memory tape.new; reply = result } }
+    ensures answer { moved (T.retention tape.old) (T.history tape.old) (no_undo (T.retention tape.old)) (undo (T.history tape.old))
+        ≡ record { history = T.history tape.new; retention = T.retention tape.new; reply = result } }
     ensures never { result ≢ Err Refusal.OutOfMemory }
 {
     let start = tape.position();
@@ -63,8 +63,8 @@ pub fn undo<T: Tape>(tape: &mut T) -> Result<Standing, Refusal>
 
 /// To the nearest marked place after.
 pub fn redo<T: Tape>(tape: &mut T) -> Result<Standing, Refusal>
-    ensures answer { moved (T.memory tape.old) (T.history tape.old) Refusal.NothingToRedo (redo (T.history tape.old))
-        ≡ record { history = T.history tape.new; memory = T.memory tape.new; reply = result } }
+    ensures answer { moved (T.retention tape.old) (T.history tape.old) Refusal.NothingToRedo (redo (T.history tape.old))
+        ≡ record { history = T.history tape.new; retention = T.retention tape.new; reply = result } }
     ensures never { result ≢ Err Refusal.OutOfMemory }
 {
     let start = tape.position();
@@ -98,7 +98,7 @@ fn may_lie_before<T: Tape>(tape: &T, turns: u64) -> bool
 fn go_before<T: Tape>(tape: &mut T, turns: u64)
     ensures places { rewound (T.history tape.new) ≡ rewound (T.history tape.old) }
     ensures sought { first_at_turn turns (T.history tape.new) ≡ goto turns (T.history tape.old) }
-    ensures memory { T.memory tape.new ≡ T.memory tape.old }
+    ensures retention { T.retention tape.new ≡ T.retention tape.old }
 {
     'back: while may_lie_before(tape, turns) {
         tape.back();
@@ -109,7 +109,7 @@ fn go_before<T: Tape>(tape: &mut T, turns: u64)
 fn find_on<T: Tape>(tape: &mut T, turns: u64)
     requires { IsSome (first_at_turn turns (T.history tape.old)) }
     ensures found { first_at_turn turns (T.history tape.old) ≡ Some (T.history tape.new) }
-    ensures memory { T.memory tape.new ≡ T.memory tape.old }
+    ensures retention { T.retention tape.new ≡ T.retention tape.old }
 {
     'on: while turns_now(tape) != turns {
         tape.forward();
@@ -127,9 +127,9 @@ fn is_met<T: Tape>(tape: &T, turns: u64) -> bool
 
 /// To the first place after so many turns: back as far as it may lie, and then on.
 pub fn goto<T: Tape>(tape: &mut T, turns: u64) -> Result<Standing, Refusal>
-    ensures answer { moved (T.memory tape.old) (T.history tape.old)
+    ensures answer { moved (T.retention tape.old) (T.history tape.old)
         (Refusal.NotInHistory (turns_of_first (T.history tape.old)) (last_turns (T.history tape.old)))
-        (goto turns (T.history tape.old)) ≡ record { history = T.history tape.new; memory = T.memory tape.new; reply = result } }
+        (goto turns (T.history tape.old)) ≡ record { history = T.history tape.new; retention = T.retention tape.new; reply = result } }
     ensures never { result ≢ Err Refusal.OutOfMemory }
 {
     if !is_met(tape, turns) {

@@ -54,7 +54,7 @@ impl Tape for RingTape {
 
     ghost room = { λ t. 2 ^ 64 };
 
-    ghost memory = { λ t. record { most = Some t.most; forgotten = t.forgotten } };
+    ghost retention = { λ t. record { most = Some t.most; forgotten = t.forgotten } };
 
     ghost forgets = { λ t. refl };
 

@@ -2,7 +2,7 @@
 ghost use Rattle.std.specs.Prelude.{◌≡◌, ◌++◌, ◌+◌, ◌≤◌, List, OnOk, OnErr, IsOk, Result, length, vec_len, vec_capacity};
 ghost use Rattle.mars_session.specs.declared.calls.Standing.{Standing};
 ghost use Rattle.mars_session.specs.declared.calls.Refusal.{Refusal};
-ghost use Rattle.mars_session.specs.Script.{SessionValue, standing_of, EachAnswers, ScriptAnswers, Answers};
+ghost use Rattle.mars_session.specs.Script.{SessionValue, standing_of, EachAnswers, Answers};
 
 use crate::calls::{Call, Refusal, Reply, Standing};
 use crate::tapes::Tape;
@@ -28,7 +28,7 @@ impl<T: Tape> Model for Session<T> {
     ghost Value = { SessionValue };
 
     ghost view = { λ s. record {
-      state = record { history = T.history s.tape; limit = s.limit; memory = T.memory s.tape };
+      state = record { history = T.history s.tape; limit = s.limit; retention = T.retention s.tape };
       room = T.room s.tape;
     } };
 }
@@ -36,7 +36,7 @@ impl<T: Tape> Model for Session<T> {
 impl<T: Tape> Session<T> {
     /// A session over a tape, with the most places that may stand after the first one, where the tape keeps all of them.
     pub fn new(tape: T, limit: u64) -> Self
-        ensures state { result.state ≡ record { history = T.history tape; limit = limit; memory = T.memory tape } }
+        ensures state { result.state ≡ record { history = T.history tape; limit = limit; retention = T.retention tape } }
         ensures room { result.room ≡ T.room tape }
     {
         Session { tape, limit }
@@ -45,7 +45,7 @@ impl<T: Tape> Session<T> {
     /// The tape of all places: what a tape alone can tell, as [`crate::DeltaTape::atom`], is asked of it.
     pub fn tape(&self) -> &T
         ensures history { T.history result.now ≡ self.now.state.history }
-        ensures memory { T.memory result.now ≡ self.now.state.memory }
+        ensures retention { T.retention result.now ≡ self.now.state.retention }
         ensures room { T.room result.now ≡ self.now.room }
     {
         &self.tape
@@ -54,7 +54,7 @@ impl<T: Tape> Session<T> {
     /// Gives the tape back, at the place where the session stands.
     pub fn into_tape(self) -> T
         ensures history { T.history result ≡ self.state.history }
-        ensures memory { T.memory result ≡ self.state.memory }
+        ensures retention { T.retention result ≡ self.state.retention }
         ensures room { T.room result ≡ self.room }
     {
         self.tape
@@ -78,14 +78,14 @@ impl<T: Tape> Session<T> {
     pub fn step(&mut self) -> Result<Standing, Refusal>
         ensures { Answers self.old Call.Step result self.new }
     {
-        commands::step(&mut self.tape, self.limit)
+        self.call(Call::Step)
     }
 
     /// Makes so many turns, 1 to 1,000,000 (else `Count`), or as many as there are. Refused where the battle is `Over`.
     pub fn run(&mut self, n: u64) -> Result<Standing, Refusal>
         ensures { Answers self.old (Call.Run n) result self.new }
     {
-        commands::run(&mut self.tape, self.limit, n)
+        self.call(Call::Run(n))
     }
 
     /// Makes turns up to a cycle, or as many as there are. Refused by `Count` where the cycles to go times all warriors are over
@@ -93,14 +93,14 @@ impl<T: Tape> Session<T> {
     pub fn until(&mut self, cycle: u64) -> Result<Standing, Refusal>
         ensures { Answers self.old (Call.Until cycle) result self.new }
     {
-        commands::until(&mut self.tape, self.limit, cycle)
+        self.call(Call::Until(cycle))
     }
 
     /// Sets the cell at an address. Refused by `Address` and by `FieldOutside`.
     pub fn set_cell(&mut self, address: u64, cell: Cell) -> Result<Standing, Refusal>
         ensures { Answers self.old (Call.SetCell address cell) result self.new }
     {
-        commands::edit(&mut self.tape, self.limit, Edit::SetCell(address, cell))
+        self.call(Call::SetCell(address, cell))
     }
 
     /// Sets the cells from one address to another, both included, one place each. Refused by `Count` over 1,000,000 cells, by
@@ -108,7 +108,7 @@ impl<T: Tape> Session<T> {
     pub fn fill(&mut self, from: u64, to: u64, cell: Cell) -> Result<Standing, Refusal>
         ensures { Answers self.old (Call.Fill from to cell) result self.new }
     {
-        commands::fill(&mut self.tape, self.limit, from, to, cell)
+        self.call(Call::Fill(from, to, cell))
     }
 
     /// Moves a process of a warrior, by its place in the queue (0 is the front), to an address. Refused by `Address`,
@@ -121,29 +121,21 @@ impl<T: Tape> Session<T> {
     ) -> Result<Standing, Refusal>
         ensures { Answers self.old (Call.MoveProcess warrior place address) result self.new }
     {
-        commands::edit(
-            &mut self.tape,
-            self.limit,
-            Edit::MoveProcess(warrior, place, address),
-        )
+        self.call(Call::MoveProcess(warrior, place, address))
     }
 
     /// Ends a process of a warrior, by its place in the queue (0 is the front). Refused by `NoSuchWarrior` and `NoSuchProcess`.
     pub fn kill(&mut self, warrior: u64, place: u64) -> Result<Standing, Refusal>
         ensures { Answers self.old (Call.Kill warrior place) result self.new }
     {
-        commands::edit(
-            &mut self.tape,
-            self.limit,
-            Edit::KillProcess(warrior, place),
-        )
+        self.call(Call::Kill(warrior, place))
     }
 
     /// Gives a warrior a further process at an address. Refused by `Address`, `NoSuchWarrior`, `WarriorDead` and `QueueFull`.
     pub fn spawn(&mut self, warrior: u64, address: u64) -> Result<Standing, Refusal>
         ensures { Answers self.old (Call.Spawn warrior address) result self.new }
     {
-        commands::edit(&mut self.tape, self.limit, Edit::Spawn(warrior, address))
+        self.call(Call::Spawn(warrior, address))
     }
 
     /// Goes to the nearest marked place before. Where there is none, it answers `Forgotten` if a place was ever forgotten, else
@@ -151,14 +143,14 @@ impl<T: Tape> Session<T> {
     pub fn undo(&mut self) -> Result<Standing, Refusal>
         ensures { Answers self.old Call.Undo result self.new }
     {
-        moves::undo(&mut self.tape)
+        self.call(Call::Undo)
     }
 
     /// Goes to the nearest marked place after, or answers `NothingToRedo`.
     pub fn redo(&mut self) -> Result<Standing, Refusal>
         ensures { Answers self.old Call.Redo result self.new }
     {
-        moves::redo(&mut self.tape)
+        self.call(Call::Redo)
     }
 
     /// Goes to the first place after so many turns, over no more places than lie on the way and one; or answers `NotInHistory`
@@ -166,27 +158,43 @@ impl<T: Tape> Session<T> {
     pub fn goto(&mut self, turns: u64) -> Result<Standing, Refusal>
         ensures { Answers self.old (Call.Goto turns) result self.new }
     {
-        moves::goto(&mut self.tape, turns)
+        self.call(Call::Goto(turns))
     }
 
     /// Makes any call.
     pub fn call(&mut self, call: Call) -> Result<Standing, Refusal>
         ensures { Answers self.old call result self.new }
     {
+        let Session { tape, limit } = self;
+        let limit = *limit;
         match call {
-            Call::Step => self.step(),
-            Call::Run(n) => self.run(n),
-            Call::Until(cycle) => self.until(cycle),
-            Call::SetCell(address, cell) => self.set_cell(address, cell),
-            Call::Fill(from, to, cell) => self.fill(from, to, cell),
-            Call::MoveProcess(warrior, place, address) => self.move_process(
-                warrior, place, address,
+            Call::Step => commands::step(tape, limit),
+            Call::Run(n) => commands::run(tape, limit, n),
+            Call::Until(cycle) => commands::until(tape, limit, cycle),
+            Call::SetCell(address, cell) => commands::edit(
+                tape,
+                limit,
+                Edit::SetCell(address, cell),
             ),
-            Call::Kill(warrior, place) => self.kill(warrior, place),
-            Call::Spawn(warrior, address) => self.spawn(warrior, address),
-            Call::Undo => self.undo(),
-            Call::Redo => self.redo(),
-            Call::Goto(turns) => self.goto(turns),
+            Call::Fill(from, to, cell) => commands::fill(tape, limit, from, to, cell),
+            Call::MoveProcess(warrior, place, address) => commands::edit(
+                tape,
+                limit,
+                Edit::MoveProcess(warrior, place, address),
+            ),
+            Call::Kill(warrior, place) => commands::edit(
+                tape,
+                limit,
+                Edit::KillProcess(warrior, place),
+            ),
+            Call::Spawn(warrior, address) => commands::edit(
+                tape,
+                limit,
+                Edit::Spawn(warrior, address),
+            ),
+            Call::Undo => moves::undo(tape),
+            Call::Redo => moves::redo(tape),
+            Call::Goto(turns) => moves::goto(tape, turns),
         }
     }
 
@@ -195,7 +203,7 @@ impl<T: Tape> Session<T> {
     /// call may need; how much room a call leaves isn't said.
     pub fn apply_all(&mut self, calls: &[Call], out: &mut Vec<Reply>) -> Result<(), AllocError>
         ensures ok { OnOk result ((replies : List (Result Standing Refusal)) × (out.new.items ≡ out.old.items ++ replies)
-            × ScriptAnswers self.old.state calls.now replies self.new.state × EachAnswers self.old calls.now replies self.new) }
+            × EachAnswers self.old calls.now replies self.new) }
         ensures enough { vec_len out.old + length calls.now ≤ vec_capacity out.old → IsOk result }
         ensures err { OnErr result ((self.new ≡ self.old) × (out.new.items ≡ out.old.items)) }
     {

@@ -4,7 +4,7 @@ ghost use Rattle.mars_core.specs.State.{is_over_of};
 ghost use Rattle.mars_core.specs.Turn.{turn_of};
 ghost use Rattle.mars_core.specs.Edit.{edit_fault, edited};
 ghost use Rattle.mars_session.specs.History.{History, position_of, last_of, following, marked, cut, append, back, forward, first_turns, last_turns};
-ghost use Rattle.mars_session.specs.Memory.{Memory, kept, noted};
+ghost use Rattle.mars_session.specs.Retention.{Retention, kept, noted};
 ghost use Rattle.mars_session.specs.Tapes.{TurnsRise};
 
 use mars_core::{Battle, Edit};
@@ -25,7 +25,7 @@ pub trait Tape {
     ghost room: { Self → ℕ };
 
     /// How many places are kept, and whether one was ever forgotten.
-    ghost memory: { Self → Memory };
+    ghost retention: { Self → Retention };
 
     /// The battle of the present place.
     fn now(&self) -> &Battle
@@ -57,18 +57,18 @@ pub trait Tape {
 
     /// Whether a place was ever forgotten.
     fn forgotten(&self) -> bool
-        ensures { result ≡ (memory self.now).forgotten };
+        ensures { result ≡ (retention self.now).forgotten };
 
     /// Marks the present place.
     fn set_mark(&mut self)
-        ensures memory { memory self.new ≡ memory self.old }
+        ensures retention { retention self.new ≡ retention self.old }
         ensures places { history self.new ≡ marked (history self.old) }
         ensures room { room self.old ≤ room self.new };
 
     /// Makes room for so many places after the present one. It fails only where there is less room, and memory for the
     /// rest is refused; the room then stays as it is. A command over places that are there already so takes no memory.
     fn reserve(&mut self, n: u64) -> Result<(), AllocError>
-        ensures memory { memory self.new ≡ memory self.old }
+        ensures retention { retention self.new ≡ retention self.old }
         ensures places { history self.new ≡ history self.old }
         ensures ok { OnOk result (n ≤ room self.new) }
         ensures enough { n ≤ room self.old → IsOk result }
@@ -76,7 +76,7 @@ pub trait Tape {
 
     /// Drops the places after the present one.
     fn cut(&mut self)
-        ensures memory { memory self.new ≡ memory self.old }
+        ensures retention { retention self.new ≡ retention self.old }
         ensures places { history self.new ≡ cut (history self.old) }
         ensures room { room self.old ≤ room self.new };
 
@@ -85,9 +85,9 @@ pub trait Tape {
         requires last { (history self.old).after ≡ [] }
         requires room { 1 ≤ room self.old }
         requires runs { is_over_of (history self.old).present.state ≡ false }
-        ensures places { history self.new ≡ kept (memory self.old).most
+        ensures places { history self.new ≡ kept (retention self.old).most
             (append (history self.old) (turn_of (history self.old).present.state)) }
-        ensures memory { memory self.new ≡ noted (memory self.old) (append (history self.old) (turn_of (history self.old).present.state)) }
+        ensures retention { retention self.new ≡ noted (retention self.old) (append (history self.old) (turn_of (history self.old).present.state)) }
         ensures room { room self.old ≤ room self.new + 1 };
 
     /// Appends what an edit makes of the present place, and goes there. The first place may be forgotten.
@@ -95,24 +95,24 @@ pub trait Tape {
         requires last { (history self.old).after ≡ [] }
         requires room { 1 ≤ room self.old }
         requires accepted { edit_fault (history self.old).present.state edit ≡ None }
-        ensures places { history self.new ≡ kept (memory self.old).most
+        ensures places { history self.new ≡ kept (retention self.old).most
             (append (history self.old) (edited (history self.old).present.state edit)) }
-        ensures memory { memory self.new ≡ noted (memory self.old)
+        ensures retention { retention self.new ≡ noted (retention self.old)
             (append (history self.old) (edited (history self.old).present.state edit)) }
         ensures room { room self.old ≤ room self.new + 1 };
 
     /// Goes one place back, where there is one.
     fn back(&mut self)
         ensures places { history self.new ≡ back (history self.old) }
-        ensures memory { memory self.new ≡ memory self.old };
+        ensures retention { retention self.new ≡ retention self.old };
 
     /// Goes one place on, where there is one.
     fn forward(&mut self)
         ensures places { history self.new ≡ forward (history self.old) }
-        ensures memory { memory self.new ≡ memory self.old };
+        ensures retention { retention self.new ≡ retention self.old };
 
     // just a tape that forgets keeps so many places alone
-    ghost forgets: { (t : Self) → FORGETS ≡ is_some (memory t).most };
+    ghost forgets: { (t : Self) → FORGETS ≡ is_some (retention t).most };
 
     // it has room for any number of places
     ghost takes_all: { (t : Self) → FORGETS ≡ true → 2 ^ 64 ≤ room t };

@@ -6,7 +6,7 @@ ghost use Rattle.mars_core.specs.Turn.{turn_of};
 ghost use Rattle.mars_core.specs.Edit.{edit_fault, edited};
 ghost use Rattle.mars_core.specs.Shape.{SameShape};
 ghost use Rattle.mars_session.specs.History.{beginning, cut, back, forward};
-ghost use Rattle.mars_session.specs.Memory.{never};
+ghost use Rattle.mars_session.specs.Retention.{never};
 ghost use Rattle.mars_session.specs.Code.Whole.{snapshot_at, whole_history, IsGrown};
 
 use crate::snapshots::Snapshot;
@@ -144,7 +144,7 @@ impl Tape for WholeTape {
 
     ghost room = { λ t. t.room };
 
-    ghost memory = { λ t. never };
+    ghost retention = { λ t. never };
 
     ghost forgets = { λ t. refl };
 

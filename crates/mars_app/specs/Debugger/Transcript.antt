@@ -18,8 +18,8 @@ core_size_of s = s.history.present.state.params.core_size
 unfoldable pub answer : Bool → SessionState → Request → SessionState × List ℕ
 answer poor s request.Nothing = (s, [])
 answer poor s (request.Call call) =
-    let after = outcome s.memory s.limit call poor s.history in
-    (record { history = after.history; limit = s.limit; memory = after.memory }, reply_text after.reply)
+    let after = outcome s.retention s.limit call poor s.history in
+    (record { history = after.history; limit = s.limit; retention = after.retention }, reply_text after.reply)
 answer poor s (request.List address n) = (s, list_text s.history.present.state address n)
 answer poor s (request.Queue warrior) = (s, queue_text s.history.present.state warrior)
 answer poor s request.Show = (s, show_text (standing_of s.history) s.history.present.state)

@@ -1,5 +1,5 @@
 -- Undo and redo where the oldest places are forgotten: they go as they would among all places, as long as no forgotten one is met.
-use Rattle.std.proofs.Common.{◌≡◌, ℕ, zero, suc, ◌+◌, ◌-◌, ◌≤◌, Bool, true, false, List, [], ◌∷◌, length, take, replicate, Option, Some, None, Result, Ok, Err, refl, ap, sym, ◌∙◌, arith, ◌⊎◌, inl, inr, if◌then◌else◌}
+use Rattle.std.proofs.Common.{◌≡◌, ℕ, zero, suc, ◌+◌, ◌-◌, ◌≤◌, Bool, true, false, List, [], ◌∷◌, length, map, take, replicate, Option, Some, None, Result, Ok, Err, refl, ap, sym, ◌∙◌, arith, ◌⊎◌, inl, inr, if◌then◌else◌}
 use Rattle.std.specs.Prelude.{option_and_then, IsOk, IsErr, IsTrue}
 use Rattle.std.specs.List.{list_all}
 use Rattle.std.proofs.lemmas.Bool.{and_parts}
@@ -10,8 +10,8 @@ use Rattle.mars_session.specs.declared.calls.Standing.{Standing}
 use Rattle.mars_session.specs.declared.calls.Refusal.{Refusal}
 use Rattle.mars_session.specs.declared.calls.Refusal.TheVariants.{NothingToRedo}
 use Rattle.mars_session.specs.History.{Place, History, position_of, marked, cut, append, append_all, accepted, marked_before, undo, marked_after, redo}
-use Rattle.mars_session.specs.Memory.{Memory, kept}
-use Rattle.mars_session.specs.Script.{Outcome, outcome, no_undo, replies_of, history_after, memory_after, first, rest}
+use Rattle.mars_session.specs.Retention.{Retention, kept}
+use Rattle.mars_session.specs.Script.{kind_of, Outcome, outcome, no_undo, script, first, rest}
 use Rattle.mars_session.specs.Laws.{times, is_command, accepted_count, GoesBackAndOn, appended_by, appended_together, FewCommandsAreUndone}
 use Rattle.mars_session.proofs.Appending.{take_fewer}
 use Rattle.mars_session.proofs.Undoing.{base, Accepted, accepted_call, same_most, position_append_all, Undone, one_undone}
@@ -172,7 +172,7 @@ none_whole k n count total h start end (inr r) = inr (record { whole = r.whole; 
 
 module _ (k limit : ℕ) where
   -- one call more, before the others
-  one_few : (m : Memory) (n total : ℕ) (r : Result Standing Refusal) (others : List (Result Standing Refusal)) (h start new end : History) → m.most ≡ Some k → Same k h start
+  one_few : (m : Retention) (n total : ℕ) (r : Result Standing Refusal) (others : List (Result Standing Refusal)) (h start new end : History) → m.most ≡ Some k → Same k h start
       → (IsOk r → Accepted m n h new) → (IsErr r → new ≡ h)
       → ((next : History) → Same k new next → FewReached k (accepted_count others) total new next end) → FewReached k (accepted_count (r ∷ others)) (n + total) h start end
   one_few m n total (Ok standing) others h start new end e same accepts keeps later =
@@ -186,22 +186,22 @@ module _ (k limit : ℕ) where
       let stays : new ≡ h = keeps refl in
       none_whole k n (accepted_count others) total h start end (rw stays at (later start (rw stays same)))
 
-  few_reached : (m : Memory) (calls : List Call) (poor : List Bool) (h start : History) → m.most ≡ Some k → Same k h start → IsTrue (list_all is_command calls)
-      → FewReached k (accepted_count (replies_of m limit calls poor h)) (appended_together m limit calls poor h) h start (history_after m limit calls poor h)
+  few_reached : (m : Retention) (calls : List Call) (poor : List Bool) (h start : History) → m.most ≡ Some k → Same k h start → IsTrue (list_all is_command (map kind_of calls))
+      → FewReached k (accepted_count (script m limit calls poor h).replies) (appended_together m limit calls poor h) h start (script m limit calls poor h).history
   few_reached m [] poor h start e same c = inl (refl, refl)
   few_reached m (call ∷ calls) poor h start e same c =
-      let commands = and_parts (is_command call) (list_all is_command calls) c in
+      let commands = and_parts (is_command (kind_of call)) (list_all is_command (map kind_of calls)) c in
       let one : Outcome = outcome m limit call (first poor) h in
-      let most : one.memory.most ≡ Some k = same_most m limit call (first poor) h ∙ e in
-      one_few m (appended_by call h.present.state) (appended_together one.memory limit calls (rest poor) one.history) one.reply
-      (replies_of one.memory limit calls (rest poor) one.history) h start one.history (history_after one.memory limit calls (rest poor) one.history) e same
+      let most : one.retention.most ≡ Some k = same_most m limit call (first poor) h ∙ e in
+      one_few m (appended_by (kind_of call) h.present.state) (appended_together one.retention limit calls (rest poor) one.history) one.reply
+      (script one.retention limit calls (rest poor) one.history).replies h start one.history (script one.retention limit calls (rest poor) one.history).history e same
       (λ ok. accepted_call m limit call (first poor) h commands.0 ok) (λ err. (refusals_change_nothing m limit call (first poor) h err).0)
-      (λ next alike. few_reached one.memory calls (rest poor) one.history next most alike commands.1)
+      (λ next alike. few_reached one.retention calls (rest poor) one.history next most alike commands.1)
 
-  few_back_and_on : (m : Memory) (n total : ℕ) (up rp : List Bool) (h end : History) → total ≤ k → FewReached k n total h h end
-      → GoesBackAndOn m limit n up rp h (history_after m limit (replicate n Undo) up end) end
+  few_back_and_on : (m : Retention) (n total : ℕ) (up rp : List Bool) (h end : History) → total ≤ k → FewReached k n total h h end
+      → GoesBackAndOn m limit n up rp h (script m limit (replicate n Undo) up end).history end
   few_back_and_on m n total up rp h end l (inl none) =
-      rw (none.0, none.1) (record { undone = refl; memory = refl; state = refl; redone = refl; same = refl })
+      rw (none.0, none.1) (record { undone = refl; retention = refl; state = refl; redone = refl; same = refl })
   few_back_and_on m n total up rp h end l (inr r) =
       let start : History = base h r.undone.follow in
       let j : ℕ = k - (position_of r.whole - position_of h) in
@@ -212,7 +212,7 @@ module _ (k limit : ℕ) where
       let redos = all_moved m limit n Redo NothingToRedo redo rp (kept (Some j) start) end (λ b x. refl) (rw r.is on) in
       record {
         undone = undos.accepted;
-        memory = undos.memory;
+        retention = undos.retention;
         state = ap (λ (x : History). x.present.state) undos.history;
         redone = rw undos.history redos.accepted;
         same = rw undos.history redos.history;
@@ -220,7 +220,7 @@ module _ (k limit : ℕ) where
 
 pub few_commands_are_undone : FewCommandsAreUndone
 few_commands_are_undone k forgotten limit calls poor up rp h c l =
-    let m : Memory = record { most = Some k; forgotten = forgotten } in
+    let m : Retention = record { most = Some k; forgotten = forgotten } in
     let reached = few_reached k limit m calls poor h h refl (record { state = refl; before = refl }) c in
-    few_back_and_on k limit (memory_after m limit calls poor h) (accepted_count (replies_of m limit calls poor h)) (appended_together m limit calls poor h) up rp h
-    (history_after m limit calls poor h) l reached
+    few_back_and_on k limit (script m limit calls poor h).retention (accepted_count (script m limit calls poor h).replies) (appended_together m limit calls poor h) up rp h
+    (script m limit calls poor h).history l reached

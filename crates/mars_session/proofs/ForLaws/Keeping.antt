@@ -14,9 +14,9 @@ use Rattle.mars_session.specs.declared.calls.Refusal.{Refusal}
 use Rattle.mars_session.specs.declared.calls.Refusal.TheVariants.{Count, Address, Over, CyclePassed, NothingToRedo, NotInHistory}
 use Rattle.mars_session.specs.History.{Place, History, beginning, append, append_all, cut, marked, accepted, marked_before, undo, marked_after, redo, rewound_from, rewound, first_at_turn_from, goto, first_turns, last_turns}
 use Rattle.mars_session.specs.Commands.{command_limit, States, turns_until, stops_at, step_states, run_states, until_bound, until_states, unless_fault, edit_states, fills, cells_between, fill_states}
-use Rattle.mars_session.specs.Memory.{Memory, never, kept}
+use Rattle.mars_session.specs.Retention.{Retention, never, kept}
 use Rattle.mars_session.specs.declared.calls.Call.{Call}
-use Rattle.mars_session.specs.Script.{moved, no_undo, no_room, appended, commanded, outcome, first, rest, Outcome, history_after}
+use Rattle.mars_session.specs.Script.{moved, no_undo, no_room, appended, commanded, outcome, first, rest, Outcome, script}
 use Rattle.mars_session.specs.Tapes.{Follows, FollowsAll, Steps, IsTape, IsTapeOf}
 use Rattle.mars_session.specs.Laws.{BeginningIsTape, CallsKeepTapes, ScriptsKeepTapes, ScriptsForgetTapes}
 use Rattle.mars_session.proofs.Turns.{fault_kept, fault_below}
@@ -186,7 +186,7 @@ accepted_few k h s ss t f c =
     }
 
 -- what accepted commands and moves keep
-record Keeps (m : Memory) (P : History → Type 0) : Type 0 where
+record Keeps (m : Retention) (P : History → Type 0) : Type 0 where
   accepts : (h : History) (s : State) (ss : List State) → P h → Follows h.present.state s → Chain s ss → P (kept m.most (accepted h s ss))
   back : (b : Place) (before : List Place) (p : Place) (after : List Place) → P (record { before = b ∷ before; present = p; after = after }) → P (record { before = before; present = b; after = p ∷ after })
   on : (before : List Place) (p a : Place) (after : List Place) → P (record { before = before; present = p; after = a ∷ after }) → P (record { before = p ∷ before; present = a; after = after })
@@ -200,7 +200,7 @@ found_if : (P : History → Type 0) (b : Bool) (x y : Option History) → Found 
 found_if P true x y h k = h
 found_if P false x y h k = k
 
-module _ (m : Memory) (P : History → Type 0) (keeps : Keeps m P) where
+module _ (m : Retention) (P : History → Type 0) (keeps : Keeps m P) where
   appended_keeps : (h : History) (states : States) (o : Option Refusal) → P h → Reached h.present.state (Ok states) → P (appended m h states o).history
   appended_keeps h states (Some r) t c = t
   appended_keeps h states None t c = keeps.accepts h states.0 states.1 t c.0 c.1
@@ -273,7 +273,7 @@ tapes_kept = record {
   on = λ before p a after t. record { steps = steps_on before p a after t.steps; first = t.first; last = t.last };
 }
 
-few_places : (k : ℕ) (m : Memory) → m.most ≡ Some k → Keeps m (IsTapeOf k)
+few_places : (k : ℕ) (m : Retention) → m.most ≡ Some k → Keeps m (IsTapeOf k)
 few_places k m e = record {
   accepts = λ h s ss t f c. rw e (accepted_few k h s ss t f c);
   back = λ b before p after t. record { steps = steps_back b before p after t.steps; last = t.last; within = omega (arith, t.within) };
@@ -283,11 +283,11 @@ few_places k m e = record {
 pub calls_keep_tapes : CallsKeepTapes
 calls_keep_tapes limit call poor h t = calls_keep never IsTape tapes_kept limit call poor h t
 
-scripts_forget : (k limit : ℕ) (m : Memory) (calls : List Call) (poor : List Bool) (h : History) → m.most ≡ Some k → IsTapeOf k h → IsTapeOf k (history_after m limit calls poor h)
+scripts_forget : (k limit : ℕ) (m : Retention) (calls : List Call) (poor : List Bool) (h : History) → m.most ≡ Some k → IsTapeOf k h → IsTapeOf k (script m limit calls poor h).history
 scripts_forget k limit m [] poor h e t = t
 scripts_forget k limit m (call ∷ calls) poor h e t =
     let one : Outcome = outcome m limit call (first poor) h in
-    scripts_forget k limit one.memory calls (rest poor) one.history (same_most m limit call (first poor) h ∙ e)
+    scripts_forget k limit one.retention calls (rest poor) one.history (same_most m limit call (first poor) h ∙ e)
     (calls_keep m (IsTapeOf k) (few_places k m e) limit call (first poor) h t)
 
 pub scripts_forget_tapes : ScriptsForgetTapes

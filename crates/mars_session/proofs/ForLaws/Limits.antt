@@ -16,7 +16,7 @@ use Rattle.mars_session.specs.declared.calls.Refusal.{Refusal}
 use Rattle.mars_session.specs.declared.calls.Refusal.TheVariants.{Count, Address, Over, CyclePassed, NothingToUndo, NothingToRedo, NotInHistory, JournalFull, OutOfMemory}
 use Rattle.mars_session.specs.History.{Place, History, position_of, last_of, following, append, cut, marked, accepted, undo, redo, rewound, goto, first_turns, last_turns}
 use Rattle.mars_session.specs.Commands.{command_limit, States, turns_until, stops_at, step_states, run_states, until_bound, until_states, unless_fault, edit_states, fills, cells_between, fill_states}
-use Rattle.mars_session.specs.Memory.{never}
+use Rattle.mars_session.specs.Retention.{never}
 use Rattle.mars_session.specs.Script.{moved, no_room, appended, commanded}
 use Rattle.mars_session.specs.Tapes.{Follows, FollowsAll}
 use Rattle.mars_session.specs.Laws.{CallsKeepLimit}

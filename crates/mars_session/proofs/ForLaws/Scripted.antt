@@ -1,52 +1,54 @@
 -- What scripts of undos and redos make of the end of a script of commands.
 -- A law over scripts comes from one over moves by cases on whether a call was accepted (`one_reached`), and undo and redo share a lemma that takes
 -- what `outcome` is of the call (`all_moved`).
-use Rattle.std.proofs.Common.{◌≡◌, ℕ, zero, suc, Bool, List, [], ◌∷◌, replicate, Option, Some, None, Result, Ok, Err, refl, ap, sym, ◌⊎◌, inl, inr}
+use Rattle.std.proofs.Common.{◌≡◌, ℕ, zero, suc, Bool, List, [], ◌∷◌, map, replicate, Option, Some, None, Result, Ok, Err, refl, ap, sym, ◌∙◌, ◌⊎◌, inl, inr}
 use Rattle.std.specs.Prelude.{option_and_then, IsOk, IsErr, IsTrue, is_ok}
 use Rattle.std.specs.List.{list_all}
 use Rattle.std.proofs.lemmas.Bool.{and_parts}
 use Rattle.mars_session.specs.declared.calls.Call.{Call}
-use Rattle.mars_session.specs.declared.calls.Call.TheVariants.{Step, Run, Until, SetCell, Fill, MoveProcess, Kill, Spawn, Undo, Redo, Goto}
+use Rattle.mars_session.specs.declared.calls.Call.TheVariants.{Undo, Redo}
 use Rattle.mars_session.specs.declared.calls.Standing.{Standing}
 use Rattle.mars_session.specs.declared.calls.Refusal.{Refusal}
-use Rattle.mars_session.specs.declared.calls.Refusal.TheVariants.{NothingToUndo, NothingToRedo, NotInHistory}
-use Rattle.mars_core.specs.declared.battle.edit.Edit.TheVariants as edits
+use Rattle.mars_session.specs.declared.calls.Refusal.TheVariants.{NothingToUndo, NothingToRedo}
 use Rattle.mars_core.specs.State.{State}
-use Rattle.mars_session.specs.History.{History, position_of, accepted, undo, redo, goto, first_turns, last_turns}
-use Rattle.mars_session.specs.Commands.{States, step_states, run_states, until_bound, until_states, edit_states, cells_between, fill_states}
-use Rattle.mars_session.specs.Memory.{Memory, never}
-use Rattle.mars_session.specs.Script.{Outcome, outcome, commanded, appended, moved, no_undo, no_room, replies_of, history_after, memory_after, first, rest}
-use Rattle.mars_session.specs.Laws.{times, is_command, accepted_count, appended_by, RefusalsChangeNothing, GoesBackAndOn, CommandsAreUndone}
+use Rattle.mars_session.specs.History.{History, position_of, accepted, undo, redo}
+use Rattle.mars_session.specs.Commands.{States}
+use Rattle.mars_session.specs.Retention.{Retention, never}
+use Rattle.mars_session.specs.Script.{CallKind, Command, Move, kind_of, Outcome, outcome_of, outcome, commanded, appended, moved, no_room, script, first, rest}
+use Rattle.mars_session.specs.Laws.{CallsAreScripts, times, is_command, accepted_count, appended_by, RefusalsChangeNothing, GoesBackAndOn, CommandsAreUndone}
 use Rattle.mars_session.proofs.Undoing.{base, base_accepted, Accepted, accepted_call, stays_never, Undone, one_undone}
 
--- a refusal leaves the history, and what is kept of it
-abbrev Stays : Memory → History → Outcome → Type 0
-Stays m h o = IsErr o.reply → (o.history ≡ h) × (o.memory ≡ m)
+pub calls_are_scripts : CallsAreScripts
+calls_are_scripts old new [] [] h = (rw h refl, rw h refl)
+calls_are_scripts old new [] (reply ∷ replies) h = absurd h
+calls_are_scripts old new (call ∷ calls) [] h = absurd h
+calls_are_scripts old new (call ∷ calls) (reply ∷ replies) h =
+    let others = calls_are_scripts h.0 new calls replies h.2 in
+    let rest = rw h.1.1 at others.0 in
+    (rw (h.1.0, rest) refl, others.1 ∙ h.1.1)
 
-appended_stays : (m : Memory) (h : History) (states : States) (o : Option Refusal) → Stays m h (appended m h states o)
+-- a refusal leaves the history, and what is kept of it
+abbrev Stays : Retention → History → Outcome → Type 0
+Stays m h o = IsErr o.reply → (o.history ≡ h) × (o.retention ≡ m)
+
+appended_stays : (m : Retention) (h : History) (states : States) (o : Option Refusal) → Stays m h (appended m h states o)
 appended_stays m h states (Some r) e = (refl, refl)
 appended_stays m h states None e = absurd (cc)
 
-commanded_stays : (m : Memory) (limit bound : ℕ) (poor : Bool) (h : History) (x : Result States Refusal) → Stays m h (commanded m limit bound poor h x)
+commanded_stays : (m : Retention) (limit bound : ℕ) (poor : Bool) (h : History) (x : Result States Refusal) → Stays m h (commanded m limit bound poor h x)
 commanded_stays m limit bound poor h (Err r) e = (refl, refl)
 commanded_stays m limit bound poor h (Ok states) e = appended_stays m h states (no_room m limit bound poor h) e
 
-moved_stays : (m : Memory) (h : History) (r : Refusal) (x : Option History) → Stays m h (moved m h r x)
+moved_stays : (m : Retention) (h : History) (r : Refusal) (x : Option History) → Stays m h (moved m h r x)
 moved_stays m h r None e = (refl, refl)
 moved_stays m h r (Some to) e = absurd (cc)
 
+kind_stays : (m : Retention) (limit : ℕ) (call : CallKind) (poor : Bool) (h : History) → Stays m h (outcome_of m limit call poor h)
+kind_stays m limit (Command bound states) poor h e = commanded_stays m limit (bound h.present.state) poor h (states h.present.state) e
+kind_stays m limit (Move refusal move) poor h e = moved_stays m h (refusal m h) (move h) e
+
 pub refusals_change_nothing : RefusalsChangeNothing
-refusals_change_nothing m limit Step poor h e = commanded_stays m limit 1 poor h (step_states h.present.state) e
-refusals_change_nothing m limit (Run n) poor h e = commanded_stays m limit n poor h (run_states n h.present.state) e
-refusals_change_nothing m limit (Until c) poor h e = commanded_stays m limit (until_bound c h.present.state) poor h (until_states c h.present.state) e
-refusals_change_nothing m limit (Fill from to cell) poor h e = commanded_stays m limit (cells_between from to) poor h (fill_states from to cell h.present.state) e
-refusals_change_nothing m limit (SetCell address cell) poor h e = commanded_stays m limit 1 poor h (edit_states (edits.SetCell address cell) h.present.state) e
-refusals_change_nothing m limit (MoveProcess w i address) poor h e = commanded_stays m limit 1 poor h (edit_states (edits.MoveProcess w i address) h.present.state) e
-refusals_change_nothing m limit (Kill w i) poor h e = commanded_stays m limit 1 poor h (edit_states (edits.KillProcess w i) h.present.state) e
-refusals_change_nothing m limit (Spawn w address) poor h e = commanded_stays m limit 1 poor h (edit_states (edits.Spawn w address) h.present.state) e
-refusals_change_nothing m limit Undo poor h e = moved_stays m h (no_undo m) (undo h) e
-refusals_change_nothing m limit Redo poor h e = moved_stays m h NothingToRedo (redo h) e
-refusals_change_nothing m limit (Goto t) poor h e = moved_stays m h (NotInHistory (first_turns h) (last_turns h)) (goto t h) e
+refusals_change_nothing m limit call poor h e = kind_stays m limit (kind_of call) poor h e
 
 -- none of the calls was accepted and the history is as before, or as many undos and redos lead back and on
 abbrev Reached : ℕ → History → History → Type 0
@@ -71,51 +73,51 @@ one_reached n (Ok standing) others h k end accepts keeps reached =
     inr (some_after (accepted_count others) h end one.first one.others (rw one.is at reached))
 one_reached n (Err r) others h k end accepts keeps reached = rw (keeps refl) at reached
 
-script_reached : (limit : ℕ) (calls : List Call) (poor : List Bool) (h : History) → IsTrue (list_all is_command calls)
-    → Reached (accepted_count (replies_of never limit calls poor h)) h (history_after never limit calls poor h)
+script_reached : (limit : ℕ) (calls : List Call) (poor : List Bool) (h : History) → IsTrue (list_all is_command (map kind_of calls))
+    → Reached (accepted_count (script never limit calls poor h).replies) h (script never limit calls poor h).history
 script_reached limit [] poor h c = inl (refl, refl)
 script_reached limit (call ∷ calls) poor h c =
-    let commands = and_parts (is_command call) (list_all is_command calls) c in
+    let commands = and_parts (is_command (kind_of call)) (list_all is_command (map kind_of calls)) c in
     let one : Outcome = outcome never limit call (first poor) h in
-    let others = replies_of never limit calls (rest poor) one.history in
+    let others = (script never limit calls (rest poor) one.history).replies in
     rw (stays_never limit call (first poor) h)
-    (one_reached (appended_by call h.present.state) one.reply others h one.history (history_after never limit calls (rest poor) one.history)
+    (one_reached (appended_by (kind_of call) h.present.state) one.reply others h one.history (script never limit calls (rest poor) one.history).history
     (λ ok. accepted_call never limit call (first poor) h commands.0 ok) (λ err. (refusals_change_nothing never limit call (first poor) h err).0)
     (script_reached limit calls (rest poor) one.history commands.1))
 
 -- n calls of a move are accepted and lead to the end
-pub record Leads (m : Memory) (limit n : ℕ) (call : Call) (poor : List Bool) (h end : History) : Type 0 where
-  pub accepted : IsTrue (list_all is_ok (replies_of m limit (replicate n call) poor h))
-  pub memory : memory_after m limit (replicate n call) poor h ≡ m
-  pub history : history_after m limit (replicate n call) poor h ≡ end
+pub record Leads (m : Retention) (limit n : ℕ) (call : Call) (poor : List Bool) (h end : History) : Type 0 where
+  pub accepted : IsTrue (list_all is_ok (script m limit (replicate n call) poor h).replies)
+  pub retention : (script m limit (replicate n call) poor h).retention ≡ m
+  pub history : (script m limit (replicate n call) poor h).history ≡ end
 
-one_moved : (m : Memory) (limit n : ℕ) (call : Call) (r : Refusal) (move : History → Option History) (poor : List Bool) (h end : History) (x : Option History)
+one_moved : (m : Retention) (limit n : ℕ) (call : Call) (r : Refusal) (move : History → Option History) (poor : List Bool) (h end : History) (x : Option History)
     → outcome m limit call (first poor) h ≡ moved m h r x → option_and_then (times n move) x ≡ Some end
     → ((k : History) → times n move k ≡ Some end → Leads m limit n call (rest poor) k end) → Leads m limit (suc n) call poor h end
 one_moved m limit n call r move poor h end None e t more = absurd (cc)
 one_moved m limit n call r move poor h end (Some k) e t more =
     let others = more k t in
     let one : Outcome = outcome m limit call (first poor) h in
-    let memory : memory_after one.memory limit (replicate n call) (rest poor) one.history ≡ m = rw e others.memory in
-    let history : history_after one.memory limit (replicate n call) (rest poor) one.history ≡ end = rw e others.history in
-    record { accepted = rw e others.accepted; memory = memory; history = history }
+    let retention : (script one.retention limit (replicate n call) (rest poor) one.history).retention ≡ m = rw e others.retention in
+    let history : (script one.retention limit (replicate n call) (rest poor) one.history).history ≡ end = rw e others.history in
+    record { accepted = rw e others.accepted; retention = retention; history = history }
 
-pub all_moved : (m : Memory) (limit n : ℕ) (call : Call) (r : Refusal) (move : History → Option History) (poor : List Bool) (h end : History)
+pub all_moved : (m : Retention) (limit n : ℕ) (call : Call) (r : Refusal) (move : History → Option History) (poor : List Bool) (h end : History)
     → ((b : Bool) (k : History) → outcome m limit call b k ≡ moved m k r (move k)) → times n move h ≡ Some end → Leads m limit n call poor h end
-all_moved m limit zero call r move poor h end is t = record { accepted = refl; memory = refl; history = cc }
+all_moved m limit zero call r move poor h end is t = record { accepted = refl; retention = refl; history = cc }
 all_moved m limit (suc n) call r move poor h end is t =
     one_moved m limit n call r move poor h end (move h) (is (first poor) h) t (λ k u. all_moved m limit n call r move (rest poor) k end is u)
 
 back_and_on : (limit n : ℕ) (up rp : List Bool) (h end : History) → Reached n h end
-    → let back = history_after never limit (replicate n Undo) up end in GoesBackAndOn never limit n up rp h back end × (position_of back ≡ position_of h)
+    → let back = (script never limit (replicate n Undo) up end).history in GoesBackAndOn never limit n up rp h back end × (position_of back ≡ position_of h)
 back_and_on limit n up rp h end (inl none) =
-    rw (none.0, none.1) (record { undone = refl; memory = refl; state = refl; redone = refl; same = refl }, refl)
+    rw (none.0, none.1) (record { undone = refl; retention = refl; state = refl; redone = refl; same = refl }, refl)
 back_and_on limit n up rp h end (inr u) =
     let undos = all_moved never limit n Undo NothingToUndo undo up end (base h u.follow) (λ b k. refl) u.back in
     let redos = all_moved never limit n Redo NothingToRedo redo rp (base h u.follow) end (λ b k. refl) u.again in (
       record {
         undone = undos.accepted;
-        memory = undos.memory;
+        retention = undos.retention;
         state = ap (λ (k : History). k.present.state) undos.history;
         redone = rw undos.history redos.accepted;
         same = rw undos.history redos.history;
@@ -125,4 +127,4 @@ back_and_on limit n up rp h end (inr u) =
 
 pub commands_are_undone : CommandsAreUndone
 commands_are_undone limit calls poor up rp h c =
-    back_and_on limit (accepted_count (replies_of never limit calls poor h)) up rp h (history_after never limit calls poor h) (script_reached limit calls poor h c)
+    back_and_on limit (accepted_count (script never limit calls poor h).replies) up rp h (script never limit calls poor h).history (script_reached limit calls poor h c)

@@ -13,30 +13,18 @@ use Rattle.mars_session.specs.declared.calls.Call.{Call}
 use Rattle.mars_session.specs.declared.calls.Call.TheVariants.{Step, Run, Until, SetCell, Fill, MoveProcess, Kill, Spawn, Undo, Redo, Goto}
 use Rattle.mars_session.specs.declared.calls.Standing.{Standing}
 use Rattle.mars_session.specs.declared.calls.Refusal.{Refusal}
-use Rattle.mars_session.specs.declared.calls.Refusal.TheVariants.{Count, Address, FieldOutside, NoSuchWarrior, NoSuchProcess, WarriorDead, QueueFull, Over, CyclePassed, NothingToUndo, NothingToRedo, NotInHistory, JournalFull, OutOfMemory, Forgotten}
+use Rattle.mars_session.specs.declared.calls.Refusal.TheVariants.{Count, Address, Over, CyclePassed, NothingToUndo, NothingToRedo, NotInHistory, JournalFull, OutOfMemory, Forgotten}
 use Rattle.mars_session.specs.History.{History, undo, redo, goto, first_turns, last_turns}
-use Rattle.mars_session.specs.Memory.{Memory}
+use Rattle.mars_session.specs.Retention.{Retention}
 use Rattle.mars_session.specs.Commands.{command_limit, States, turns_until, stops_at, step_states, run_states, until_bound, until_states, refusal_of, unless_fault, edit_states, fills, cells_between, fill_states}
 use Rattle.mars_session.specs.Script.{outcome, commanded, moved, no_undo}
 use Rattle.mars_session.specs.Laws.{NeverFull}
 
 -- room or memory is wanting
 abbrev wants : Refusal → Bool
-wants Count = false
-wants Address = false
-wants FieldOutside = false
-wants NoSuchWarrior = false
-wants NoSuchProcess = false
-wants WarriorDead = false
-wants QueueFull = false
-wants Over = false
-wants (CyclePassed cycle) = false
-wants NothingToUndo = false
-wants NothingToRedo = false
-wants (NotInHistory first last) = false
 wants (JournalFull room) = true
 wants OutOfMemory = true
-wants Forgotten = false
+wants _ = false
 
 abbrev is_wanting : Result Standing Refusal → Bool
 is_wanting (Ok standing) = false
@@ -89,14 +77,14 @@ fill_judged from to cell s =
     (judged_if (nat_lt to from) (Err Address) judged refl (unless_judged (edit_fault s (edits.SetCell to cell)) (one, fills (to - from) (from + 1) cell one)))
 
 module _ (k : ℕ) (forgotten : Bool) (limit : ℕ) (poor : Bool) (h : History) where
-  abbrev memory : Memory
-  memory = record { most = Some k; forgotten = forgotten }
+  abbrev retention : Retention
+  retention = record { most = Some k; forgotten = forgotten }
 
-  commanded_judged : (bound : ℕ) (x : Result States Refusal) → IsJudged x → is_wanting (commanded memory limit bound poor h x).reply ≡ false
+  commanded_judged : (bound : ℕ) (x : Result States Refusal) → IsJudged x → is_wanting (commanded retention limit bound poor h x).reply ≡ false
   commanded_judged bound (Err r) j = j
   commanded_judged bound (Ok states) j = refl
 
-  moved_judged : (r : Refusal) (x : Option History) → wants r ≡ false → is_wanting (moved memory h r x).reply ≡ false
+  moved_judged : (r : Refusal) (x : Option History) → wants r ≡ false → is_wanting (moved retention h r x).reply ≡ false
   moved_judged r None j = j
   moved_judged r (Some to) j = refl
 
@@ -104,7 +92,7 @@ module _ (k : ℕ) (forgotten : Bool) (limit : ℕ) (poor : Bool) (h : History) 
   undo_judged true = refl
   undo_judged false = refl
 
-  judged : (call : Call) → is_wanting (outcome memory limit call poor h).reply ≡ false
+  judged : (call : Call) → is_wanting (outcome retention limit call poor h).reply ≡ false
   judged Step = commanded_judged 1 (step_states h.present.state) (step_judged h.present.state)
   judged (Run n) = commanded_judged n (run_states n h.present.state) (run_judged n h.present.state)
   judged (Until c) = commanded_judged (until_bound c h.present.state) (until_states c h.present.state) (until_judged c h.present.state)
@@ -113,7 +101,7 @@ module _ (k : ℕ) (forgotten : Bool) (limit : ℕ) (poor : Bool) (h : History) 
   judged (MoveProcess w i address) = commanded_judged 1 (edit_states (edits.MoveProcess w i address) h.present.state) (edit_judged (edits.MoveProcess w i address) h.present.state)
   judged (Kill w i) = commanded_judged 1 (edit_states (edits.KillProcess w i) h.present.state) (edit_judged (edits.KillProcess w i) h.present.state)
   judged (Spawn w address) = commanded_judged 1 (edit_states (edits.Spawn w address) h.present.state) (edit_judged (edits.Spawn w address) h.present.state)
-  judged Undo = moved_judged (no_undo memory) (undo h) (undo_judged forgotten)
+  judged Undo = moved_judged (no_undo retention) (undo h) (undo_judged forgotten)
   judged Redo = moved_judged NothingToRedo (redo h) refl
   judged (Goto t) = moved_judged (NotInHistory (first_turns h) (last_turns h)) (goto t h) refl
 

@@ -2,16 +2,16 @@
 use Rattle.std.specs.Prelude.{List, [], ◌∷◌}
 use Rattle.mars_core.specs.State.{State}
 use Rattle.mars_session.specs.History.{History, append}
-use Rattle.mars_session.specs.Memory.{Memory, kept, noted}
+use Rattle.mars_session.specs.Retention.{Retention, kept, noted}
 
 -- what a tape keeps of its places
 pub record Kept : Type 0 where
   pub history : History
-  pub memory : Memory
+  pub retention : Retention
 
 -- one place more
 abbrev pub go_on : Kept → State → Kept
-go_on t s = record { history = kept t.memory.most (append t.history s); memory = noted t.memory (append t.history s) }
+go_on t s = record { history = kept t.retention.most (append t.history s); retention = noted t.retention (append t.history s) }
 
 abbrev pub go_on_all : Kept → List State → Kept
 go_on_all t [] = t

@@ -13,8 +13,8 @@ use Rattle.mars_session.specs.declared.calls.Refusal.{Refusal}
 use Rattle.mars_session.specs.declared.calls.Refusal.TheVariants.{Count, Address, FieldOutside, NoSuchWarrior, NoSuchProcess, WarriorDead, QueueFull, Over, CyclePassed, JournalFull, NothingToRedo}
 use Rattle.mars_session.specs.declared.calls.Standing.{Standing}
 use Rattle.mars_session.specs.History.{beginning}
-use Rattle.mars_session.specs.Memory.{never}
-use Rattle.mars_session.specs.Script.{history_after, replies_of}
+use Rattle.mars_session.specs.Retention.{never}
+use Rattle.mars_session.specs.Script.{script}
 use Rattle.mars_session.specs.Examples.{stands, IsToldWithin}
 
 -- a battle of ten cycles, whose lone warrior lives on, ends there; Count comes before Over, and Over before CyclePassed
@@ -67,7 +67,7 @@ at turns cycle next alive position last = Ok (record { turns = turns; cycle = cy
 
 -- the replies to calls over the three
 abbrev Answers : List Call → List (Result Standing Refusal) → Type 0
-Answers calls replies = replies_of never 100 calls [] (beginning three) ≡ replies
+Answers calls replies = (script never 100 calls [] (beginning three)).replies ≡ replies
 
 -- the one that is next is killed, then all but one; a battle that is over is edited and undone, but makes no turn
 pub warriors_are_killed : Answers
@@ -91,7 +91,7 @@ unfolding the_machine
 processes_are_edited = refl
 
 -- a command is refused by the places that it may need, though two are all that it would make, and by what stands before the present place alone
-pub room_for_a_cycle : replies_of never 3 (Kill 2 0 ∷ Until 1 ∷ Undo ∷ Run 4 ∷ Run 3 ∷ []) [] (beginning three)
+pub room_for_a_cycle : (script never 3 (Kill 2 0 ∷ Until 1 ∷ Undo ∷ Run 4 ∷ Run 3 ∷ []) [] (beginning three)).replies
     ≡ at 0 0 0 2 1 1 ∷ Err (JournalFull 2) ∷ at 0 0 0 3 0 1 ∷ Err (JournalFull 3) ∷ at 3 1 0 3 3 3 ∷ []
 unfolding the_machine
 room_for_a_cycle = refl
@@ -109,7 +109,7 @@ unfolding the_machine
 counts_are_limited = refl
 
 -- what a fill leaves in the core
-pub cells_are_filled : (history_after never 100 (Fill 5 6 nop ∷ []) [] (beginning three)).present.state.core
+pub cells_are_filled : (script never 100 (Fill 5 6 nop ∷ []) [] (beginning three)).history.present.state.core
     ≡ waiting ∷ empty_cell ∷ waiting ∷ empty_cell ∷ waiting ∷ nop ∷ nop ∷ empty_cell ∷ []
 unfolding the_machine
 cells_are_filled = refl

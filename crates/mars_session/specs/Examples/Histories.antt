@@ -4,8 +4,8 @@ use Rattle.mars_core.specs.Examples.{the_machine}
 use Rattle.mars_session.specs.declared.calls.Call.TheVariants.{Step, Run, Until, Kill, Undo, Redo, Goto}
 use Rattle.mars_session.specs.declared.calls.Refusal.TheVariants.{Count, NoSuchProcess, CyclePassed, NothingToUndo, NothingToRedo, NotInHistory, JournalFull, OutOfMemory}
 use Rattle.mars_session.specs.History.{beginning}
-use Rattle.mars_session.specs.Memory.{never}
-use Rattle.mars_session.specs.Script.{replies_of}
+use Rattle.mars_session.specs.Retention.{never}
+use Rattle.mars_session.specs.Script.{script}
 use Rattle.mars_session.specs.Examples.{imp, stands, IsToldWithin}
 
 pub steps_are_undone_and_redone : IsToldWithin 100
@@ -39,11 +39,11 @@ unfolding the_machine
 refused_calls = refl
 
 -- where memory is wanting, a run is refused that needs more places than follow, and nothing is lost; one that doesn't is made
-pub want_of_memory : replies_of never 100 (Step ∷ Step ∷ Undo ∷ Undo ∷ Run 3 ∷ Redo ∷ Redo ∷ Goto 0 ∷ Run 2 ∷ []) (false ∷ false ∷ false ∷ false ∷ true ∷ false ∷ false ∷ false ∷ true ∷ []) (beginning imp)
+pub want_of_memory : (script never 100 (Step ∷ Step ∷ Undo ∷ Undo ∷ Run 3 ∷ Redo ∷ Redo ∷ Goto 0 ∷ Run 2 ∷ []) (false ∷ false ∷ false ∷ false ∷ true ∷ false ∷ false ∷ false ∷ true ∷ []) (beginning imp)).replies
     ≡ stands 1 1 1 ∷ stands 2 2 2 ∷ stands 1 1 2 ∷ stands 0 0 2 ∷ Err OutOfMemory ∷ stands 1 1 2 ∷ stands 2 2 2 ∷ stands 0 0 2 ∷ stands 2 2 2 ∷ []
 unfolding the_machine
 want_of_memory = refl
 
-pub want_of_room_is_told_before_want_of_memory : replies_of never 2 (Run 3 ∷ []) (true ∷ []) (beginning imp) ≡ Err (JournalFull 2) ∷ []
+pub want_of_room_is_told_before_want_of_memory : (script never 2 (Run 3 ∷ []) (true ∷ []) (beginning imp)).replies ≡ Err (JournalFull 2) ∷ []
 unfolding the_machine
 want_of_room_is_told_before_want_of_memory = refl

@@ -5,17 +5,17 @@ use Rattle.mars_core.specs.Examples.{the_machine}
 use Rattle.mars_session.specs.declared.calls.Call.TheVariants.{Step, Run, Undo}
 use Rattle.mars_session.specs.declared.calls.Refusal.TheVariants.{NothingToUndo, OutOfMemory}
 use Rattle.mars_session.specs.History.{History, beginning}
-use Rattle.mars_session.specs.Memory.{never}
-use Rattle.mars_session.specs.Script.{EachAnswers, SessionValue, history_after}
+use Rattle.mars_session.specs.Retention.{never}
+use Rattle.mars_session.specs.Script.{EachAnswers, SessionValue, script}
 use Rattle.mars_session.specs.Examples.{imp, stands}
 
 -- a session of the imp that stands at a history, over a tape that has room for so many places
 abbrev session : History → ℕ → SessionValue
-session h room = record { state = record { history = h; limit = 100; memory = never }; room = room }
+session h room = record { state = record { history = h; limit = 100; retention = never }; room = room }
 
 -- the history once the imp made so many turns
 abbrev after_steps : ℕ → History
-after_steps n = history_after never 100 (Run n ∷ []) [] (beginning imp)
+after_steps n = (script never 100 (Run n ∷ []) [] (beginning imp)).history
 
 pub the_second_step_follows_the_first : EachAnswers (session (beginning imp) 100)
     (Step ∷ Undo ∷ Undo ∷ Step ∷ [])
@@ -24,7 +24,7 @@ pub the_second_step_follows_the_first : EachAnswers (session (beginning imp) 100
 unfolding the_machine
 the_second_step_follows_the_first =
     let stepped = session (after_steps 1) 100 in
-    let undone = session (history_after never 100 (Step ∷ Undo ∷ []) [] (beginning imp)) 100 in
+    let undone = session (script never 100 (Step ∷ Undo ∷ []) [] (beginning imp)).history 100 in
     (stepped, (refl, refl, λ e. cc), (undone, (refl, refl, λ e. cc), (undone, (refl, refl, λ e. cc), (stepped, (refl, refl, λ e. cc), refl))))
 
 -- memory may be wanting where the tape has less room than the call needs

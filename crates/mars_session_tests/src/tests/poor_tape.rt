@@ -2,7 +2,7 @@
 ghost use Rattle.std.proofs.Common.{refl, rules};
 ghost use Rattle.std.specs.Prelude.{◌≡◌, ◌≤◌, false};
 ghost use Rattle.mars_session.specs.History.{following, cut, back, forward};
-ghost use Rattle.mars_session.specs.Memory.{never};
+ghost use Rattle.mars_session.specs.Retention.{never};
 
 use mars_core::{Battle, Edit};
 use mars_session::Tape;
@@ -68,7 +68,7 @@ impl<T: Tape> Tape for PoorTape<T> {
 
     ghost room = { λ t. t.room };
 
-    ghost memory = { λ t. never };
+    ghost retention = { λ t. never };
 
     ghost forgets = { λ t. refl };
 

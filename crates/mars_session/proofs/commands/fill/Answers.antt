@@ -15,14 +15,14 @@ use Rattle.mars_session.proofs.commands.fill.Goals.{else-from-to-via-then-from-t
 pub returns-clause-answer : goal.returns-clause-answer
 returns-clause-answer g c =
     let history = g.T.Tape.history in
-    let memory = g.T.Tape.memory in
+    let retention = g.T.Tape.retention in
     let h = history c.args.tape.now in
-    let m = memory c.args.tape.now in
+    let m = retention c.args.tape.now in
     let next : State = edited h.present.state (edits.SetCell c.args.from c.args.cell) in
-    let one : Kept = record { history = history c.edit.new.self; memory = memory c.edit.new.self } in
-    let all : Kept = record { history = history c.fill_cells.new.tape; memory = memory c.fill_cells.new.tape } in
-    let first : one ≡ go_on (record { history = cut (marked h); memory = m }) next =
-    rw (c.edit.ensures.places, c.edit.ensures.memory, c.in_ok-prepare.ensures.ok, c.prepare.ensures.kept) refl in
+    let one : Kept = record { history = history c.edit.new.self; retention = retention c.edit.new.self } in
+    let all : Kept = record { history = history c.fill_cells.new.tape; retention = retention c.fill_cells.new.tape } in
+    let first : one ≡ go_on (record { history = cut (marked h); retention = m }) next =
+    rw (c.edit.ensures.places, c.edit.ensures.retention, c.in_ok-prepare.ensures.ok, c.prepare.ensures.kept) refl in
     let here : (history c.edit.new.self).present.state ≡ next = ap (λ (k : Kept). k.history.present.state) first in
     let rest : List State = fills (c.args.to - c.args.from) (c.args.from + 1) c.args.cell next in
     let others : all ≡ go_on_all one rest = rw here at c.fill_cells.ensures in
@@ -35,5 +35,5 @@ returns-clause-answer g c =
     ] in
     let none : edit_fault h.present.state (edits.SetCell c.args.to c.args.cell) ≡ None = search rules in
     rw (filled c.args.from c.args.to c.args.cell h.present.state c.if-to-from.false few none)
-    (command_made m (memory c.set_mark.new.self) h (history c.set_mark.new.self) next rest (no_room m c.args.limit (cells_between c.args.from c.args.to) false h) one all c.standing.result
-    room first others c.set_mark.ensures.places c.set_mark.ensures.memory c.standing.ensures)
+    (command_made m (retention c.set_mark.new.self) h (history c.set_mark.new.self) next rest (no_room m c.args.limit (cells_between c.args.from c.args.to) false h) one all c.standing.result
+    room first others c.set_mark.ensures.places c.set_mark.ensures.retention c.standing.ensures)

@@ -10,9 +10,9 @@ pub loop-address-preserved : goal.loop-address-preserved
 loop-address-preserved g c =
     let history = g.T.Tape.history in
     let s = (history c.loop-address.tape).present.state in
-    let now : Kept = record { history = history c.loop-address.tape; memory = g.T.Tape.memory c.loop-address.tape } in
-    let new : Kept = record { history = history c.edit.new.self; memory = g.T.Tape.memory c.edit.new.self } in
-    let made : new ≡ go_on now (edited s (edits.SetCell (c.loop-address.address + 1) c.args.cell)) = rw (c.edit.ensures.places, c.edit.ensures.memory) refl in
+    let now : Kept = record { history = history c.loop-address.tape; retention = g.T.Tape.retention c.loop-address.tape } in
+    let new : Kept = record { history = history c.edit.new.self; retention = g.T.Tape.retention c.edit.new.self } in
+    let made : new ≡ go_on now (edited s (edits.SetCell (c.loop-address.address + 1) c.args.cell)) = rw (c.edit.ensures.places, c.edit.ensures.retention) refl in
     record {
       filled = one_filled c.args.last c.loop-address.address c.args.cell now new _ c.loop-address-test.true c.loop-address.invariant.filled made;
       last = rw c.edit.ensures.places refl;

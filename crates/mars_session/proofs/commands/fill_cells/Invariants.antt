@@ -10,8 +10,8 @@ use Rattle.mars_session.proofs.commands.fill_cells.Given as goal
 abbrev pub invariant-loop-address : goal.invariant-loop-address
 invariant-loop-address g l =
     let history = g.T.Tape.history in
-    let now : Kept = record { history = history l.tape; memory = g.T.Tape.memory l.tape } in
-    let start : Kept = record { history = history l.fn.tape; memory = g.T.Tape.memory l.fn.tape } in
+    let now : Kept = record { history = history l.tape; retention = g.T.Tape.retention l.tape } in
+    let start : Kept = record { history = history l.fn.tape; retention = g.T.Tape.retention l.fn.tape } in
     record {
       filled : go_on_all now (fills (l.last - l.address) (l.address + 1) l.cell (history l.tape).present.state)
           ≡ go_on_all start (fills (l.last - l.first) (l.first + 1) l.cell (history l.fn.tape).present.state);

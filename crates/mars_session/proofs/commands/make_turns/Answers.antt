@@ -12,16 +12,16 @@ use Rattle.mars_session.proofs.commands.make_turns.Goals as goal
 pub returns-clause-answer : goal.returns-clause-answer
 returns-clause-answer g c =
     let history = g.T.Tape.history in
-    let memory = g.T.Tape.memory in
+    let retention = g.T.Tape.retention in
     let h = history c.args.tape.now in
-    let m = memory c.args.tape.now in
+    let m = retention c.args.tape.now in
     let next : State = turn_of h.present.state in
-    let one : Kept = record { history = history c.turn.new.self; memory = memory c.turn.new.self } in
-    let all : Kept = record { history = history c.turn_until.new.tape; memory = memory c.turn_until.new.tape } in
-    let first : one ≡ go_on (record { history = cut (marked h); memory = m }) next =
-    rw (c.turn.ensures.places, c.turn.ensures.memory, c.in_ok-prepare.ensures.ok, c.prepare.ensures.kept) refl in
+    let one : Kept = record { history = history c.turn.new.self; retention = retention c.turn.new.self } in
+    let all : Kept = record { history = history c.turn_until.new.tape; retention = retention c.turn_until.new.tape } in
+    let first : one ≡ go_on (record { history = cut (marked h); retention = m }) next =
+    rw (c.turn.ensures.places, c.turn.ensures.retention, c.in_ok-prepare.ensures.ok, c.prepare.ensures.kept) refl in
     let here : (history c.turn.new.self).present.state ≡ next = ap (λ (k : Kept). k.history.present.state) first in
     let rest : List State = turns_until (stops_at c.args.cycle) (c.args.count - 1) next in
     let others : all ≡ go_on_all one rest = rw here at c.turn_until.ensures in
-    command_made m (memory c.set_mark.new.self) h (history c.set_mark.new.self) next rest (no_room m c.args.limit c.args.count false h) one all c.standing.result
-    c.in_ok-prepare.ensures.room first others c.set_mark.ensures.places c.set_mark.ensures.memory c.standing.ensures
+    command_made m (retention c.set_mark.new.self) h (history c.set_mark.new.self) next rest (no_room m c.args.limit c.args.count false h) one all c.standing.result
+    c.in_ok-prepare.ensures.room first others c.set_mark.ensures.places c.set_mark.ensures.retention c.standing.ensures

@@ -7,7 +7,7 @@ use Rattle.mars_session.proofs.moves.find_on.Given as goal
 abbrev pub invariant-on : goal.invariant-on
 invariant-on g l = record {
   there : IsSome (first_at_turn l.turns (g.T.Tape.history l.tape));
-  memory : g.T.Tape.memory l.tape ≡ g.T.Tape.memory l.fn.tape;
+  retention : g.T.Tape.retention l.tape ≡ g.T.Tape.retention l.fn.tape;
   sought : first_at_turn l.turns (g.T.Tape.history l.tape) ≡ first_at_turn l.turns (g.T.Tape.history l.fn.tape);
 }
 

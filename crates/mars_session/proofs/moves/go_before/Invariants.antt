@@ -5,7 +5,7 @@ use Rattle.mars_session.proofs.moves.go_before.Given as goal
 abbrev pub invariant-back : goal.invariant-back
 invariant-back g l = record {
   places : rewound (g.T.Tape.history l.tape) ≡ rewound (g.T.Tape.history l.fn.tape);
-  memory : g.T.Tape.memory l.tape ≡ g.T.Tape.memory l.fn.tape;
+  retention : g.T.Tape.retention l.tape ≡ g.T.Tape.retention l.fn.tape;
 }
 
 abbrev pub decreases-back : goal.decreases-back

@@ -3,7 +3,7 @@ use Rattle.mars_core.specs.State.{State, is_over_of}
 use Rattle.mars_core.specs.Turn.{turn_of}
 use Rattle.mars_core.specs.Leads.{Leads}
 use Rattle.mars_session.specs.History.{append, following}
-use Rattle.mars_session.specs.Memory.{kept, noted}
+use Rattle.mars_session.specs.Retention.{kept, noted}
 use Rattle.mars_session.specs.Tapes.{Ringed}
 use Rattle.mars_session.specs.Code.Journals.{journal_history}
 use Rattle.mars_session.proofs.Ends.{second_below, pushed_ends}
@@ -48,8 +48,8 @@ returns-clause-places c =
     ∙ ap (λ (x : State). kept (Some r.ring.capacity) (append (journal_history r.first_mark r.ring.items r.at s.battle) x)) made
     ∙ ap (λ (t : Ringed). kept (Some t.most) (append t.history (turn_of t.history.present.state))) c.self.view_is)
 
-pub returns-clause-memory : goal.returns-clause-memory
-returns-clause-memory c =
+pub returns-clause-retention : goal.returns-clause-retention
+returns-clause-retention c =
     let s = c.self.inside in
     let r = s.records in
     rw (c.push.ensures.ring, c.push.ensures.forgotten)

@@ -4,7 +4,7 @@ use Rattle.std.proofs.lemmas.List.{take_more}
 use Rattle.mars_session.specs.declared.calls.Call.TheVariants.{Step}
 use Rattle.mars_session.specs.declared.calls.Standing.{Standing}
 use Rattle.mars_session.specs.declared.calls.Refusal.{Refusal}
-use Rattle.mars_session.proofs.Scripts.{each_more, script_more}
+use Rattle.mars_session.proofs.Scripts.{each_more}
 use Rattle.mars_session.proofs.sessions.Session.apply_all.Goals as goal
 
 pub loop-call-preserved : goal.loop-call-preserved
@@ -13,11 +13,6 @@ loop-call-preserved g c =
     record {
       replies = before.replies ++ c.call-reply.result ∷ [];
       items = rw (c.push.ensures.items, c.unwrap.ensures, before.items, append_assoc) (refl {A = List (Result Standing Refusal)});
-      script =
-          rw (take_more c.args.calls.now c.loop-call.call-index Step c.loop-call-test.true)
-          (script_more c.args.self.now.state.memory c.loop-call.self.state.memory c.call-reply.new.self.state.memory c.args.self.now.state.limit (take c.loop-call.call-index c.args.calls.now) (get_or c.args.calls.now c.loop-call.call-index Step)
-          c.args.self.now.state.history c.loop-call.self.state.history c.call-reply.new.self.state.history before.replies c.call-reply.result
-          before.script (rw before.limit at c.call-reply.ensures.0));
       each =
           rw (take_more c.args.calls.now c.loop-call.call-index Step c.loop-call-test.true)
           (each_more c.args.self.now c.loop-call.self c.call-reply.new.self (take c.loop-call.call-index c.args.calls.now)

@@ -5,12 +5,12 @@ use Rattle.std.specs.Prelude.{ℕ, Bool, false, ◌||◌, nat_lt, List, take, Op
 use Rattle.mars_session.specs.History.{Place, History, position_of}
 
 -- the most places kept beside the last one, where there is such a number, and whether a place was ever forgotten
-pub record Memory : Type 0 where
+pub record Retention : Type 0 where
   pub most : Option ℕ
   pub forgotten : Bool
 
 -- all places are kept
-abbrev pub never : Memory
+abbrev pub never : Retention
 never = record { most = None; forgotten = false }
 
 -- those of the places before the present one that are kept where nothing follows; the nearest come first
@@ -27,5 +27,5 @@ too_many None n = false
 too_many (Some k) n = nat_lt k n
 
 -- what is known once just these places of a history are kept
-abbrev pub noted : Memory → History → Memory
+abbrev pub noted : Retention → History → Retention
 noted m h = record m { forgotten = m.forgotten || too_many m.most (position_of h) }
