@@ -75,11 +75,11 @@ lone_goes_on part s t v over one behind g =
     lone_runs t.params.cycles t.cycle (length t.queues) (survivors_of t.queues) one (omega (arith, v.clock.cycle, run.cycles_left, behind, cycles)) lives
 
 module _ (part : ℕ → Bool) (w : ℕ) where
-  lone_turn : (s t : State) → IsValid s → IsValid t → is_over_of s ≡ false → s.next ≡ w → length t.queues ≡ 1 → AgreesOn part w s 0 t → StaysIn part w s → AgreesOn part w (turn_of s) 0 (turn_of t)
-  lone_turn s t v u over own one g keeps =
+  lone_turn : (s t : State) → IsValid s → IsValid t → s.next ≡ w → length t.queues ≡ 1 → AgreesOn part w s 0 t → StaysIn part w s → AgreesOn part w (turn_of s) 0 (turn_of t)
+  lone_turn s t v u own one g keeps =
       let only : t.next ≡ 0 = omega (arith, u.clock.next, one) in
       let here : AgreesOn part s.next s t.next t = subst (λ x. AgreesOn part x s t.next t) (sym own) (subst (λ y. AgreesOn part w s y t) (sym only) g) in
-      let there = own_turn part s t v u over here (keeps own) in
+      let there = own_turn part s t v u here (keeps own) in
       subst (λ x. AgreesOn part x (turn_of s) 0 (turn_of t)) own (subst (λ y. AgreesOn part s.next (turn_of s) y (turn_of t)) only there)
 
   alone : (n : ℕ) (s t : State) → IsValid s → IsValid t → length t.queues ≡ 1 → IsNotAhead w s t → AgreesOn part w s 0 t → KeepsTo part w n s → IsLeftTo part w n s → AgreesOn part w (after_turns n s) 0 (after_turns (own_turns w n s) t)
@@ -96,7 +96,7 @@ module _ (part : ℕ → Bool) (w : ℕ) where
               | inl own ↦ (
                   let mine : AgreesOn part s.next s 0 t = subst (λ x. AgreesOn part x s 0 t) (sym own) g in
                   let runs = lone_goes_on part s t v e one ((behind e).0 (omega (arith, own))) mine in
-                  let next = lone_turn s t v u e own one g (before_first n (StaysIn part w) s e keeps) in
+                  let next = lone_turn s t v u own one g (before_first n (StaysIn part w) s e keeps) in
                   let last = alone n (turn_of s) (turn_of t) valid (turn_valid t u runs) ((shape-turn_of t).warriors ∙ one) (own_behind w s t v e own behind) next keeps_later left_later in
                   subst (λ k. AgreesOn part w (after_turns n (turn_of s)) 0 (after_turns k t)) (sym (own_counts w s.next j own))
                   (subst (λ x. AgreesOn part w (after_turns n (turn_of s)) 0 x) (sym (turn_first j t runs)) last)
@@ -113,6 +113,6 @@ module _ (part : ℕ → Bool) (w : ℕ) where
 pub fights_alone : (part : ℕ → Bool) (w n : ℕ) (s t : State) → IsValid s → IsValid t → length t.queues ≡ 1 → t.cycle ≤ s.cycle → AgreesOn part w s 0 t → KeepsTo part w n s → IsLeftTo part w n s → AgreesOn part w (after_turns n s) 0 (after_turns (own_turns w n s) t)
 fights_alone part w n s t v u one early g keeps left = alone part w n s t v u one (λ e. (λ h. early, omega (arith, early))) g keeps left
 
-pub out_of_reach : (owner : ℕ → ℕ) (w n : ℕ) (s t : State) → IsValid s → IsValid t → length t.queues ≡ 1 → t.cycle ≤ s.cycle → AgreesOn (λ a. owner a == w) w s 0 t → ((v : ℕ) → KeepsTo (λ a. owner a == v) v n s) → AgreesOn (λ a. owner a == w) w (after_turns n s) 0 (after_turns (own_turns w n s) t)
-out_of_reach owner w n s t v u one early g keeps =
+pub untouched_alone : (owner : ℕ → ℕ) (w n : ℕ) (s t : State) → IsValid s → IsValid t → length t.queues ≡ 1 → t.cycle ≤ s.cycle → AgreesOn (λ a. owner a == w) w s 0 t → ((v : ℕ) → KeepsTo (λ a. owner a == v) v n s) → AgreesOn (λ a. owner a == w) w (after_turns n s) 0 (after_turns (own_turns w n s) t)
+untouched_alone owner w n s t v u one early g keeps =
     fights_alone (λ a. owner a == w) w n s t v u one early g (keeps w) (own_cells_left owner n s v keeps w)

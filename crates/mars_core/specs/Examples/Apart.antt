@@ -1,123 +1,91 @@
--- Two imps out of each other's reach: each keeps to its half of the core, and fights as it would alone.
-use Rattle.std.specs.Prelude.{◌≡◌, ◌⊎◌, ℕ, zero, suc, ◌+◌, ◌/◌, ◌%◌, ◌<◌, ◌≤◌, ◌==◌, Bool, true, List, [], ◌∷◌, None, refl}
-use Rattle.std.proofs.Common.{suc-le-suc, ap, subst, sym, ◌∙◌, inl, inr}
-use Rattle.std.proofs.Math.Arith.{le-zero}
-use Rattle.std.proofs.Math.Nat.{le_of_suc-le-suc, not-suc-le-zero, not-le_of_lt}
-use Rattle.std.proofs.Math.Numerals.{add-one, add-two}
-use Rattle.std.proofs.lemmas.Bool.{true≢false}
+-- An imp and a dwarf at the default limits: for 200 turns neither touches a cell of the other's half, and each fights as it would alone.
+use Rattle.std.specs.Prelude.{◌≡◌, ℕ, zero, suc, ◌==◌, ◌&&◌, nat_lt, Bool, true, false, if◌then◌else◌, List, [], ◌∷◌, ◌++◌, None, refl}
+use Rattle.std.specs.List.{AllPass, list_all}
+use Rattle.std.proofs.Common.{replicate, sym, ◌∙◌, subst}
+use Rattle.std.proofs.Math.Nat.{le_of_suc-le-suc, not-suc-le-zero}
+use Rattle.std.proofs.lemmas.Bool.{and_parts, true≢false}
+use Rattle.std.proofs.lemmas.List.Sums.{AllPass-from_list_all}
 use Rattle.mars_cell.specs.declared.instruction.Cell.{Cell}
+use Rattle.mars_cell.specs.declared.instruction.Op.TheVariants.{Dat, Mov, Add, Jmp}
+use Rattle.mars_cell.specs.declared.instruction.Modifier.TheVariants.{B, Ab, F, I}
+use Rattle.mars_cell.specs.declared.instruction.Mode.TheVariants.{Immediate, Direct, BIndirect}
 use Rattle.mars_cell.specs.Cells.{empty_cell}
+use Rattle.mars_cell.specs.Parameters.{Parameters}
 use Rattle.mars_cell.specs.Warriors.{WarriorValue}
 use Rattle.mars_core.specs.Start.{start_fault, start_state}
-use Rattle.mars_core.specs.State.{State, cell_at, queue_of}
-use Rattle.mars_core.specs.Addresses.{address_after}
-use Rattle.mars_core.specs.Turn.{after_turns}
-use Rattle.mars_core.specs.Reach.{Reaches}
-use Rattle.mars_core.specs.Apart.{GoesOn, KeepsTo, IsLeftTo, own_turns, AgreesOn}
-use Rattle.mars_core.specs.Examples.{the_machine, imp, sizes, battle_of, lone}
+use Rattle.mars_core.specs.State.{State, is_over_of}
+use Rattle.mars_core.specs.Turn.{turn_of, after_turns}
+use Rattle.mars_core.specs.Touched.{touched_in_turn}
+use Rattle.mars_core.specs.Apart.{KeepsTo}
+use Rattle.mars_core.specs.Examples.{the_machine, cell_of, imp, sizes, battle_of, lone}
 
--- one imp in each half
-abbrev core : List Cell
-core = imp ∷ empty_cell ∷ empty_cell ∷ empty_cell ∷ imp ∷ empty_cell ∷ empty_cell ∷ empty_cell ∷ []
+-- in n turns each warrior touches its own cells alone
+abbrev keep_apart : (ℕ → ℕ) → ℕ → State → Bool
+keep_apart owner zero s = true
+keep_apart owner (suc n) s =
+    if is_over_of s then true else list_all (λ address. owner address == s.next) (touched_in_turn s) && keep_apart owner n (turn_of s)
 
--- each reads its own cell, and writes the next one
-abbrev two_imps : State
-two_imps = battle_of (sizes 8 8 1 2) core ((0 ∷ []) ∷ (4 ∷ []) ∷ [])
+first_test : (over test later : Bool) → over ≡ false → (if over then true else test && later) ≡ true → test ≡ true
+first_test true test later runs all = absurd (true≢false runs)
+first_test false test later runs all = (and_parts test later all).0
 
--- the second one, alone in a core without the first
+-- so each keeps to its own
+pub keeps_apart : (owner : ℕ → ℕ) (n : ℕ) (s : State) → keep_apart owner n s ≡ true → (w : ℕ) → KeepsTo (λ address. owner address == w) w n s
+keeps_apart owner zero s test w k h runs turn = absurd (not-suc-le-zero h)
+keeps_apart owner (suc n) s test w zero h runs turn =
+    let here = first_test (is_over_of s) (list_all (λ address. owner address == s.next) (touched_in_turn s)) (keep_apart owner n (turn_of s)) runs test in
+    subst (λ w. AllPass (λ address. owner address == w) (touched_in_turn s)) turn (AllPass-from_list_all (λ address. owner address == s.next) (touched_in_turn s) here)
+keeps_apart owner (suc n) s test w (suc k) h runs turn =
+    elim (is_over_of s) as (λ b. is_over_of s ≡ b → (if b then true else list_all (λ address. owner address == s.next) (touched_in_turn s) && keep_apart owner n (turn_of s)) ≡ true → is_over_of (if b then s else after_turns k (turn_of s)) ≡ false → (if b then s else after_turns k (turn_of s)).next ≡ w → AllPass (λ address. owner address == w) (touched_in_turn (if b then s else after_turns k (turn_of s)))) [
+      | true ↦ λ over test runs turn. absurd (true≢false (sym over ∙ runs))
+      | false ↦ λ over test runs turn. keeps_apart owner n (turn_of s) (and_parts (list_all (λ address. owner address == s.next) (touched_in_turn s)) (keep_apart owner n (turn_of s)) test).1 w k (le_of_suc-le-suc h) runs turn
+    ] refl test runs turn
+
+-- ADD.AB #4, $3; MOV.I $2, @2; JMP.B $-2, $0; DAT.F #0, #0
+abbrev dwarf : List Cell
+dwarf = cell_of Add Ab Immediate 4 Direct 3 ∷ cell_of Mov I Direct 2 BIndirect 2 ∷ cell_of Jmp B Direct 398 Direct 0 ∷ cell_of Dat F Immediate 0 Immediate 0 ∷ []
+
+-- a core of 400 cells, which both limits reach
+abbrev of_400 : Parameters
+of_400 = record (sizes 400 8 400 400) { cycles = 200; max_length = 100; distance = 100 }
+
+-- the imp's half of the core, the dwarf's, and an empty one
+abbrev imp_half : List Cell
+imp_half = imp ∷ replicate 199 empty_cell
+
+abbrev dwarf_half : List Cell
+dwarf_half = dwarf ++ replicate 196 empty_cell
+
+abbrev empty_half : List Cell
+empty_half = replicate 200 empty_cell
+
+-- the imp is warrior 0, the dwarf warrior 1
+abbrev fight : State
+fight = battle_of of_400 (imp_half ++ dwarf_half) ((0 ∷ []) ∷ (200 ∷ []) ∷ [])
+
 abbrev lone_imp : State
-lone_imp = lone (sizes 8 8 1 2) (empty_cell ∷ empty_cell ∷ empty_cell ∷ empty_cell ∷ imp ∷ empty_cell ∷ empty_cell ∷ empty_cell ∷ []) (4 ∷ [])
+lone_imp = lone of_400 (imp_half ++ empty_half) (0 ∷ [])
 
--- a warrior of that one cell
-abbrev imp_alone : WarriorValue
-imp_alone = record { name = []; author = []; cells = imp ∷ []; start = 0 }
+abbrev lone_dwarf : State
+lone_dwarf = lone of_400 (empty_half ++ dwarf_half) (200 ∷ [])
 
--- these are the starts of battles of such warriors
-pub battles_of_imps_start :
-    (start_state (sizes 8 8 1 2) (imp_alone ∷ imp_alone ∷ []) (0 ∷ 4 ∷ []) ≡ two_imps)
-    × (start_fault (sizes 8 8 1 2) (imp_alone ∷ imp_alone ∷ []) (0 ∷ 4 ∷ []) ≡ None)
-    × (start_state (sizes 8 8 1 2) (imp_alone ∷ []) (4 ∷ []) ≡ lone_imp)
+-- a warrior of these cells, which starts at the first one
+abbrev warrior : List Cell → WarriorValue
+warrior cells = record { name = []; author = []; cells = cells; start = 0 }
+
+-- they are the starts of battles of such warriors
+pub battles_start :
+    (start_state of_400 (warrior (imp ∷ []) ∷ warrior dwarf ∷ []) (0 ∷ 200 ∷ []) ≡ fight)
+    × (start_fault of_400 (warrior (imp ∷ []) ∷ warrior dwarf ∷ []) (0 ∷ 200 ∷ []) ≡ None)
+    × (start_state of_400 (warrior (imp ∷ []) ∷ []) (0 ∷ []) ≡ lone_imp)
+    × (start_state of_400 (warrior dwarf ∷ []) (200 ∷ []) ≡ lone_dwarf)
 unfolding the_machine
-battles_of_imps_start = (refl, refl, refl)
+battles_start = (refl, refl, refl, refl)
 
--- the address is in the half of the core
-abbrev is_in_half : ℕ → ℕ → Bool
-is_in_half half address = address / 4 == half
+-- whose half an address is in
+abbrev half_of : ℕ → ℕ
+half_of address = if nat_lt address 200 then 0 else 1
 
--- a cell in the half where the process stands, or the next cell, which is in that half, too
-either : (pc half a d : ℕ) → is_in_half half ((pc + 0) % 8) ≡ true → is_in_half half ((pc + 1) % 8) ≡ true → a ≡ (pc + d) % 8 → (d ≡ 0) ⊎ (d ≡ 1) → is_in_half half a ≡ true
-either pc half a d here next is (inl none) = subst (λ a. is_in_half half a ≡ true) (sym (is ∙ ap (λ d. (pc + d) % 8) none)) here
-either pc half a d here next is (inr one) = subst (λ a. is_in_half half a ≡ true) (sym (is ∙ ap (λ d. (pc + d) % 8) one)) next
-
--- how far the limits reach: it reads its own cell alone, and writes the next one
-read_distance : (d : ℕ) → d < 8 → (d ≤ 0) ⊎ (8 < d + 1) → (d ≡ 0) ⊎ (d ≡ 1)
-read_distance d inside (inl ahead) = inl (le-zero ahead)
-read_distance d inside (inr back) = absurd (not-le_of_lt (subst (λ n. 8 < n) (add-one d) back) inside)
-
-write_distance : (d : ℕ) → d < 8 → (d ≤ 1) ⊎ (9 < d + 2) → (d ≡ 0) ⊎ (d ≡ 1)
-write_distance zero inside (inl ahead) = inl refl
-write_distance (suc d) inside (inl ahead) = inr (ap suc (le-zero (le_of_suc-le-suc ahead)))
-write_distance d inside (inr back) = absurd (not-le_of_lt (subst (λ n. 9 < n) (add-two d) back) (suc-le-suc inside))
-
-reached : (pc half a : ℕ) → is_in_half half ((pc + 0) % 8) ≡ true → is_in_half half ((pc + 1) % 8) ≡ true → Reaches 8 1 pc a ⊎ Reaches 8 2 pc a → is_in_half half a ≡ true
-unfolding address_after
-reached pc half a here next (inl read) = either pc half a read.distance here next read.address_is (read_distance read.distance read.inside read.near)
-reached pc half a here next (inr write) = either pc half a write.distance here next write.address_is (write_distance write.distance write.inside write.near)
-
--- in four turns each imp keeps to its half of the core
-pub imps_keep_to_their_halves : (w : ℕ) → KeepsTo (is_in_half w) w 4 two_imps
+pub each_keeps_to_its_half : (w : ℕ) → KeepsTo (λ address. half_of address == w) w 200 fight
 unfolding the_machine
-imps_keep_to_their_halves w zero h runs turn a near = subst (λ w. is_in_half w a ≡ true) turn (reached 0 0 a refl refl near)
-imps_keep_to_their_halves w (suc zero) h runs turn a near = subst (λ w. is_in_half w a ≡ true) turn (reached 4 1 a refl refl near)
-imps_keep_to_their_halves w (suc (suc zero)) h runs turn a near = subst (λ w. is_in_half w a ≡ true) turn (reached 1 0 a refl refl near)
-imps_keep_to_their_halves w (suc (suc (suc zero))) h runs turn a near = subst (λ w. is_in_half w a ≡ true) turn (reached 5 1 a refl refl near)
-imps_keep_to_their_halves w (suc (suc (suc (suc k)))) h runs turn a near =
-    absurd (not-suc-le-zero (le_of_suc-le-suc (le_of_suc-le-suc (le_of_suc-le-suc (le_of_suc-le-suc h)))))
-
--- the first imp's turn changes a cell, which isn't in the half of the second
-half_is_left : (a : ℕ) → is_in_half 1 a ≡ true → cell_at (after_turns 1 two_imps).core a ≡ cell_at two_imps.core a
-unfolding the_machine
-half_is_left zero here = refl
-half_is_left (suc zero) here = absurd (true≢false (sym here))
-half_is_left (suc (suc a)) here = refl
-
-pub half_is_left_to_the_second : IsLeftTo (is_in_half 1) 1 2 two_imps
-unfolding the_machine
-half_is_left_to_the_second zero h runs other a here = half_is_left a here
-half_is_left_to_the_second (suc zero) h runs other a here = absurd (other refl)
-half_is_left_to_the_second (suc (suc k)) h runs other a here = absurd (not-suc-le-zero (le_of_suc-le-suc (le_of_suc-le-suc h)))
-
-same_half : (a : ℕ) → is_in_half 1 a ≡ true → cell_at two_imps.core a ≡ cell_at lone_imp.core a
-same_half zero here = absurd (true≢false (sym here))
-same_half (suc a) here = refl
-
--- at the start the second imp is the same in both battles, whatever stands in the other half
-pub second_is_the_same_alone : AgreesOn (is_in_half 1) 1 two_imps 0 lone_imp
-second_is_the_same_alone = record { params = refl; processes = refl; cells = same_half }
-
--- of five turns three are those of the first imp
-pub turns_of_each : (own_turns 0 5 two_imps ≡ 3) × (own_turns 1 5 two_imps ≡ 2)
-unfolding the_machine
-turns_of_each = (refl, refl)
-
--- after five turns the second imp is as it is alone after two
-pub second_is_still_the_same :
-    (queue_of (after_turns 5 two_imps).queues 1 ≡ 6 ∷ [])
-    × (queue_of (after_turns 2 lone_imp).queues 0 ≡ 6 ∷ [])
-    × ((after_turns 5 two_imps).core ≡ imp ∷ imp ∷ imp ∷ imp ∷ imp ∷ imp ∷ imp ∷ empty_cell ∷ [])
-    × ((after_turns 2 lone_imp).core ≡ empty_cell ∷ empty_cell ∷ empty_cell ∷ empty_cell ∷ imp ∷ imp ∷ imp ∷ empty_cell ∷ [])
-unfolding the_machine
-second_is_still_the_same = (refl, refl, refl, refl)
-
--- a lone warrior that dies at its first turn
-abbrev dying : State
-dying = lone (sizes 8 8 1 2) core (1 ∷ [])
-
-pub the_dead_have_no_more_turns : own_turns 0 3 dying ≡ 1
-unfolding the_machine
-the_dead_have_no_more_turns = refl
-
-pub one_turn_is_made : GoesOn 1 dying
-unfolding the_machine
-one_turn_is_made zero h = refl
-one_turn_is_made (suc k) h = absurd (not-suc-le-zero (le_of_suc-le-suc h))
+each_keeps_to_its_half = keeps_apart half_of 200 fight refl
