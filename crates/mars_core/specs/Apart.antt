@@ -1,5 +1,5 @@
 -- A warrior apart from the others: it reads and writes in its own part of the core alone, where nobody else changes a cell. Laws say that its fight is its own.
-use Rattle.std.specs.Prelude.{◌≡◌, ◌≢◌, ℕ, zero, suc, ◌+◌, ◌<◌, ◌==◌, Bool, true, false, if◌then◌else◌}
+use Rattle.std.specs.Prelude.{◌≡◌, ◌≢◌, ℕ, zero, suc, ◌+◌, ◌<◌, ◌==◌, Bool, true, false, if◌then◌else◌, List, [], ◌++◌}
 use Rattle.std.specs.List.{AllPass}
 use Rattle.mars_core.specs.State.{State, cell_at, queue_of, is_over_of}
 use Rattle.mars_core.specs.Turn.{turn_of, after_turns}
@@ -26,6 +26,12 @@ IsLeftTo part warrior n s =
 abbrev pub own_turns : ℕ → ℕ → State → ℕ
 own_turns warrior zero s = 0
 own_turns warrior (suc n) s = if is_over_of s then 0 else (if s.next == warrior then 1 else 0) + own_turns warrior n (turn_of s)
+
+-- what the warrior reads or writes in n turns
+abbrev pub touched_in : ℕ → ℕ → State → List ℕ
+touched_in warrior zero s = []
+touched_in warrior (suc n) s =
+    if is_over_of s then [] else (if s.next == warrior then touched_in_turn s else []) ++ touched_in warrior n (turn_of s)
 
 -- a warrior of one battle and one of another have the same processes, and the same cells in this part of the core
 pub record AgreesOn (part : ℕ → Bool) (warrior : ℕ) (s : State) (other : ℕ) (t : State) : Type 0 where

@@ -26,7 +26,7 @@ use Rattle.mars_core.specs.declared.machine.writes.CellChange.{CellChange}
 use Rattle.mars_core.proofs.Folding.{after_none}
 use Rattle.mars_core.proofs.ForLaws.Listed.{listed, Parts, parts_of, map-listed}
 
--- an address of the second core for each of the first one; those that are near are told apart
+-- an address of the second core for each of the first one; those that are near, as all are that the first one touches, are told apart
 pub record Corresponds (p : Parameters) (there : ℕ → ℕ) (Near : ℕ → Type 0) (pc pc' : ℕ) : Type 0 where
   pub one : (a b : ℕ) → Near a → Near b → there a ≡ there b → a ≡ b
   pub inside : (a : ℕ) → Near a → a < p.core_size

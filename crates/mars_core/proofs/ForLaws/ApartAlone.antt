@@ -1,20 +1,25 @@
 -- A warrior apart fights as it would alone.
-use Rattle.std.proofs.Common.{◌≡◌, ◌≢◌, ℕ, zero, suc, ◌+◌, ◌<◌, ◌≤◌, Bool, true, false, cond, List, [], ◌∷◌, length, Option, None, Some, refl, ap, sym, ◌∙◌, subst, arith, inl, inr}
+use Rattle.std.proofs.Common.{◌≡◌, ◌≢◌, ℕ, zero, suc, ◌+◌, ◌<◌, ◌≤◌, Bool, true, false, cond, List, [], ◌∷◌, ◌++◌, length, get_or, Option, None, Some, refl, ap, sym, ◌∙◌, subst, arith, inl, inr}
 use Rattle.std.specs.Prelude.{◌⊎◌, ◌==◌, ◌&&◌, ◌||◌, nat_le, if◌then◌else◌}
 use Rattle.std.proofs.lemmas.Bool.{cases_eq}
 use Rattle.std.proofs.lemmas.Bool.Decides.{nat_tests}
+use Rattle.std.specs.List.{AllPass, list_any}
+use Rattle.std.proofs.lemmas.List.Recursion.{or_at}
 use Rattle.std.proofs.lemmas.List.Sums.{sum_by-cons}
 use Rattle.mars_cell.specs.Parameters.{Parameters}
 use Rattle.mars_core.specs.State.{State, queue_of, is_empty, live_from, survivors_of, is_over_of, ends, moved_clock, advanced, clock_of}
 use Rattle.mars_core.specs.Turn.{executed, turn_of, after_turns}
-use Rattle.mars_core.specs.Apart.{KeepsTo, IsLeftTo, own_turns, AgreesOn}
+use Rattle.mars_core.specs.Touched.{touched_in_turn}
+use Rattle.mars_core.specs.Start.{is_in}
+use Rattle.mars_core.specs.Apart.{KeepsTo, IsLeftTo, own_turns, touched_in, AgreesOn}
 use Rattle.mars_core.specs.Validity.{IsValid}
 use Rattle.mars_core.specs.declared.machine.clock.Clock.{Clock}
 use Rattle.mars_core.proofs.ForLaws.Apart.{StaysIn, LeavesAlone, own_counts, other_counts, own_turn, other_turn, turn_first, before_first, before_later, own_cells_left}
 use Rattle.mars_core.proofs.CallerLemmas.{shape-turn_of, cycle-turn_of}
 use Rattle.mars_core.proofs.Clocks.{live_from_is, somebody}
 use Rattle.mars_core.proofs.Fights.{next_lives}
-use Rattle.mars_core.proofs.Turns.{running, turn_valid, filled_one}
+use Rattle.mars_core.proofs.ForLaws.Listed.{left, right}
+use Rattle.mars_core.proofs.Turns.{running, turn_valid, filled_one, same_eq}
 
 -- a later one has its turn in the same cycle, or a cycle is added
 abbrev StepsOn : Clock → Clock → Type 0
@@ -112,6 +117,27 @@ module _ (part : ℕ → Bool) (w : ℕ) where
 
 pub fights_alone : (part : ℕ → Bool) (w n : ℕ) (s t : State) → IsValid s → IsValid t → length t.queues ≡ 1 → t.cycle ≤ s.cycle → AgreesOn part w s 0 t → KeepsTo part w n s → IsLeftTo part w n s → AgreesOn part w (after_turns n s) 0 (after_turns (own_turns w n s) t)
 fights_alone part w n s t v u one early g keeps left = alone part w n s t v u one (λ e. (λ h. early, omega (arith, early))) g keeps left
+
+-- a warrior keeps to what it touches
+keeps_touched : (part : ℕ → Bool) (w n : ℕ) (s : State) → AllPass part (touched_in w n s) → KeepsTo part w n s
+keeps_touched part w zero s all k h runs turn = absurd (omega (arith, h))
+keeps_touched part w (suc n) s all zero h runs turn =
+    let own : (s.next == w) ≡ true = ap (λ v. v == w) turn ∙ same_eq w in
+    left (λ a. part a ≡ true) (touched_in_turn s) (touched_in w n (turn_of s)) (rw (runs, own) at all)
+keeps_touched part w (suc n) s all (suc k) h runs turn =
+    let now = cond (s.next == w) (touched_in_turn s) [] in
+    let later = touched_in w n (turn_of s) in
+    elim (is_over_of s) as (λ b. is_over_of s ≡ b → AllPass part (if b then [] else now ++ later) → is_over_of (if b then s else after_turns k (turn_of s)) ≡ false → (if b then s else after_turns k (turn_of s)).next ≡ w → AllPass part (touched_in_turn (if b then s else after_turns k (turn_of s)))) [
+      | true ↦ λ over all runs turn. absurd cc
+      | false ↦ λ over all runs turn. keeps_touched part w n (turn_of s) (right (λ a. part a ≡ true) now later all) k (omega (arith, h)) runs turn
+    ] refl all runs turn
+
+each_is_in : (xs : List ℕ) → AllPass (is_in xs) xs
+each_is_in xs k d h = or_at (list_any (λ y. get_or xs k d == y)) (λ y. get_or xs k d == y) refl (λ _ _. refl) xs k d h (same_eq (get_or xs k d))
+
+pub undisturbed_alone : (w n : ℕ) (s t : State) → IsValid s → IsValid t → length t.queues ≡ 1 → t.cycle ≤ s.cycle → AgreesOn (is_in (touched_in w n s)) w s 0 t → IsLeftTo (is_in (touched_in w n s)) w n s → AgreesOn (is_in (touched_in w n s)) w (after_turns n s) 0 (after_turns (own_turns w n s) t)
+undisturbed_alone w n s t v u one early g left =
+    fights_alone (is_in (touched_in w n s)) w n s t v u one early g (keeps_touched (is_in (touched_in w n s)) w n s (each_is_in (touched_in w n s))) left
 
 pub untouched_alone : (owner : ℕ → ℕ) (w n : ℕ) (s t : State) → IsValid s → IsValid t → length t.queues ≡ 1 → t.cycle ≤ s.cycle → AgreesOn (λ a. owner a == w) w s 0 t → ((v : ℕ) → KeepsTo (λ a. owner a == v) v n s) → AgreesOn (λ a. owner a == w) w (after_turns n s) 0 (after_turns (own_turns w n s) t)
 untouched_alone owner w n s t v u one early g keeps =

@@ -8,11 +8,11 @@ abbrev pub listed : ℕ → List ℕ → ℕ → List ℕ → ℕ → ℕ → Li
 listed pc a_pointed a b_pointed b target = pc ∷ a_pointed ++ a ∷ b_pointed ++ b ∷ target ∷ []
 
 module _ (P : ℕ → Type 0) where
-  left : (xs ys : List ℕ) → All P (xs ++ ys) → All P xs
+  pub left : (xs ys : List ℕ) → All P (xs ++ ys) → All P xs
   left [] ys all = All-nil P
   left (x ∷ xs) ys all = All-cons P x xs (All-head P x (xs ++ ys) all) (left xs ys (All-tail P x (xs ++ ys) all))
 
-  right : (xs ys : List ℕ) → All P (xs ++ ys) → All P ys
+  pub right : (xs ys : List ℕ) → All P (xs ++ ys) → All P ys
   right [] ys all = all
   right (x ∷ xs) ys all = right xs ys (All-tail P x (xs ++ ys) all)
 
