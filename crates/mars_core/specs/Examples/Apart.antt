@@ -1,23 +1,27 @@
--- An imp and a dwarf at the default limits: for 200 turns neither touches a cell of the other's half, and each fights as it would alone.
-use Rattle.std.specs.Prelude.{◌≡◌, ℕ, zero, suc, ◌==◌, ◌&&◌, nat_lt, Bool, true, false, if◌then◌else◌, List, [], ◌∷◌, ◌++◌, None, refl}
+-- An imp and a dwarf in a usual battle: for 200 turns neither touches a cell of the other, and each fights as it would alone.
+use Rattle.std.specs.Prelude.{◌≡◌, ℕ, zero, suc, ◌/◌, ◌≤◌, ◌==◌, ◌&&◌, nat_lt, Bool, true, false, if◌then◌else◌, List, [], ◌∷◌, ◌++◌, take, drop, None, refl}
 use Rattle.std.specs.List.{AllPass, list_all}
 use Rattle.std.proofs.Common.{replicate, sym, ◌∙◌, subst}
+use Rattle.std.proofs.Math.Facts.{ltb_yes}
 use Rattle.std.proofs.Math.Nat.{le_of_suc-le-suc, not-suc-le-zero}
-use Rattle.std.proofs.lemmas.Bool.{and_parts, true≢false}
+use Rattle.std.proofs.lemmas.Bool.{and_parts, true≢false, ltb-true, ltb-false}
+use Rattle.std.proofs.lemmas.List.{get_or_append_left, get_or-append_right}
 use Rattle.std.proofs.lemmas.List.Sums.{AllPass-from_list_all}
 use Rattle.mars_cell.specs.declared.instruction.Cell.{Cell}
-use Rattle.mars_cell.specs.declared.instruction.Op.TheVariants.{Dat, Mov, Add, Jmp}
+use Rattle.mars_cell.specs.declared.instruction.Op.TheVariants.{Dat, Mov, Add, Jmp, Sne}
 use Rattle.mars_cell.specs.declared.instruction.Modifier.TheVariants.{B, Ab, F, I}
 use Rattle.mars_cell.specs.declared.instruction.Mode.TheVariants.{Immediate, Direct, BIndirect}
 use Rattle.mars_cell.specs.Cells.{empty_cell}
 use Rattle.mars_cell.specs.Parameters.{Parameters}
 use Rattle.mars_cell.specs.Warriors.{WarriorValue}
 use Rattle.mars_core.specs.Start.{start_fault, start_state}
-use Rattle.mars_core.specs.State.{State, is_over_of}
+use Rattle.mars_core.specs.State.{State, cell_at, is_over_of}
 use Rattle.mars_core.specs.Turn.{turn_of, after_turns}
 use Rattle.mars_core.specs.Touched.{touched_in_turn}
-use Rattle.mars_core.specs.Apart.{KeepsTo}
-use Rattle.mars_core.specs.Examples.{the_machine, cell_of, imp, sizes, battle_of, lone}
+use Rattle.mars_core.specs.Apart.{GoesOn, KeepsTo, own_turns, touched_in, AgreesOn}
+use Rattle.mars_core.specs.Laws.{UntouchedIsAlone}
+use Rattle.mars_core.specs.Validity.{IsValid}
+use Rattle.mars_core.specs.Examples.{the_machine, cell_of, imp, of_eight, eight, battle_of, lone}
 
 -- in n turns each warrior touches its own cells alone
 abbrev keep_apart : (ℕ → ℕ) → ℕ → State → Bool
@@ -30,62 +34,137 @@ first_test true test later runs all = absurd (true≢false runs)
 first_test false test later runs all = (and_parts test later all).0
 
 -- so each keeps to its own
-pub keeps_apart : (owner : ℕ → ℕ) (n : ℕ) (s : State) → keep_apart owner n s ≡ true → (w : ℕ) → KeepsTo (λ address. owner address == w) w n s
+keeps_apart : (owner : ℕ → ℕ) (n : ℕ) (s : State) → keep_apart owner n s ≡ true → (w : ℕ) → KeepsTo (λ address. owner address == w) w n s
 keeps_apart owner zero s test w k h runs turn = absurd (not-suc-le-zero h)
 keeps_apart owner (suc n) s test w zero h runs turn =
-    let here = first_test (is_over_of s) (list_all (λ address. owner address == s.next) (touched_in_turn s)) (keep_apart owner n (turn_of s)) runs test in
-    subst (λ w. AllPass (λ address. owner address == w) (touched_in_turn s)) turn (AllPass-from_list_all (λ address. owner address == s.next) (touched_in_turn s) here)
+    let own : ℕ → Bool = λ address. owner address == s.next in
+    let here = first_test (is_over_of s) (list_all own (touched_in_turn s)) (keep_apart owner n (turn_of s)) runs test in
+    subst (λ w. AllPass (λ address. owner address == w) (touched_in_turn s)) turn (AllPass-from_list_all own (touched_in_turn s) here)
 keeps_apart owner (suc n) s test w (suc k) h runs turn =
-    elim (is_over_of s) as (λ b. is_over_of s ≡ b → (if b then true else list_all (λ address. owner address == s.next) (touched_in_turn s) && keep_apart owner n (turn_of s)) ≡ true → is_over_of (if b then s else after_turns k (turn_of s)) ≡ false → (if b then s else after_turns k (turn_of s)).next ≡ w → AllPass (λ address. owner address == w) (touched_in_turn (if b then s else after_turns k (turn_of s)))) [
+    let now = list_all (λ address. owner address == s.next) (touched_in_turn s) in
+    let later = keep_apart owner n (turn_of s) in
+    elim (is_over_of s) as (λ b. is_over_of s ≡ b → (if b then true else now && later) ≡ true → is_over_of (if b then s else after_turns k (turn_of s)) ≡ false → (if b then s else after_turns k (turn_of s)).next ≡ w → AllPass (λ address. owner address == w) (touched_in_turn (if b then s else after_turns k (turn_of s)))) [
       | true ↦ λ over test runs turn. absurd (true≢false (sym over ∙ runs))
-      | false ↦ λ over test runs turn. keeps_apart owner n (turn_of s) (and_parts (list_all (λ address. owner address == s.next) (touched_in_turn s)) (keep_apart owner n (turn_of s)) test).1 w k (le_of_suc-le-suc h) runs turn
+      | false ↦ λ over test runs turn. keeps_apart owner n (turn_of s) (and_parts now later test).1 w k (le_of_suc-le-suc h) runs turn
     ] refl test runs turn
 
 -- ADD.AB #4, $3; MOV.I $2, @2; JMP.B $-2, $0; DAT.F #0, #0
 abbrev dwarf : List Cell
-dwarf = cell_of Add Ab Immediate 4 Direct 3 ∷ cell_of Mov I Direct 2 BIndirect 2 ∷ cell_of Jmp B Direct 398 Direct 0 ∷ cell_of Dat F Immediate 0 Immediate 0 ∷ []
+dwarf =
+    cell_of Add Ab Immediate 4 Direct 3 ∷ cell_of Mov I Direct 2 BIndirect 2
+    ∷ cell_of Jmp B Direct 7998 Direct 0 ∷ cell_of Dat F Immediate 0 Immediate 0 ∷ []
 
--- a core of 400 cells, which both limits reach
-abbrev of_400 : Parameters
-of_400 = record (sizes 400 8 400 400) { cycles = 200; max_length = 100; distance = 100 }
+-- the parameters that battles have by default: both limits are the size of the core
+abbrev usual : Parameters
+usual = record { core_size = 8000; processes = 8000; cycles = 80000; read_limit = 8000; write_limit = 8000; max_length = 100; distance = 100 }
 
--- the imp's half of the core, the dwarf's, and an empty one
-abbrev imp_half : List Cell
-imp_half = imp ∷ replicate 199 empty_cell
+-- the imp's cells, and behind them the dwarf's
+abbrev imp_part : List Cell
+imp_part = imp ∷ replicate 199 empty_cell
 
-abbrev dwarf_half : List Cell
-dwarf_half = dwarf ++ replicate 196 empty_cell
+abbrev dwarf_part : List Cell
+dwarf_part = dwarf ++ replicate 7796 empty_cell
 
-abbrev empty_half : List Cell
-empty_half = replicate 200 empty_cell
+abbrev owner : ℕ → ℕ
+owner address = if nat_lt address 200 then 0 else 1
 
--- the imp is warrior 0, the dwarf warrior 1
 abbrev fight : State
-fight = battle_of of_400 (imp_half ++ dwarf_half) ((0 ∷ []) ∷ (200 ∷ []) ∷ [])
+fight = battle_of usual (imp_part ++ dwarf_part) ((0 ∷ []) ∷ (200 ∷ []) ∷ [])
 
 abbrev lone_imp : State
-lone_imp = lone of_400 (imp_half ++ empty_half) (0 ∷ [])
+lone_imp = lone usual (imp_part ++ replicate 7800 empty_cell) (0 ∷ [])
 
 abbrev lone_dwarf : State
-lone_dwarf = lone of_400 (empty_half ++ dwarf_half) (200 ∷ [])
+lone_dwarf = lone usual (replicate 200 empty_cell ++ dwarf_part) (200 ∷ [])
 
 -- a warrior of these cells, which starts at the first one
 abbrev warrior : List Cell → WarriorValue
 warrior cells = record { name = []; author = []; cells = cells; start = 0 }
 
--- they are the starts of battles of such warriors
-pub battles_start :
-    (start_state of_400 (warrior (imp ∷ []) ∷ warrior dwarf ∷ []) (0 ∷ 200 ∷ []) ≡ fight)
-    × (start_fault of_400 (warrior (imp ∷ []) ∷ warrior dwarf ∷ []) (0 ∷ 200 ∷ []) ≡ None)
-    × (start_state of_400 (warrior (imp ∷ []) ∷ []) (0 ∷ []) ≡ lone_imp)
-    × (start_state of_400 (warrior dwarf ∷ []) (200 ∷ []) ≡ lone_dwarf)
+-- these are the starts of battles of such warriors
+pub they_start :
+    (start_state usual (warrior (imp ∷ []) ∷ warrior dwarf ∷ []) (0 ∷ 200 ∷ []) ≡ fight)
+    × (start_fault usual (warrior (imp ∷ []) ∷ warrior dwarf ∷ []) (0 ∷ 200 ∷ []) ≡ None)
+    × (start_state usual (warrior (imp ∷ []) ∷ []) (0 ∷ []) ≡ lone_imp)
+    × (start_state usual (warrior dwarf ∷ []) (200 ∷ []) ≡ lone_dwarf)
 unfolding the_machine
-battles_start = (refl, refl, refl, refl)
+they_start = (refl, refl, refl, refl)
 
--- whose half an address is in
-abbrev half_of : ℕ → ℕ
-half_of address = if nat_lt address 200 then 0 else 1
-
-pub each_keeps_to_its_half : (w : ℕ) → KeepsTo (λ address. half_of address == w) w 200 fight
+-- what each touches in the first four turns
+pub touched_first : (touched_in 0 4 fight ≡ 0 ∷ 0 ∷ 1 ∷ 1 ∷ 1 ∷ 1 ∷ 2 ∷ 2 ∷ []) × (touched_in 1 4 fight ≡ 200 ∷ 200 ∷ 203 ∷ 203 ∷ 201 ∷ 203 ∷ 203 ∷ 203 ∷ 207 ∷ 207 ∷ [])
 unfolding the_machine
-each_keeps_to_its_half = keeps_apart half_of 200 fight refl
+touched_first = (refl, refl)
+
+-- in 200 turns neither touches a cell of the other
+pub each_keeps_to_its_own : (w : ℕ) → KeepsTo (λ address. owner address == w) w 200 fight
+unfolding the_machine
+each_keeps_to_its_own = keeps_apart owner 200 fight refl
+
+imp_owns : (is_first : Bool) → ((if is_first then 0 else 1) == 0) ≡ true → is_first ≡ true
+imp_owns true mine = refl
+imp_owns false mine = absurd (true≢false (sym mine))
+
+dwarf_owns : (is_first : Bool) → ((if is_first then 0 else 1) == 1) ≡ true → is_first ≡ false
+dwarf_owns true mine = absurd (true≢false (sym mine))
+dwarf_owns false mine = refl
+
+same_imp : (a : ℕ) → (owner a == 0) ≡ true → cell_at fight.core a ≡ cell_at lone_imp.core a
+same_imp a mine =
+    let first = ltb-true a 200 (imp_owns (nat_lt a 200) mine) in
+    get_or_append_left imp_part dwarf_part empty_cell a first ∙ sym (get_or_append_left imp_part (replicate 7800 empty_cell) empty_cell a first)
+
+same_dwarf : (a : ℕ) → (owner a == 1) ≡ true → cell_at fight.core a ≡ cell_at lone_dwarf.core a
+same_dwarf a mine =
+    let behind = ltb-false a 200 (dwarf_owns (nat_lt a 200) mine) in
+    get_or-append_right imp_part dwarf_part 200 a empty_cell refl behind
+    ∙ sym (get_or-append_right (replicate 200 empty_cell) dwarf_part 200 a empty_cell refl behind)
+
+-- at the start each is as it is alone
+pub each_starts_as_alone : AgreesOn (λ address. owner address == 0) 0 fight 0 lone_imp × AgreesOn (λ address. owner address == 1) 1 fight 0 lone_dwarf
+each_starts_as_alone = (
+  record { params = refl; processes = refl; cells = same_imp },
+  record { params = refl; processes = refl; cells = same_dwarf },
+)
+
+-- so by the law each is as it is alone after 100 turns of its own, since battles that start are valid
+pub each_fights_as_alone : UntouchedIsAlone → IsValid fight → IsValid lone_imp → IsValid lone_dwarf →
+    AgreesOn (λ address. owner address == 0) 0 (after_turns 200 fight) 0 (after_turns 100 lone_imp)
+    × AgreesOn (λ address. owner address == 1) 1 (after_turns 200 fight) 0 (after_turns 100 lone_dwarf)
+unfolding the_machine
+each_fights_as_alone law valid valid_imp valid_dwarf =
+    let cycle : 0 ≤ 0 = le_of_suc-le-suc (ltb_yes tt) in (
+      law owner 0 200 fight lone_imp valid valid_imp refl cycle each_starts_as_alone.0 each_keeps_to_its_own,
+      law owner 1 200 fight lone_dwarf valid valid_dwarf refl cycle each_starts_as_alone.1 each_keeps_to_its_own,
+    )
+
+-- and so it is
+pub each_is_as_alone :
+    ((after_turns 200 fight).queues ≡ (100 ∷ []) ∷ (201 ∷ []) ∷ [])
+    × ((after_turns 100 lone_imp).queues ≡ (100 ∷ []) ∷ [])
+    × (take 200 (after_turns 200 fight).core ≡ take 200 (after_turns 100 lone_imp).core)
+    × ((after_turns 100 lone_dwarf).queues ≡ (201 ∷ []) ∷ [])
+    × (drop 200 (after_turns 200 fight).core ≡ drop 200 (after_turns 100 lone_dwarf).core)
+unfolding the_machine
+each_is_as_alone = (refl, refl, refl, refl, refl)
+
+-- SNE.I $0, $4 changes nothing
+abbrev reading : State
+reading = battle_of of_eight (eight (cell_of Sne I Direct 0 Direct 4 ∷ [])) ((0 ∷ []) ∷ (4 ∷ []) ∷ [])
+
+-- but it reads a cell of the other
+pub reading_is_touching : KeepsTo (λ address. address / 4 == 0) 0 1 reading → ⊥
+unfolding the_machine
+reading_is_touching keeps = true≢false (sym (keeps 0 (ltb_yes tt) refl refl 2 0 (ltb_yes tt)))
+
+-- a lone warrior that dies at its first turn
+abbrev dying : State
+dying = lone of_eight (eight []) (0 ∷ [])
+
+pub the_dead_have_no_more_turns : (own_turns 0 3 dying ≡ 1) × (touched_in 0 3 dying ≡ 0 ∷ 0 ∷ 0 ∷ 0 ∷ [])
+unfolding the_machine
+the_dead_have_no_more_turns = (refl, refl)
+
+pub one_turn_is_made : GoesOn 1 dying
+unfolding the_machine
+one_turn_is_made zero h = refl
+one_turn_is_made (suc k) h = absurd (not-suc-le-zero (le_of_suc-le-suc h))
