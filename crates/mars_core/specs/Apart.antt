@@ -9,29 +9,26 @@ use Rattle.mars_core.specs.Touched.{touched_in_turn}
 abbrev pub GoesOn : ℕ → State → Type 0
 GoesOn n s = (k : ℕ) → k < n → is_over_of (after_turns k s) ≡ false
 
--- the state before each of the first n turns is one of these
-abbrev pub BeforeEach : ℕ → (State → Type 0) → State → Type 0
-BeforeEach n Is s = (k : ℕ) → k < n → is_over_of (after_turns k s) ≡ false → Is (after_turns k s)
-
--- in n turns, the warrior reads and writes cells of this part of the core alone
-abbrev pub KeepsTo : (ℕ → Bool) → ℕ → ℕ → State → Type 0
-KeepsTo part warrior n s = BeforeEach n (λ t. t.next ≡ warrior → AllPass part (touched_in_turn t)) s
-
--- in n turns, the others change no cell of this part
-abbrev pub IsLeftTo : (ℕ → Bool) → ℕ → ℕ → State → Type 0
-IsLeftTo part warrior n s =
-    BeforeEach n (λ t. t.next ≢ warrior → (address : ℕ) → part address ≡ true → cell_at (turn_of t).core address ≡ cell_at t.core address) s
-
--- how many of n turns are the warrior's
-abbrev pub own_turns : ℕ → ℕ → State → ℕ
-own_turns warrior zero s = 0
-own_turns warrior (suc n) s = if is_over_of s then 0 else (if s.next == warrior then 1 else 0) + own_turns warrior n (turn_of s)
-
 -- what the warrior reads or writes in n turns
 abbrev pub touched_in : ℕ → ℕ → State → List ℕ
 touched_in warrior zero s = []
 touched_in warrior (suc n) s =
     if is_over_of s then [] else (if s.next == warrior then touched_in_turn s else []) ++ touched_in warrior n (turn_of s)
+
+-- all of that is in this part of the core
+abbrev pub KeepsTo : (ℕ → Bool) → ℕ → ℕ → State → Type 0
+KeepsTo part warrior n s = AllPass part (touched_in warrior n s)
+
+-- in n turns, the others change no cell of this part
+abbrev pub IsLeftTo : (ℕ → Bool) → ℕ → ℕ → State → Type 0
+IsLeftTo part warrior n s =
+    (k : ℕ) → k < n → let t = after_turns k s in is_over_of t ≡ false → t.next ≢ warrior →
+    (address : ℕ) → part address ≡ true → cell_at (turn_of t).core address ≡ cell_at t.core address
+
+-- how many of n turns are the warrior's
+abbrev pub own_turns : ℕ → ℕ → State → ℕ
+own_turns warrior zero s = 0
+own_turns warrior (suc n) s = if is_over_of s then 0 else (if s.next == warrior then 1 else 0) + own_turns warrior n (turn_of s)
 
 -- a warrior of one battle and one of another have the same processes, and the same cells in this part of the core
 pub record AgreesOn (part : ℕ → Bool) (warrior : ℕ) (s : State) (other : ℕ) (t : State) : Type 0 where

@@ -3,6 +3,7 @@
 -- over those of the others until both have their own turn. So neither the clocks nor the numbers of warriors have to be the same.
 use Rattle.std.proofs.Common.{◌≡◌, ◌≢◌, ℕ, zero, suc, ◌+◌, ◌<◌, Bool, true, false, cond, List, [], length, All, refl, ap, sym, ◌∙◌, subst, arith, inl, inr}
 use Rattle.std.specs.Prelude.{◌==◌, if◌then◌else◌}
+use Rattle.std.specs.List.{AllPass}
 use Rattle.std.proofs.lemmas.Bool.{cases_eq, cases_lt}
 use Rattle.std.proofs.lemmas.List.{get_or-set_same, get_or_past, map-id}
 use Rattle.std.proofs.lemmas.List.Elements.{All-weaker}
@@ -12,11 +13,12 @@ use Rattle.mars_cell.specs.Parameters.{Parameters, AreInRange}
 use Rattle.mars_core.specs.State.{State, cell_at, queue_of, is_over_of}
 use Rattle.mars_core.specs.Turn.{front_of, front_execution, accepted, queue_after, executed, turn_of, after_turns}
 use Rattle.mars_core.specs.Touched.{touched, touched_in_turn}
-use Rattle.mars_core.specs.Apart.{BeforeEach, KeepsTo, IsLeftTo, own_turns, AgreesOn}
+use Rattle.mars_core.specs.Apart.{touched_in, KeepsTo, IsLeftTo, own_turns, AgreesOn}
 use Rattle.mars_core.specs.Validity.{IsCore, IsValid}
 use Rattle.mars_core.proofs.ForLaws.Alike.{AlikeExecution}
 use Rattle.mars_core.proofs.CallerLemmas.{shape-turn_of}
-use Rattle.mars_core.proofs.Fights.{valid_after, others_stay}
+use Rattle.mars_core.proofs.Fights.{valid_after, shape_after, others_stay}
+use Rattle.mars_core.proofs.ForLaws.Listed.{All-left, All-right}
 use Rattle.mars_core.proofs.ForLaws.Touched.{Near, itself, both, front_inside, untouched_stays}
 use Rattle.mars_core.proofs.Turns.{turn_valid, same_eq, eq_same, other_eq}
 
@@ -53,7 +55,7 @@ agrees_back : (part : ℕ → Bool) (w v : ℕ) (s t : State) → AgreesOn part 
 agrees_back part w v s t g = record { params = sym g.params; processes = sym g.processes; cells = λ a h. sym (g.cells a h) }
 
 -- both warriors have a turn
-pub own_turn : (part : ℕ → Bool) (s t : State) → IsValid s → IsValid t → AgreesOn part s.next s t.next t → All (λ a. part a ≡ true) (touched_in_turn s) → AgreesOn part s.next (turn_of s) t.next (turn_of t)
+pub own_turn : (part : ℕ → Bool) (s t : State) → IsValid s → IsValid t → AgreesOn part s.next s t.next t → AllPass part (touched_in_turn s) → AgreesOn part s.next (turn_of s) t.next (turn_of t)
 own_turn part s t v u g keeps =
     let p = s.params in
     let q = queue_of s.queues s.next in
@@ -82,14 +84,36 @@ other_turn part w v s t other g left = record {
 pub turn_first : (n : ℕ) (s : State) → is_over_of s ≡ false → after_turns (suc n) s ≡ after_turns n (turn_of s)
 turn_first n s over = rw over refl
 
--- what is so before each turn is so before the first one, and before each later one
-module _ (n : ℕ) (Is : State → Type 0) (s : State) (over : is_over_of s ≡ false) (each : BeforeEach (suc n) Is s) where
-  pub before_first : Is s
-  before_first = each 0 (omega arith) over
+-- the others leave the part alone in the first turn, and in each later one
+abbrev pub LeavesAlone : (ℕ → Bool) → ℕ → State → Type 0
+LeavesAlone part w t = t.next ≢ w → (a : ℕ) → part a ≡ true → cell_at (turn_of t).core a ≡ cell_at t.core a
 
-  pub before_later : BeforeEach n Is (turn_of s)
-  before_later k h runs =
-      subst Is (turn_first k s over) (each (suc k) (omega (arith, h)) (subst (λ t. is_over_of t ≡ false) (sym (turn_first k s over)) runs))
+module _ (part : ℕ → Bool) (w n : ℕ) (s : State) (over : is_over_of s ≡ false) where
+  pub left_first : IsLeftTo part w (suc n) s → LeavesAlone part w s
+  left_first left = left 0 (omega arith) over
+
+  pub left_later : IsLeftTo part w (suc n) s → IsLeftTo part w n (turn_of s)
+  left_later left k h runs =
+      subst (LeavesAlone part w) (turn_first k s over) (left (suc k) (omega (arith, h)) (subst (λ t. is_over_of t ≡ false) (sym (turn_first k s over)) runs))
+
+  -- and the warrior keeps to the part in the first turn, and in each later one
+  pub keeps_first : KeepsTo part w (suc n) s → s.next ≡ w → AllPass part (touched_in_turn s)
+  keeps_first keeps own =
+      let mine : (s.next == w) ≡ true = ap (λ v. v == w) own ∙ same_eq w in
+      All-left (λ a. part a ≡ true) (touched_in_turn s) (touched_in w n (turn_of s)) (rw (over, mine) at keeps)
+
+  pub keeps_later : KeepsTo part w (suc n) s → KeepsTo part w n (turn_of s)
+  keeps_later keeps = All-right (λ a. part a ≡ true) (cond (s.next == w) (touched_in_turn s) []) (touched_in w n (turn_of s)) (rw over at keeps)
+
+-- and so in any of them
+keeps_at : (part : ℕ → Bool) (w k n : ℕ) (s : State) → k < n → is_over_of (after_turns k s) ≡ false → (after_turns k s).next ≡ w → KeepsTo part w n s → AllPass part (touched_in_turn (after_turns k s))
+keeps_at part w k zero s h runs own keeps = absurd (omega (arith, h))
+keeps_at part w zero (suc n) s h runs own keeps = keeps_first part w n s runs keeps own
+keeps_at part w (suc k) (suc n) s h runs own keeps =
+    elim (is_over_of s) as (λ b. is_over_of s ≡ b → is_over_of (if b then s else after_turns k (turn_of s)) ≡ false → (if b then s else after_turns k (turn_of s)).next ≡ w → AllPass part (touched_in_turn (if b then s else after_turns k (turn_of s)))) [
+      | true ↦ λ over runs own. absurd cc
+      | false ↦ λ over runs own. keeps_at part w k n (turn_of s) (omega (arith, h)) runs own (keeps_later part w n s over keeps)
+    ] refl runs own
 
 -- a turn that is the warrior's counts, and no other
 pub own_counts : (w next n : ℕ) → next ≡ w → cond (next == w) 1 0 + n ≡ suc n
@@ -97,13 +121,6 @@ own_counts w next n e = rw (e, same_eq w) (omega arith)
 
 pub other_counts : (w next n : ℕ) → next ≢ w → cond (next == w) 1 0 + n ≡ n
 other_counts w next n other = rw (other_eq next w (λ e. other (sym e))) (omega arith)
-
--- what is so before each turn of the warrior, and before each other one
-abbrev pub StaysIn : (ℕ → Bool) → ℕ → State → Type 0
-StaysIn part w t = t.next ≡ w → All (λ a. part a ≡ true) (touched_in_turn t)
-
-abbrev pub LeavesAlone : (ℕ → Bool) → ℕ → State → Type 0
-LeavesAlone part w t = t.next ≢ w → (a : ℕ) → part a ≡ true → cell_at (turn_of t).core a ≡ cell_at t.core a
 
 module _ (part : ℕ → Bool) (w v : ℕ) where
   -- another one has a turn in the second battle
@@ -121,14 +138,14 @@ module _ (part : ℕ → Bool) (w v : ℕ) where
           | inl own ↦ absurd (let one = own_counts v t.next (own_turns v n (turn_of t)) own in omega (arith, one, none))
           | inr other ↦ (
               let same = other_counts v t.next (own_turns v n (turn_of t)) other in
-              let on = other_there s t other g (before_first n (LeavesAlone part v) t e left other) in
-              rest n s (turn_of t) (turn_valid t u e) on (before_later n (LeavesAlone part v) t e left) (sym same ∙ none)
+              let on = other_there s t other g (left_first part v n t e left other) in
+              rest n s (turn_of t) (turn_valid t u e) on (left_later part v n t e left) (sym same ∙ none)
               )
         ]
       ] refl none
 
   -- the warrior has its turn in the first battle: it is met by its next turn in the second
-  meets : (m : ℕ) (s : State) → IsValid s → s.next ≡ w → All (λ a. part a ≡ true) (touched_in_turn s)
+  meets : (m : ℕ) (s : State) → IsValid s → s.next ≡ w → AllPass part (touched_in_turn s)
       → ((n : ℕ) (t : State) → IsValid t → AgreesOn part w (turn_of s) v t → IsLeftTo part v n t → own_turns w m (turn_of s) ≡ own_turns v n t → AgreesOn part w (after_turns m (turn_of s)) v (after_turns n t))
       → (n : ℕ) (t : State) → IsValid t → AgreesOn part w s v t → IsLeftTo part v n t → suc (own_turns w m (turn_of s)) ≡ own_turns v n t
       → AgreesOn part w (after_turns m (turn_of s)) v (after_turns n t)
@@ -142,12 +159,12 @@ module _ (part : ℕ → Bool) (w v : ℕ) where
               let here : AgreesOn part s.next s t.next t = subst (λ x. AgreesOn part x s t.next t) (sym own) (subst (λ y. AgreesOn part w s y t) (sym same) g) in
               let there = own_turn part s t valid u here keeps in
               let next : AgreesOn part w (turn_of s) v (turn_of t) = subst (λ x. AgreesOn part x (turn_of s) v (turn_of t)) own (subst (λ y. AgreesOn part s.next (turn_of s) y (turn_of t)) same there) in
-              on n (turn_of t) (turn_valid t u e) next (before_later n (LeavesAlone part v) t e left) (omega (arith, turns, count))
+              on n (turn_of t) (turn_valid t u e) next (left_later part v n t e left) (omega (arith, turns, count))
               )
           | inr other ↦ (
               let same = other_counts v t.next (own_turns v n (turn_of t)) other in
-              let next = other_there s t other g (before_first n (LeavesAlone part v) t e left other) in
-              meets m s valid own keeps on n (turn_of t) (turn_valid t u e) next (before_later n (LeavesAlone part v) t e left) (turns ∙ same)
+              let next = other_there s t other g (left_first part v n t e left other) in
+              meets m s valid own keeps on n (turn_of t) (turn_valid t u e) next (left_later part v n t e left) (turns ∙ same)
               )
         ]
       ] refl turns
@@ -161,23 +178,25 @@ module _ (part : ℕ → Bool) (w v : ℕ) where
         | false ↦ λ e turns. elim (cases_eq s.next w) [
           | inl own ↦ (
               let count = own_counts w s.next (own_turns w m (turn_of s)) own in
-              meets m s valid own (before_first m (StaysIn part w) s e keeps own)
-              (λ n t u g left_there turns. fights_alike m n (turn_of s) t (turn_valid s valid e) u g (before_later m (StaysIn part w) s e keeps) (before_later m (LeavesAlone part w) s e left) left_there turns)
+              meets m s valid own (keeps_first part w m s e keeps own)
+              (λ n t u g left_there turns. fights_alike m n (turn_of s) t (turn_valid s valid e) u g (keeps_later part w m s e keeps) (left_later part w m s e left) left_there turns)
               n t u g left_there (sym count ∙ turns)
               )
           | inr other ↦ (
               let same = other_counts w s.next (own_turns w m (turn_of s)) other in
-              let next = other_turn part w v s t (λ e. other (sym e)) g (before_first m (LeavesAlone part w) s e left other) in
-              fights_alike m n (turn_of s) t (turn_valid s valid e) u next (before_later m (StaysIn part w) s e keeps) (before_later m (LeavesAlone part w) s e left) left_there (sym same ∙ turns)
+              let next = other_turn part w v s t (λ e. other (sym e)) g (left_first part w m s e left other) in
+              fights_alike m n (turn_of s) t (turn_valid s valid e) u next (keeps_later part w m s e keeps) (left_later part w m s e left) left_there (sym same ∙ turns)
               )
         ]
       ] refl turns
 
 -- where each warrior keeps to its own cells, nobody else changes one of them
-pub own_cells_left : (owner : ℕ → ℕ) (n : ℕ) (s : State) → IsValid s → ((w : ℕ) → KeepsTo (λ a. owner a == w) w n s) → (w : ℕ) → IsLeftTo (λ a. owner a == w) w n s
+pub own_cells_left : (owner : ℕ → ℕ) (n : ℕ) (s : State) → IsValid s → ((w : ℕ) → w < length s.queues → KeepsTo (λ a. owner a == w) w n s) → (w : ℕ) → IsLeftTo (λ a. owner a == w) w n s
 own_cells_left owner n s valid keeps w k h over other a mine =
     let t = after_turns k s in
+    let valid_then = valid_after k s valid in
+    let known : t.next < length s.queues = subst (λ n. t.next < n) (shape_after k s).warriors valid_then.clock.next in
     let beside : (b : ℕ) → (owner b == t.next) ≡ true → a ≢ b =
     λ b theirs same. other (sym (eq_same (owner b) t.next theirs) ∙ ap owner (sym same) ∙ eq_same (owner a) w mine) in
-    untouched_stays t a (valid_after k s valid)
-    (All-weaker (λ b. (owner b == t.next) ≡ true) (λ b. a ≢ b) beside (touched_in_turn t) (keeps t.next k h over refl))
+    untouched_stays t a valid_then
+    (All-weaker (λ b. (owner b == t.next) ≡ true) (λ b. a ≢ b) beside (touched_in_turn t) (keeps_at (λ b. owner b == t.next) t.next k n s h over refl (keeps t.next known)))

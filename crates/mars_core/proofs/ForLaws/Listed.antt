@@ -8,13 +8,13 @@ abbrev pub listed : ℕ → List ℕ → ℕ → List ℕ → ℕ → ℕ → Li
 listed pc a_pointed a b_pointed b target = pc ∷ a_pointed ++ a ∷ b_pointed ++ b ∷ target ∷ []
 
 module _ (P : ℕ → Type 0) where
-  pub left : (xs ys : List ℕ) → All P (xs ++ ys) → All P xs
-  left [] ys all = All-nil P
-  left (x ∷ xs) ys all = All-cons P x xs (All-head P x (xs ++ ys) all) (left xs ys (All-tail P x (xs ++ ys) all))
+  pub All-left : (xs ys : List ℕ) → All P (xs ++ ys) → All P xs
+  All-left [] ys all = All-nil P
+  All-left (x ∷ xs) ys all = All-cons P x xs (All-head P x (xs ++ ys) all) (All-left xs ys (All-tail P x (xs ++ ys) all))
 
-  pub right : (xs ys : List ℕ) → All P (xs ++ ys) → All P ys
-  right [] ys all = all
-  right (x ∷ xs) ys all = right xs ys (All-tail P x (xs ++ ys) all)
+  pub All-right : (xs ys : List ℕ) → All P (xs ++ ys) → All P ys
+  All-right [] ys all = all
+  All-right (x ∷ xs) ys all = All-right xs ys (All-tail P x (xs ++ ys) all)
 
   module _ (pc : ℕ) (a_pointed : List ℕ) (a : ℕ) (b_pointed : List ℕ) (b target : ℕ) where
     pub record Parts : Type 0 where
@@ -27,10 +27,10 @@ module _ (P : ℕ → Type 0) where
 
     pub parts_of : All P (listed pc a_pointed a b_pointed b target) → Parts
     parts_of all =
-        let front = left (pc ∷ a_pointed ++ a ∷ b_pointed) (b ∷ target ∷ []) all in
-        let last = right (pc ∷ a_pointed ++ a ∷ b_pointed) (b ∷ target ∷ []) all in
-        let first = left (pc ∷ a_pointed) (a ∷ b_pointed) front in
-        let second = right (pc ∷ a_pointed) (a ∷ b_pointed) front in
+        let front = All-left (pc ∷ a_pointed ++ a ∷ b_pointed) (b ∷ target ∷ []) all in
+        let last = All-right (pc ∷ a_pointed ++ a ∷ b_pointed) (b ∷ target ∷ []) all in
+        let first = All-left (pc ∷ a_pointed) (a ∷ b_pointed) front in
+        let second = All-right (pc ∷ a_pointed) (a ∷ b_pointed) front in
         record {
           here = All-head P pc a_pointed first;
           a_goes = All-tail P pc a_pointed first;

@@ -1,10 +1,9 @@
 -- An imp and a dwarf in a usual battle: for 200 turns neither touches a cell of the other, and each fights as it would alone.
-use Rattle.std.specs.Prelude.{◌≡◌, ℕ, zero, suc, ◌/◌, ◌≤◌, ◌==◌, ◌&&◌, nat_lt, Bool, true, false, if◌then◌else◌, List, [], ◌∷◌, ◌++◌, take, drop, None, refl}
-use Rattle.std.specs.List.{AllPass, list_all}
-use Rattle.std.proofs.Common.{replicate, sym, ◌∙◌, subst}
+use Rattle.std.specs.Prelude.{◌≡◌, ℕ, zero, suc, ◌/◌, ◌<◌, ◌≤◌, ◌==◌, nat_lt, Bool, true, false, if◌then◌else◌, List, [], ◌∷◌, ◌++◌, take, drop, None, refl}
+use Rattle.std.proofs.Common.{replicate, sym, ◌∙◌}
 use Rattle.std.proofs.Math.Facts.{ltb_yes}
 use Rattle.std.proofs.Math.Nat.{le_of_suc-le-suc, not-suc-le-zero}
-use Rattle.std.proofs.lemmas.Bool.{and_parts, true≢false, ltb-true, ltb-false}
+use Rattle.std.proofs.lemmas.Bool.{true≢false, ltb-true, ltb-false}
 use Rattle.std.proofs.lemmas.List.{get_or_append_left, get_or-append_right}
 use Rattle.std.proofs.lemmas.List.Sums.{AllPass-from_list_all}
 use Rattle.mars_cell.specs.declared.instruction.Cell.{Cell}
@@ -15,38 +14,12 @@ use Rattle.mars_cell.specs.Cells.{empty_cell}
 use Rattle.mars_cell.specs.Parameters.{Parameters}
 use Rattle.mars_cell.specs.Warriors.{WarriorValue}
 use Rattle.mars_core.specs.Start.{start_fault, start_state}
-use Rattle.mars_core.specs.State.{State, cell_at, is_over_of}
-use Rattle.mars_core.specs.Turn.{turn_of, after_turns}
-use Rattle.mars_core.specs.Touched.{touched_in_turn}
+use Rattle.mars_core.specs.State.{State, cell_at}
+use Rattle.mars_core.specs.Turn.{after_turns}
 use Rattle.mars_core.specs.Apart.{GoesOn, KeepsTo, own_turns, touched_in, AgreesOn}
 use Rattle.mars_core.specs.Laws.{UntouchedIsAlone}
 use Rattle.mars_core.specs.Validity.{IsValid}
 use Rattle.mars_core.specs.Examples.{the_machine, cell_of, imp, of_eight, eight, battle_of, lone}
-
--- in n turns each warrior touches its own cells alone
-abbrev keep_apart : (ℕ → ℕ) → ℕ → State → Bool
-keep_apart owner zero s = true
-keep_apart owner (suc n) s =
-    if is_over_of s then true else list_all (λ address. owner address == s.next) (touched_in_turn s) && keep_apart owner n (turn_of s)
-
-first_test : (over test later : Bool) → over ≡ false → (if over then true else test && later) ≡ true → test ≡ true
-first_test true test later runs all = absurd (true≢false runs)
-first_test false test later runs all = (and_parts test later all).0
-
--- so each keeps to its own
-keeps_apart : (owner : ℕ → ℕ) (n : ℕ) (s : State) → keep_apart owner n s ≡ true → (w : ℕ) → KeepsTo (λ address. owner address == w) w n s
-keeps_apart owner zero s test w k h runs turn = absurd (not-suc-le-zero h)
-keeps_apart owner (suc n) s test w zero h runs turn =
-    let own : ℕ → Bool = λ address. owner address == s.next in
-    let here = first_test (is_over_of s) (list_all own (touched_in_turn s)) (keep_apart owner n (turn_of s)) runs test in
-    subst (λ w. AllPass (λ address. owner address == w) (touched_in_turn s)) turn (AllPass-from_list_all own (touched_in_turn s) here)
-keeps_apart owner (suc n) s test w (suc k) h runs turn =
-    let now = list_all (λ address. owner address == s.next) (touched_in_turn s) in
-    let later = keep_apart owner n (turn_of s) in
-    elim (is_over_of s) as (λ b. is_over_of s ≡ b → (if b then true else now && later) ≡ true → is_over_of (if b then s else after_turns k (turn_of s)) ≡ false → (if b then s else after_turns k (turn_of s)).next ≡ w → AllPass (λ address. owner address == w) (touched_in_turn (if b then s else after_turns k (turn_of s)))) [
-      | true ↦ λ over test runs turn. absurd (true≢false (sym over ∙ runs))
-      | false ↦ λ over test runs turn. keeps_apart owner n (turn_of s) (and_parts now later test).1 w k (le_of_suc-le-suc h) runs turn
-    ] refl test runs turn
 
 -- ADD.AB #4, $3; MOV.I $2, @2; JMP.B $-2, $0; DAT.F #0, #0
 abbrev dwarf : List Cell
@@ -96,9 +69,11 @@ unfolding the_machine
 touched_first = (refl, refl)
 
 -- in 200 turns neither touches a cell of the other
-pub each_keeps_to_its_own : (w : ℕ) → KeepsTo (λ address. owner address == w) w 200 fight
+pub each_keeps_to_its_own : (w : ℕ) → w < 2 → KeepsTo (λ address. owner address == w) w 200 fight
 unfolding the_machine
-each_keeps_to_its_own = keeps_apart owner 200 fight refl
+each_keeps_to_its_own zero h = AllPass-from_list_all (λ address. owner address == 0) (touched_in 0 200 fight) refl
+each_keeps_to_its_own (suc zero) h = AllPass-from_list_all (λ address. owner address == 1) (touched_in 1 200 fight) refl
+each_keeps_to_its_own (suc (suc w)) h = absurd (not-suc-le-zero (le_of_suc-le-suc (le_of_suc-le-suc h)))
 
 imp_owns : (is_first : Bool) → ((if is_first then 0 else 1) == 0) ≡ true → is_first ≡ true
 imp_owns true mine = refl
@@ -154,7 +129,7 @@ reading = battle_of of_eight (eight (cell_of Sne I Direct 0 Direct 4 ∷ [])) ((
 -- but it reads a cell of the other
 pub reading_is_touching : KeepsTo (λ address. address / 4 == 0) 0 1 reading → ⊥
 unfolding the_machine
-reading_is_touching keeps = true≢false (sym (keeps 0 (ltb_yes tt) refl refl 2 0 (ltb_yes tt)))
+reading_is_touching keeps = true≢false (sym (keeps 2 0 (ltb_yes tt)))
 
 -- a lone warrior that dies at its first turn
 abbrev dying : State
