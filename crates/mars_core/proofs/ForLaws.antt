@@ -3,8 +3,10 @@ pub mod Alike
 pub mod Apart
 pub mod ApartAlone
 pub mod ApartPairs
+pub mod Listed
 pub mod MovedStart
 pub mod Near
 pub mod ReferenceCode
 pub mod Relative
 pub mod SameCells
+pub mod Touched

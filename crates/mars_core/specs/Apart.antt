@@ -1,31 +1,29 @@
--- A warrior apart from the others: it reaches only into its own part of the core, where nobody else changes a cell. Laws say that its fight is its own.
-use Rattle.std.specs.Prelude.{◌≡◌, ◌≢◌, ◌⊎◌, ℕ, zero, suc, ◌+◌, ◌<◌, ◌==◌, Bool, true, false, if◌then◌else◌}
+-- A warrior apart from the others: it reads and writes in its own part of the core alone, where nobody else changes a cell. Laws say that its fight is its own.
+use Rattle.std.specs.Prelude.{◌≡◌, ◌≢◌, ℕ, zero, suc, ◌+◌, ◌<◌, ◌==◌, Bool, true, false, if◌then◌else◌, List, [], ◌++◌}
+use Rattle.std.specs.List.{AllPass}
 use Rattle.mars_core.specs.State.{State, cell_at, queue_of, is_over_of}
-use Rattle.mars_core.specs.Turn.{front_of, turn_of, after_turns}
-use Rattle.mars_core.specs.Reach.{Reaches}
-
--- the process whose turn it is reaches the address, to read or to write
-abbrev pub Touches : State → ℕ → Type 0
-Touches s address =
-    let pc = front_of (queue_of s.queues s.next) in
-    Reaches s.params.core_size s.params.read_limit pc address ⊎ Reaches s.params.core_size s.params.write_limit pc address
+use Rattle.mars_core.specs.Turn.{turn_of, after_turns}
+use Rattle.mars_core.specs.Touched.{touched_in_turn}
 
 -- n turns are made
 abbrev pub GoesOn : ℕ → State → Type 0
 GoesOn n s = (k : ℕ) → k < n → is_over_of (after_turns k s) ≡ false
 
--- the state before each of the first n turns is one of these
-abbrev pub BeforeEach : ℕ → (State → Type 0) → State → Type 0
-BeforeEach n Is s = (k : ℕ) → k < n → is_over_of (after_turns k s) ≡ false → Is (after_turns k s)
+-- what the warrior reads or writes in n turns
+abbrev pub touched_in : ℕ → ℕ → State → List ℕ
+touched_in warrior zero s = []
+touched_in warrior (suc n) s =
+    if is_over_of s then [] else (if s.next == warrior then touched_in_turn s else []) ++ touched_in warrior n (turn_of s)
 
--- in n turns, the warrior's processes reach only into this part of the core
+-- all of that is in this part of the core
 abbrev pub KeepsTo : (ℕ → Bool) → ℕ → ℕ → State → Type 0
-KeepsTo part warrior n s = BeforeEach n (λ t. t.next ≡ warrior → (address : ℕ) → Touches t address → part address ≡ true) s
+KeepsTo part warrior n s = AllPass part (touched_in warrior n s)
 
 -- in n turns, the others change no cell of this part
 abbrev pub IsLeftTo : (ℕ → Bool) → ℕ → ℕ → State → Type 0
 IsLeftTo part warrior n s =
-    BeforeEach n (λ t. t.next ≢ warrior → (address : ℕ) → part address ≡ true → cell_at (turn_of t).core address ≡ cell_at t.core address) s
+    (k : ℕ) → k < n → let t = after_turns k s in is_over_of t ≡ false → t.next ≢ warrior →
+    (address : ℕ) → part address ≡ true → cell_at (turn_of t).core address ≡ cell_at t.core address
 
 -- how many of n turns are the warrior's
 abbrev pub own_turns : ℕ → ℕ → State → ℕ

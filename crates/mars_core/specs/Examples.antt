@@ -2,6 +2,7 @@
 pub mod Edits
 pub mod Apart
 pub mod Reach
+pub mod Touched
 pub mod Ends
 pub mod Starts
 pub mod Turns
@@ -23,6 +24,7 @@ use Rattle.mars_core.specs.Writes.{write_cell, write_field}
 use Rattle.mars_core.specs.Operand.{evaluated, direct_operand, indirect_operand, predecremented, postincremented}
 use Rattle.mars_core.specs.Effect.{effect_of, division, are_equal}
 use Rattle.mars_core.specs.Turn.{turn_of, turn_record, executed, accepted, execution_of}
+use Rattle.mars_core.specs.Touched.{touched}
 use Rattle.mars_core.specs.Edit.{edited, edit_fault, edit_record, killed}
 use Rattle.mars_core.specs.Record.{reverted, applied}
 use Rattle.mars_core.specs.Start.{overlap, start_state}
@@ -31,7 +33,7 @@ use Rattle.mars_core.specs.declared.battle.edit.Edit.{Edit}
 
 -- what an example unfolds to compute the machine
 unfoldable pub the_machine : ⊤
-unfolding turn_of turn_record executed accepted execution_of evaluated predecremented postincremented indirect_operand direct_operand write_field effect_of division are_equal address_after fold raised lowered write_cell ends advanced edited edit_fault edit_record killed reverted applied overlap start_state
+unfolding turn_of turn_record executed accepted execution_of touched evaluated predecremented postincremented indirect_operand direct_operand write_field effect_of division are_equal address_after fold raised lowered write_cell ends advanced edited edit_fault edit_record killed reverted applied overlap start_state
 the_machine = tt
 
 -- a cell, written in the order of its text

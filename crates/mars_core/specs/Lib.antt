@@ -16,6 +16,7 @@ pub mod Record
 -- what the laws speak of, and no contract of a call
 pub mod Moved
 pub mod Reach
+pub mod Touched
 pub mod Apart
 pub mod ReferenceCode
 pub mod Laws

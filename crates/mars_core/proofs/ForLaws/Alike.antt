@@ -1,9 +1,10 @@
--- Instructions at two places, in cores that are alike wherever they reach: they do the same.
+-- Instructions at two places, in cores that are alike wherever the first one touches a cell: they do the same.
 -- It goes through an execution once, over a map of addresses, what is near, and what has to hold of them (`Corresponds`). A battle that is moved,
--- and a core with other far cells, are two instances.
-use Rattle.std.proofs.Common.{◌≡◌, ℕ, ◌<◌, Bool, true, false, cond, List, [], ◌∷◌, length, map, set, refl, ap, sym, ◌∙◌, inl, inr, Option, None, Some}
+-- and a core with other untouched cells, are two instances.
+use Rattle.std.proofs.Common.{◌≡◌, ℕ, ◌<◌, Bool, true, false, cond, List, [], ◌∷◌, length, map, set, refl, ap, sym, ◌∙◌, inl, inr, Option, None, Some, All}
 use Rattle.std.proofs.lemmas.Bool.{cases_eq}
 use Rattle.std.proofs.lemmas.List.{length-set, get_or-set_same, get_or-set_other, map-append}
+use Rattle.std.proofs.lemmas.List.Elements.{All-head, All-nil, All-push, All-tail}
 use Rattle.mars_cell.specs.declared.instruction.Cell.{Cell}
 use Rattle.mars_cell.specs.declared.instruction.Field.{Field}
 use Rattle.mars_cell.specs.declared.instruction.Field.TheVariants.{ANumber, BNumber}
@@ -17,13 +18,15 @@ use Rattle.mars_cell.specs.Parameters.{Parameters}
 use Rattle.mars_core.specs.State.{cell_at}
 use Rattle.mars_core.specs.Addresses.{address_after, fold, raised, lowered}
 use Rattle.mars_core.specs.Writes.{WrittenCore, write_cell, write_field}
-use Rattle.mars_core.specs.Operand.{Evaluation, direct_operand, indirect_operand, predecremented, postincremented, evaluated}
+use Rattle.mars_core.specs.Operand.{Operand, Evaluation, pointed_address, direct_operand, indirect_operand, predecremented, postincremented, evaluated}
 use Rattle.mars_core.specs.Effect.{division, effect_of}
+use Rattle.mars_core.specs.Touched.{pointed_addresses, touched}
 use Rattle.mars_core.specs.Turn.{Execution, after_effect, execution_of}
 use Rattle.mars_core.specs.declared.machine.writes.CellChange.{CellChange}
 use Rattle.mars_core.proofs.Folding.{after_none}
+use Rattle.mars_core.proofs.ForLaws.Listed.{listed, Parts, parts_of, map-listed}
 
--- an address of the first core for each of the second one; those that are near are told apart, and the instructions reach no others
+-- an address of the second core for each of the first one; those that are near, as all are that the first one touches, are told apart
 pub record Corresponds (p : Parameters) (there : ℕ → ℕ) (Near : ℕ → Type 0) (pc pc' : ℕ) : Type 0 where
   pub one : (a b : ℕ) → Near a → Near b → there a ≡ there b → a ≡ b
   pub inside : (a : ℕ) → Near a → a < p.core_size
@@ -31,9 +34,6 @@ pub record Corresponds (p : Parameters) (there : ℕ → ℕ) (Near : ℕ → Ty
   pub step : (d : ℕ) → address_after p.core_size pc' d ≡ there (address_after p.core_size pc d)
   pub start : pc < p.core_size
   pub start_there : pc' < p.core_size
-  pub here : Near (address_after p.core_size pc 0)
-  pub read : (n : ℕ) → Near (address_after p.core_size pc (fold p.core_size p.read_limit n))
-  pub write : (n : ℕ) → Near (address_after p.core_size pc (fold p.core_size p.write_limit n))
 
 -- the cells near are the same
 pub record Alike (m : ℕ) (there : ℕ → ℕ) (Near : ℕ → Type 0) (core core' : List Cell) : Type 0 where
@@ -46,10 +46,11 @@ abbrev pub changed_there : (ℕ → ℕ) → CellChange → CellChange
 changed_there there change = record change { address = there change.address }
 
 module _ (p : Parameters) (there : ℕ → ℕ) (Near : ℕ → Type 0) (pc pc' : ℕ) (k : Corresponds p there Near pc pc') where
-  -- the same was written
+  -- the same was written, and near
   pub record AlikeWritten (w w' : WrittenCore) : Type 0 where
     pub cores : Alike p.core_size there Near w.core w'.core
     pub changes : w'.changes ≡ map (changed_there there) w.changes
+    pub near : All (λ (c : CellChange). Near c.address) w.changes
 
   cell_set : (core core' : List Cell) (a b : ℕ) (cell : Cell) → Near a → Near b → Alike p.core_size there Near core core' → cell_at (set core' (there a) cell) (there b) ≡ cell_at (set core a cell) b
   cell_set core core' a b cell near near_b alike =
@@ -70,11 +71,26 @@ module _ (p : Parameters) (there : ℕ → ℕ) (Near : ℕ → Type 0) (pc pc' 
     cells = λ b near_b. cell_set core core' a b cell near near_b alike;
   }
 
+  -- the address of the cell that an operand copies
+  abbrev copied : Operand → ℕ
+  copied operand = address_after p.core_size pc operand.read
+
+  -- both cells that the number of an indirect mode leads to are near
+  abbrev ArePointedNear : ℕ → Type 0
+  ArePointedNear n = All Near (address_after p.core_size pc (fold p.core_size p.read_limit n) ∷ pointed_address p pc n ∷ [])
+
+  first_near : (a b : ℕ) → All Near (a ∷ b ∷ []) → Near a
+  first_near a b all = All-head Near a (b ∷ []) all
+
+  second_near : (a b : ℕ) → All Near (a ∷ b ∷ []) → Near b
+  second_near a b all = All-head Near b [] (All-tail Near a (b ∷ []) all)
+
   written_alike : (w w' : WrittenCore) (a : ℕ) (cell : Cell) → Near a → AlikeWritten w w' → AlikeWritten (write_cell w a cell) (write_cell w' (there a) cell)
   unfolding write_cell
   written_alike w w' a cell near alike = record {
     cores = set_alike w.core w'.core a cell near alike.cores;
     changes = rw (alike.changes, alike.cores.cells a near, map-append) refl;
+    near = All-push (λ (c : CellChange). Near c.address) w.changes _ alike.near near;
   }
 
   field_alike : (f : ℕ → ℕ) (field : Field) (w w' : WrittenCore) (d : ℕ) → Near (address_after p.core_size pc d) → AlikeWritten w w' → AlikeWritten (write_field f field w (address_after p.core_size pc d)) (write_field f field w' (address_after p.core_size pc' d))
@@ -86,57 +102,49 @@ module _ (p : Parameters) (there : ℕ → ℕ) (Near : ℕ → Type 0) (pc pc' 
     at_step : (d : ℕ) → Near (address_after p.core_size pc d) → cell_at core' (address_after p.core_size pc' d) ≡ cell_at core (address_after p.core_size pc d)
     at_step d near = ap (cell_at core') (k.step d) ∙ alike.cells (address_after p.core_size pc d) near
 
-    direct_alike : (r w : ℕ) → direct_operand p core' pc' r w ≡ direct_operand p core pc r w
+    direct_alike : (r w : ℕ) → Near (copied (direct_operand p core pc r w)) → direct_operand p core' pc' r w ≡ direct_operand p core pc r w
     unfolding direct_operand
-    direct_alike r w = rw (at_step (fold p.core_size p.read_limit r) (k.read r)) refl
+    direct_alike r w near = rw (at_step (fold p.core_size p.read_limit r) near) refl
 
-    indirect_alike : (field : Field) (n : ℕ) → indirect_operand p field core' pc' n ≡ indirect_operand p field core pc n
+    indirect_alike : (field : Field) (n : ℕ) → ArePointedNear n → Near (copied (indirect_operand p field core pc n)) → indirect_operand p field core' pc' n ≡ indirect_operand p field core pc n
     unfolding indirect_operand
-    indirect_alike field n =
-        rw (at_step (fold p.core_size p.read_limit n) (k.read n), at_step (fold p.core_size p.write_limit n) (k.write n)) (direct_alike _ _)
+    indirect_alike field n pointed near =
+        rw (at_step (fold p.core_size p.read_limit n) (first_near _ _ pointed), at_step (fold p.core_size p.write_limit n) (second_near _ _ pointed))
+        (direct_alike _ _ near)
 
-  -- the same operand, whose write pointer leads near
+  -- the same operand
   record AlikeEvaluation (e e' : Evaluation) : Type 0 where
     pub written : AlikeWritten e.written e'.written
     pub operand : e'.operand ≡ e.operand
-    pub near : Near (address_after p.core_size pc e.operand.write)
-
-  direct_near : (core : List Cell) (r w : ℕ) → Near (address_after p.core_size pc (direct_operand p core pc r w).write)
-  unfolding direct_operand
-  direct_near core r w = k.write w
-
-  indirect_near : (field : Field) (core : List Cell) (n : ℕ) → Near (address_after p.core_size pc (indirect_operand p field core pc n).write)
-  unfolding indirect_operand
-  indirect_near field core n = direct_near core _ _
 
   module _ (w w' : WrittenCore) (alike : AlikeWritten w w') (n : ℕ) where
-    indirect_evaluated : (field : Field) → AlikeEvaluation (record { written = w; operand = indirect_operand p field w.core pc n }) (record { written = w'; operand = indirect_operand p field w'.core pc' n })
-    indirect_evaluated field = record { written = alike; operand = indirect_alike w.core w'.core alike.cores field n; near = indirect_near field w.core n }
+    module _ (field : Field) (pointed : ArePointedNear n) where
+      indirect_evaluated : Near (copied (indirect_operand p field w.core pc n)) → AlikeEvaluation (record { written = w; operand = indirect_operand p field w.core pc n }) (record { written = w'; operand = indirect_operand p field w'.core pc' n })
+      indirect_evaluated near = record { written = alike; operand = indirect_alike w.core w'.core alike.cores field n pointed near }
 
-    before_alike : (field : Field) → AlikeEvaluation (predecremented p field w pc n) (predecremented p field w' pc' n)
-    unfolding predecremented
-    before_alike field =
-        let written = field_alike (lowered p.core_size) field w w' (fold p.core_size p.write_limit n) (k.write n) alike in
-        record { written = written; operand = indirect_alike _ _ written.cores field n; near = indirect_near field _ n }
+      before_alike : Near (copied (predecremented p field w pc n).operand) → AlikeEvaluation (predecremented p field w pc n) (predecremented p field w' pc' n)
+      unfolding predecremented
+      before_alike near =
+          let written = field_alike (lowered p.core_size) field w w' (fold p.core_size p.write_limit n) (second_near _ _ pointed) alike in
+          record { written = written; operand = indirect_alike _ _ written.cores field n pointed near }
 
-    after_alike : (field : Field) → AlikeEvaluation (postincremented p field w pc n) (postincremented p field w' pc' n)
-    unfolding postincremented
-    after_alike field = record {
-      written = field_alike (raised p.core_size) field w w' (fold p.core_size p.write_limit n) (k.write n) alike;
-      operand = indirect_alike w.core w'.core alike.cores field n;
-      near = indirect_near field w.core n;
-    }
+      after_alike : Near (copied (postincremented p field w pc n).operand) → AlikeEvaluation (postincremented p field w pc n) (postincremented p field w' pc' n)
+      unfolding postincremented
+      after_alike near = record {
+        written = field_alike (raised p.core_size) field w w' (fold p.core_size p.write_limit n) (second_near _ _ pointed) alike;
+        operand = indirect_alike w.core w'.core alike.cores field n pointed near;
+      }
 
-    evaluated_alike : (mode : Mode) → AlikeEvaluation (evaluated p w pc mode n) (evaluated p w' pc' mode n)
+    evaluated_alike : (mode : Mode) → All Near (pointed_addresses p pc mode n) → Near (copied (evaluated p w pc mode n).operand) → AlikeEvaluation (evaluated p w pc mode n) (evaluated p w' pc' mode n)
     unfolding evaluated
-    evaluated_alike Immediate = record { written = alike; operand = rw (at_step w.core w'.core alike.cores 0 k.here) refl; near = k.here }
-    evaluated_alike Direct = record { written = alike; operand = direct_alike w.core w'.core alike.cores n n; near = direct_near w.core n n }
-    evaluated_alike AIndirect = indirect_evaluated ANumber
-    evaluated_alike BIndirect = indirect_evaluated BNumber
-    evaluated_alike APredecrement = before_alike ANumber
-    evaluated_alike BPredecrement = before_alike BNumber
-    evaluated_alike APostincrement = after_alike ANumber
-    evaluated_alike BPostincrement = after_alike BNumber
+    evaluated_alike Immediate pointed near = record { written = alike; operand = rw (at_step w.core w'.core alike.cores 0 near) refl }
+    evaluated_alike Direct pointed near = record { written = alike; operand = direct_alike w.core w'.core alike.cores n n near }
+    evaluated_alike AIndirect pointed near = indirect_evaluated ANumber pointed near
+    evaluated_alike BIndirect pointed near = indirect_evaluated BNumber pointed near
+    evaluated_alike APredecrement pointed near = before_alike ANumber pointed near
+    evaluated_alike BPredecrement pointed near = before_alike BNumber pointed near
+    evaluated_alike APostincrement pointed near = after_alike ANumber pointed near
+    evaluated_alike BPostincrement pointed near = after_alike BNumber pointed near
 
   one_there : (d : ℕ) → address_after p.core_size pc' d ∷ [] ≡ map there (address_after p.core_size pc d ∷ [])
   one_there d = ap (λ a. a ∷ []) (k.step d)
@@ -200,32 +208,72 @@ module _ (p : Parameters) (there : ℕ → ℕ) (Near : ℕ → Type 0) (pc pc' 
       let effect = effect_of p.core_size instruction.op instruction.modifier a.operand.copy b.operand.copy (cell_at b.written.core address) at a.operand.read in
       record { written = after_effect b.written address effect.target; queued = effect.queued }
 
-  finished_alike : (i : Cell) (a a' b b' : Evaluation) → a'.operand ≡ a.operand → AlikeEvaluation b b' → AlikeExecution (finished pc i a b) (finished pc' i a' b')
-  finished_alike i a a' b b' same alike =
+  finished_alike : (i : Cell) (a a' b b' : Evaluation) → a'.operand ≡ a.operand → AlikeEvaluation b b' → Near (address_after p.core_size pc b.operand.write) → AlikeExecution (finished pc i a b) (finished pc' i a' b')
+  finished_alike i a a' b b' same alike near =
       let address = address_after p.core_size pc b.operand.write in
       let target = cell_at b.written.core address in
       let effect = effect_of p.core_size i.op i.modifier a.operand.copy b.operand.copy target pc a.operand.read in
-      rw (same, alike.operand, k.step b.operand.write, alike.written.cores.cells address alike.near)
+      rw (same, alike.operand, k.step b.operand.write, alike.written.cores.cells address near)
       (record {
         written =
             rw (target_alike i.op i.modifier a.operand.copy b.operand.copy target a.operand.read)
-            (effect_alike b.written b'.written address effect.target alike.near alike.written);
+            (effect_alike b.written b'.written address effect.target near alike.written);
         queued = queued_alike i.op i.modifier a.operand.copy b.operand.copy target a.operand.read;
       })
 
-  same_instruction : (core core' : List Cell) → Alike p.core_size there Near core core' → cell_at core' pc' ≡ cell_at core pc
-  same_instruction core core' alike =
-      rw (after_none p.core_size pc k.start, after_none p.core_size pc' k.start_there) at (at_step core core' alike 0 k.here)
+  -- what is touched, once both operands are evaluated
+  abbrev touched_by : ℕ → Cell → Evaluation → Evaluation → List ℕ
+  touched_by at i a b =
+      let m = p.core_size in
+      listed at (pointed_addresses p at i.a_mode i.a) (address_after m at a.operand.read) (pointed_addresses p at i.b_mode i.b) (address_after m at b.operand.read) (address_after m at b.operand.write)
 
-  pub execution_alike : (core core' : List Cell) → Alike p.core_size there Near core core' → AlikeExecution (execution_of p core pc) (execution_of p core' pc')
-  unfolding execution_of
-  execution_alike core core' alike =
-      let i = cell_at core pc in
-      let w : WrittenCore = record { core = core; changes = [] } in
-      let w' : WrittenCore = record { core = core'; changes = [] } in
-      let a = evaluated p w pc i.a_mode i.a in
-      let a' = evaluated p w' pc' i.a_mode i.a in
-      let first = evaluated_alike w w' (record { cores = alike; changes = refl }) i.a i.a_mode in
-      let second = evaluated_alike a.written a'.written first.written i.b i.b_mode in
-      rw (same_instruction core core' alike)
-      (finished_alike i a a' (evaluated p a.written pc i.b_mode i.b) (evaluated p a'.written pc' i.b_mode i.b) first.operand second)
+  pointed_there : (mode : Mode) (n : ℕ) → pointed_addresses p pc' mode n ≡ map there (pointed_addresses p pc mode n)
+  pointed_there Immediate n = refl
+  pointed_there Direct n = refl
+  pointed_there mode n = rw (k.step (fold p.core_size p.read_limit n), k.step (fold p.core_size p.write_limit n)) refl
+
+  pc_there : pc' ≡ there pc
+  pc_there = sym (after_none p.core_size pc' k.start_there) ∙ k.step 0 ∙ ap there (after_none p.core_size pc k.start)
+
+  touched_there : (i : Cell) (a a' b b' : Evaluation) → a'.operand ≡ a.operand → b'.operand ≡ b.operand → touched_by pc' i a' b' ≡ map there (touched_by pc i a b)
+  touched_there i a a' b b' same same_b =
+      rw (same, same_b, pointed_there i.a_mode i.a, pointed_there i.b_mode i.b, k.step a.operand.read, k.step b.operand.read, k.step b.operand.write, pc_there)
+      (sym (map-listed there pc _ _ _ _ _))
+
+  module _ (core core' : List Cell) (alike : Alike p.core_size there Near core core') (near : All Near (touched p core pc)) where
+    abbrev i : Cell
+    i = cell_at core pc
+
+    abbrev a_of : List Cell → ℕ → Evaluation
+    a_of core at = evaluated p (record { core = core; changes = [] }) at i.a_mode i.a
+
+    abbrev b_of : List Cell → ℕ → Evaluation
+    b_of core at = evaluated p (a_of core at).written at i.b_mode i.b
+
+    parts : Parts Near pc (pointed_addresses p pc i.a_mode i.a) (copied (a_of core pc).operand) (pointed_addresses p pc i.b_mode i.b) (copied (b_of core pc).operand) (address_after p.core_size pc (b_of core pc).operand.write)
+    unfolding touched
+    parts = parts_of Near pc _ _ _ _ _ near
+
+    same_instruction : cell_at core' pc' ≡ cell_at core pc
+    same_instruction = ap (cell_at core') pc_there ∙ alike.cells pc parts.here
+
+    a_alike : AlikeEvaluation (a_of core pc) (a_of core' pc')
+    a_alike =
+        evaluated_alike (record { core = core; changes = [] }) (record { core = core'; changes = [] })
+        (record { cores = alike; changes = refl; near = All-nil (λ (c : CellChange). Near c.address) }) i.a i.a_mode parts.a_goes parts.a_copies
+
+    b_alike : AlikeEvaluation (b_of core pc) (b_of core' pc')
+    b_alike = evaluated_alike (a_of core pc).written (a_of core' pc').written a_alike.written i.b i.b_mode parts.b_goes parts.b_copies
+
+    pub execution_alike : AlikeExecution (execution_of p core pc) (execution_of p core' pc')
+    unfolding execution_of
+    execution_alike =
+        rw same_instruction
+        (finished_alike i (a_of core pc) (a_of core' pc') (b_of core pc) (b_of core' pc') a_alike.operand b_alike parts.target_is)
+
+    -- and it touches the cells there
+    pub touched_alike : touched p core' pc' ≡ map there (touched p core pc)
+    unfolding touched
+    touched_alike =
+        rw same_instruction
+        (touched_there i (a_of core pc) (a_of core' pc') (b_of core pc) (b_of core' pc') a_alike.operand b_alike.operand)

@@ -1,67 +1,40 @@
 -- A warrior that keeps to a part of the core which the others leave to it fights alike in all battles.
 -- `fights_alike` goes by the turns of the first battle, and hands its recursive call to a lemma by the turns of the second (`meets`), which passes
 -- over those of the others until both have their own turn. So neither the clocks nor the numbers of warriors have to be the same.
-use Rattle.std.proofs.Common.{◌≡◌, ◌≢◌, ℕ, zero, suc, ◌+◌, ◌<◌, Bool, true, false, cond, List, [], ◌∷◌, length, All, refl, ap, sym, ◌∙◌, subst, arith, inl, inr}
+use Rattle.std.proofs.Common.{◌≡◌, ◌≢◌, ℕ, zero, suc, ◌+◌, ◌<◌, Bool, true, false, cond, List, [], length, All, refl, ap, sym, ◌∙◌, subst, arith, inl, inr}
 use Rattle.std.specs.Prelude.{◌==◌, if◌then◌else◌}
+use Rattle.std.specs.List.{AllPass}
 use Rattle.std.proofs.lemmas.Bool.{cases_eq, cases_lt}
-use Rattle.std.proofs.lemmas.List.{get_or-set_same, get_or-set_other, get_or_past, map-id}
-use Rattle.std.proofs.lemmas.List.Elements.{All-get_or, All-head, All-tail, All-weaker}
+use Rattle.std.proofs.lemmas.List.{get_or-set_same, get_or_past, map-id}
+use Rattle.std.proofs.lemmas.List.Elements.{All-weaker}
 use Rattle.mars_cell.specs.declared.instruction.Cell.{Cell}
 use Rattle.mars_cell.specs.Cells.{empty_cell}
 use Rattle.mars_cell.specs.Parameters.{Parameters, AreInRange}
 use Rattle.mars_core.specs.State.{State, cell_at, queue_of, is_over_of}
-use Rattle.mars_core.specs.Turn.{front_of, front_execution, accepted, queue_after, executed, turn_of, turn_record, after_turns}
-use Rattle.mars_core.specs.Reach.{Reaches}
-use Rattle.mars_core.specs.Apart.{Touches, BeforeEach, KeepsTo, IsLeftTo, own_turns, AgreesOn}
-use Rattle.mars_core.specs.Record.{rewritten}
+use Rattle.mars_core.specs.Turn.{front_of, front_execution, accepted, queue_after, executed, turn_of, after_turns}
+use Rattle.mars_core.specs.Touched.{touched, touched_in_turn}
+use Rattle.mars_core.specs.Apart.{touched_in, KeepsTo, IsLeftTo, own_turns, AgreesOn}
 use Rattle.mars_core.specs.Validity.{IsCore, IsValid}
-use Rattle.mars_core.specs.declared.machine.writes.CellChange.{CellChange}
-use Rattle.mars_core.proofs.ForLaws.Alike.{Corresponds, AlikeExecution, execution_alike}
+use Rattle.mars_core.proofs.ForLaws.Alike.{AlikeExecution}
 use Rattle.mars_core.proofs.CallerLemmas.{shape-turn_of}
-use Rattle.mars_core.proofs.Fights.{valid_after, others_stay, next_lives}
-use Rattle.mars_core.proofs.ForLaws.Near.{IsReached, corresponds, reached_within, writes_near}
-use Rattle.mars_core.proofs.Rewritten.{execution_replays}
-use Rattle.mars_core.proofs.Turns.{turn_valid, filled_length, queue_fits, same_eq, eq_same, other_eq}
+use Rattle.mars_core.proofs.Fights.{valid_after, shape_after, others_stay}
+use Rattle.mars_core.proofs.ForLaws.Listed.{All-left, All-right}
+use Rattle.mars_core.proofs.ForLaws.Touched.{Near, itself, both, front_inside, untouched_stays}
+use Rattle.mars_core.proofs.Turns.{turn_valid, same_eq, eq_same, other_eq}
 
--- a cell that none of the changes is at stays
-rewritten_beside : (changes : List CellChange) (core : List Cell) (a : ℕ) → All (λ (c : CellChange). a ≢ c.address) changes → cell_at (rewritten changes core) a ≡ cell_at core a
-rewritten_beside [] core a all = refl
-rewritten_beside (c ∷ changes) core a all =
-    rewritten_beside changes _ a (All-tail (λ (c : CellChange). a ≢ c.address) c changes all)
-    ∙ get_or-set_other core c.address a c.after empty_cell (All-head (λ (c : CellChange). a ≢ c.address) c changes all)
-
--- a turn changes no cell that the write limit doesn't reach
-pub far_cell_stays : (s : State) (a : ℕ) → IsValid s → (Reaches s.params.core_size s.params.write_limit (front_of (queue_of s.queues s.next)) a → ⊥) → cell_at (turn_of s).core a ≡ cell_at s.core a
-unfolding turn_of executed turn_record
-far_cell_stays s a v far =
-    let pc = front_of (queue_of s.queues s.next) in
-    let Near : ℕ → Type 0 = Reaches s.params.core_size s.params.write_limit pc in
-    let changes = (front_execution s.params s.core (queue_of s.queues s.next)).written.changes in
-    let beside : All (λ (c : CellChange). a ≢ c.address) changes =
-    All-weaker (λ (c : CellChange). Near c.address) (λ (c : CellChange). a ≢ c.address) (λ c near same. far (subst Near (sym same) near)) changes (writes_near s v) in
-    ap (λ core. cell_at core a) (sym (execution_replays s.params s.core pc)) ∙ rewritten_beside changes s.core a beside
-
--- one process in two cores that are the same wherever it reaches
-module _ (p : Parameters) (r : AreInRange p) (part : ℕ → Bool) (q : List ℕ) (core other : List Cell) (fits : IsCore p.core_size core) (fits_other : IsCore p.core_size other) (start : front_of q < p.core_size) (keeps : (a : ℕ) → IsReached p r (front_of q) a → part a ≡ true) (same : (a : ℕ) → part a ≡ true → cell_at core a ≡ cell_at other a) where
-  -- the part, as far as the core goes
-  abbrev Near : ℕ → Type 0
-  Near a = (part a ≡ true) × (a < p.core_size)
-
-  itself : Corresponds p (λ a. a) Near (front_of q) (front_of q)
-  itself = corresponds p r (front_of q) Near (λ a reached. (keeps a reached, reached_within p r (front_of q) a reached)) (λ a near. near.1) start
-
-  both : AlikeExecution p (λ a. a) Near (front_of q) (front_of q) itself (front_execution p core q) (front_execution p other q)
-  both =
-      execution_alike p (λ a. a) Near (front_of q) (front_of q) itself core other
-      (record { size = fits.size; size_there = fits_other.size; cells = λ a near. sym (same a near.0) })
+-- one process in two cores that are the same in a part that has all that it touches
+module _ (p : Parameters) (r : AreInRange p) (part : ℕ → Bool) (q : List ℕ) (core other : List Cell) (fits : IsCore p.core_size core) (fits_other : IsCore p.core_size other) (start : front_of q < p.core_size) (keeps : All (λ a. part a ≡ true) (touched p core (front_of q))) (same : (a : ℕ) → part a ≡ true → cell_at core a ≡ cell_at other a) where
+  alike : AlikeExecution p (λ a. a) (Near p r (front_of q) start (λ a. part a ≡ true) core other fits.size fits_other.size keeps same) (front_of q) (front_of q)
+      (itself p r (front_of q) start (λ a. part a ≡ true) core other fits.size fits_other.size keeps same) (front_execution p core q) (front_execution p other q)
+  alike = both p r (front_of q) start (λ a. part a ≡ true) core other fits.size fits_other.size keeps same
 
   queue_same : queue_after p core q ≡ queue_after p other q
   unfolding accepted
-  queue_same = rw (both.queued, map-id (front_execution p core q).queued) refl
+  queue_same = rw (alike.queued, map-id (front_execution p core q).queued) refl
 
   cells_same : (a : ℕ) → part a ≡ true → cell_at (front_execution p core q).written.core a ≡ cell_at (front_execution p other q).written.core a
   cells_same a h =
-      let cores = both.written.cores in
+      let cores = alike.written.cores in
       elim (cases_lt a p.core_size) [
         | inl less ↦ sym (cores.cells a (h, less))
         | inr past ↦
@@ -78,23 +51,16 @@ core_then : (s : State) → (turn_of s).core ≡ (front_execution s.params s.cor
 unfolding turn_of executed
 core_then s = refl
 
-front_inside : (s : State) → IsValid s → is_over_of s ≡ false → front_of (queue_of s.queues s.next) < s.params.core_size
-front_inside s v over =
-    let m = s.params.core_size in
-    let q = queue_of s.queues s.next in
-    let stands = queue_fits s v s.next v.clock.next in
-    All-get_or (λ a. a < m) q 0 0 (filled_length q (next_lives s v over)) stands.addresses
-
 agrees_back : (part : ℕ → Bool) (w v : ℕ) (s t : State) → AgreesOn part w s v t → AgreesOn part v t w s
 agrees_back part w v s t g = record { params = sym g.params; processes = sym g.processes; cells = λ a h. sym (g.cells a h) }
 
 -- both warriors have a turn
-pub own_turn : (part : ℕ → Bool) (s t : State) → IsValid s → IsValid t → is_over_of s ≡ false → AgreesOn part s.next s t.next t → ((a : ℕ) → Touches s a → part a ≡ true) → AgreesOn part s.next (turn_of s) t.next (turn_of t)
-own_turn part s t v u over g keeps =
+pub own_turn : (part : ℕ → Bool) (s t : State) → IsValid s → IsValid t → AgreesOn part s.next s t.next t → AllPass part (touched_in_turn s) → AgreesOn part s.next (turn_of s) t.next (turn_of t)
+own_turn part s t v u g keeps =
     let p = s.params in
     let q = queue_of s.queues s.next in
     let fits : IsCore p.core_size t.core = subst (λ (p : Parameters). IsCore p.core_size t.core) (sym g.params) u.core in
-    let start = front_inside s v over in
+    let start = front_inside s v in
     record {
       params = (shape-turn_of s).params ∙ g.params ∙ sym (shape-turn_of t).params;
       processes =
@@ -118,14 +84,36 @@ other_turn part w v s t other g left = record {
 pub turn_first : (n : ℕ) (s : State) → is_over_of s ≡ false → after_turns (suc n) s ≡ after_turns n (turn_of s)
 turn_first n s over = rw over refl
 
--- what is so before each turn is so before the first one, and before each later one
-module _ (n : ℕ) (Is : State → Type 0) (s : State) (over : is_over_of s ≡ false) (each : BeforeEach (suc n) Is s) where
-  pub before_first : Is s
-  before_first = each 0 (omega arith) over
+-- the others leave the part alone in the first turn, and in each later one
+abbrev pub LeavesAlone : (ℕ → Bool) → ℕ → State → Type 0
+LeavesAlone part w t = t.next ≢ w → (a : ℕ) → part a ≡ true → cell_at (turn_of t).core a ≡ cell_at t.core a
 
-  pub before_later : BeforeEach n Is (turn_of s)
-  before_later k h runs =
-      subst Is (turn_first k s over) (each (suc k) (omega (arith, h)) (subst (λ t. is_over_of t ≡ false) (sym (turn_first k s over)) runs))
+module _ (part : ℕ → Bool) (w n : ℕ) (s : State) (over : is_over_of s ≡ false) where
+  pub left_first : IsLeftTo part w (suc n) s → LeavesAlone part w s
+  left_first left = left 0 (omega arith) over
+
+  pub left_later : IsLeftTo part w (suc n) s → IsLeftTo part w n (turn_of s)
+  left_later left k h runs =
+      subst (LeavesAlone part w) (turn_first k s over) (left (suc k) (omega (arith, h)) (subst (λ t. is_over_of t ≡ false) (sym (turn_first k s over)) runs))
+
+  -- and the warrior keeps to the part in the first turn, and in each later one
+  pub keeps_first : KeepsTo part w (suc n) s → s.next ≡ w → AllPass part (touched_in_turn s)
+  keeps_first keeps own =
+      let mine : (s.next == w) ≡ true = ap (λ v. v == w) own ∙ same_eq w in
+      All-left (λ a. part a ≡ true) (touched_in_turn s) (touched_in w n (turn_of s)) (rw (over, mine) at keeps)
+
+  pub keeps_later : KeepsTo part w (suc n) s → KeepsTo part w n (turn_of s)
+  keeps_later keeps = All-right (λ a. part a ≡ true) (cond (s.next == w) (touched_in_turn s) []) (touched_in w n (turn_of s)) (rw over at keeps)
+
+-- and so in any of them
+keeps_at : (part : ℕ → Bool) (w k n : ℕ) (s : State) → k < n → is_over_of (after_turns k s) ≡ false → (after_turns k s).next ≡ w → KeepsTo part w n s → AllPass part (touched_in_turn (after_turns k s))
+keeps_at part w k zero s h runs own keeps = absurd (omega (arith, h))
+keeps_at part w zero (suc n) s h runs own keeps = keeps_first part w n s runs keeps own
+keeps_at part w (suc k) (suc n) s h runs own keeps =
+    elim (is_over_of s) as (λ b. is_over_of s ≡ b → is_over_of (if b then s else after_turns k (turn_of s)) ≡ false → (if b then s else after_turns k (turn_of s)).next ≡ w → AllPass part (touched_in_turn (if b then s else after_turns k (turn_of s)))) [
+      | true ↦ λ over runs own. absurd cc
+      | false ↦ λ over runs own. keeps_at part w k n (turn_of s) (omega (arith, h)) runs own (keeps_later part w n s over keeps)
+    ] refl runs own
 
 -- a turn that is the warrior's counts, and no other
 pub own_counts : (w next n : ℕ) → next ≡ w → cond (next == w) 1 0 + n ≡ suc n
@@ -133,13 +121,6 @@ own_counts w next n e = rw (e, same_eq w) (omega arith)
 
 pub other_counts : (w next n : ℕ) → next ≢ w → cond (next == w) 1 0 + n ≡ n
 other_counts w next n other = rw (other_eq next w (λ e. other (sym e))) (omega arith)
-
--- what is so before each turn of the warrior, and before each other one
-abbrev pub StaysIn : (ℕ → Bool) → ℕ → State → Type 0
-StaysIn part w t = t.next ≡ w → (a : ℕ) → Touches t a → part a ≡ true
-
-abbrev pub LeavesAlone : (ℕ → Bool) → ℕ → State → Type 0
-LeavesAlone part w t = t.next ≢ w → (a : ℕ) → part a ≡ true → cell_at (turn_of t).core a ≡ cell_at t.core a
 
 module _ (part : ℕ → Bool) (w v : ℕ) where
   -- another one has a turn in the second battle
@@ -157,33 +138,33 @@ module _ (part : ℕ → Bool) (w v : ℕ) where
           | inl own ↦ absurd (let one = own_counts v t.next (own_turns v n (turn_of t)) own in omega (arith, one, none))
           | inr other ↦ (
               let same = other_counts v t.next (own_turns v n (turn_of t)) other in
-              let on = other_there s t other g (before_first n (LeavesAlone part v) t e left other) in
-              rest n s (turn_of t) (turn_valid t u e) on (before_later n (LeavesAlone part v) t e left) (sym same ∙ none)
+              let on = other_there s t other g (left_first part v n t e left other) in
+              rest n s (turn_of t) (turn_valid t u e) on (left_later part v n t e left) (sym same ∙ none)
               )
         ]
       ] refl none
 
   -- the warrior has its turn in the first battle: it is met by its next turn in the second
-  meets : (m : ℕ) (s : State) → IsValid s → is_over_of s ≡ false → s.next ≡ w → ((a : ℕ) → Touches s a → part a ≡ true)
+  meets : (m : ℕ) (s : State) → IsValid s → s.next ≡ w → AllPass part (touched_in_turn s)
       → ((n : ℕ) (t : State) → IsValid t → AgreesOn part w (turn_of s) v t → IsLeftTo part v n t → own_turns w m (turn_of s) ≡ own_turns v n t → AgreesOn part w (after_turns m (turn_of s)) v (after_turns n t))
       → (n : ℕ) (t : State) → IsValid t → AgreesOn part w s v t → IsLeftTo part v n t → suc (own_turns w m (turn_of s)) ≡ own_turns v n t
       → AgreesOn part w (after_turns m (turn_of s)) v (after_turns n t)
-  meets m s valid over own keeps on zero t u g left turns = absurd (omega (arith, turns))
-  meets m s valid over own keeps on (suc n) t u g left turns =
+  meets m s valid own keeps on zero t u g left turns = absurd (omega (arith, turns))
+  meets m s valid own keeps on (suc n) t u g left turns =
       elim (is_over_of t) as (λ b. is_over_of t ≡ b → suc (own_turns w m (turn_of s)) ≡ (if b then 0 else cond (t.next == v) 1 0 + own_turns v n (turn_of t)) → AgreesOn part w (after_turns m (turn_of s)) v (if b then t else after_turns n (turn_of t))) [
         | true ↦ λ e turns. absurd (omega (arith, turns))
         | false ↦ λ e turns. elim (cases_eq t.next v) [
           | inl same ↦ (
               let count = own_counts v t.next (own_turns v n (turn_of t)) same in
               let here : AgreesOn part s.next s t.next t = subst (λ x. AgreesOn part x s t.next t) (sym own) (subst (λ y. AgreesOn part w s y t) (sym same) g) in
-              let there = own_turn part s t valid u over here keeps in
+              let there = own_turn part s t valid u here keeps in
               let next : AgreesOn part w (turn_of s) v (turn_of t) = subst (λ x. AgreesOn part x (turn_of s) v (turn_of t)) own (subst (λ y. AgreesOn part s.next (turn_of s) y (turn_of t)) same there) in
-              on n (turn_of t) (turn_valid t u e) next (before_later n (LeavesAlone part v) t e left) (omega (arith, turns, count))
+              on n (turn_of t) (turn_valid t u e) next (left_later part v n t e left) (omega (arith, turns, count))
               )
           | inr other ↦ (
               let same = other_counts v t.next (own_turns v n (turn_of t)) other in
-              let next = other_there s t other g (before_first n (LeavesAlone part v) t e left other) in
-              meets m s valid over own keeps on n (turn_of t) (turn_valid t u e) next (before_later n (LeavesAlone part v) t e left) (turns ∙ same)
+              let next = other_there s t other g (left_first part v n t e left other) in
+              meets m s valid own keeps on n (turn_of t) (turn_valid t u e) next (left_later part v n t e left) (turns ∙ same)
               )
         ]
       ] refl turns
@@ -197,21 +178,25 @@ module _ (part : ℕ → Bool) (w v : ℕ) where
         | false ↦ λ e turns. elim (cases_eq s.next w) [
           | inl own ↦ (
               let count = own_counts w s.next (own_turns w m (turn_of s)) own in
-              meets m s valid e own (before_first m (StaysIn part w) s e keeps own)
-              (λ n t u g left_there turns. fights_alike m n (turn_of s) t (turn_valid s valid e) u g (before_later m (StaysIn part w) s e keeps) (before_later m (LeavesAlone part w) s e left) left_there turns)
+              meets m s valid own (keeps_first part w m s e keeps own)
+              (λ n t u g left_there turns. fights_alike m n (turn_of s) t (turn_valid s valid e) u g (keeps_later part w m s e keeps) (left_later part w m s e left) left_there turns)
               n t u g left_there (sym count ∙ turns)
               )
           | inr other ↦ (
               let same = other_counts w s.next (own_turns w m (turn_of s)) other in
-              let next = other_turn part w v s t (λ e. other (sym e)) g (before_first m (LeavesAlone part w) s e left other) in
-              fights_alike m n (turn_of s) t (turn_valid s valid e) u next (before_later m (StaysIn part w) s e keeps) (before_later m (LeavesAlone part w) s e left) left_there (sym same ∙ turns)
+              let next = other_turn part w v s t (λ e. other (sym e)) g (left_first part w m s e left other) in
+              fights_alike m n (turn_of s) t (turn_valid s valid e) u next (keeps_later part w m s e keeps) (left_later part w m s e left) left_there (sym same ∙ turns)
               )
         ]
       ] refl turns
 
 -- where each warrior keeps to its own cells, nobody else changes one of them
-pub own_cells_left : (owner : ℕ → ℕ) (n : ℕ) (s : State) → IsValid s → ((w : ℕ) → KeepsTo (λ a. owner a == w) w n s) → (w : ℕ) → IsLeftTo (λ a. owner a == w) w n s
+pub own_cells_left : (owner : ℕ → ℕ) (n : ℕ) (s : State) → IsValid s → ((w : ℕ) → w < length s.queues → KeepsTo (λ a. owner a == w) w n s) → (w : ℕ) → IsLeftTo (λ a. owner a == w) w n s
 own_cells_left owner n s valid keeps w k h over other a mine =
     let t = after_turns k s in
-    far_cell_stays t a (valid_after k s valid)
-    (λ reached. other (sym (eq_same (owner a) t.next (keeps t.next k h over refl a (inr reached))) ∙ eq_same (owner a) w mine))
+    let valid_then = valid_after k s valid in
+    let known : t.next < length s.queues = subst (λ n. t.next < n) (shape_after k s).warriors valid_then.clock.next in
+    let beside : (b : ℕ) → (owner b == t.next) ≡ true → a ≢ b =
+    λ b theirs same. other (sym (eq_same (owner b) t.next theirs) ∙ ap owner (sym same) ∙ eq_same (owner a) w mine) in
+    untouched_stays t a valid_then
+    (All-weaker (λ b. (owner b == t.next) ≡ true) (λ b. a ≢ b) beside (touched_in_turn t) (keeps_at (λ b. owner b == t.next) t.next k n s h over refl (keeps t.next known)))

@@ -1,20 +1,25 @@
 -- A warrior apart fights as it would alone.
-use Rattle.std.proofs.Common.{◌≡◌, ◌≢◌, ℕ, zero, suc, ◌+◌, ◌<◌, ◌≤◌, Bool, true, false, cond, List, [], ◌∷◌, length, Option, None, Some, refl, ap, sym, ◌∙◌, subst, arith, inl, inr}
+use Rattle.std.proofs.Common.{◌≡◌, ◌≢◌, ℕ, zero, suc, ◌+◌, ◌<◌, ◌≤◌, Bool, true, false, cond, List, [], ◌∷◌, ◌++◌, length, get_or, Option, None, Some, refl, ap, sym, ◌∙◌, subst, arith, inl, inr}
 use Rattle.std.specs.Prelude.{◌⊎◌, ◌==◌, ◌&&◌, ◌||◌, nat_le, if◌then◌else◌}
-use Rattle.std.proofs.lemmas.Bool.{cases_eq}
+use Rattle.std.proofs.lemmas.Bool.{cases_eq, cases_lt}
 use Rattle.std.proofs.lemmas.Bool.Decides.{nat_tests}
+use Rattle.std.specs.List.{AllPass, list_any}
+use Rattle.std.proofs.lemmas.List.Elements.{All-nil}
+use Rattle.std.proofs.lemmas.List.Recursion.{or_at}
 use Rattle.std.proofs.lemmas.List.Sums.{sum_by-cons}
 use Rattle.mars_cell.specs.Parameters.{Parameters}
 use Rattle.mars_core.specs.State.{State, queue_of, is_empty, live_from, survivors_of, is_over_of, ends, moved_clock, advanced, clock_of}
 use Rattle.mars_core.specs.Turn.{executed, turn_of, after_turns}
-use Rattle.mars_core.specs.Apart.{KeepsTo, IsLeftTo, own_turns, AgreesOn}
+use Rattle.mars_core.specs.Touched.{touched_in_turn}
+use Rattle.mars_core.specs.Start.{is_in}
+use Rattle.mars_core.specs.Apart.{KeepsTo, IsLeftTo, own_turns, touched_in, AgreesOn}
 use Rattle.mars_core.specs.Validity.{IsValid}
 use Rattle.mars_core.specs.declared.machine.clock.Clock.{Clock}
-use Rattle.mars_core.proofs.ForLaws.Apart.{StaysIn, LeavesAlone, own_counts, other_counts, own_turn, other_turn, turn_first, before_first, before_later, own_cells_left}
+use Rattle.mars_core.proofs.ForLaws.Apart.{own_counts, other_counts, own_turn, other_turn, turn_first, left_first, left_later, keeps_first, keeps_later, own_cells_left}
 use Rattle.mars_core.proofs.CallerLemmas.{shape-turn_of, cycle-turn_of}
 use Rattle.mars_core.proofs.Clocks.{live_from_is, somebody}
 use Rattle.mars_core.proofs.Fights.{next_lives}
-use Rattle.mars_core.proofs.Turns.{running, turn_valid, filled_one}
+use Rattle.mars_core.proofs.Turns.{running, turn_valid, filled_one, same_eq, other_eq}
 
 -- a later one has its turn in the same cycle, or a cycle is added
 abbrev StepsOn : Clock → Clock → Type 0
@@ -75,11 +80,11 @@ lone_goes_on part s t v over one behind g =
     lone_runs t.params.cycles t.cycle (length t.queues) (survivors_of t.queues) one (omega (arith, v.clock.cycle, run.cycles_left, behind, cycles)) lives
 
 module _ (part : ℕ → Bool) (w : ℕ) where
-  lone_turn : (s t : State) → IsValid s → IsValid t → is_over_of s ≡ false → s.next ≡ w → length t.queues ≡ 1 → AgreesOn part w s 0 t → StaysIn part w s → AgreesOn part w (turn_of s) 0 (turn_of t)
-  lone_turn s t v u over own one g keeps =
+  lone_turn : (s t : State) → IsValid s → IsValid t → s.next ≡ w → length t.queues ≡ 1 → AgreesOn part w s 0 t → AllPass part (touched_in_turn s) → AgreesOn part w (turn_of s) 0 (turn_of t)
+  lone_turn s t v u own one g keeps =
       let only : t.next ≡ 0 = omega (arith, u.clock.next, one) in
       let here : AgreesOn part s.next s t.next t = subst (λ x. AgreesOn part x s t.next t) (sym own) (subst (λ y. AgreesOn part w s y t) (sym only) g) in
-      let there = own_turn part s t v u over here (keeps own) in
+      let there = own_turn part s t v u here keeps in
       subst (λ x. AgreesOn part x (turn_of s) 0 (turn_of t)) own (subst (λ y. AgreesOn part s.next (turn_of s) y (turn_of t)) only there)
 
   alone : (n : ℕ) (s t : State) → IsValid s → IsValid t → length t.queues ≡ 1 → IsNotAhead w s t → AgreesOn part w s 0 t → KeepsTo part w n s → IsLeftTo part w n s → AgreesOn part w (after_turns n s) 0 (after_turns (own_turns w n s) t)
@@ -90,20 +95,20 @@ module _ (part : ℕ → Bool) (w : ℕ) where
         | false ↦ λ e. (
             let j = own_turns w n (turn_of s) in
             let valid = turn_valid s v e in
-            let keeps_later = before_later n (StaysIn part w) s e keeps in
-            let left_later = before_later n (LeavesAlone part w) s e left in
+            let later = keeps_later part w n s e keeps in
+            let left_there = left_later part w n s e left in
             elim (cases_eq s.next w) [
               | inl own ↦ (
                   let mine : AgreesOn part s.next s 0 t = subst (λ x. AgreesOn part x s 0 t) (sym own) g in
                   let runs = lone_goes_on part s t v e one ((behind e).0 (omega (arith, own))) mine in
-                  let next = lone_turn s t v u e own one g (before_first n (StaysIn part w) s e keeps) in
-                  let last = alone n (turn_of s) (turn_of t) valid (turn_valid t u runs) ((shape-turn_of t).warriors ∙ one) (own_behind w s t v e own behind) next keeps_later left_later in
+                  let next = lone_turn s t v u own one g (keeps_first part w n s e keeps own) in
+                  let last = alone n (turn_of s) (turn_of t) valid (turn_valid t u runs) ((shape-turn_of t).warriors ∙ one) (own_behind w s t v e own behind) next later left_there in
                   subst (λ k. AgreesOn part w (after_turns n (turn_of s)) 0 (after_turns k t)) (sym (own_counts w s.next j own))
                   (subst (λ x. AgreesOn part w (after_turns n (turn_of s)) 0 x) (sym (turn_first j t runs)) last)
                   )
               | inr other ↦ (
-                  let next = other_turn part w 0 s t (λ same. other (sym same)) g (before_first n (LeavesAlone part w) s e left other) in
-                  let last = alone n (turn_of s) t valid u one (other_behind w s t v e behind) next keeps_later left_later in
+                  let next = other_turn part w 0 s t (λ same. other (sym same)) g (left_first part w n s e left other) in
+                  let last = alone n (turn_of s) t valid u one (other_behind w s t v e behind) next later left_there in
                   subst (λ k. AgreesOn part w (after_turns n (turn_of s)) 0 (after_turns k t)) (sym (other_counts w s.next j other)) last
                   )
             ]
@@ -113,6 +118,24 @@ module _ (part : ℕ → Bool) (w : ℕ) where
 pub fights_alone : (part : ℕ → Bool) (w n : ℕ) (s t : State) → IsValid s → IsValid t → length t.queues ≡ 1 → t.cycle ≤ s.cycle → AgreesOn part w s 0 t → KeepsTo part w n s → IsLeftTo part w n s → AgreesOn part w (after_turns n s) 0 (after_turns (own_turns w n s) t)
 fights_alone part w n s t v u one early g keeps left = alone part w n s t v u one (λ e. (λ h. early, omega (arith, early))) g keeps left
 
-pub out_of_reach : (owner : ℕ → ℕ) (w n : ℕ) (s t : State) → IsValid s → IsValid t → length t.queues ≡ 1 → t.cycle ≤ s.cycle → AgreesOn (λ a. owner a == w) w s 0 t → ((v : ℕ) → KeepsTo (λ a. owner a == v) v n s) → AgreesOn (λ a. owner a == w) w (after_turns n s) 0 (after_turns (own_turns w n s) t)
-out_of_reach owner w n s t v u one early g keeps =
-    fights_alone (λ a. owner a == w) w n s t v u one early g (keeps w) (own_cells_left owner n s v keeps w)
+each_is_in : (xs : List ℕ) → AllPass (is_in xs) xs
+each_is_in xs k d h = or_at (list_any (λ y. get_or xs k d == y)) (λ y. get_or xs k d == y) refl (λ _ _. refl) xs k d h (same_eq (get_or xs k d))
+
+pub undisturbed_alone : (w n : ℕ) (s t : State) → IsValid s → IsValid t → length t.queues ≡ 1 → t.cycle ≤ s.cycle → AgreesOn (is_in (touched_in w n s)) w s 0 t → IsLeftTo (is_in (touched_in w n s)) w n s → AgreesOn (is_in (touched_in w n s)) w (after_turns n s) 0 (after_turns (own_turns w n s) t)
+undisturbed_alone w n s t v u one early g left =
+    fights_alone (is_in (touched_in w n s)) w n s t v u one early g (each_is_in (touched_in w n s)) left
+
+-- a warrior that isn't there touches nothing
+nobody_keeps : (part : ℕ → Bool) (w n : ℕ) (s : State) → IsValid s → length s.queues ≤ w → KeepsTo part w n s
+nobody_keeps part w zero s v past = All-nil (λ a. part a ≡ true)
+nobody_keeps part w (suc n) s v past =
+    let other = other_eq s.next w (λ e. absurd (omega (arith, e, v.clock.next, past))) in
+    elim (is_over_of s) as (λ b. is_over_of s ≡ b → AllPass part (if b then [] else cond (s.next == w) (touched_in_turn s) [] ++ touched_in w n (turn_of s))) [
+      | true ↦ λ over. All-nil (λ a. part a ≡ true)
+      | false ↦ λ over. rw other (nobody_keeps part w n (turn_of s) (turn_valid s v over) (omega (arith, past, (shape-turn_of s).warriors)))
+    ] refl
+
+pub untouched_alone : (owner : ℕ → ℕ) (w n : ℕ) (s t : State) → IsValid s → IsValid t → length t.queues ≡ 1 → t.cycle ≤ s.cycle → AgreesOn (λ a. owner a == w) w s 0 t → ((v : ℕ) → v < length s.queues → KeepsTo (λ a. owner a == v) v n s) → AgreesOn (λ a. owner a == w) w (after_turns n s) 0 (after_turns (own_turns w n s) t)
+untouched_alone owner w n s t v u one early g keeps =
+    let mine = elim (cases_lt w (length s.queues)) as (λ _. KeepsTo (λ a. owner a == w) w n s) [ inl known ↦ keeps w known | inr past ↦ nobody_keeps (λ a. owner a == w) w n s v past ] in
+    fights_alone (λ a. owner a == w) w n s t v u one early g mine (own_cells_left owner n s v keeps w)

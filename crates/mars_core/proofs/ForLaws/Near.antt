@@ -1,19 +1,22 @@
 -- A process writes no further than its write limit reaches, and cells that neither limit reaches do not matter to it.
-use Rattle.std.proofs.Common.{ap, ◌≡◌, ℕ, List, ◌∙◌, ◌+◌, ◌-◌, ◌/◌, ◌%◌, ◌<◌, ◌≤◌, Bool, true, false, All, refl, sym, subst, arith, inl, inr}
+use Rattle.std.proofs.Common.{ap, ◌≡◌, ◌≢◌, ℕ, List, ◌∙◌, ◌+◌, ◌-◌, ◌/◌, ◌%◌, ◌<◌, ◌≤◌, Bool, true, false, All, refl, sym, subst, arith, inl, inr}
 use Rattle.std.specs.Prelude.{◌⊎◌, ◌↔◌, nat_lt, if◌then◌else◌}
 use Rattle.std.proofs.Math.Nat.{mod-eq_of_lt}
 use Rattle.std.proofs.lemmas.Bool.Decides.{nat_tests}
-use Rattle.std.proofs.lemmas.List.{map-id}
+use Rattle.std.proofs.lemmas.List.Elements.{All-weaker}
 use Rattle.mars_cell.specs.declared.instruction.Cell.{Cell}
 use Rattle.mars_cell.specs.Parameters.{Parameters, AreInRange}
 use Rattle.mars_core.specs.Addresses.{address_after, fold}
 use Rattle.mars_core.specs.Reach.{IsNear, Reaches}
 use Rattle.mars_core.specs.State.{State, cell_at, queue_of}
-use Rattle.mars_core.specs.Turn.{front_of, execution_of, turn_record}
+use Rattle.mars_core.specs.Touched.{touched}
+use Rattle.mars_core.specs.Turn.{front_of, front_execution, execution_of, executed, turn_of, turn_record}
 use Rattle.mars_core.specs.Validity.{IsCore, IsValid}
 use Rattle.mars_core.specs.declared.machine.writes.CellChange.{CellChange}
-use Rattle.mars_core.proofs.ForLaws.Alike.{Corresponds, Alike, execution_alike}
-use Rattle.mars_core.proofs.Fits.{address_inside, folded_inside}
+use Rattle.mars_core.proofs.Folding.{after_none}
+use Rattle.mars_core.proofs.ForLaws.Touched.{touched_here, untouched_cells, rewritten_beside}
+use Rattle.mars_core.proofs.Rewritten.{execution_replays}
+use Rattle.mars_core.proofs.Fits.{folded_inside}
 use Rattle.mars_core.proofs.Inside.{execution_here}
 
 near_either : (m limit r : ℕ) (b : Bool) → nat_lt (limit / 2) r ≡ b → limit ≤ m → IsNear m limit (if b then r + (m - limit) else r)
@@ -38,9 +41,6 @@ module _ (m limit pc : ℕ) (least : 1 ≤ limit) (most : limit ≤ m) where
   pub here_reached : Reaches m limit pc (address_after m pc 0)
   here_reached = record { distance = 0; inside = omega (arith, least, most); near = inl (omega arith); address_is = refl }
 
-  pub reached_inside : (a : ℕ) → Reaches m limit pc a → a < m
-  reached_inside a k = subst (λ n. n < m) (sym k.address_is) (address_inside m pc k.distance (omega (arith, least, most)))
-
 pub writes_near : (s : State) → IsValid s → All (λ (c : CellChange). Reaches s.params.core_size s.params.write_limit (front_of (queue_of s.queues s.next)) c.address) (turn_record s).cells.items
 unfolding turn_record
 writes_near s v =
@@ -50,35 +50,31 @@ writes_near s v =
     (pointed_reached p.core_size p.write_limit pc v.params.write_least v.params.write_most)
     (here_reached p.core_size p.write_limit pc v.params.write_least v.params.write_most) s.core
 
-module _ (p : Parameters) (r : AreInRange p) (pc : ℕ) where
-  -- reached for reading or for writing
-  abbrev pub IsReached : ℕ → Type 0
-  IsReached a = Reaches p.core_size p.read_limit pc a ⊎ Reaches p.core_size p.write_limit pc a
+-- a turn changes no cell that the write limit doesn't reach
+pub far_cell_stays : (s : State) (a : ℕ) → IsValid s → (Reaches s.params.core_size s.params.write_limit (front_of (queue_of s.queues s.next)) a → ⊥) → cell_at (turn_of s).core a ≡ cell_at s.core a
+unfolding turn_of executed turn_record
+far_cell_stays s a v far =
+    let pc = front_of (queue_of s.queues s.next) in
+    let Reached : ℕ → Type 0 = Reaches s.params.core_size s.params.write_limit pc in
+    let changes = (front_execution s.params s.core (queue_of s.queues s.next)).written.changes in
+    let beside : All (λ (c : CellChange). a ≢ c.address) changes =
+    All-weaker (λ (c : CellChange). Reached c.address) (λ (c : CellChange). a ≢ c.address) (λ c near same. far (subst Reached (sym same) near)) changes (writes_near s v) in
+    ap (λ core. cell_at core a) (sym (execution_replays s.params s.core pc)) ∙ rewritten_beside changes s.core a beside
 
-  pub reached_within : (a : ℕ) → IsReached a → a < p.core_size
-  reached_within a (inl read) = reached_inside p.core_size p.read_limit pc r.read_least r.read_most a read
-  reached_within a (inr write) = reached_inside p.core_size p.write_limit pc r.write_least r.write_most a write
-
-  -- an instruction and itself, over any part of the core that has all that is reached
-  pub corresponds : (Near : ℕ → Type 0) → ((a : ℕ) → IsReached a → Near a) → ((a : ℕ) → Near a → a < p.core_size) → pc < p.core_size → Corresponds p (λ a. a) Near pc pc
-  corresponds Near reached within start = record {
-    one = λ a b near near_b same. same;
-    inside = within;
-    inside_there = within;
-    step = λ d. refl;
-    start = start;
-    start_there = start;
-    here = reached _ (inl (here_reached p.core_size p.read_limit pc r.read_least r.read_most));
-    read = λ n. reached _ (inl (pointed_reached p.core_size p.read_limit pc r.read_least r.read_most n));
-    write = λ n. reached _ (inr (pointed_reached p.core_size p.write_limit pc r.write_least r.write_most n));
-  }
+-- what is touched is reached for reading or for writing
+pub touched_reached : (p : Parameters) (core : List Cell) (pc : ℕ) → AreInRange p → pc < p.core_size → All (λ a. Reaches p.core_size p.read_limit pc a ⊎ Reaches p.core_size p.write_limit pc a) (touched p core pc)
+touched_reached p core pc r start =
+    let Reached : ℕ → Type 0 = λ a. Reaches p.core_size p.read_limit pc a ⊎ Reaches p.core_size p.write_limit pc a in
+    let itself : Reached (address_after p.core_size pc 0) = inl (here_reached p.core_size p.read_limit pc r.read_least r.read_most) in
+    touched_here p pc Reached (subst Reached (after_none p.core_size pc start) itself) itself
+    (λ n. inl (pointed_reached p.core_size p.read_limit pc r.read_least r.read_most n))
+    (λ n. inr (pointed_reached p.core_size p.write_limit pc r.write_least r.write_most n)) core
 
 pub far_cells : (p : Parameters) (core other : List Cell) (pc : ℕ) → AreInRange p → IsCore p.core_size core → IsCore p.core_size other → pc < p.core_size → ((a : ℕ) → Reaches p.core_size p.read_limit pc a ⊎ Reaches p.core_size p.write_limit pc a → cell_at core a ≡ cell_at other a) → ((execution_of p core pc).queued ≡ (execution_of p other pc).queued) × ((execution_of p core pc).written.changes ≡ (execution_of p other pc).written.changes)
 far_cells p core other pc r fits fits_other start same =
-    let alike : Alike p.core_size (λ a. a) (IsReached p r pc) core other = record { size = fits.size; size_there = fits_other.size; cells = λ a near. sym (same a near) } in
-    let itself = corresponds p r pc (IsReached p r pc) (λ a reached. reached) (reached_within p r pc) start in
-    let e = execution_alike p (λ a. a) (IsReached p r pc) pc pc itself core other alike in
-    (sym (e.queued ∙ map-id (execution_of p core pc).queued), sym (e.written.changes ∙ map-id (execution_of p core pc).written.changes))
+    let touched_same = All-weaker (λ a. Reaches p.core_size p.read_limit pc a ⊎ Reaches p.core_size p.write_limit pc a) (λ a. cell_at core a ≡ cell_at other a) same (touched p core pc) (touched_reached p core pc r start) in
+    let e = untouched_cells p core other pc r fits fits_other start touched_same in
+    (e.0, e.1)
 
 -- a pointer below the limit is folded as it is
 fold_small : (m limit n : ℕ) → n < limit → fold m limit n ≡ (if nat_lt (limit / 2) n then n + (m - limit) else n)

@@ -15,6 +15,7 @@ use Rattle.mars_core.specs.Turn.{front_of, front_execution, accepted, queue_afte
 use Rattle.mars_core.specs.Validity.{IsCore, IsQueue, IsValid}
 use Rattle.mars_core.specs.declared.machine.clock.Clock.{Clock}
 use Rattle.mars_core.proofs.ForLaws.Alike.{Corresponds, Alike, AlikeExecution, execution_alike}
+use Rattle.mars_core.proofs.ForLaws.Touched.{touched_inside}
 use Rattle.mars_core.proofs.CallerLemmas.{shape-turn_of}
 use Rattle.mars_core.proofs.Fits.{address_inside}
 use Rattle.mars_core.proofs.Turns.{running, turn_valid, filled_length, queue_fits}
@@ -138,9 +139,6 @@ module _ (p : Parameters) (r : AreInRange p) (k : ℕ) (h : k < p.core_size) whe
     step = step pc;
     start = l;
     start_there = address_inside m pc k r.core_least;
-    here = address_inside m pc 0 r.core_least;
-    read = λ n. address_inside m pc _ r.core_least;
-    write = λ n. address_inside m pc _ r.core_least;
   }
 
   module _ (core : List Cell) (fits : IsCore m core) (q : List ℕ) (stands : IsQueue m p.processes q) (lives : q ≢ []) where
@@ -150,7 +148,7 @@ module _ (p : Parameters) (r : AreInRange p) (k : ℕ) (h : k < p.core_size) whe
     executes_alike : AlikeExecution p there Near (front_of q) (address_after m (front_of q) k) (corresponds (front_of q) pc_inside) (front_execution p core q) (front_execution p (moved_core m k core) (map there q))
     executes_alike =
         rw (front_moved q lives)
-        (execution_alike p there Near (front_of q) (address_after m (front_of q) k) (corresponds (front_of q) pc_inside) core _ (moved_alike core fits.size))
+        (execution_alike p there Near (front_of q) (address_after m (front_of q) k) (corresponds (front_of q) pc_inside) core _ (moved_alike core fits.size) (touched_inside p r (front_of q) pc_inside core))
 
     core_moved : (front_execution p (moved_core m k core) (map there q)).written.core ≡ moved_core m k (front_execution p core q).written.core
     core_moved =

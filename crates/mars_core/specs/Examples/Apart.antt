@@ -1,121 +1,143 @@
--- Two imps out of each other's reach: each keeps to its half of the core, and fights as it would alone.
-use Rattle.std.specs.Prelude.{◌≡◌, ◌⊎◌, ℕ, zero, suc, ◌+◌, ◌/◌, ◌%◌, ◌<◌, ◌≤◌, ◌==◌, Bool, true, List, [], ◌∷◌, None, refl}
-use Rattle.std.proofs.Common.{suc-le-suc, ap, subst, sym, ◌∙◌, inl, inr}
-use Rattle.std.proofs.Math.Arith.{le-zero}
-use Rattle.std.proofs.Math.Nat.{le_of_suc-le-suc, not-suc-le-zero, not-le_of_lt}
-use Rattle.std.proofs.Math.Numerals.{add-one, add-two}
-use Rattle.std.proofs.lemmas.Bool.{true≢false}
+-- An imp and a dwarf in a usual battle: for 200 turns neither touches a cell of the other, and each fights as it would alone.
+use Rattle.std.specs.Prelude.{◌≡◌, ℕ, zero, suc, ◌/◌, ◌<◌, ◌≤◌, ◌==◌, nat_lt, Bool, true, false, if◌then◌else◌, List, [], ◌∷◌, ◌++◌, take, drop, None, refl}
+use Rattle.std.proofs.Common.{replicate, sym, ◌∙◌}
+use Rattle.std.proofs.Math.Facts.{ltb_yes}
+use Rattle.std.proofs.Math.Nat.{le_of_suc-le-suc, not-suc-le-zero}
+use Rattle.std.proofs.lemmas.Bool.{true≢false, ltb-true, ltb-false}
+use Rattle.std.proofs.lemmas.List.{get_or_append_left, get_or-append_right}
+use Rattle.std.proofs.lemmas.List.Sums.{AllPass-from_list_all}
 use Rattle.mars_cell.specs.declared.instruction.Cell.{Cell}
+use Rattle.mars_cell.specs.declared.instruction.Op.TheVariants.{Dat, Mov, Add, Jmp, Sne}
+use Rattle.mars_cell.specs.declared.instruction.Modifier.TheVariants.{B, Ab, F, I}
+use Rattle.mars_cell.specs.declared.instruction.Mode.TheVariants.{Immediate, Direct, BIndirect}
 use Rattle.mars_cell.specs.Cells.{empty_cell}
+use Rattle.mars_cell.specs.Parameters.{Parameters}
 use Rattle.mars_cell.specs.Warriors.{WarriorValue}
 use Rattle.mars_core.specs.Start.{start_fault, start_state}
-use Rattle.mars_core.specs.State.{State, cell_at, queue_of}
-use Rattle.mars_core.specs.Addresses.{address_after}
+use Rattle.mars_core.specs.State.{State, cell_at}
 use Rattle.mars_core.specs.Turn.{after_turns}
-use Rattle.mars_core.specs.Reach.{Reaches}
-use Rattle.mars_core.specs.Apart.{GoesOn, KeepsTo, IsLeftTo, own_turns, AgreesOn}
-use Rattle.mars_core.specs.Examples.{the_machine, imp, sizes, battle_of, lone}
+use Rattle.mars_core.specs.Apart.{GoesOn, KeepsTo, own_turns, touched_in, AgreesOn}
+use Rattle.mars_core.specs.Laws.{UntouchedIsAlone}
+use Rattle.mars_core.specs.Validity.{IsValid}
+use Rattle.mars_core.specs.Examples.{the_machine, cell_of, imp, of_eight, eight, battle_of, lone}
 
--- one imp in each half
-abbrev core : List Cell
-core = imp ∷ empty_cell ∷ empty_cell ∷ empty_cell ∷ imp ∷ empty_cell ∷ empty_cell ∷ empty_cell ∷ []
+-- ADD.AB #4, $3; MOV.I $2, @2; JMP.B $-2, $0; DAT.F #0, #0
+abbrev dwarf : List Cell
+dwarf =
+    cell_of Add Ab Immediate 4 Direct 3 ∷ cell_of Mov I Direct 2 BIndirect 2
+    ∷ cell_of Jmp B Direct 7998 Direct 0 ∷ cell_of Dat F Immediate 0 Immediate 0 ∷ []
 
--- each reads its own cell, and writes the next one
-abbrev two_imps : State
-two_imps = battle_of (sizes 8 8 1 2) core ((0 ∷ []) ∷ (4 ∷ []) ∷ [])
+-- the parameters that battles have by default: both limits are the size of the core
+abbrev usual : Parameters
+usual = record { core_size = 8000; processes = 8000; cycles = 80000; read_limit = 8000; write_limit = 8000; max_length = 100; distance = 100 }
 
--- the second one, alone in a core without the first
+-- the imp's cells, and behind them the dwarf's
+abbrev imp_part : List Cell
+imp_part = imp ∷ replicate 199 empty_cell
+
+abbrev dwarf_part : List Cell
+dwarf_part = dwarf ++ replicate 7796 empty_cell
+
+abbrev owner : ℕ → ℕ
+owner address = if nat_lt address 200 then 0 else 1
+
+abbrev fight : State
+fight = battle_of usual (imp_part ++ dwarf_part) ((0 ∷ []) ∷ (200 ∷ []) ∷ [])
+
 abbrev lone_imp : State
-lone_imp = lone (sizes 8 8 1 2) (empty_cell ∷ empty_cell ∷ empty_cell ∷ empty_cell ∷ imp ∷ empty_cell ∷ empty_cell ∷ empty_cell ∷ []) (4 ∷ [])
+lone_imp = lone usual (imp_part ++ replicate 7800 empty_cell) (0 ∷ [])
 
--- a warrior of that one cell
-abbrev imp_alone : WarriorValue
-imp_alone = record { name = []; author = []; cells = imp ∷ []; start = 0 }
+abbrev lone_dwarf : State
+lone_dwarf = lone usual (replicate 200 empty_cell ++ dwarf_part) (200 ∷ [])
+
+-- a warrior of these cells, which starts at the first one
+abbrev warrior : List Cell → WarriorValue
+warrior cells = record { name = []; author = []; cells = cells; start = 0 }
 
 -- these are the starts of battles of such warriors
-pub battles_of_imps_start :
-    (start_state (sizes 8 8 1 2) (imp_alone ∷ imp_alone ∷ []) (0 ∷ 4 ∷ []) ≡ two_imps)
-    × (start_fault (sizes 8 8 1 2) (imp_alone ∷ imp_alone ∷ []) (0 ∷ 4 ∷ []) ≡ None)
-    × (start_state (sizes 8 8 1 2) (imp_alone ∷ []) (4 ∷ []) ≡ lone_imp)
+pub they_start :
+    (start_state usual (warrior (imp ∷ []) ∷ warrior dwarf ∷ []) (0 ∷ 200 ∷ []) ≡ fight)
+    × (start_fault usual (warrior (imp ∷ []) ∷ warrior dwarf ∷ []) (0 ∷ 200 ∷ []) ≡ None)
+    × (start_state usual (warrior (imp ∷ []) ∷ []) (0 ∷ []) ≡ lone_imp)
+    × (start_state usual (warrior dwarf ∷ []) (200 ∷ []) ≡ lone_dwarf)
 unfolding the_machine
-battles_of_imps_start = (refl, refl, refl)
+they_start = (refl, refl, refl, refl)
 
--- the address is in the half of the core
-abbrev is_in_half : ℕ → ℕ → Bool
-is_in_half half address = address / 4 == half
-
--- a cell in the half where the process stands, or the next cell, which is in that half, too
-either : (pc half a d : ℕ) → is_in_half half ((pc + 0) % 8) ≡ true → is_in_half half ((pc + 1) % 8) ≡ true → a ≡ (pc + d) % 8 → (d ≡ 0) ⊎ (d ≡ 1) → is_in_half half a ≡ true
-either pc half a d here next is (inl none) = subst (λ a. is_in_half half a ≡ true) (sym (is ∙ ap (λ d. (pc + d) % 8) none)) here
-either pc half a d here next is (inr one) = subst (λ a. is_in_half half a ≡ true) (sym (is ∙ ap (λ d. (pc + d) % 8) one)) next
-
--- how far the limits reach: it reads its own cell alone, and writes the next one
-read_distance : (d : ℕ) → d < 8 → (d ≤ 0) ⊎ (8 < d + 1) → (d ≡ 0) ⊎ (d ≡ 1)
-read_distance d inside (inl ahead) = inl (le-zero ahead)
-read_distance d inside (inr back) = absurd (not-le_of_lt (subst (λ n. 8 < n) (add-one d) back) inside)
-
-write_distance : (d : ℕ) → d < 8 → (d ≤ 1) ⊎ (9 < d + 2) → (d ≡ 0) ⊎ (d ≡ 1)
-write_distance zero inside (inl ahead) = inl refl
-write_distance (suc d) inside (inl ahead) = inr (ap suc (le-zero (le_of_suc-le-suc ahead)))
-write_distance d inside (inr back) = absurd (not-le_of_lt (subst (λ n. 9 < n) (add-two d) back) (suc-le-suc inside))
-
-reached : (pc half a : ℕ) → is_in_half half ((pc + 0) % 8) ≡ true → is_in_half half ((pc + 1) % 8) ≡ true → Reaches 8 1 pc a ⊎ Reaches 8 2 pc a → is_in_half half a ≡ true
-unfolding address_after
-reached pc half a here next (inl read) = either pc half a read.distance here next read.address_is (read_distance read.distance read.inside read.near)
-reached pc half a here next (inr write) = either pc half a write.distance here next write.address_is (write_distance write.distance write.inside write.near)
-
--- in four turns each imp keeps to its half of the core
-pub imps_keep_to_their_halves : (w : ℕ) → KeepsTo (is_in_half w) w 4 two_imps
+-- what each touches in the first four turns
+pub touched_first : (touched_in 0 4 fight ≡ 0 ∷ 0 ∷ 1 ∷ 1 ∷ 1 ∷ 1 ∷ 2 ∷ 2 ∷ []) × (touched_in 1 4 fight ≡ 200 ∷ 200 ∷ 203 ∷ 203 ∷ 201 ∷ 203 ∷ 203 ∷ 203 ∷ 207 ∷ 207 ∷ [])
 unfolding the_machine
-imps_keep_to_their_halves w zero h runs turn a near = subst (λ w. is_in_half w a ≡ true) turn (reached 0 0 a refl refl near)
-imps_keep_to_their_halves w (suc zero) h runs turn a near = subst (λ w. is_in_half w a ≡ true) turn (reached 4 1 a refl refl near)
-imps_keep_to_their_halves w (suc (suc zero)) h runs turn a near = subst (λ w. is_in_half w a ≡ true) turn (reached 1 0 a refl refl near)
-imps_keep_to_their_halves w (suc (suc (suc zero))) h runs turn a near = subst (λ w. is_in_half w a ≡ true) turn (reached 5 1 a refl refl near)
-imps_keep_to_their_halves w (suc (suc (suc (suc k)))) h runs turn a near =
-    absurd (not-suc-le-zero (le_of_suc-le-suc (le_of_suc-le-suc (le_of_suc-le-suc (le_of_suc-le-suc h)))))
+touched_first = (refl, refl)
 
--- the first imp's turn changes a cell, which isn't in the half of the second
-half_is_left : (a : ℕ) → is_in_half 1 a ≡ true → cell_at (after_turns 1 two_imps).core a ≡ cell_at two_imps.core a
+-- in 200 turns neither touches a cell of the other
+pub each_keeps_to_its_own : (w : ℕ) → w < 2 → KeepsTo (λ address. owner address == w) w 200 fight
 unfolding the_machine
-half_is_left zero here = refl
-half_is_left (suc zero) here = absurd (true≢false (sym here))
-half_is_left (suc (suc a)) here = refl
+each_keeps_to_its_own zero h = AllPass-from_list_all (λ address. owner address == 0) (touched_in 0 200 fight) refl
+each_keeps_to_its_own (suc zero) h = AllPass-from_list_all (λ address. owner address == 1) (touched_in 1 200 fight) refl
+each_keeps_to_its_own (suc (suc w)) h = absurd (not-suc-le-zero (le_of_suc-le-suc (le_of_suc-le-suc h)))
 
-pub half_is_left_to_the_second : IsLeftTo (is_in_half 1) 1 2 two_imps
+imp_owns : (is_first : Bool) → ((if is_first then 0 else 1) == 0) ≡ true → is_first ≡ true
+imp_owns true mine = refl
+imp_owns false mine = absurd (true≢false (sym mine))
+
+dwarf_owns : (is_first : Bool) → ((if is_first then 0 else 1) == 1) ≡ true → is_first ≡ false
+dwarf_owns true mine = absurd (true≢false (sym mine))
+dwarf_owns false mine = refl
+
+same_imp : (a : ℕ) → (owner a == 0) ≡ true → cell_at fight.core a ≡ cell_at lone_imp.core a
+same_imp a mine =
+    let first = ltb-true a 200 (imp_owns (nat_lt a 200) mine) in
+    get_or_append_left imp_part dwarf_part empty_cell a first ∙ sym (get_or_append_left imp_part (replicate 7800 empty_cell) empty_cell a first)
+
+same_dwarf : (a : ℕ) → (owner a == 1) ≡ true → cell_at fight.core a ≡ cell_at lone_dwarf.core a
+same_dwarf a mine =
+    let behind = ltb-false a 200 (dwarf_owns (nat_lt a 200) mine) in
+    get_or-append_right imp_part dwarf_part 200 a empty_cell refl behind
+    ∙ sym (get_or-append_right (replicate 200 empty_cell) dwarf_part 200 a empty_cell refl behind)
+
+-- at the start each is as it is alone
+pub each_starts_as_alone : AgreesOn (λ address. owner address == 0) 0 fight 0 lone_imp × AgreesOn (λ address. owner address == 1) 1 fight 0 lone_dwarf
+each_starts_as_alone = (
+  record { params = refl; processes = refl; cells = same_imp },
+  record { params = refl; processes = refl; cells = same_dwarf },
+)
+
+-- so by the law each is as it is alone after 100 turns of its own, since battles that start are valid
+pub each_fights_as_alone : UntouchedIsAlone → IsValid fight → IsValid lone_imp → IsValid lone_dwarf →
+    AgreesOn (λ address. owner address == 0) 0 (after_turns 200 fight) 0 (after_turns 100 lone_imp)
+    × AgreesOn (λ address. owner address == 1) 1 (after_turns 200 fight) 0 (after_turns 100 lone_dwarf)
 unfolding the_machine
-half_is_left_to_the_second zero h runs other a here = half_is_left a here
-half_is_left_to_the_second (suc zero) h runs other a here = absurd (other refl)
-half_is_left_to_the_second (suc (suc k)) h runs other a here = absurd (not-suc-le-zero (le_of_suc-le-suc (le_of_suc-le-suc h)))
+each_fights_as_alone law valid valid_imp valid_dwarf =
+    let cycle : 0 ≤ 0 = le_of_suc-le-suc (ltb_yes tt) in (
+      law owner 0 200 fight lone_imp valid valid_imp refl cycle each_starts_as_alone.0 each_keeps_to_its_own,
+      law owner 1 200 fight lone_dwarf valid valid_dwarf refl cycle each_starts_as_alone.1 each_keeps_to_its_own,
+    )
 
-same_half : (a : ℕ) → is_in_half 1 a ≡ true → cell_at two_imps.core a ≡ cell_at lone_imp.core a
-same_half zero here = absurd (true≢false (sym here))
-same_half (suc a) here = refl
-
--- at the start the second imp is the same in both battles, whatever stands in the other half
-pub second_is_the_same_alone : AgreesOn (is_in_half 1) 1 two_imps 0 lone_imp
-second_is_the_same_alone = record { params = refl; processes = refl; cells = same_half }
-
--- of five turns three are those of the first imp
-pub turns_of_each : (own_turns 0 5 two_imps ≡ 3) × (own_turns 1 5 two_imps ≡ 2)
+-- and so it is
+pub each_is_as_alone :
+    ((after_turns 200 fight).queues ≡ (100 ∷ []) ∷ (201 ∷ []) ∷ [])
+    × ((after_turns 100 lone_imp).queues ≡ (100 ∷ []) ∷ [])
+    × (take 200 (after_turns 200 fight).core ≡ take 200 (after_turns 100 lone_imp).core)
+    × ((after_turns 100 lone_dwarf).queues ≡ (201 ∷ []) ∷ [])
+    × (drop 200 (after_turns 200 fight).core ≡ drop 200 (after_turns 100 lone_dwarf).core)
 unfolding the_machine
-turns_of_each = (refl, refl)
+each_is_as_alone = (refl, refl, refl, refl, refl)
 
--- after five turns the second imp is as it is alone after two
-pub second_is_still_the_same :
-    (queue_of (after_turns 5 two_imps).queues 1 ≡ 6 ∷ [])
-    × (queue_of (after_turns 2 lone_imp).queues 0 ≡ 6 ∷ [])
-    × ((after_turns 5 two_imps).core ≡ imp ∷ imp ∷ imp ∷ imp ∷ imp ∷ imp ∷ imp ∷ empty_cell ∷ [])
-    × ((after_turns 2 lone_imp).core ≡ empty_cell ∷ empty_cell ∷ empty_cell ∷ empty_cell ∷ imp ∷ imp ∷ imp ∷ empty_cell ∷ [])
+-- SNE.I $0, $4 changes nothing
+abbrev reading : State
+reading = battle_of of_eight (eight (cell_of Sne I Direct 0 Direct 4 ∷ [])) ((0 ∷ []) ∷ (4 ∷ []) ∷ [])
+
+-- but it reads a cell of the other
+pub reading_is_touching : KeepsTo (λ address. address / 4 == 0) 0 1 reading → ⊥
 unfolding the_machine
-second_is_still_the_same = (refl, refl, refl, refl)
+reading_is_touching keeps = true≢false (sym (keeps 2 0 (ltb_yes tt)))
 
 -- a lone warrior that dies at its first turn
 abbrev dying : State
-dying = lone (sizes 8 8 1 2) core (1 ∷ [])
+dying = lone of_eight (eight []) (0 ∷ [])
 
-pub the_dead_have_no_more_turns : own_turns 0 3 dying ≡ 1
+pub the_dead_have_no_more_turns : (own_turns 0 3 dying ≡ 1) × (touched_in 0 3 dying ≡ 0 ∷ 0 ∷ 0 ∷ 0 ∷ [])
 unfolding the_machine
-the_dead_have_no_more_turns = refl
+the_dead_have_no_more_turns = (refl, refl)
 
 pub one_turn_is_made : GoesOn 1 dying
 unfolding the_machine

@@ -1,4 +1,4 @@
-use Rattle.mars_core.proofs.ForLaws.Apart.{far_cell_stays}
+use Rattle.mars_core.proofs.ForLaws.Near.{far_cell_stays}
 use Rattle.mars_core.proofs.laws.far_cells_stay.Goals as goal
 
 pub returns : goal.returns

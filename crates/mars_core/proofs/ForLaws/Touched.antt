@@ -1,0 +1,125 @@
+-- What an execution touches: where it may be, and that nothing else matters to it.
+use Rattle.std.proofs.Common.{◌≡◌, ◌≢◌, ℕ, ◌<◌, List, [], ◌∷◌, length, All, refl, ap, sym, ◌∙◌}
+use Rattle.std.proofs.lemmas.List.{map-id, get_or-set_other}
+use Rattle.std.proofs.lemmas.List.Elements.{All-cons, All-head, All-nil, All-tail, All-weaker}
+use Rattle.mars_cell.specs.declared.instruction.Cell.{Cell}
+use Rattle.mars_cell.specs.declared.instruction.Mode.{Mode}
+use Rattle.mars_cell.specs.declared.instruction.Mode.TheVariants.{Immediate, Direct}
+use Rattle.mars_cell.specs.Cells.{empty_cell}
+use Rattle.mars_cell.specs.Parameters.{Parameters, AreInRange}
+use Rattle.mars_core.specs.Addresses.{address_after, fold}
+use Rattle.mars_core.specs.State.{State, cell_at, queue_of}
+use Rattle.mars_core.specs.Writes.{WrittenCore}
+use Rattle.mars_core.specs.Operand.{direct_operand, indirect_operand, predecremented, postincremented, evaluated}
+use Rattle.mars_core.specs.Touched.{pointed_addresses, touched, touched_in_turn}
+use Rattle.mars_core.specs.Turn.{front_of, execution_of, executed, turn_of}
+use Rattle.mars_core.specs.Record.{rewritten}
+use Rattle.mars_core.specs.Validity.{IsCore, IsValid}
+use Rattle.mars_core.specs.declared.machine.writes.CellChange.{CellChange}
+use Rattle.mars_core.proofs.ForLaws.Alike.{Corresponds, Alike, AlikeExecution, execution_alike, touched_alike}
+use Rattle.mars_core.proofs.Fits.{address_inside}
+use Rattle.mars_core.proofs.ForLaws.Listed.{all_of}
+use Rattle.mars_core.proofs.Inside.{target_here}
+use Rattle.mars_core.proofs.Rewritten.{execution_replays}
+use Rattle.mars_core.proofs.Turns.{queue_fits}
+
+-- where folded pointers lead
+module _ (p : Parameters) (pc : ℕ) (Here : ℕ → Type 0) (start : Here pc) (itself : Here (address_after p.core_size pc 0))
+    (read : (n : ℕ) → Here (address_after p.core_size pc (fold p.core_size p.read_limit n)))
+    (write : (n : ℕ) → Here (address_after p.core_size pc (fold p.core_size p.write_limit n))) where
+  pointed_here : (mode : Mode) (n : ℕ) → All Here (pointed_addresses p pc mode n)
+  pointed_here Immediate n = All-nil Here
+  pointed_here Direct n = All-nil Here
+  pointed_here mode n =
+      let last = address_after p.core_size pc (fold p.core_size p.write_limit n) in
+      All-cons Here _ (last ∷ []) (read n) (All-cons Here last [] (write n) (All-nil Here))
+
+  copy_here : (written : WrittenCore) (mode : Mode) (n : ℕ) → Here (address_after p.core_size pc (evaluated p written pc mode n).operand.read)
+  unfolding evaluated predecremented postincremented indirect_operand direct_operand
+  copy_here written Immediate n = itself
+  copy_here written mode n = read _
+
+  -- all that is touched is there
+  pub touched_here : (core : List Cell) → All Here (touched p core pc)
+  unfolding touched
+  touched_here core =
+      let i = cell_at core pc in
+      let none : WrittenCore = record { core = core; changes = [] } in
+      let a = evaluated p none pc i.a_mode i.a in
+      all_of Here pc (pointed_addresses p pc i.a_mode i.a) _ (pointed_addresses p pc i.b_mode i.b) _ _
+      (record {
+        here = start;
+        a_goes = pointed_here i.a_mode i.a;
+        a_copies = copy_here none i.a_mode i.a;
+        b_goes = pointed_here i.b_mode i.b;
+        b_copies = copy_here a.written i.b_mode i.b;
+        target_is = target_here p pc Here write itself a.written i.b_mode i.b;
+      })
+
+module _ (p : Parameters) (r : AreInRange p) (pc : ℕ) (start : pc < p.core_size) where
+  pub touched_inside : (core : List Cell) → All (λ a. a < p.core_size) (touched p core pc)
+  touched_inside core =
+      let inside : (n : ℕ) → address_after p.core_size pc n < p.core_size = λ n. address_inside p.core_size pc n r.core_least in
+      touched_here p pc (λ a. a < p.core_size) start (inside 0) (λ n. inside _) (λ n. inside _) core
+
+  -- one instruction in two cores that are the same wherever this holds, as it does of all that is touched in the first
+  module _ (Holds : ℕ → Type 0) (core other : List Cell) (size : length core ≡ p.core_size) (size_there : length other ≡ p.core_size)
+      (holds : All Holds (touched p core pc)) (same : (a : ℕ) → Holds a → cell_at core a ≡ cell_at other a) where
+    abbrev pub Near : ℕ → Type 0
+    Near a = Holds a × (a < p.core_size)
+
+    pub itself : Corresponds p (λ a. a) Near pc pc
+    itself = record {
+      one = λ a b near near_b same. same;
+      inside = λ a near. near.1;
+      inside_there = λ a near. near.1;
+      step = λ d. refl;
+      start = start;
+      start_there = start;
+    }
+
+    near : All Near (touched p core pc)
+    near = λ k d h. (holds k d h, touched_inside core k d h)
+
+    cores : Alike p.core_size (λ a. a) Near core other
+    cores = record { size = size; size_there = size_there; cells = λ a near. sym (same a near.0) }
+
+    pub both : AlikeExecution p (λ a. a) Near pc pc itself (execution_of p core pc) (execution_of p other pc)
+    both = execution_alike p (λ a. a) Near pc pc itself core other cores near
+
+    pub same_touched : touched p core pc ≡ touched p other pc
+    same_touched = sym (touched_alike p (λ a. a) Near pc pc itself core other cores near ∙ map-id (touched p core pc))
+
+-- cells that aren't touched don't matter
+pub untouched_cells : (p : Parameters) (core other : List Cell) (pc : ℕ) → AreInRange p → IsCore p.core_size core → IsCore p.core_size other → pc < p.core_size → All (λ a. cell_at core a ≡ cell_at other a) (touched p core pc) → ((execution_of p core pc).queued ≡ (execution_of p other pc).queued) × ((execution_of p core pc).written.changes ≡ (execution_of p other pc).written.changes) × (touched p core pc ≡ touched p other pc)
+untouched_cells p core other pc r fits fits_other start all =
+    let e = both p r pc start (λ a. cell_at core a ≡ cell_at other a) core other fits.size fits_other.size all (λ a same. same) in (
+      sym (e.queued ∙ map-id (execution_of p core pc).queued),
+      sym (e.written.changes ∙ map-id (execution_of p core pc).written.changes),
+      same_touched p r pc start (λ a. cell_at core a ≡ cell_at other a) core other fits.size fits_other.size all (λ a same. same),
+    )
+
+-- a cell that none of the changes is at stays
+pub rewritten_beside : (changes : List CellChange) (core : List Cell) (a : ℕ) → All (λ (c : CellChange). a ≢ c.address) changes → cell_at (rewritten changes core) a ≡ cell_at core a
+rewritten_beside [] core a all = refl
+rewritten_beside (c ∷ changes) core a all =
+    rewritten_beside changes _ a (All-tail (λ (c : CellChange). a ≢ c.address) c changes all)
+    ∙ get_or-set_other core c.address a c.after empty_cell (All-head (λ (c : CellChange). a ≢ c.address) c changes all)
+
+pub front_inside : (s : State) → IsValid s → front_of (queue_of s.queues s.next) < s.params.core_size
+front_inside s v = first_inside (queue_of s.queues s.next) (queue_fits s v s.next v.clock.next).addresses where
+  first_inside : (q : List ℕ) → All (λ a. a < s.params.core_size) q → front_of q < s.params.core_size
+  first_inside [] all = v.params.core_least
+  first_inside (a ∷ q) all = All-head (λ a. a < s.params.core_size) a q all
+
+-- a turn changes no cell that it doesn't touch
+pub untouched_stays : (s : State) (a : ℕ) → IsValid s → All (λ b. a ≢ b) (touched_in_turn s) → cell_at (turn_of s).core a ≡ cell_at s.core a
+unfolding turn_of executed
+untouched_stays s a v beside =
+    let p = s.params in
+    let pc = front_of (queue_of s.queues s.next) in
+    let start = front_inside s v in
+    let e = both p v.params pc start (λ b. a ≢ b) s.core s.core v.core.size v.core.size beside (λ b other. refl) in
+    let changes = (execution_of p s.core pc).written.changes in
+    let all = All-weaker (λ (c : CellChange). (a ≢ c.address) × (c.address < p.core_size)) (λ (c : CellChange). a ≢ c.address) (λ c near. near.0) changes e.written.near in
+    ap (λ core. cell_at core a) (sym (execution_replays p s.core pc)) ∙ rewritten_beside changes s.core a all

@@ -1,0 +1,45 @@
+-- What instructions read and write, each list in the order in which it happens.
+use Rattle.std.specs.Prelude.{◌≡◌, List, [], ◌∷◌, refl}
+use Rattle.std.proofs.Common.{replicate}
+use Rattle.mars_cell.specs.declared.instruction.Cell.{Cell}
+use Rattle.mars_cell.specs.declared.instruction.Op.TheVariants.{Mov, Add}
+use Rattle.mars_cell.specs.declared.instruction.Modifier.TheVariants.{Ab, I}
+use Rattle.mars_cell.specs.declared.instruction.Mode.TheVariants.{Immediate, Direct, AIndirect, BIndirect, BPredecrement, BPostincrement}
+use Rattle.mars_cell.specs.Cells.{empty_cell}
+use Rattle.mars_cell.specs.Parameters.{Parameters}
+use Rattle.mars_core.specs.Touched.{touched}
+use Rattle.mars_core.specs.Examples.{the_machine, cell_of, numbers, sizes, of_eight, eight}
+
+-- a core of sixteen cells, where reading reaches three cells ahead and two back, and writing five and four
+abbrev limited : Parameters
+limited = sizes 16 8 6 10
+
+-- with numbers behind and ahead of the instruction at 2
+abbrev sixteen : Cell → List Cell
+sixteen instruction =
+    numbers 5 0 ∷ numbers 0 5 ∷ instruction ∷ empty_cell ∷ empty_cell ∷ empty_cell ∷ empty_cell ∷ numbers 0 8 ∷ replicate 8 empty_cell
+
+-- ADD.AB #4, #5: itself alone
+pub immediate_operands_touch_the_instruction : touched limited (sixteen (cell_of Add Ab Immediate 4 Immediate 5)) 2 ≡ 2 ∷ 2 ∷ 2 ∷ 2 ∷ []
+unfolding the_machine
+immediate_operands_touch_the_instruction = refl
+
+-- MOV.I $4, $5: what the A-operand reads, what the B-operand reads, and the B-target; not where the A-operand would write
+pub direct_operands_touch_what_they_copy : touched limited (sixteen (cell_of Mov I Direct 4 Direct 5)) 2 ≡ 2 ∷ 0 ∷ 1 ∷ 7 ∷ []
+unfolding the_machine
+direct_operands_touch_what_they_copy = refl
+
+-- MOV.I *4, @5: the cells by which each operand goes, for reading and for writing, and what they lead to
+pub indirect_operands_touch_where_they_go : touched limited (sixteen (cell_of Mov I AIndirect 4 BIndirect 5)) 2 ≡ 2 ∷ 0 ∷ 6 ∷ 3 ∷ 1 ∷ 7 ∷ 4 ∷ 5 ∷ []
+unfolding the_machine
+indirect_operands_touch_where_they_go = refl
+
+-- MOV.I <1, @1: B goes by the number that A lowered
+pub lowered_number_leads_the_b_operand : touched of_eight (eight (cell_of Mov I BPredecrement 1 BIndirect 1 ∷ numbers 0 4 ∷ [])) 0 ≡ 0 ∷ 1 ∷ 1 ∷ 4 ∷ 1 ∷ 1 ∷ 4 ∷ 4 ∷ []
+unfolding the_machine
+lowered_number_leads_the_b_operand = refl
+
+-- MOV.I >1, @1: A goes by the number before it is raised, and B by the one after
+pub raised_number_leads_the_b_operand : touched of_eight (eight (cell_of Mov I BPostincrement 1 BIndirect 1 ∷ numbers 0 4 ∷ [])) 0 ≡ 0 ∷ 1 ∷ 1 ∷ 5 ∷ 1 ∷ 1 ∷ 6 ∷ 6 ∷ []
+unfolding the_machine
+raised_number_leads_the_b_operand = refl

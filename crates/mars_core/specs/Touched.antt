@@ -1,0 +1,32 @@
+-- The cells that an execution reads or writes, among all that the limits let it reach.
+use Rattle.std.specs.Prelude.{ℕ, List, [], ◌∷◌, ◌++◌}
+use Rattle.mars_cell.specs.declared.instruction.Cell.{Cell}
+use Rattle.mars_cell.specs.declared.instruction.Mode.{Mode}
+use Rattle.mars_cell.specs.declared.instruction.Mode.TheVariants.{Immediate, Direct}
+use Rattle.mars_cell.specs.Parameters.{Parameters}
+use Rattle.mars_core.specs.State.{State, cell_at, queue_of}
+use Rattle.mars_core.specs.Addresses.{address_after, fold}
+use Rattle.mars_core.specs.Operand.{pointed_address, evaluated}
+use Rattle.mars_core.specs.Turn.{front_of}
+
+-- the cells that the number of an indirect mode leads to, for reading and for writing: a field of each is read, and that of the second may be lowered or raised
+abbrev pub pointed_addresses : Parameters → ℕ → Mode → ℕ → List ℕ
+pointed_addresses p pc Immediate n = []
+pointed_addresses p pc Direct n = []
+pointed_addresses p pc mode n = address_after p.core_size pc (fold p.core_size p.read_limit n) ∷ pointed_address p pc n ∷ []
+
+-- the addresses of the cells that the execution of the instruction at pc reads or writes: its own; for each operand those by which it goes, and that of the
+-- cell that is copied; and the B-target. All of them are named, whatever the opcode makes of the copies, and though it may write nothing
+unfoldable pub touched : Parameters → List Cell → ℕ → List ℕ
+touched p core pc =
+    let m = p.core_size in
+    let instruction = cell_at core pc in
+    let a = evaluated p (record { core = core; changes = [] }) pc instruction.a_mode instruction.a in
+    let b = evaluated p a.written pc instruction.b_mode instruction.b in
+    pc ∷ pointed_addresses p pc instruction.a_mode instruction.a
+    ++ address_after m pc a.operand.read ∷ pointed_addresses p pc instruction.b_mode instruction.b
+    ++ address_after m pc b.operand.read ∷ address_after m pc b.operand.write ∷ []
+
+-- those of the turn that is next
+abbrev pub touched_in_turn : State → List ℕ
+touched_in_turn s = touched s.params s.core (front_of (queue_of s.queues s.next))
