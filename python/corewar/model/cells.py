@@ -1,7 +1,6 @@
 """Cells, as numbers and as text. Numbers are those of the header of the library."""
 from __future__ import annotations
 
-import re
 from typing import Any
 
 import numpy as np
@@ -13,8 +12,6 @@ MODES = "#$*@{<}>"
 # An array of cells, of records of turns, of deaths: with the fields that the header gives them.
 Cells = NDArray[Any]
 Records = NDArray[Any]
-PARTS = ("op", "modifier", "a_mode", "b_mode", "a", "b")
-PATTERN = re.compile(r"(\w+)\.(\w+) ([#$*@{<}>])(-?\d+), ([#$*@{<}>])(-?\d+)")
 
 
 def signed(number: int, core: int) -> int:
