@@ -1,24 +1,47 @@
--- Worked examples, as theorems: faults, cells and records as numbers, where the warriors of a later round are laid, and when a battle has one turn left.
-use Rattle.std.specs.Prelude.{◌≡◌, refl, true, false, [], ◌∷◌, None, Some, Ok}
+-- Worked examples, as theorems: faults, cells and records as numbers, where the warriors of a later round are laid, when a battle has one turn left,
+-- what is out of its range, and populations.
+use Rattle.std.specs.Prelude.{◌≡◌, ℕ, pos, refl, true, false, List, [], ◌∷◌, None, Some, Ok, Err, codes}
 use Rattle.std.specs.List.{concat}
-use Rattle.mars_cell.specs.declared.instruction.Op.TheVariants.{Djn, Spl}
-use Rattle.mars_cell.specs.declared.instruction.Modifier.TheVariants.{B, Ba}
+use Rattle.std.proofs.Common.{arith, subst}
+use Rattle.mars_cell.specs.ParameterFaults.{checked_parameters}
+use Rattle.mars_cell.specs.Parameters.{Parameters}
+use Rattle.mars_cell.specs.Warriors.{WarriorValue}
+use Rattle.mars_cell.specs.declared.instruction.Op.{Op}
+use Rattle.mars_cell.specs.declared.instruction.Op.TheVariants.{Dat, Djn, Jmp, Spl}
+use Rattle.mars_cell.specs.declared.instruction.Modifier.{Modifier}
+use Rattle.mars_cell.specs.declared.instruction.Modifier.TheVariants.{B, Ba, F}
 use Rattle.mars_cell.specs.declared.instruction.Mode.TheVariants.{Immediate, Direct, APredecrement, BPostincrement}
 use Rattle.mars_cell.specs.declared.fault.LoadFault.TheVariants.{Syntax}
+use Rattle.redcode_asm.specs.Formula.{formula_of}
 use Rattle.redcode_asm.specs.declared.fault.AsmProblem.TheVariants.{Text}
-use Rattle.redcode_text.specs.declared.fault.ExprFault.TheVariants.{DivideByZero}
+use Rattle.redcode_text.specs.Expression.{value_of, tree_within}
+use Rattle.redcode_text.specs.Tokens.{scanned}
+use Rattle.redcode_text.specs.declared.fault.ExprFault.TheVariants.{DivideByZero, Range}
 use Rattle.redcode_text.specs.declared.fault.TextProblem.TheVariants.{Expression}
 use Rattle.mars_core.specs.State.{is_over_of}
 use Rattle.mars_core.specs.Turn.{after_turns}
 use Rattle.mars_core.specs.Examples.{the_machine, cell_of, imp, of_eight, eight, lone}
-use Rattle.mars_match.specs.Placement.{drawn, starts_of, next_seed}
+use Rattle.mars_core.specs.declared.battle.start.BattleFault.TheVariants.{FieldOutside}
+use Rattle.mars_core.specs.declared.battle.start.BattleFault.TheVariants as battle
+use Rattle.mars_match.specs.Battles.{survivors_of_round, end_of}
+use Rattle.mars_match.specs.Placement.{FitsTwo, drawn, starts_of, next_seed}
+use Rattle.mars_match.specs.Rounds.{table_of}
+use Rattle.mars_match.specs.declared.fault.MatchFault.TheVariants as fight
+use Rattle.mars_match.specs.declared.placement.PlaceFault.TheVariants.{NoRoom}
+use Rattle.mars_match.specs.declared.placement.PlaceFault.TheVariants as place
 use Rattle.mars_match.specs.Examples.Placements.{sizes}
+use Rattle.mars_c.specs.Asked.{asked}
 use Rattle.mars_c.specs.Battles.{placed_in}
 use Rattle.mars_c.specs.Cells.{plain_cell}
 use Rattle.mars_c.specs.Codes.{fault_of}
+use Rattle.mars_c.specs.Contests.{population}
 use Rattle.mars_c.specs.Records.{change_of, turn_row}
+use Rattle.mars_c.specs.Refusals.{IsOutside, fight_refusal}
 use Rattle.mars_c.specs.States.{counts_of, fits_in}
-use Rattle.mars_c.specs.declared.faults.Refusal.TheVariants.{Assembly, Load}
+use Rattle.mars_c.specs.declared.faults.Refusal.TheVariants.{Assembly, Battle, Load, OutOfMemory, Placement, Score}
+use Rattle.mars_c.specs.declared.ranges.SettingsFault.TheVariants.{Lengths, Position, Rounds, Seed}
+use Rattle.mars_c.specs.declared.settings.MarsSettings.{MarsSettings}
+use Rattle.mars_c.specs.declared.settings.Terms.{Terms}
 
 -- line 3 of the second load file
 pub load_file_is_told : fault_of (Load 1 (Syntax 3)) ≡ record { code = 6; number = 1; problem = 0; expression = 0; line = 3; warrior = 1 }
@@ -112,3 +135,95 @@ state_fits = refl
 pub processes_do_not_fit : fits_in (lone of_eight (eight []) (6 ∷ 7 ∷ [])) 9 9 1 9 ≡ false
 unfolding the_machine
 processes_do_not_fit = refl
+
+-- settings of nano, with so many rounds, this seed and this position
+abbrev nano : ℕ → ℕ → ℕ → MarsSettings
+nano rounds seed position = record {
+  core = 80;
+  processes = 80;
+  cycles = 800;
+  read_limit = 0;
+  write_limit = 0;
+  longest = 5;
+  distance = 5;
+  rounds = rounds;
+  seed = seed;
+  position = position;
+}
+
+-- no round and one too many are outside; the fewest and the most aren't
+pub rounds_are_judged : IsOutside (nano 0 1 0) 2 [] [] Rounds × IsOutside (nano 100001 1 0) 2 [] [] Rounds
+    × (IsOutside (nano 1 1 0) 2 [] [] Rounds → ⊥) × (IsOutside (nano 100000 1 0) 2 [] [] Rounds → ⊥)
+rounds_are_judged = (λ r. omega (arith, r), λ r. omega (arith, r), λ outside. outside (omega arith, omega arith), λ outside. outside (omega arith, omega arith))
+
+pub seeds_are_judged : IsOutside (nano 1 0 0) 2 [] [] Seed × IsOutside (nano 1 2147483647 0) 2 [] [] Seed
+    × (IsOutside (nano 1 1 0) 2 [] [] Seed → ⊥) × (IsOutside (nano 1 2147483646 0) 2 [] [] Seed → ⊥)
+seeds_are_judged = (λ s. omega (arith, s), λ s. omega (arith, s), λ outside. outside (omega arith, omega arith), λ outside. outside (omega arith, omega arith))
+
+-- what fits the settings fits their parameters
+fits_two : (position : ℕ) (p : Parameters) → checked_parameters (asked (nano 1 1 position)) ≡ Ok p → FitsTwo (asked (nano 1 1 position)) 2 (Some position) → FitsTwo p 2 (Some position)
+fits_two position p checked fixed = let same : asked (nano 1 1 position) ≡ p = cc in subst (λ p. FitsTwo p 2 (Some position)) same fixed
+
+-- the second of two warriors stands from 5 to 75; a third has no position, and 0 is none
+pub positions_are_judged : IsOutside (nano 1 1 4) 2 [] [] Position × IsOutside (nano 1 1 76) 2 [] [] Position × IsOutside (nano 1 1 5) 3 [] [] Position
+    × (IsOutside (nano 1 1 5) 2 [] [] Position → ⊥) × (IsOutside (nano 1 1 75) 2 [] [] Position → ⊥) × (IsOutside (nano 1 1 0) 3 [] [] Position → ⊥)
+positions_are_judged = (
+  (asked (nano 1 1 4), refl, λ fixed. omega (arith, fixed.1)),
+  (asked (nano 1 1 76), refl, λ fixed. omega (arith, fixed.2)),
+  (asked (nano 1 1 5), refl, λ fixed. omega (arith, fixed.0)),
+  λ outside. outside.2 (fits_two 5 outside.0 outside.1 (refl, omega arith, omega arith)),
+  λ outside. outside.2 (fits_two 75 outside.0 outside.1 (refl, omega arith, omega arith)),
+  λ outside. outside.2 tt,
+)
+
+-- two load files of 2 and 1 bytes, and three or four bytes
+pub lengths_are_judged : IsOutside (nano 1 1 0) 2 (1 ∷ 2 ∷ 3 ∷ 4 ∷ []) (2 ∷ 1 ∷ []) Lengths × (IsOutside (nano 1 1 0) 2 (1 ∷ 2 ∷ 3 ∷ []) (2 ∷ 1 ∷ []) Lengths → ⊥)
+lengths_are_judged = (λ same. cc, λ outside. outside refl)
+
+-- want of memory is one refusal, wherever it came
+pub fights_are_refused : (fight_refusal (fight.Place NoRoom) ≡ Placement NoRoom) × (fight_refusal (fight.Battle FieldOutside) ≡ Battle FieldOutside)
+    × (fight_refusal (fight.Score DivideByZero) ≡ Score DivideByZero) × (fight_refusal fight.OutOfMemory ≡ OutOfMemory)
+    × (fight_refusal (fight.Place place.OutOfMemory) ≡ OutOfMemory) × (fight_refusal (fight.Battle battle.OutOfMemory) ≡ OutOfMemory)
+fights_are_refused = (refl, refl, refl, refl, refl, refl)
+
+-- one round of one cycle in a core of four cells, by a formula
+abbrev by_formula : List ℕ → Terms
+by_formula text = record {
+  params = sizes 4 2;
+  plan = record {
+    rounds = 1;
+    seed = 1;
+    fixed = None;
+    formula = elim (formula_of text) [ Ok formula ↦ formula | Err fault ↦ record { tokens = []; names = [] } ];
+  };
+}
+
+abbrev one_cell : Op → Modifier → ℕ → WarriorValue
+one_cell op modifier a = record { name = []; author = []; cells = cell_of op modifier Direct a Direct 0 ∷ []; start = 0 }
+
+-- JMP.B $0, $0 lives on, DAT.F $0, $0 dies, and DAT.F $4, $0 is of a larger core
+abbrev stay : WarriorValue
+stay = one_cell Jmp B 0
+
+abbrev dead : WarriorValue
+dead = one_cell Dat F 0
+
+abbrev too_far : WarriorValue
+too_far = one_cell Dat F 4
+
+-- a tie and a win, and two losses: the rows of the opponents count for nobody
+pub candidates_are_summed : population (by_formula (codes "(W*W-1)/S")) 2 (stay ∷ dead ∷ stay ∷ dead ∷ [])
+    ≡ Ok (record { points = pos 4; wins = 1; ties = 1; losses = 0 } ∷ record { points = pos 0; wins = 0; ties = 0; losses = 2 } ∷ [])
+unfolding table_of starts_of drawn next_seed survivors_of_round end_of scanned value_of tree_within the_machine
+candidates_are_summed = refl
+
+-- The first candidate loses to the first opponent, and its match with the second has a fault. So has that of the second candidate with the first
+-- opponent, where both live, but it comes later.
+pub first_match_is_told : population (by_formula (codes "1/(S-2)")) 2 (dead ∷ stay ∷ stay ∷ too_far ∷ []) ≡ Err (fight.Battle FieldOutside)
+unfolding table_of starts_of drawn next_seed survivors_of_round end_of scanned value_of tree_within the_machine
+first_match_is_told = refl
+
+-- each row fits, and the sum of two doesn't
+pub sums_are_judged : population (by_formula (codes "4611686018427387904")) 1 (stay ∷ stay ∷ stay ∷ []) ≡ Err (fight.Score Range)
+unfolding table_of starts_of drawn next_seed survivors_of_round end_of scanned value_of tree_within the_machine
+sums_are_judged = refl

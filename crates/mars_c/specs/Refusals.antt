@@ -21,7 +21,7 @@ use Rattle.redcode_asm.specs.declared.fault.AsmProblem.TheVariants as problem
 use Rattle.mars_c.specs.Asked.{AreRounds, AreTerms, IsSeed, asked, position_of}
 use Rattle.mars_c.specs.Battles.{IsHistory, begun}
 use Rattle.mars_c.specs.Codes.{fault_of}
-use Rattle.mars_c.specs.Contests.{AreLoads, Reads}
+use Rattle.mars_c.specs.Contests.{AreLoads, Reads, population}
 use Rattle.mars_c.specs.declared.faults.MarsFault.{MarsFault}
 use Rattle.mars_c.specs.declared.faults.Refusal.{Refusal}
 use Rattle.mars_c.specs.declared.faults.Refusal.TheVariants.{OutOfMemory, Settings, Parameters as OfParameters, Formula, Assembly, Load, Placement, Battle, Score}
@@ -100,6 +100,10 @@ FailsLeague s text loads lengths = Fails s text loads lengths (λ t ws. league_o
 abbrev pub FailsRound : MarsSettings → List ℕ → List ℕ → ℕ → Refusal → Type 0
 FailsRound s loads lengths round = Fails s (codes "0") loads lengths (λ t ws. begun t ws round)
 
+-- a population of so many candidates fails: by its first match that does, or whose row makes a sum that doesn't fit
+abbrev pub FailsPopulation : MarsSettings → List ℕ → List ℕ → List ℕ → ℕ → Refusal → Type 0
+FailsPopulation s text loads lengths rows = Fails s text loads lengths (λ t ws. population t rows ws)
+
 -- a match of these load files, with so many rows, isn't fought
 abbrev pub RefusesMatch : MarsSettings → List ℕ → List ℕ → List ℕ → ℕ → Refusal → Type 0
 RefusesMatch s text loads lengths rows refusal =
@@ -116,11 +120,12 @@ RefusesLeague s text loads lengths rows refusal =
     ⊎ RefusesEntry s text 0 loads lengths refusal
     ⊎ FailsLeague s text loads lengths refusal
 
--- a population of so many candidates isn't fought; whose match fails, and why, isn't said
+-- a population of so many candidates isn't fought; its position is that of two warriors
 abbrev pub RefusesPopulation : MarsSettings → List ℕ → List ℕ → List ℕ → ℕ → Refusal → Type 0
 RefusesPopulation s text loads lengths rows refusal =
-    Misses Rows (rows ≤ length lengths) refusal ⊎ RefusesEntry s text 2 loads lengths refusal
-    ⊎ ((fault : MatchFault) × (refusal ≡ fight_refusal fault))
+    Misses Rows (rows ≤ length lengths) refusal
+    ⊎ RefusesEntry s text 2 loads lengths refusal
+    ⊎ FailsPopulation s text loads lengths rows refusal
 
 -- the battle of a round of these load files isn't begun
 abbrev pub RefusesRound : MarsSettings → List ℕ → List ℕ → ℕ → Refusal → Type 0

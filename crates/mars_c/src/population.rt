@@ -1,8 +1,11 @@
 //! A population: each candidate against each opponent.
-ghost use Rattle.std.specs.Prelude.{◌≡◌, IfErr, IfOk, IfSome, OnErr, OnOk, length};
-ghost use Rattle.mars_c.specs.Contests.{AreSums, HoldsSums, IsMet, SumsTo, no_rounds, plus};
+ghost use Rattle.std.specs.Prelude.{◌≡◌, IfErr, IfOk, MatchOption, OnErr, OnOk, Vec, false, length, true, vec_len};
+ghost use Rattle.std.specs.Global.{Global};
+ghost use Rattle.mars_match.specs.Answers.{IsAnswer};
 ghost use Rattle.mars_match.specs.Placement.{FitsTwo};
+ghost use Rattle.mars_c.specs.Contests.{HoldsSums, each_sum, fits, met, no_rounds, plus, sum_from};
 ghost use Rattle.mars_c.specs.Refusals.{RefusesPopulation};
+ghost use Rattle.mars_c.specs.declared.rows.MarsRow.{MarsRow as RowNumbers};
 
 use crate::faults::{Refusal, refused_fight};
 use crate::loading::enter;
@@ -22,25 +25,20 @@ fn meet(
     opponent: &Warrior,
 ) -> Result<MarsRow, MatchFault>
     requires { FitsTwo terms.now.params 2 terms.now.plan.fixed }
-    ensures { IfOk result (IsMet terms.now candidate.now opponent.now) }
+    ensures { IsAnswer (λ (row : RowNumbers). row) (met terms.now candidate.now opponent.now) result }
 {
     let (Ok(one), Ok(other)) = (candidate.copy(), opponent.copy()) else {
         return Err(MatchFault::OutOfMemory);
     };
-    let table = rounds(alloc, &terms.params, &[one, other], &terms.plan);
-    match table {
-        Ok(table) => match table.rows.get(0) {
-            Some(row) => Ok(MarsRow::of(row)),
-            // There are as many rows as warriors: this is never reached, and any fault would do.
-            None => Err(MatchFault::OutOfMemory),
-        },
+    match rounds(alloc, &terms.params, &[one, other], &terms.plan) {
+        Ok(table) => Ok(MarsRow::of_first(&table.rows)),
         Err(fault) => Err(fault),
     }
 }
 
 /// Two rows, added; none where a sum doesn't fit.
 fn added(sum: MarsRow, row: MarsRow) -> Option<MarsRow>
-    ensures { IfSome result (λ more. more ≡ plus sum row) }
+    ensures { MatchOption result (fits (plus sum row) ≡ false) (λ more. (fits (plus sum row) ≡ true) × (more ≡ plus sum row)) }
 {
     Some(MarsRow {
         points: sum.points.checked_add(row.points)?,
@@ -58,14 +56,9 @@ fn sum_of(
     opponents: &[Warrior],
 ) -> Result<MarsRow, MatchFault>
     requires { FitsTwo terms.now.params 2 terms.now.plan.fixed }
-    ensures { IfOk result (SumsTo terms.now candidate.now no_rounds opponents.now) }
+    ensures { IsAnswer (λ (sum : RowNumbers). sum) (sum_from terms.now candidate.now no_rounds opponents.now) result }
 {
-    let mut sum = MarsRow {
-        points: 0,
-        wins: 0,
-        ties: 0,
-        losses: 0,
-    };
+    let mut sum = MarsRow::of_none();
     for opponent in opponents {
         let row = meet(alloc, terms, candidate, opponent)?;
         let Some(more) = added(sum, row) else {
@@ -84,7 +77,8 @@ fn sums_of(
     opponents: &[Warrior],
 ) -> Result<Vec<MarsRow>, MatchFault>
     requires { FitsTwo terms.now.params 2 terms.now.plan.fixed }
-    ensures { IfOk result (λ sums. AreSums terms.now opponents.now candidates.now sums.items) }
+    ensures many { IfOk result (λ sums. vec_len sums ≡ length candidates.now) }
+    ensures sums { IsAnswer (λ (sums : Vec RowNumbers Global). sums.items) (each_sum terms.now opponents.now candidates.now) result }
 {
     let Ok(mut sums) = Vec::with_capacity(alloc, candidates.len()) else {
         return Err(MatchFault::OutOfMemory);
@@ -122,10 +116,6 @@ pub fn population_into(
         Err(fault) => return Err(refused_fight(fault)),
     };
     drop(entry);
-    if sums.len() != place.len() {
-        // There is a sum for each candidate: this is never reached, and any refusal would do.
-        return Err(Refusal::OutOfMemory);
-    }
     place.copy_from_slice(&sums);
     Ok(())
 }

@@ -1,6 +1,6 @@
 //! Rows as numbers.
 ghost use Rattle.std.specs.Prelude.{◌≡◌, ◌≢◌, Err, IfErr, IfOk, OnErr, OnOk, length, map};
-ghost use Rattle.mars_c.specs.Contests.{plain_row};
+ghost use Rattle.mars_c.specs.Contests.{first_row, no_rounds, plain_row};
 
 use mars_match::{MatchFault, Row};
 use std::alloc::Global;
@@ -25,6 +25,28 @@ impl MarsRow {
             wins: row.wins(),
             ties: row.ties(),
             losses: row.losses(),
+        }
+    }
+
+    /// The numbers of no rounds.
+    pub fn of_none() -> MarsRow
+        ensures { result ≡ no_rounds }
+    {
+        MarsRow {
+            points: 0,
+            wins: 0,
+            ties: 0,
+            losses: 0,
+        }
+    }
+
+    /// The numbers of the first row, where there is one.
+    pub fn of_first(rows: &[Row]) -> MarsRow
+        ensures { result ≡ first_row rows.now }
+    {
+        match rows.first() {
+            Some(row) => MarsRow::of(row),
+            None => MarsRow::of_none(),
         }
     }
 }

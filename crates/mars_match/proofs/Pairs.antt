@@ -1,5 +1,5 @@
 -- Leagues: one match more, and one warrior more.
-use Rattle.std.proofs.Common.{◌≡◌, refl, sym, ◌∙◌, ap, ℕ, zero, suc, ◌+◌, ◌<◌, ◌≤◌, List, [], ◌∷◌, ◌++◌, length, drop, get_or, set, All, true, false, Option, Result, Ok, Err, arith}
+use Rattle.std.proofs.Common.{◌≡◌, refl, sym, ◌∙◌, ap, ℕ, zero, suc, ◌+◌, ◌<◌, ◌≤◌, List, [], ◌∷◌, ◌++◌, length, drop, get_or, set, take, All, true, false, Option, Result, Ok, Err, arith}
 use Rattle.std.proofs.lemmas.Int.{ints}
 use Rattle.std.proofs.lemmas.List.{drop_more, length-set, get_or-set_other}
 use Rattle.std.proofs.lemmas.List.Elements.{All-nil, All-cons, All-head, All-tail, All-get_or, All-set}
@@ -81,8 +81,13 @@ pub from_first : (ws : List WarriorValue) (i : ℕ) → i < length ws → pairs_
 from_first ws i h = rw (drop_more ws i nobody h) refl
 
 -- the list from a warrior on
-from_one : (ws : List WarriorValue) (i : ℕ) (a : WarriorValue) → i < length ws → a ≡ get_or ws i a → drop i ws ≡ a ∷ drop (i + 1) ws
+pub from_one : (ws : List WarriorValue) (i : ℕ) (a : WarriorValue) → i < length ws → a ≡ get_or ws i a → drop i ws ≡ a ∷ drop (i + 1) ws
 from_one ws i a h e = drop_more ws i a h ∙ ap (λ x. x ∷ drop (i + 1) ws) (sym e)
+
+-- a warrior, and another in the second place
+pub lined_up : (ws before after : List WarriorValue) (i : ℕ) (a b : WarriorValue) → i < length ws → a ≡ get_or ws i a → take 1 before ≡ take 1 (drop i ws) → after ≡ take 1 before ++ b ∷ []
+    → after ≡ a ∷ b ∷ []
+lined_up ws before after i a b h e first told = told ∙ rw (first, from_one ws i a h e) refl
 
 module _ (p : Parameters) (f : Scanned) (fixed : Option ℕ) (n seed : ℕ) where
   pub match_err : (ws : List WarriorValue) (i j : ℕ) (a b : WarriorValue) (ts : List Tally) (x : MatchFault) → i < length ws → j < length ws → a ≡ get_or ws i a → b ≡ get_or ws j b →

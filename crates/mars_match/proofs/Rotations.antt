@@ -1,18 +1,21 @@
 -- Lists that begin with another of their items.
-use Rattle.std.proofs.Common.{◌≡◌, ◌∙◌, ap, ℕ, ◌+◌, ◌-◌, ◌<◌, ◌≤◌, List, length, take, drop, get_or, arith}
+use Rattle.std.proofs.Common.{◌≡◌, ◌∙◌, ap, sym, ℕ, ◌+◌, ◌-◌, ◌<◌, ◌≤◌, List, ◌++◌, length, take, drop, get_or, arith}
 use Rattle.std.proofs.Math.Seq.{take-append-add}
-use Rattle.std.proofs.lemmas.List.{length-drop, length-take-le, length-append, drop-append-le, get_or-drop, get_or-take, get_or_append_left, get_or-append_right}
+use Rattle.std.proofs.lemmas.List.{length-drop, length-take-le, take-take, length-append, drop-append-le, get_or-drop, get_or-take, get_or_append_left, get_or-append_right}
 use Rattle.mars_match.specs.Battles.{rotated}
-use Rattle.mars_match.specs.Code.Lineups.{IsTwice}
+use Rattle.mars_match.specs.Code.Lineups.{GoesOn}
 
 module _ {X : Type 0} where
-  -- a part of a list that stands twice
-  pub rotated_part : (count first : ℕ) (xs : List X) → IsTwice count xs → first ≤ count → take (first + count - first) (drop first xs) ≡ rotated first (take count xs)
-  rotated_part count first xs twice h =
+  -- a part of a list that goes on with its first items
+  pub rotated_part : (count first : ℕ) (xs : List X) → GoesOn count xs → first < count → take (first + count - first) (drop first xs) ≡ rotated first (take count xs)
+  rotated_part count first xs on h =
       let ws = take count xs in
-      let many : length ws ≡ count = length-take-le count xs (omega (arith, twice.many)) in
+      let again = take (count - 1) xs in
+      let many : length ws ≡ count = length-take-le count xs (omega (arith, on.many)) in
       let n : first + count - first ≡ length (drop first ws) + first = omega (arith, length-drop first ws, many) in
-      rw n (ap (λ l. take (length (drop first ws) + first) (drop first l)) twice.twice ∙ ap (take (length (drop first ws) + first)) (drop-append-le first ws ws (omega (arith, many))) ∙ take-append-add (drop first ws) ws first)
+      let same : take first again ≡ take first ws = take-take first (count - 1) xs (omega arith) ∙ sym (take-take first count xs (omega arith)) in
+      rw n (ap (λ l. take (length (drop first ws) + first) (drop first l)) on.again ∙ ap (take (length (drop first ws) + first)) (drop-append-le first ws again (omega (arith, many)))
+      ∙ take-append-add (drop first ws) again first ∙ ap (λ l. drop first ws ++ l) same)
 
   pub length-rotated : (n : ℕ) (xs : List X) → n ≤ length xs → length (rotated n xs) ≡ length xs
   length-rotated n xs h = omega (arith, length-append (drop n xs) (take n xs), length-drop n xs, length-take-le n xs h)

@@ -1,5 +1,5 @@
 //! Battles of a round, turned until they are over, and the warriors from each one on.
-ghost use Rattle.std.specs.Prelude.{◌≡◌, ◌+◌, ◌%◌, ◌<◌, ◌≤◌, length, Some, None, IfSome, Ok, Err, MatchOption, MatchResult, IfOk, IfErr, IsOk, ◌≢◌, slice_index_or, false, Bool, Vec, ◌++◌, ◌∷◌, []};
+ghost use Rattle.std.specs.Prelude.{◌≡◌, ◌+◌, ◌%◌, ◌<◌, ◌≤◌, length, Some, None, IfSome, Ok, Err, MatchOption, MatchResult, IfOk, IfErr, IsOk, ◌≢◌, slice_index_or, false, Bool, Vec, ◌++◌, ◌∷◌, [], take, Box};
 ghost use Rattle.std.specs.Global.{Global};
 ghost use Rattle.mars_core.specs.State.{State};
 ghost use Rattle.mars_match.specs.Answers.{IsAnswer};
@@ -15,23 +15,23 @@ use mars_core::{Battle, BattleFault, MOST_WARRIORS};
 use std::alloc::{AllocError, Global};
 use std::marker::Model;
 
-/// Copies of warriors, all of them twice, so that the warriors from each one on stand in a row.
+/// Copies of warriors, and then of all but the last of them, so that the warriors from each one on stand in a row.
 #[derive(Drop)]
 pub struct Lineup {
-    twice: Vec<Warrior>,
+    copies: Vec<Warrior>,
     count: usize,
 }
 
 impl Model for Lineup {
     ghost use Rattle.std.specs.Prelude.{◌≡◌, ◌++◌, List, take, length};
     ghost use Rattle.mars_cell.specs.Warriors.{WarriorValue};
-    ghost use Rattle.mars_match.specs.Code.Lineups.{IsTwice};
+    ghost use Rattle.mars_match.specs.Code.Lineups.{GoesOn};
 
     ghost Value = { List WarriorValue };
 
-    ghost view = { λ l. take l.count l.twice.items };
+    ghost view = { λ l. take l.count l.copies.items };
 
-    ghost invariant = { λ l. IsTwice l.count l.twice.items };
+    ghost invariant = { λ l. GoesOn l.count l.copies.items };
 }
 
 /// Appends copies of warriors.
@@ -47,27 +47,36 @@ fn append_copies(copies: &mut Vec<Warrior>, warriors: &[Warrior]) -> Result<(), 
 impl Lineup {
     /// Warriors in load order.
     pub fn new(alloc: Global, warriors: &[Warrior]) -> Result<Lineup, AllocError>
+        requires { 1 ≤ length warriors.now }
         ensures { IfOk result (λ lineup. lineup ≡ warriors.now) }
     {
-        let mut twice = Vec::new(alloc);
-        append_copies(&mut twice, warriors)?;
-        append_copies(&mut twice, warriors)?;
+        let mut copies = Vec::new(alloc);
+        append_copies(&mut copies, warriors)?;
+        append_copies(&mut copies, &warriors[..warriors.len() - 1])?;
         Ok(Lineup {
-            twice,
+            copies,
             count: warriors.len(),
         })
     }
 
-    /// Two warriors.
-    pub fn pair(alloc: Global, first: &Warrior, second: &Warrior) -> Result<Lineup, AllocError>
-        ensures { IfOk result (λ lineup. lineup ≡ first.now ∷ second.now ∷ []) }
+    /// A warrior twice, until another takes the second place.
+    pub fn twice(alloc: Global, warrior: &Warrior) -> Result<Lineup, AllocError>
+        ensures { IfOk result (λ lineup. lineup ≡ warrior.now ∷ warrior.now ∷ []) }
     {
-        let mut twice = Vec::new(alloc);
-        twice.push(first.copy()?)?;
-        twice.push(second.copy()?)?;
-        twice.push(first.copy()?)?;
-        twice.push(second.copy()?)?;
-        Ok(Lineup { twice, count: 2 })
+        let mut copies = Vec::new(alloc);
+        copies.push(warrior.copy()?)?;
+        copies.push(warrior.copy()?)?;
+        copies.push(warrior.copy()?)?;
+        Ok(Lineup { copies, count: 2 })
+    }
+
+    /// Puts a copy of a warrior into the place of the second of two.
+    pub fn replace_second(&mut self, warrior: &Warrior) -> Result<(), AllocError>
+        requires { length self.old ≡ 2 }
+        ensures { IfOk result (λ _. self.new ≡ take 1 self.old ++ warrior.now ∷ []) }
+    {
+        self.copies[1] = warrior.copy()?;
+        Ok(())
     }
 
     /// How many warriors there are.
@@ -79,10 +88,10 @@ impl Lineup {
 
     /// The warriors from one on, and then those before it.
     pub fn starting_at(&self, first: usize) -> &[Warrior]
-        requires { first ≤ length self.now }
+        requires { first < length self.now }
         ensures { result.now ≡ rotated first self.now }
     {
-        &self.twice[first..first + self.count]
+        &self.copies[first..first + self.count]
     }
 }
 
@@ -125,13 +134,16 @@ fn new_battle(
     params: &Params,
     warriors: &[Warrior],
     starts: &[u32],
-) -> Result<Battle, MatchFault>
+) -> Result<Box<Battle>, MatchFault>
     requires { length starts.now ≡ length warriors.now }
-    ensures { IsAnswer (λ (battle : State). battle)
+    ensures { IsAnswer (λ (battle : Box State Global). battle.value)
         (unless (start_fault params.now warriors.now starts.now) (start_state params.now warriors.now starts.now)) result }
 {
     match Battle::new(alloc, params, warriors, starts) {
-        Ok(battle) => Ok(battle),
+        Ok(battle) => match Box::new(alloc, battle) {
+            Ok(battle) => Ok(battle),
+            Err(_) => Err(MatchFault::OutOfMemory),
+        },
         Err(BattleFault::OutOfMemory) => Err(MatchFault::OutOfMemory),
         Err(fault) => Err(MatchFault::Battle(fault)),
     }
@@ -144,13 +156,13 @@ fn start_round(
     lineup: &Lineup,
     starts: &[u32],
     round: u32,
-    last: Option<Battle>,
-) -> Result<Battle, MatchFault>
+    last: Option<Box<Battle>>,
+) -> Result<Box<Battle>, MatchFault>
     requires starts { length starts.now ≡ length lineup.now }
     requires some { 1 ≤ length lineup.now }
     requires few { length lineup.now ≤ most_warriors }
-    requires last { IfSome last (λ battle. HasRoom params.now (length lineup.now) battle) }
-    ensures state { IsAnswer (λ (battle : State). battle) (started params.now lineup.now starts.now round) result }
+    requires last { IfSome last (λ battle. HasRoom params.now (length lineup.now) battle.value) }
+    ensures state { IsAnswer (λ (battle : Box State Global). battle.value) (started params.now lineup.now starts.now round) result }
     ensures no_memory { IfSome last (λ _. IfErr result (λ fault. fault ≢ MatchFault.OutOfMemory)) }
 {
     let first = round as usize % lineup.len();
@@ -183,15 +195,15 @@ pub fn fight_round(
     lineup: &Lineup,
     starts: &[u32],
     round: u32,
-    last: Option<Battle>,
-) -> Result<Battle, MatchFault>
+    last: Option<Box<Battle>>,
+) -> Result<Box<Battle>, MatchFault>
     requires starts { length starts.now ≡ length lineup.now }
     requires some { 1 ≤ length lineup.now }
     requires few { length lineup.now ≤ most_warriors }
-    requires last { IfSome last (λ battle. HasRoom params.now (length lineup.now) battle) }
-    ensures survivors { IsAnswer (λ (battle : State). in_load_order (round % length lineup.now) battle)
+    requires last { IfSome last (λ battle. HasRoom params.now (length lineup.now) battle.value) }
+    ensures survivors { IsAnswer (λ (battle : Box State Global). in_load_order (round % length lineup.now) battle.value)
         (fought params.now lineup.now starts.now round) result }
-    ensures room { IfOk result (λ battle. HasRoom params.now (length lineup.now) battle) }
+    ensures room { IfOk result (λ battle. HasRoom params.now (length lineup.now) battle.value) }
 
     // In the memory of a last battle none is asked for.
     ensures no_memory { IfSome last (λ _. IfErr result (λ fault. fault ≢ MatchFault.OutOfMemory)) }

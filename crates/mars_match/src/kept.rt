@@ -17,8 +17,8 @@ pub type Scores = [Option<i64>; MOST_WARRIORS];
 /// What the matches of one call leave to the next.
 #[derive(Drop)]
 pub struct Kept {
-    /// A battle in whose memory another of as many warriors can start.
-    pub last: Option<Battle>,
+    /// A battle in whose memory another of as many warriors can start. It is boxed, since each round hands it on.
+    pub last: Option<Box<Battle>>,
     pub scores: Scores,
 }
 

@@ -1,6 +1,7 @@
 //! Matches of several rounds, and leagues, in which every pair of warriors fights a match.
-ghost use Rattle.std.specs.Prelude.{◌≡◌, ◌+◌, ◌%◌, ◌<◌, ◌≤◌, All, length, ℤ, ◌-◌, Some, None, Ok, Err, IfSome, IfOk, IfErr, ◌≢◌, MatchOption, true, false, MatchResult, Vec, replicate, ◌*◌, drop, [], ◌∷◌};
+ghost use Rattle.std.specs.Prelude.{◌≡◌, ◌+◌, ◌%◌, ◌<◌, ◌≤◌, All, length, ℤ, ◌-◌, Some, None, Ok, Err, IfSome, IfOk, IfErr, ◌≢◌, MatchOption, true, false, MatchResult, Vec, replicate, ◌*◌, drop, [], ◌∷◌, Box};
 ghost use Rattle.mars_core.specs.State.{State};
+ghost use Rattle.mars_cell.specs.Warriors.{WarriorValue};
 ghost use Rattle.mars_match.specs.Answers.{IsAnswer};
 ghost use Rattle.mars_match.specs.Battles.{count_fault};
 ghost use Rattle.mars_match.specs.Code.Keeping.{AreScores, IsKept};
@@ -105,14 +106,14 @@ fn play_round(
     round: u32,
     formula: &Formula,
     kept: &mut Kept,
-) -> Result<(Battle, i64), MatchFault>
+) -> Result<(Box<Battle>, i64), MatchFault>
     requires starts { length starts.now ≡ length lineup.now }
     requires some { 1 ≤ length lineup.now }
     requires few { length lineup.now ≤ most_warriors }
     requires kept { IsKept params.now (length lineup.now) formula.now kept.old }
-    ensures outcome { IsAnswer (λ (played : State × ℤ). outcome_by (round % length lineup.now) played.0 played.1)
+    ensures outcome { IsAnswer (λ (played : Box State Global × ℤ). outcome_by (round % length lineup.now) played.0.value played.1)
         (ended params.now lineup.now formula.now starts.now round) result }
-    ensures room { IfOk result (λ played. HasRoom params.now (length lineup.now) played.0) }
+    ensures room { IfOk result (λ played. HasRoom params.now (length lineup.now) played.0.value) }
     ensures scores { IfOk result (λ _. AreScores formula.now (length lineup.now) kept.new.scores) }
     ensures no_memory { IfSome kept.old.last (λ _. IfErr result (λ fault. fault ≢ MatchFault.OutOfMemory)) }
 {
@@ -220,26 +221,24 @@ fn check_points(tally: Tally) -> Result<(), MatchFault>
     Ok(())
 }
 
-/// The tallies of two warriors after their match.
+/// The tallies of the two of a lineup after their match.
 fn play_pair(
     alloc: Global,
     params: &Params,
-    first: &Warrior,
-    second: &Warrior,
+    lineup: &Lineup,
     plan: &Plan,
     kept: &mut Kept,
 ) -> Result<(Tally, Tally), MatchFault>
-    requires { IsKept params.now 2 plan.now.formula kept.old }
-    ensures table { IsAnswer (λ (both : Tally × Tally). row_with first.now both.0 ∷ row_with second.now both.1 ∷ [])
-        (table_of params.now (first.now ∷ second.now ∷ []) plan.now.formula plan.now.fixed plan.now.rounds plan.now.seed) result }
+    requires two { length lineup.now ≡ 2 }
+    requires kept { IsKept params.now (length lineup.now) plan.now.formula kept.old }
+    ensures table { (first second : WarriorValue) → lineup.now ≡ first ∷ second ∷ []
+        → IsAnswer (λ (both : Tally × Tally). row_with first both.0 ∷ row_with second both.1 ∷ [])
+        (table_of params.now (first ∷ second ∷ []) plan.now.formula plan.now.fixed plan.now.rounds plan.now.seed) result }
     ensures bounds { IfOk result (λ both. IsOf most_rounds both.0 × IsOf most_rounds both.1) }
-    ensures kept { IfOk result (λ _. IsKept params.now 2 plan.now.formula kept.new) }
+    ensures kept { IfOk result (λ _. IsKept params.now (length lineup.now) plan.now.formula kept.new) }
 {
-    let Ok(lineup) = Lineup::pair(alloc, first, second) else {
-        return Err(MatchFault::OutOfMemory);
-    };
     let mut tallies = [no_rounds(), no_rounds()];
-    play_rounds(alloc, params, &lineup, plan, plan.seed, &mut tallies, kept)?;
+    play_rounds(alloc, params, lineup, plan, plan.seed, &mut tallies, kept)?;
     check_points(tallies[0])?;
     check_points(tallies[1])?;
     Ok((tallies[0], tallies[1]))
@@ -266,8 +265,14 @@ fn play_others(
     ensures bounds { IfOk result (λ _. All (IsOf ((i + 1) * most_row)) tallies.new) }
     ensures kept { IfOk result (λ _. IsKept params.now 2 plan.now.formula kept.new) }
 {
+    let Ok(mut lineup) = Lineup::twice(alloc, &warriors[i]) else {
+        return Err(MatchFault::OutOfMemory);
+    };
     for j in i + 1..warriors.len() {
-        let (one, other) = play_pair(alloc, params, &warriors[i], &warriors[j], plan, kept)?;
+        let Ok(()) = lineup.replace_second(&warriors[j]) else {
+            return Err(MatchFault::OutOfMemory);
+        };
+        let (one, other) = play_pair(alloc, params, &lineup, plan, kept)?;
         tallies[i] = joined(tallies[i], one);
         tallies[j] = joined(tallies[j], other);
     }

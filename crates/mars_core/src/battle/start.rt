@@ -181,8 +181,22 @@ pub fn lay_anew(core: &mut [Cell], params: &Params, warriors: &[Warrior], starts
     ensures laid { core.new ≡ all_laid params.now.core_size warriors.now starts.now (replicate params.now.core_size empty_cell) }
     ensures core { IsCore params.now.core_size core.new }
 {
-    core.fill(Cell::empty());
+    clear(core);
     lay_each(core, params.core_size(), warriors, starts);
+}
+
+/// Empties cells: a first part, and the others as copies of it, since to copy many costs less than to write each.
+fn clear(cells: &mut [Cell])
+    ensures { cells.new ≡ replicate (length cells.old) empty_cell }
+{
+    let copied = cells.len() / 2;
+    if copied < 16 {
+        cells.fill(Cell::empty());
+        return;
+    }
+    let (first, others) = cells.split_at_mut(cells.len() - copied);
+    clear(first);
+    others.copy_from_slice(&first[..copied]);
 }
 
 /// Lays each warrior from its start on.

@@ -12,5 +12,5 @@ AreScores formula warriors scores = (i : ℕ) (score : ℤ) → slice_index_or s
 
 -- a battle in whose memory one of so many warriors can start, and right scores
 pub record IsKept (p : Parameters) (warriors : ℕ) (formula : Scanned) (kept : Kept) : Type 0 where
-  pub room : IfSome kept.last (HasRoom p warriors)
+  pub room : IfSome kept.last (λ battle. HasRoom p warriors battle.value)
   pub scores : AreScores formula warriors kept.scores

@@ -1,4 +1,4 @@
-use Rattle.std.proofs.Common.{◌≡◌, ◌+◌, ◌*◌, All, drop}
+use Rattle.std.proofs.Common.{◌≡◌, ◌+◌, ◌*◌, All, drop, length, take}
 use Rattle.mars_match.specs.Code.Keeping.{IsKept}
 use Rattle.mars_match.specs.Code.LeagueSteps.{pairs_of_first, after_matches}
 use Rattle.mars_match.specs.Code.Tallies.{IsOf, most_rounds, most_row}
@@ -12,4 +12,6 @@ invariant-loop-j l = record {
       ≡ after_matches l.params l.plan.formula l.plan.fixed l.plan.rounds l.plan.seed (pairs_of_first l.i (drop l.i l.warriors)) l.initial.tallies;
   bounds : All (IsOf (l.i * most_row + l.j * most_rounds)) l.tallies;
   kept : IsKept l.params 2 l.plan.formula l.kept;
+  two : length l.lineup ≡ 2;
+  first : take 1 l.lineup ≡ take 1 (drop l.i l.warriors);
 }

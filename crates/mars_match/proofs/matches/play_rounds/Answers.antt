@@ -41,11 +41,11 @@ loop-round-preserved c =
     let same : c.as_slice.result.now ≡ c.place_round.new.starts = grind (arith, common_steps, c.as_slice.ensures.value) in
     let k = c.loop-round.round in
     let count : length c.loop-round.tallies ≡ length c.args.lineup.now = omega (arith, c.in_ok-battle.ensures.room.warriors) in
-    let o = outcome_by (k % length c.args.lineup.now) c.in_ok-battle.battle c.in_ok-battle.score in
+    let o = outcome_by (k % length c.args.lineup.now) c.in_ok-battle.battle.value c.in_ok-battle.score in
     let fits : FitsSigned w64 c.in_ok-battle.score = search rules in
     let score = to_z-of_z w64 c.in_ok-battle.score fits in
     let played : ended c.args.params.now c.args.lineup.now plan.formula c.place_round.new.starts k ≡ Ok o = rw (← same) c.in_ok-battle.ensures.outcome in
-    let sums : c.add_round.new.tallies ≡ all_added o 0 c.loop-round.tallies = rw (score, count) at c.add_round.ensures.sums in
+    let sums : c.add_round.new.tallies ≡ all_added o 0 c.loop-round.tallies = rw (c.deref.ensures, score, count) at c.add_round.ensures.sums in
     record {
       sums = rw sums (tallied_more c.args.params.now c.args.lineup.now plan.formula plan.fixed plan.rounds k c.loop-round.seed c.loop-round.tallies more c.place_round.new.starts c.in_ok-seed.seed o good played ∙ c.loop-round.invariant.sums);
       bounds = c.add_round.ensures.bounds;
