@@ -1,5 +1,5 @@
 -- What the words become that are added to a command: a rule each, one behind the other.
--- The words stand in constant tables and one loop adds them, so one lemma is enough (`word_added`), and `app_of` of the command is a fold of rules.
+-- The words stand in one table and one loop adds them, so one lemma is enough (`word_added`), and `app_of` of the command is a fold of rules.
 use Rattle.std.specs.Prelude.{◌≡◌, ℕ, ◌+◌, ◌<◌, false, List, [], ◌∷◌, get_or, length, map, take}
 use Rattle.std.proofs.Common.{◌∙◌, ap₂, refl}
 use Rattle.std.proofs.lemmas.List.{map-append, take_more}

@@ -1,9 +1,9 @@
 //! The words that follow the program's name, as `clap` reads them.
-ghost use Rattle.std.specs.Prelude.{◌≡◌, false, IfOk, map, pos};
+ghost use Rattle.std.specs.Prelude.{◌≡◌, ◌++◌, false, IfOk, map, pos};
 ghost use Rattle.clap.specs.Simple.{app_of};
 ghost use Rattle.clap.specs.Walk.{rule_of};
 ghost use Rattle.clap.specs.declared.builder.value_parser.ValueParser.TheVariants.{Signed};
-ghost use Rattle.mars_app.specs.CommandLine.{contest_rules, core_rules, debugger_rules, file_rule, mars, output_rules, plain_mars, with_rules};
+ghost use Rattle.mars_app.specs.CommandLine.{contest_rules, core_rules, debugger_rules, file_rule, mars, output_rules, plain_mars};
 ghost use Rattle.mars_app.specs.Code.WordTables.{reached, rule_of_word, valued};
 
 use clap::builder::ValueParser;
@@ -43,20 +43,6 @@ enum Value {
     Formula,
 }
 
-impl Value {
-    /// Gives an argument the value that follows its word.
-    fn take(self, arg: Arg<'_>) -> Arg<'_>
-        ensures rule { rule_of result ≡ valued self (rule_of arg.entry) }
-        ensures local { result.global ≡ arg.entry.global }
-    {
-        match self {
-            Value::Flag(action) => arg.action(action),
-            Value::Formula => arg.value_name("FORMULA"),
-            Value::Number(greatest) => arg.value_name("N").value_parser(number_parser(greatest)),
-        }
-    }
-}
-
 /// Takes the numbers from 1 to a greatest one.
 fn number_parser<'a>(greatest: u32) -> ValueParser<'a>
     ensures { result ≡ Signed (pos 1) (pos greatest) }
@@ -67,6 +53,8 @@ fn number_parser<'a>(greatest: u32) -> ValueParser<'a>
 /// A word, with its line in the help.
 #[derive(Clone, Copy)]
 struct Word {
+    /// It stands above the word in the help.
+    heading: &'static str,
     /// It stands behind two minus where the word has no letter.
     name: &'static str,
     /// It stands behind one minus.
@@ -83,29 +71,34 @@ impl Word {
         ensures rule { rule_of result ≡ rule_of_word self.now }
         ensures local { result.global ≡ false }
     {
-        let arg = self.reach(self.value.take(Arg::new(alloc, self.name)));
-        let arg = arg.help(self.help);
+        let arg = self.reached(alloc).help(self.help);
+        let arg = match self.value {
+            Value::Flag(action) => arg.action(action),
+            Value::Formula => arg.value_name("FORMULA"),
+            Value::Number(greatest) => arg.value_name("N").value_parser(number_parser(greatest)),
+        };
         match self.default {
             None => arg,
             Some(text) => arg.default_value(text),
         }
     }
 
-    /// Gives an argument the letter or the name of the word.
-    fn reach<'a>(&self, arg: Arg<'a>) -> Arg<'a>
-        ensures rule { rule_of result ≡ reached self.now.letter self.now.name.now (rule_of arg.entry) }
-        ensures local { result.global ≡ arg.entry.global }
+    /// An argument that is reached by the letter or the name of the word.
+    fn reached<'a>(&self, alloc: Global) -> Arg<'a>
+        ensures rule { rule_of result ≡ reached self.now.letter self.now.name.now }
+        ensures local { result.global ≡ false }
     {
         match self.letter {
-            None => arg.long(self.name),
-            Some(letter) => arg.short(letter),
+            None => Arg::new(alloc, self.name).long(self.name),
+            Some(letter) => Arg::new(alloc, self.name).short(letter),
         }
     }
 }
 
-/// A row for each word on what is fought.
-const CONTEST: [Word; 5] = [
+/// A row for each word, in the order of the help.
+static WORDS: [Word; 18] = [
     Word {
+        heading: "Contest",
         name: "rounds",
         letter: Some('r'),
         value: Value::Number(MOST_ROUNDS),
@@ -113,6 +106,7 @@ const CONTEST: [Word; 5] = [
         help: "Rounds, 1 to 100000",
     },
     Word {
+        heading: "Contest",
         name: "fixed",
         letter: Some('F'),
         value: Value::Number(LARGEST_CORE),
@@ -120,6 +114,7 @@ const CONTEST: [Word; 5] = [
         help: "Position of warrior 2, from the least distance to the core size less that",
     },
     Word {
+        heading: "Contest",
         name: "seed",
         letter: None,
         value: Value::Number(GREATEST_SEED),
@@ -127,6 +122,7 @@ const CONTEST: [Word; 5] = [
         help: "Seed of the positions, 1 to 2147483646",
     },
     Word {
+        heading: "Contest",
         name: "score",
         letter: None,
         value: Value::Formula,
@@ -134,24 +130,15 @@ const CONTEST: [Word; 5] = [
         help: "What a survivor gets, W being the warriors and S the survivors",
     },
     Word {
+        heading: "Contest",
         name: "league",
         letter: None,
         value: Value::Flag(ArgAction::SetTrue),
         default: None,
         help: "Every pair of warriors fights",
     },
-];
-
-/// The words on what is fought.
-fn contest_words() -> [Word; 5]
-    ensures { map rule_of_word result ≡ contest_rules }
-{
-    CONTEST
-}
-
-/// A row for each word on the core and its limits.
-const CORE: [Word; 7] = [
     Word {
+        heading: "Core",
         name: "core",
         letter: Some('s'),
         value: Value::Number(LARGEST_CORE),
@@ -159,6 +146,7 @@ const CORE: [Word; 7] = [
         help: "Core size, 1 to 1048576",
     },
     Word {
+        heading: "Core",
         name: "cycles",
         letter: Some('c'),
         value: Value::Number(MOST_CYCLES),
@@ -166,6 +154,7 @@ const CORE: [Word; 7] = [
         help: "Cycle limit, 1 to 10000000",
     },
     Word {
+        heading: "Core",
         name: "processes",
         letter: Some('p'),
         value: Value::Number(MOST_PROCESSES),
@@ -173,6 +162,7 @@ const CORE: [Word; 7] = [
         help: "Process limit, 1 to 65536",
     },
     Word {
+        heading: "Core",
         name: "longest",
         letter: Some('l'),
         value: Value::Number(LARGEST_CORE),
@@ -180,6 +170,7 @@ const CORE: [Word; 7] = [
         help: "Longest warrior, 1 to the core size",
     },
     Word {
+        heading: "Core",
         name: "distance",
         letter: Some('d'),
         value: Value::Number(LARGEST_CORE),
@@ -187,6 +178,7 @@ const CORE: [Word; 7] = [
         help: "Least distance, from the longest warrior to the core size",
     },
     Word {
+        heading: "Core",
         name: "read-limit",
         letter: None,
         value: Value::Number(LARGEST_CORE),
@@ -194,24 +186,15 @@ const CORE: [Word; 7] = [
         help: "How far is read, 1 to the core size [default: core size]",
     },
     Word {
+        heading: "Core",
         name: "write-limit",
         letter: None,
         value: Value::Number(LARGEST_CORE),
         default: None,
         help: "How far is written, 1 to the core size [default: core size]",
     },
-];
-
-/// The words on the core and its limits.
-fn core_words() -> [Word; 7]
-    ensures { map rule_of_word result ≡ core_rules }
-{
-    CORE
-}
-
-/// A row for each word on the debugger.
-const DEBUGGER: [Word; 2] = [
     Word {
+        heading: "Debugger",
         name: "debugger",
         letter: Some('e'),
         value: Value::Flag(ArgAction::SetTrue),
@@ -219,24 +202,15 @@ const DEBUGGER: [Word; 2] = [
         help: "Debugs the battle of the first round by the commands of standard input",
     },
     Word {
+        heading: "Debugger",
         name: "history",
         letter: None,
         value: Value::Number(LONGEST_HISTORY),
         default: Some("200000"),
         help: "Places that the history keeps, 1 to 1000000",
     },
-];
-
-/// The words on the debugger.
-fn debugger_words() -> [Word; 2]
-    ensures { map rule_of_word result ≡ debugger_rules }
-{
-    DEBUGGER
-}
-
-/// A row for each word on what is written.
-const OUTPUT: [Word; 4] = [
     Word {
+        heading: "Output",
         name: "brief",
         letter: Some('b'),
         value: Value::Flag(ArgAction::SetTrue),
@@ -244,6 +218,7 @@ const OUTPUT: [Word; 4] = [
         help: "No listing of the warriors",
     },
     Word {
+        heading: "Output",
         name: "sorted",
         letter: Some('o'),
         value: Value::Flag(ArgAction::SetTrue),
@@ -251,6 +226,7 @@ const OUTPUT: [Word; 4] = [
         help: "Results sorted by points",
     },
     Word {
+        heading: "Output",
         name: "load",
         letter: None,
         value: Value::Flag(ArgAction::SetTrue),
@@ -258,6 +234,7 @@ const OUTPUT: [Word; 4] = [
         help: "Writes the load file of the one warrior",
     },
     Word {
+        heading: "Output",
         name: "help",
         letter: None,
         value: Value::Flag(ArgAction::Help),
@@ -266,11 +243,11 @@ const OUTPUT: [Word; 4] = [
     },
 ];
 
-/// The words on what is written.
-fn output_words() -> [Word; 4]
-    ensures { map rule_of_word result ≡ output_rules }
+/// The words of the program.
+fn words() -> &'static [Word]
+    ensures { map rule_of_word result.now ≡ contest_rules ++ (core_rules ++ (debugger_rules ++ output_rules)) }
 {
-    OUTPUT
+    &WORDS
 }
 
 /// The command before it has a word; its help has no short one.
@@ -290,25 +267,11 @@ fn plain_command<'a>(alloc: Global) -> Command<'a>
 pub fn command<'a>(alloc: Global) -> Result<Command<'a>, AllocError>
     ensures { IfOk result (λ command. app_of command ≡ mars) }
 {
-    let command = plain_command(alloc).arg(files(alloc))?;
-    let command = with_words(alloc, command, "Contest", &contest_words())?;
-    let command = with_words(alloc, command, "Core", &core_words())?;
-    let command = with_words(alloc, command, "Debugger", &debugger_words())?;
-    with_words(alloc, command, "Output", &output_words())
-}
-
-/// Adds words, which stand under a heading in the help.
-fn with_words<'a>(
-    alloc: Global,
-    command: Command<'a>,
-    heading: &'a str,
-    words: &[Word],
-) -> Result<Command<'a>, AllocError>
-    ensures { IfOk result (λ made. app_of made ≡ with_rules (app_of command.entry) (map rule_of_word words.now)) }
-{
-    let mut command = command.next_help_heading(heading);
-    for word in words {
-        command = command.arg(word.arg(alloc))?;
+    let mut command = plain_command(alloc).arg(files(alloc))?;
+    for word in words() {
+        command = command
+            .next_help_heading(word.heading)
+            .arg(word.arg(alloc))?;
     }
     Ok(command)
 }

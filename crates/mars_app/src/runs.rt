@@ -303,7 +303,10 @@ fn debug_battle<R: Read, W: Write>(
         return Err(RunFault::OutOfMemory);
     };
     let mut session = Session::new(tape, u64::from(history));
-    match debug(input, output, &mut session) {
+    let debugged = debug(input, output, &mut session);
+    // By a call, as in `run_options`.
+    drop(session);
+    match debugged {
         Ok(()) => Ok(()),
         Err(DebugFault::Read) => Err(RunFault::Commands),
         Err(DebugFault::Write) => Err(RunFault::Output),

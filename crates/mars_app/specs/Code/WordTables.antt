@@ -1,11 +1,11 @@
--- The rules that `clap` has for the words of the tables.
+-- The rules that `clap` has for the words of the table.
 -- That they are the rules of the definition is closed by computation. What `clap` asks of the command then computes (`clap_on_literals`).
 use Rattle.std.specs.Prelude.{ℕ, None, Option, Some, pos}
 use Rattle.std.specs.Borrow.{Bor}
 use Rattle.clap.specs.Simple.{new_rule}
 use Rattle.clap.specs.Walk.{Rule, Text}
 use Rattle.clap.specs.declared.builder.value_parser.ValueParser.TheVariants as parser
-use Rattle.mars_app.specs.CommandLine.{or_else, short}
+use Rattle.mars_app.specs.CommandLine.{long, or_else, short}
 use Rattle.mars_app.specs.declared.command_line.Value.{Value}
 use Rattle.mars_app.specs.declared.command_line.Value.TheVariants as value
 use Rattle.mars_app.specs.declared.command_line.Word.{Word}
@@ -17,13 +17,13 @@ valued (value.Number greatest) rule = record rule { value_names = 1; parser = So
 valued value.Formula rule = record rule { value_names = 1 }
 
 -- with the letter behind one minus, or else the name behind two
-abbrev pub reached : Option ℕ → Text → Rule → Rule
-reached (Some letter) name rule = short letter rule
-reached None name rule = record rule { long = Some name }
+abbrev pub reached : Option ℕ → Text → Rule
+reached (Some letter) name = short letter (new_rule name)
+reached None name = long (new_rule name)
 
 abbrev pub defaulted : Option (Bor Text) → Rule → Rule
 defaulted (Some text) rule = or_else text.now rule
 defaulted None rule = rule
 
 abbrev pub rule_of_word : Word → Rule
-rule_of_word word = defaulted word.default (reached word.letter word.name.now (valued word.value (new_rule word.name.now)))
+rule_of_word word = defaulted word.default (valued word.value (reached word.letter word.name.now))

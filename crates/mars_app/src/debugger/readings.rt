@@ -5,6 +5,7 @@ ghost use Rattle.std.specs.List.{flat_map};
 ghost use Rattle.mars_cell.specs.Output.{CutShort};
 ghost use Rattle.mars_core.specs.State.{cell_at, queue_of};
 ghost use Rattle.arrayvec.specs.ArrayString.{array_string_len};
+ghost use Rattle.mars_app.specs.Debugger.Replies.{refusal_text};
 ghost use Rattle.mars_app.specs.Debugger.Readings.{cell_line, line_at, list_text, most_listed, texts, queue_text, queue_head, process_text, warrior_text, life_text, death_of, show_text, end_text};
 
 use crate::debugger::pending::Pending;
@@ -13,6 +14,14 @@ use mars_cell::{Line, WriteFault, numbered, push_number, write_text};
 use mars_core::{Battle, Death};
 use mars_session::{Refusal, Standing};
 use std::io::Write;
+
+/// Writes why a reading is refused.
+fn write_refusal<W: Write>(writer: &mut W, refusal: Refusal) -> Result<(), WriteFault>
+    ensures ok { OnOk result (Appends (W.contents writer.old) (W.contents writer.new) (refusal_text refusal)) }
+    ensures err { OnErr result (CutShort (W.contents writer.old) (W.contents writer.new) (refusal_text refusal)) }
+{
+    write_text(writer, refusal_line(refusal).as_str().as_bytes())
+}
 
 /// The line of the cell at an address.
 fn cell_line(battle: &Battle, address: u32) -> Line
@@ -42,8 +51,8 @@ fn write_cells<W: Write>(
     let core_size = u64::from(battle.params().core_size());
     let mut pending = Pending::new();
     for i in 0..count {
-        let line = cell_line(battle, ((address + i) % core_size) as u32);
-        match pending.push(writer, &line) {
+        let there = (address + i) % core_size;
+        match pending.push(writer, &cell_line(battle, there as u32)) {
             Ok(()) => {}
             Err(fault) => return Err(fault),
         }
@@ -66,10 +75,10 @@ pub fn write_list<W: Write>(
     ensures err { OnErr result (CutShort (W.contents writer.old) (W.contents writer.new) (list_text battle.now address count)) }
 {
     if count == 0 || count > MOST_LISTED {
-        return write_text(writer, refusal_line(Refusal::Count).as_str().as_bytes());
+        return write_refusal(writer, Refusal::Count);
     }
     if address >= u64::from(battle.params().core_size()) {
-        return write_text(writer, refusal_line(Refusal::Address).as_str().as_bytes());
+        return write_refusal(writer, Refusal::Address);
     }
     write_cells(writer, battle, address, count)
 }
@@ -114,10 +123,7 @@ pub fn write_queue<W: Write>(
     ensures err { OnErr result (CutShort (W.contents writer.old) (W.contents writer.new) (queue_text battle.now warrior)) }
 {
     if warrior >= battle.warriors() as u64 {
-        return write_text(
-            writer,
-            refusal_line(Refusal::NoSuchWarrior).as_str().as_bytes(),
-        );
+        return write_refusal(writer, Refusal::NoSuchWarrior);
     }
     write_processes(writer, battle, warrior as usize)
 }

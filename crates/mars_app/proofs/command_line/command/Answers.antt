@@ -1,20 +1,23 @@
-use Rattle.std.proofs.Common.{◌∙◌, ◌≡◌, ap}
-use Rattle.std.proofs.lemmas.Result.{IfOk-weaker}
-use Rattle.clap.specs.Simple.{app_of}
-use Rattle.mars_app.specs.CommandLine.{contest_rules, core_rules, debugger_rules, output_rules, with_rules}
-use Rattle.mars_app.proofs.Adding.{added}
+use Rattle.std.proofs.Common.{◌∙◌, ◌≡◌, ap, arith, rules, take}
+use Rattle.std.proofs.lemmas.List.{take_all}
+use Rattle.clap.specs.Simple.{app_of_fields, with_rule}
+use Rattle.mars_app.specs.CommandLine.{file_rule, plain_mars, with_rules}
+use Rattle.mars_app.specs.Code.WordTables.{rule_of_word}
+use Rattle.mars_app.proofs.Adding.{added, word_added}
 use Rattle.mars_app.proofs.command_line.command.Goals as goal
+
+pub loop-word-init : goal.loop-word-init
+loop-word-init c =
+    (added _ c.files.result _ _ _ c.in_ok-command.ensures c.files.ensures.rule c.files.ensures.local c.plain_command.ensures, omega arith)
+
+pub loop-word-preserved : goal.loop-word-preserved
+loop-word-preserved c = (
+  word_added rule_of_word c.words-word-items.result.now c.loop-word.word-index _ _ _ c.arg-in-loop-word.result _ c.loop-word-test.true c.in_ok-command-2.ensures
+      c.arg-in-loop-word.ensures.rule c.arg-in-loop-word.ensures.local (ap app_of_fields c.next_help_heading.ensures ∙ c.loop-word.invariant.0),
+  search rules,
+)
 
 pub returns : goal.returns
 returns c =
-    let files = added _ c.files.result _ _ _ c.in_ok-command.ensures c.files.ensures.rule c.files.ensures.local c.plain_command.ensures in
-    let contest_is : app_of c.in_ok-command-2.command ≡ with_rules (app_of c.in_ok-command.command) contest_rules =
-    c.in_ok-command-2.ensures ∙ ap (with_rules (app_of c.in_ok-command.command)) c.contest_words.ensures in
-    let core_is : app_of c.in_ok-command-3.command ≡ with_rules (app_of c.in_ok-command-2.command) core_rules =
-    c.in_ok-command-3.ensures ∙ ap (with_rules (app_of c.in_ok-command-2.command)) c.core_words.ensures in
-    let debugger_is : app_of c.in_ok-command-4.command ≡ with_rules (app_of c.in_ok-command-3.command) debugger_rules =
-    c.in_ok-command-4.ensures ∙ ap (with_rules (app_of c.in_ok-command-3.command)) c.debugger_words.ensures in
-    let contest = contest_is ∙ ap (λ app. with_rules app contest_rules) files in
-    let core = core_is ∙ ap (λ app. with_rules app core_rules) contest in
-    let debugger = debugger_is ∙ ap (λ app. with_rules app debugger_rules) core in
-    IfOk-weaker c.with_words-4.result _ _ (λ made is. is ∙ ap (with_rules _) c.output_words.ensures ∙ ap (λ app. with_rules app output_rules) debugger) c.with_words-4.ensures
+    let all : take c.loop-word.word-index c.words-word-items.result.now ≡ c.words-word-items.result.now = take_all _ _ (omega arith) in
+    (rw all at c.loop-word.invariant.0) ∙ ap (with_rules (with_rule plain_mars file_rule)) c.words-word-items.ensures

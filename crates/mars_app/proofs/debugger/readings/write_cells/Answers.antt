@@ -18,8 +18,8 @@ pub loop-i-preserved : goal.loop-i-preserved
 loop-i-preserved g c =
     let s = c.args.battle.now in
     let size : c.from-core_size.result ≡ s.params.core_size = cc in
-    let line : c.cell_line-line.result.bytes ≡ line_at s c.args.address c.loop-i.i =
-    c.cell_line-line.ensures ∙ line_there s c.args.address c.loop-i.i c.from-core_size.result size in
+    let line : c.cell_line.result.bytes ≡ line_at s c.args.address c.loop-i.i =
+    c.cell_line.ensures ∙ line_there s c.args.address c.loop-i.i c.from-core_size.result size in
     let more = c.in-Ok.ensures.ok _ _ c.loop-i.invariant in
     rw (texts-one_more (line_at s c.args.address) c.loop-i.i) (rw line at more)
 
