@@ -3,6 +3,7 @@ pub mod Histories
 pub mod Commands
 pub mod Forgetting
 pub mod Scripts
+pub mod Laws
 use Rattle.std.specs.Prelude.{◌≡◌, ℕ, false, List, [], ◌∷◌, Some, Result, Ok}
 use Rattle.mars_cell.specs.declared.instruction.Op.TheVariants.{Mov}
 use Rattle.mars_cell.specs.declared.instruction.Modifier.TheVariants.{I}

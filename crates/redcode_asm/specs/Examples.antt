@@ -3,3 +3,4 @@ pub mod Warriors
 pub mod Formulas
 pub mod LoadFiles
 pub mod SourceLines
+pub mod Names

@@ -1,9 +1,11 @@
--- Worked examples: a loop, and the lines that are written in its place.
-use Rattle.std.specs.Prelude.{◌≡◌, ℕ, pos, List, [], ◌∷◌, ◌++◌, map, true, Result, Ok, Err, codes, refl}
+-- Worked examples: a loop, the lines that are written in its place, and programs that are alike.
+use Rattle.std.specs.Prelude.{◌≡◌, ℕ, pos, List, [], ◌∷◌, ◌++◌, map, true, Option, Some, Result, Ok, Err, codes, refl}
 use Rattle.std.specs.Fmt.{digits}
+use Rattle.std.proofs.Common.{ap}
 use Rattle.redcode_text.specs.declared.fault.TextFault.{TextFault}
+use Rattle.redcode_text.specs.declared.token.TokenKind.{TokenKind}
 use Rattle.redcode_text.specs.declared.token.TokenKind.TheVariants.{Number, Name}
-use Rattle.redcode_text.specs.Alike.{spelled_kind, spelled_line}
+use Rattle.redcode_text.specs.Alike.{AreAlike, spelled_kind, spelled_line}
 use Rattle.redcode_text.specs.Expansion.{ProgramValue, expansion}
 use Rattle.redcode_text.specs.Expression.{tree_within, value_of}
 use Rattle.redcode_text.specs.Laws.{IsBodyLine, copies, is_loop_kind, loop_lines, text_of_lines}
@@ -43,3 +45,31 @@ pub row_written_out :
     × (labels (copies 2 (codes "NOP i" ∷ [])) ≡ (codes "x01" ∷ []) ∷ [] ∷ [] ∷ (codes "y01" ∷ []) ∷ (codes "x02" ∷ []) ∷ [] ∷ [] ∷ (codes "y02" ∷ []) ∷ [])
 unfolding expansion value_of tree_within digits
 row_written_out = (refl, refl)
+
+abbrev program : List (List ℕ) → ProgramValue
+program lines = elim (expansion predefined (text_of_lines lines)) [ Ok s ↦ s | Err e ↦ record { names = []; equates = []; lines = []; name = []; author = []; asserts = [] } ]
+
+-- rows and blanks don't matter to programs that are alike
+pub row_alike : AreAlike (program (codes "a EQU 1" ∷ codes "b MOV a, b" ∷ [])) (program (codes "; as before" ∷ codes "a  EQU  1" ∷ codes "b  MOV  a,b" ∷ []))
+unfolding expansion value_of tree_within digits
+row_alike = record { name = refl; author = refl; equates = refl; lines = refl; asserts = refl }
+
+-- nor does the order of names, but their spelling does
+abbrev labelled : List (List ℕ) → ℕ → ℕ → ProgramValue
+labelled names label operation = record {
+  names = names;
+  equates = [];
+  lines = record { number = 1; labels = label ∷ []; operation = Some operation; rest = [] } ∷ [];
+  name = [];
+  author = [];
+  asserts = [];
+}
+
+pub row_names_alike : AreAlike (labelled (codes "a" ∷ codes "nop" ∷ []) 0 1) (labelled (codes "nop" ∷ codes "a" ∷ []) 1 0)
+row_names_alike = record { name = refl; author = refl; equates = refl; lines = refl; asserts = refl }
+
+longer_label : (codes "a" ∷ []) ∷ [] ≡ (codes "ab" ∷ []) ∷ [] → ⊥
+longer_label same = cc
+
+pub row_not_alike : AreAlike (labelled (codes "a" ∷ codes "nop" ∷ []) 0 1) (labelled (codes "ab" ∷ codes "nop" ∷ []) 0 1) → ⊥
+row_not_alike alike = longer_label (ap (λ (lines : List (List (List ℕ) × Option (List ℕ) × List (TokenKind × List ℕ))). map (λ l. l.0) lines) alike.lines)

@@ -1,0 +1,37 @@
+-- Worked examples: which names may be spelled otherwise.
+use Rattle.std.specs.Prelude.{codes, refl}
+use Rattle.mars_cell.specs.Words.{op_of, modifier_of}
+use Rattle.redcode_text.specs.Lines.{Predefined}
+use Rattle.redcode_asm.specs.Assembly.{predefined}
+use Rattle.redcode_asm.specs.Examples.Warriors.{parameters}
+use Rattle.redcode_asm.specs.Laws.{SaysTheSame}
+
+abbrev ps : Predefined
+ps = predefined (parameters 8000) 2 3
+
+-- a label may have any name, and an opcode, a modifier and a pseudo-opcode either case
+pub free_names : SaysTheSame ps (codes "loop") (codes "start") × SaysTheSame ps (codes "mov") (codes "MOV") × SaysTheSame ps (codes "x") (codes "X")
+    × SaysTheSame ps (codes "org") (codes "Org") × SaysTheSame ps (codes "cmp") (codes "seq")
+unfolding op_of modifier_of
+free_names = (
+  record { opcode = refl; modifier = refl; org = refl; end = refl; value = λ n. refl },
+  record { opcode = refl; modifier = refl; org = refl; end = refl; value = λ n. refl },
+  record { opcode = refl; modifier = refl; org = refl; end = refl; value = λ n. refl },
+  record { opcode = refl; modifier = refl; org = refl; end = refl; value = λ n. refl },
+  record { opcode = refl; modifier = refl; org = refl; end = refl; value = λ n. refl },
+)
+
+-- but an opcode isn't a label, nor another opcode, and neither is END, nor a predefined name
+pub names_that_say_something : (SaysTheSame ps (codes "mov") (codes "loop") → ⊥) × (SaysTheSame ps (codes "mov") (codes "add") → ⊥)
+    × (SaysTheSame ps (codes "ab") (codes "ba") → ⊥) × (SaysTheSame ps (codes "end") (codes "loop") → ⊥) × (SaysTheSame ps (codes "org") (codes "end") → ⊥)
+    × (SaysTheSame ps (codes "ROUNDS") (codes "WARRIORS") → ⊥) × (SaysTheSame ps (codes "CURLINE") (codes "loop") → ⊥)
+unfolding op_of modifier_of
+names_that_say_something = (
+  λ s. cc (s.opcode),
+  λ s. cc (s.opcode),
+  λ s. cc (s.modifier),
+  λ s. cc (s.end),
+  λ s. cc (s.end),
+  λ s. cc (s.value 0),
+  λ s. cc (s.value 0),
+)
