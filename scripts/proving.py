@@ -94,8 +94,8 @@ class FromNothing:
         self.lines, self.kit, self.most = lines, toolchain(), at_a_time(MEMORY_OF_A_JOB)
 
     def jobs(self, at_once):
-        """The jobs of a crate of so many that are proved at once. Each begins and ends with one at work, so the others have more than their part."""
-        return max(1, self.most - at_once + 1)
+        """The jobs of a crate of so many that are proved at once: they are at work all the time, so each crate has its part."""
+        return max(1, self.most // at_once)
 
     def proved(self):
         """What needn't be proved: nothing has changed since the program or the archive was built, or since the crate was proved in this way."""
