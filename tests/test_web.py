@@ -96,7 +96,7 @@ def test_requests_that_are_none(site: Site) -> None:
     ):
         assert site.ask(path, body)[0] in (400, 409), path
     for path in ("battle", "overview", "turn/5", "cell/1/1", "search/dies/0/0/on", "replay.html"):
-        assert site.ask(path) == (409, b'{"fault": "no battle is laid out yet"}'), path
+        assert site.ask(path) == (409, b'{"fault": "this page has no battle: fight one"}'), path
     none = site.ask("fight", fight())
     assert none == (409, b'{"fault": "1 to 16 sources fight: mark them in the list"}')
     assert site.ask("fight", fight(*["imp"] * 17))[0] == 409
@@ -122,7 +122,7 @@ def test_each_tab_has_its_battle(site: Site) -> None:
         site.told("battle", desk="first")
         site.told("fight", fight("imp"), str(number))
     assert site.told("battle", desk="first") == first
-    assert site.ask("battle", desk="second") == (409, b'{"fault": "no battle is laid out yet"}')
+    assert site.ask("battle", desk="second") == (409, b'{"fault": "this page has no battle: fight one"}')
 
 
 def test_sources_are_those_that_are_there_now(site: Site) -> None:

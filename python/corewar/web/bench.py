@@ -144,7 +144,7 @@ class Bench:
     def desk(self, name: str) -> Desk:
         """The desk of this name. Raises Refused."""
         if name not in self.desks:
-            raise Refused("no battle is laid out yet")
+            raise Refused("this page has no battle: fight one")
         self.desks.move_to_end(name)
         return self.desks[name]
 
