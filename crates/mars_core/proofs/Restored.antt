@@ -15,6 +15,7 @@ use Rattle.mars_core.specs.Writes.{WrittenCore, write_cell, write_field}
 use Rattle.mars_core.specs.Operand.{predecremented, postincremented, evaluated}
 use Rattle.mars_core.specs.Effect.{effect_of}
 use Rattle.mars_core.specs.Turn.{after_effect, execution_of, front_of, accepted, queue_after, with_death, executed, turn_of, turn_record}
+use Rattle.mars_core.specs.Code.Operands.{a_evaluated, b_evaluated, unwritten}
 use Rattle.mars_core.specs.Validity.{IsValid}
 use Rattle.mars_core.specs.Record.{restored, without_last, cycles_of, reverted}
 use Rattle.mars_core.specs.declared.machine.writes.CellChange.{CellChange}
@@ -70,6 +71,11 @@ origin-evaluated p written pc BPredecrement n = origin-predecremented p _ writte
 origin-evaluated p written pc APostincrement n = origin-postincremented p _ written pc n
 origin-evaluated p written pc BPostincrement n = origin-postincremented p _ written pc n
 
+-- the writes of both operands lead back to the core before them
+pub origin-operands : (p : Parameters) (core : List Cell) (pc : ℕ) (i : Cell) → origin (b_evaluated p core pc i).written ≡ core
+origin-operands p core pc i =
+    origin-evaluated p (a_evaluated p core pc i).written pc i.b_mode i.b ∙ origin-evaluated p (unwritten core) pc i.a_mode i.a
+
 origin-after_effect : (written : WrittenCore) (a : ℕ) (target : Option Cell) → origin (after_effect written a target) ≡ origin written
 origin-after_effect written a None = refl
 origin-after_effect written a (Some cell) = origin-written written a cell
@@ -84,9 +90,7 @@ origin-execution p core pc =
     let b = evaluated p a.written pc instruction.b_mode instruction.b in
     let address = address_after p.core_size pc b.operand.write in
     let effect = effect_of p.core_size instruction.op instruction.modifier a.operand.copy b.operand.copy (cell_at b.written.core address) pc a.operand.read in
-    origin-after_effect b.written address effect.target
-    ∙ origin-evaluated p a.written pc instruction.b_mode instruction.b
-    ∙ origin-evaluated p start pc instruction.a_mode instruction.a
+    origin-after_effect b.written address effect.target ∙ origin-operands p core pc instruction
 
 without_last-append : {X : Type 0} (xs ys : List X) → without_last (length ys) (xs ++ ys) ≡ xs
 without_last-append xs ys =
