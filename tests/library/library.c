@@ -50,6 +50,7 @@ typedef struct {
     size_t length;
     MarsRow rows[3];
     MarsRecord records[9];
+    MarsTouched touched[9];
     MarsCell cells[800];
     size_t counts[3];
     uint32_t processes[20];
@@ -71,6 +72,7 @@ static void call(int which, Left *got) {
     if (which == 5) got->answer = mars_record(&SETTINGS, loads, all, lengths, 3, 2, 50, (const uint8_t *)LINES, strlen(LINES), 4, got->records, 9, &got->length, &got->fault);
     if (which == 6) got->answer = mars_state(&SETTINGS, loads, all, lengths, 3, 2, 50, (const uint8_t *)LINES, strlen(LINES), 4, got->cells, 800, got->counts, 3, got->processes, 20, got->deaths, 3, &got->standing, &got->fault);
     if (which == 7) got->answer = mars_lines(&SETTINGS, 2, (const uint8_t *)SOURCE, strlen(SOURCE), got->text, sizeof got->text, &got->length, &got->fault);
+    if (which == 8) got->answer = mars_touched(&SETTINGS, loads, all, lengths, 3, 2, 50, (const uint8_t *)LINES, strlen(LINES), 4, got->touched, 9, &got->length, &got->fault);
 }
 
 static int is_kept(const Left *got, const Left *blank) {
@@ -111,6 +113,7 @@ static int are_nulls_taken(void) {
         && mars_population(settings, formula, strlen(FORMULA), loads, all, lengths, 3, NULL, 0, &got.fault) == MARS_DONE
         && mars_debug(settings, loads, all, lengths, 3, 9, NULL, 0, NULL, 0, &got.length, &got.fault) == MARS_DONE && got.length == 0
         && mars_record(settings, loads, all, lengths, 3, 0, 9, NULL, 0, 0, NULL, 0, &got.length, &got.fault) == MARS_DONE && got.length > 9
+        && mars_touched(settings, loads, all, lengths, 3, 0, 9, NULL, 0, 0, NULL, 0, &got.length, &got.fault) == MARS_DONE && got.length > 9
         && mars_state(settings, loads, all, lengths, 3, 0, 9, NULL, 0, 0, NULL, 0, NULL, 0, NULL, 0, NULL, 0, &got.standing, &got.fault) == MARS_ROOM
         && got.standing.processes == 3;
 }
@@ -159,7 +162,7 @@ int main(void) {
         lengths[i] = first.length;
         all += first.length;
     }
-    for (int which = 0; which < 8; which++)
+    for (int which = 0; which < 9; which++)
         for (long each = 0; each < 2; each++) {
             int is_so = holds(which, each);
             passed += is_so, failed += !is_so;

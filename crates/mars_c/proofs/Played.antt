@@ -1,25 +1,28 @@
 -- Turns that are made one after the other.
-use Rattle.std.proofs.Common.{◌≡◌, ℕ, zero, suc, ◌+◌, ◌-◌, ◌≤◌, ◌<◌, ◌∙◌, Bool, true, false, if◌then◌else◌, List, [], ◌∷◌, ◌++◌, length, take, drop, set, get_or, Ok, Err, ap, refl, ap, arith, append_assoc}
+use Rattle.std.proofs.Common.{◌≡◌, ℕ, zero, suc, ◌+◌, ◌-◌, ◌≤◌, ◌<◌, ◌∙◌, Bool, true, false, if◌then◌else◌, List, [], ◌∷◌, ◌++◌, length, take, drop, set, get_or, Some, None, Ok, Err, ap, refl, arith, append_assoc}
 use Rattle.std.proofs.lemmas.List.{take_more_set, drop-set-lt, drop_more}
 use Rattle.mars_core.specs.State.{State, is_over_of}
 use Rattle.mars_core.specs.Turn.{turn_of, after_turns}
 use Rattle.mars_core.proofs.CallerLemmas.{turns-turn_of}
 use Rattle.mars_c.specs.Code.{recorded}
-use Rattle.mars_c.specs.Records.{turn_row, IsLeft}
-use Rattle.mars_c.specs.declared.records.MarsRecord.{MarsRecord}
+use Rattle.mars_c.specs.Records.{IsLeft}
 
--- a turn that was made, or wasn't
-pub runs : {A E : Type 0} (over : Bool) (e : E) (y x : A) → Ok x ≡ (if over then Err e else Ok y) → over ≡ false
-runs true e y x told = cc
-runs false e y x told = refl
+-- a turn that was made, or wasn't, by the battle's answer and by what a row tells of it
+pub made_first : {A E : Type 0} (over : Bool) (e : E) (y x : A) → Ok x ≡ (if over then Err e else Ok y) → (over ≡ false) × (x ≡ y)
+made_first true e y x told = cc
+made_first false e y x told = (refl, cc)
 
-pub made : {A E : Type 0} (over : Bool) (e : E) (y x : A) → Ok x ≡ (if over then Err e else Ok y) → x ≡ y
-made true e y x told = cc
-made false e y x told = cc
+pub runs : {A : Type 0} (over : Bool) (y x : A) → Some x ≡ (if over then None else Some y) → over ≡ false
+runs true y x told = cc
+runs false y x told = refl
 
-pub ended : {A E : Type 0} (over : Bool) (e d : E) (y : A) → Err d ≡ (if over then Err e else Ok y) → over ≡ true
-ended true e d y told = refl
-ended false e d y told = cc
+pub made : {A : Type 0} (over : Bool) (y x : A) → Some x ≡ (if over then None else Some y) → x ≡ y
+made true y x told = cc
+made false y x told = cc
+
+pub ended : {A : Type 0} (over : Bool) (y : A) → None ≡ (if over then None else Some y) → over ≡ true
+ended true y told = refl
+ended false y told = cc
 
 -- a battle that is over has no turns
 pub over_stays : (n : ℕ) (s : State) → is_over_of s ≡ true → after_turns n s ≡ s
@@ -89,18 +92,20 @@ played p r e k most behind last over =
     let ends : is_over_of (after_turns (k + most) p) ≡ true = rw all at over in
     (rw all (turns_rise (k + most) p), rw all (left (k + most) p ends))
 
--- rows of a battle that is over stay as they are
-pub none_recorded : (s : State) (rows : List MarsRecord) → is_over_of s ≡ true → recorded s rows ≡ rows
-none_recorded s [] over = refl
-none_recorded s (row ∷ rows) over = rw over refl
+-- rows that turns are told in
+module _ {Row : Type 0} (row_of : State → Row) where
+  -- rows of a battle that is over stay as they are
+  pub none_recorded : (s : State) (rows : List Row) → is_over_of s ≡ true → recorded row_of s rows ≡ rows
+  none_recorded s [] over = refl
+  none_recorded s (row ∷ rows) over = rw over refl
 
-pub one_recorded : (s : State) (row : MarsRecord) (rows : List MarsRecord) → is_over_of s ≡ false → recorded s (row ∷ rows) ≡ turn_row s ∷ recorded (turn_of s) rows
-one_recorded s row rows running = rw running refl
+  pub one_recorded : (s : State) (row : Row) (rows : List Row) → is_over_of s ≡ false → recorded row_of s (row ∷ rows) ≡ row_of s ∷ recorded row_of (turn_of s) rows
+  one_recorded s row rows running = rw running refl
 
--- one row more
-pub row_more : (s : State) (rows : List MarsRecord) (i : ℕ) → i < length rows → is_over_of s ≡ false
-    → take (i + 1) (set rows i (turn_row s)) ++ recorded (turn_of s) (drop (i + 1) (set rows i (turn_row s))) ≡ take i rows ++ recorded s (drop i rows)
-row_more s rows i inside running =
-    let further : i < i + 1 = omega arith in
-    let d = turn_row s in
-    rw (take_more_set rows i (turn_row s) inside, drop-set-lt (i + 1) rows i (turn_row s) further, drop_more rows i d inside, append_assoc, one_recorded s (get_or rows i d) (drop (i + 1) rows) running) refl
+  -- one row more
+  pub row_more : (s : State) (rows : List Row) (i : ℕ) → i < length rows → is_over_of s ≡ false
+      → take (i + 1) (set rows i (row_of s)) ++ recorded row_of (turn_of s) (drop (i + 1) (set rows i (row_of s))) ≡ take i rows ++ recorded row_of s (drop i rows)
+  row_more s rows i inside running =
+      let further : i < i + 1 = omega arith in
+      let d = row_of s in
+      rw (take_more_set rows i (row_of s) inside, drop-set-lt (i + 1) rows i (row_of s) further, drop_more rows i d inside, append_assoc, one_recorded s (get_or rows i d) (drop (i + 1) rows) running) refl

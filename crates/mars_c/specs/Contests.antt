@@ -1,15 +1,14 @@
 -- What contests of load files come to.
-use Rattle.std.specs.Prelude.{◌≡◌, ◌≤◌, ◌<◌, ℕ, ◌+◌, ◌^◌, pos, ◌+ℤ◌, ◌∷◌, [], ◌++◌, Bool, ◌&&◌, drop, Err, if◌then◌else◌, List, map, nat_lt, None, Ok, Result, take, length}
+use Rattle.std.specs.Prelude.{◌≡◌, ◌≤◌, ◌<◌, ℕ, ◌∷◌, [], ◌++◌, drop, List, map, None, Ok, Result, take, length}
 use Rattle.mars_cell.specs.Load.{load}
 use Rattle.mars_cell.specs.Parameters.{Parameters}
 use Rattle.mars_cell.specs.Warriors.{WarriorValue}
 use Rattle.mars_match.specs.Leagues.{league_of}
-use Rattle.mars_match.specs.Rounds.{fits_in_64, table_of}
+use Rattle.mars_match.specs.Populations.{population_of}
+use Rattle.mars_match.specs.Rounds.{table_of}
 use Rattle.mars_match.specs.Tables.{RowValue}
 use Rattle.mars_match.specs.declared.fault.MatchFault.{MatchFault}
-use Rattle.mars_match.specs.declared.fault.MatchFault.TheVariants.{Score}
-use Rattle.redcode_text.specs.Results.{◌>>=◌}
-use Rattle.redcode_text.specs.declared.fault.ExprFault.TheVariants.{Range}
+use Rattle.mars_match.specs.declared.populations.Sum.{Sum}
 use Rattle.mars_cell.specs.ParameterFaults.{checked_parameters}
 use Rattle.redcode_asm.specs.LoadFiles.{assembled_load}
 use Rattle.redcode_asm.specs.SourceLines.{source_lines}
@@ -84,48 +83,16 @@ HoldsLines s warriors source count before after = (text : List ℕ) × AreLines 
 abbrev pub OverflowsLines : MarsSettings → ℕ → List ℕ → ℕ → List ℕ → Type 0
 OverflowsLines s warriors source count buffer = (text : List ℕ) × AreLines s warriors source text × Overflows text count buffer
 
-abbrev pub no_rounds : MarsRow
-no_rounds = record { points = pos 0; wins = 0; ties = 0; losses = 0 }
-
--- the numbers of the first row; a table has a row for each warrior, so it is there
-abbrev pub first_row : List RowValue → MarsRow
-first_row [] = no_rounds
-first_row (row ∷ rows) = plain_row row
-
--- what a candidate gets in its match with an opponent, or the match's fault
-abbrev pub met : Terms → WarriorValue → WarriorValue → Result MarsRow MatchFault
-met t candidate opponent =
-    table_of t.params (candidate ∷ opponent ∷ []) t.plan.formula t.plan.fixed t.plan.rounds t.plan.seed >>= λ rows. Ok (first_row rows)
-
-abbrev pub plus : MarsRow → MarsRow → MarsRow
-plus a b = record { points = a.points +ℤ b.points; wins = a.wins + b.wins; ties = a.ties + b.ties; losses = a.losses + b.losses }
-
--- a row's numbers have 64 bits
-abbrev pub fits : MarsRow → Bool
-fits row = fits_in_64 row.points && nat_lt row.wins (2 ^ 64) && nat_lt row.ties (2 ^ 64) && nat_lt row.losses (2 ^ 64)
-
--- the sum of two rows, where it fits
-abbrev pub added : MarsRow → MarsRow → Result MarsRow MatchFault
-added a b = if fits (plus a b) then Ok (plus a b) else Err (Score Range)
-
--- a row and what a candidate gets in its matches with the opponents, one after the other; or the fault of the first match, or sum, that has one
-abbrev pub sum_from : Terms → WarriorValue → MarsRow → List WarriorValue → Result MarsRow MatchFault
-sum_from t candidate before [] = Ok before
-sum_from t candidate before (opponent ∷ opponents) =
-    met t candidate opponent >>= λ row. added before row >>= λ sum. sum_from t candidate sum opponents
-
--- the sums of the candidates, in order; or the fault of the first of them that has one
-abbrev pub each_sum : Terms → List WarriorValue → List WarriorValue → Result (List MarsRow) MatchFault
-each_sum t opponents [] = Ok []
-each_sum t opponents (candidate ∷ candidates) =
-    sum_from t candidate no_rounds opponents >>= λ sum. each_sum t opponents candidates >>= λ sums. Ok (sum ∷ sums)
-
 -- the sums of a population, in which so many candidates come before the opponents
-abbrev pub population : Terms → ℕ → List WarriorValue → Result (List MarsRow) MatchFault
-population t candidates ws = each_sum t (drop candidates ws) (take candidates ws)
+abbrev pub population : Terms → ℕ → List WarriorValue → Result (List Sum) MatchFault
+population t candidates ws = population_of t.params t.plan.formula t.plan.fixed t.plan.rounds t.plan.seed (drop candidates ws) (take candidates ws)
+
+-- the numbers of a sum
+abbrev pub plain_sum : Sum → MarsRow
+plain_sum sum = record { points = sum.points; wins = sum.wins; ties = sum.ties; losses = sum.losses }
 
 -- the rows of the caller hold the sums of as many candidates
 abbrev pub HoldsSums : MarsSettings → List ℕ → List ℕ → List ℕ → List MarsRow → Type 0
-HoldsSums s text loads lengths place = (t : Terms) × (ws : List WarriorValue)
+HoldsSums s text loads lengths place = (t : Terms) × (ws : List WarriorValue) × (sums : List Sum)
     × AreTerms s text t × AreLoads t.params loads lengths ws × FitsTwo t.params 2 t.plan.fixed
-    × (population t (length place) ws ≡ Ok place)
+    × (population t (length place) ws ≡ Ok sums) × (place ≡ map plain_sum sums)

@@ -5,10 +5,9 @@ use Rattle.mars_core.specs.Turn.{after_turns}
 use Rattle.mars_session.specs.Script.{SessionState}
 use Rattle.mars_c.specs.Battles.{IsAsked, IsDebugged, IsHistory, IsPlayed, IsStart}
 use Rattle.mars_c.specs.Contests.{BeginsWith, Overflows}
-use Rattle.mars_c.specs.Records.{AreRecords, IsLeft}
+use Rattle.mars_c.specs.Records.{AreRows, IsLeft}
 use Rattle.mars_c.specs.States.{Holds, fits_in, plain_standing}
 use Rattle.mars_c.specs.declared.cells.MarsCell.{MarsCell}
-use Rattle.mars_c.specs.declared.records.MarsRecord.{MarsRecord}
 use Rattle.mars_c.specs.declared.settings.MarsSettings.{MarsSettings}
 use Rattle.mars_c.specs.declared.states.MarsDeath.{MarsDeath}
 use Rattle.mars_c.specs.declared.states.MarsStanding.{MarsStanding}
@@ -27,9 +26,9 @@ abbrev pub OverflowsTranscript : MarsSettings → List ℕ → List ℕ → ℕ 
 OverflowsTranscript s loads lengths history lines count buffer = (text : List ℕ) × Debugs s loads lengths history lines text × Overflows text count buffer
 
 -- so many turns after where the lines lead, so many are left, and the rows hold the first of them
-abbrev pub HoldsRecords : MarsSettings → List ℕ → List ℕ → ℕ → ℕ → List ℕ → ℕ → ℕ → List MarsRecord → List MarsRecord → Type 0
-HoldsRecords s loads lengths round history lines first count before after = (state : State) × IsAsked s loads lengths round history lines state
-    × IsLeft (after_turns first state) count × AreRecords (after_turns first state) count before after
+abbrev pub HoldsRows : {Row : Type 0} → (State → Row) → MarsSettings → List ℕ → List ℕ → ℕ → ℕ → List ℕ → ℕ → ℕ → List Row → List Row → Type 0
+HoldsRows row_of s loads lengths round history lines first count before after = (state : State) × IsAsked s loads lengths round history lines state
+    × IsLeft (after_turns first state) count × AreRows row_of (after_turns first state) count before after
 
 -- the buffers hold that state
 abbrev pub HoldsState : MarsSettings → List ℕ → List ℕ → ℕ → ℕ → List ℕ → ℕ → List MarsCell → List MarsCell → List ℕ → List ℕ → List ℕ → List ℕ → List MarsDeath → List MarsDeath → MarsStanding → Type 0

@@ -16,9 +16,10 @@ use Rattle.redcode_asm.specs.Formula.{formula_of}
 use Rattle.redcode_asm.specs.declared.fault.AsmProblem.TheVariants.{Text}
 use Rattle.redcode_text.specs.Expression.{value_of, tree_within}
 use Rattle.redcode_text.specs.Tokens.{scanned}
-use Rattle.redcode_text.specs.declared.fault.ExprFault.TheVariants.{DivideByZero, Range}
+use Rattle.redcode_text.specs.declared.fault.ExprFault.TheVariants.{DivideByZero}
 use Rattle.redcode_text.specs.declared.fault.TextProblem.TheVariants.{Expression}
 use Rattle.mars_core.specs.State.{is_over_of}
+use Rattle.mars_core.specs.Touched.{touched}
 use Rattle.mars_core.specs.Turn.{after_turns}
 use Rattle.mars_core.specs.Examples.{the_machine, cell_of, imp, of_eight, eight, lone}
 use Rattle.mars_core.specs.declared.battle.start.BattleFault.TheVariants.{FieldOutside}
@@ -36,6 +37,7 @@ use Rattle.mars_c.specs.Cells.{plain_cell}
 use Rattle.mars_c.specs.Codes.{fault_of}
 use Rattle.mars_c.specs.Contests.{population}
 use Rattle.mars_c.specs.Records.{change_of, turn_row}
+use Rattle.mars_c.specs.Touches.{touched_row}
 use Rattle.mars_c.specs.Refusals.{IsOutside, fight_refusal}
 use Rattle.mars_c.specs.States.{counts_of, fits_in}
 use Rattle.mars_c.specs.declared.faults.Refusal.TheVariants.{Assembly, Battle, Load, OutOfMemory, Placement, Score}
@@ -73,6 +75,11 @@ pub row_of_an_imp : turn_row (lone of_eight (eight (imp ∷ [])) (0 ∷ [])) ≡
 }
 unfolding the_machine
 row_of_an_imp = refl
+
+-- it reads its own cell, and writes to the next one
+pub touched_by_an_imp : touched_row (lone of_eight (eight (imp ∷ [])) (0 ∷ [])) ≡ record { count = 4; address = 0 ∷ 0 ∷ 1 ∷ 1 ∷ 0 ∷ 0 ∷ 0 ∷ 0 ∷ [] }
+unfolding the_machine touched
+touched_by_an_imp = refl
 
 -- a split writes nothing and queues two processes
 pub row_of_a_split : turn_row (lone of_eight (eight (cell_of Spl B Direct 5 Immediate 0 ∷ [])) (0 ∷ 3 ∷ [])) ≡ record {
@@ -198,32 +205,18 @@ by_formula text = record {
   };
 }
 
-abbrev one_cell : Op → Modifier → ℕ → WarriorValue
-one_cell op modifier a = record { name = []; author = []; cells = cell_of op modifier Direct a Direct 0 ∷ []; start = 0 }
+abbrev one_cell : Op → Modifier → WarriorValue
+one_cell op modifier = record { name = []; author = []; cells = cell_of op modifier Direct 0 Direct 0 ∷ []; start = 0 }
 
--- JMP.B $0, $0 lives on, DAT.F $0, $0 dies, and DAT.F $4, $0 is of a larger core
+-- JMP.B $0, $0 lives on, and DAT.F $0, $0 dies
 abbrev stay : WarriorValue
-stay = one_cell Jmp B 0
+stay = one_cell Jmp B
 
 abbrev dead : WarriorValue
-dead = one_cell Dat F 0
+dead = one_cell Dat F
 
-abbrev too_far : WarriorValue
-too_far = one_cell Dat F 4
-
--- a tie and a win, and two losses: the rows of the opponents count for nobody
+-- the first two are the candidates: a tie and a win, and two losses
 pub candidates_are_summed : population (by_formula (codes "(W*W-1)/S")) 2 (stay ∷ dead ∷ stay ∷ dead ∷ [])
     ≡ Ok (record { points = pos 4; wins = 1; ties = 1; losses = 0 } ∷ record { points = pos 0; wins = 0; ties = 0; losses = 2 } ∷ [])
 unfolding table_of starts_of drawn next_seed survivors_of_round end_of scanned value_of tree_within the_machine
 candidates_are_summed = refl
-
--- The first candidate loses to the first opponent, and its match with the second has a fault. So has that of the second candidate with the first
--- opponent, where both live, but it comes later.
-pub first_match_is_told : population (by_formula (codes "1/(S-2)")) 2 (dead ∷ stay ∷ stay ∷ too_far ∷ []) ≡ Err (fight.Battle FieldOutside)
-unfolding table_of starts_of drawn next_seed survivors_of_round end_of scanned value_of tree_within the_machine
-first_match_is_told = refl
-
--- each row fits, and the sum of two doesn't
-pub sums_are_judged : population (by_formula (codes "4611686018427387904")) 1 (stay ∷ stay ∷ stay ∷ []) ≡ Err (fight.Score Range)
-unfolding table_of starts_of drawn next_seed survivors_of_round end_of scanned value_of tree_within the_machine
-sums_are_judged = refl

@@ -10,3 +10,4 @@ pub mod Examples
 pub mod Records
 pub mod Refusals
 pub mod States
+pub mod Touches

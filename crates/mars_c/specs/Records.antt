@@ -56,7 +56,7 @@ pub record IsLeft (s : State) (n : ℕ) : Type 0 where
 
 -- Rows hold the turns from a state on, of which so many are left: row k the record of turn k, counted from 0. Where there are more rows, these
 -- are as they were.
-pub record AreRecords (s : State) (left : ℕ) (before after : List MarsRecord) : Type 0 where
+pub record AreRows {Row : Type 0} (row_of : State → Row) (s : State) (left : ℕ) (before after : List Row) : Type 0 where
   pub many : length after ≡ length before
-  pub written : (k : ℕ) → k < left → k < length before → slice_get after k ≡ Some (turn_row (after_turns k s))
+  pub written : (k : ℕ) → k < left → k < length before → slice_get after k ≡ Some (row_of (after_turns k s))
   pub kept : (k : ℕ) → left ≤ k → slice_get after k ≡ slice_get before k

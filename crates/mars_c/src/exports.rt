@@ -1,21 +1,24 @@
 //! What C calls.
 ghost use Rattle.std.specs.Prelude.{◌≡◌, ◌≢◌, ◌≤◌, IfErr, IfOk, false, length, true};
 ghost use Rattle.mars_c.specs.Contests.{AreLines, BeginsWith, HoldsLeague, HoldsLines, HoldsLoadFile, HoldsMatch, HoldsSums, IsLoadFile, Overflows, OverflowsLines, OverflowsLoadFile};
-ghost use Rattle.mars_c.specs.Debugging.{HoldsRecords, HoldsState, HoldsTranscript, OverflowsState, OverflowsTranscript};
+ghost use Rattle.mars_c.specs.Debugging.{HoldsRows, HoldsState, HoldsTranscript, OverflowsState, OverflowsTranscript};
 ghost use Rattle.mars_c.specs.Refusals.{RefusesDebugging, RefusesLeague, RefusesMatch, RefusesPopulation, RefusesSource, Tells};
+ghost use Rattle.mars_c.specs.Records.{turn_row};
 ghost use Rattle.mars_c.specs.States.{AreKept};
+ghost use Rattle.mars_c.specs.Touches.{touched_row};
 
 use crate::battles::{battle_of, state_of};
 use crate::cells::MarsCell;
 use crate::contests::{league_into, match_into};
 use crate::debugging::transcript;
 use crate::faults::{MarsFault, Refusal, given, refused_source, told};
-use crate::playing::give_records;
+use crate::playing::give_rows_of_turns;
 use crate::population::population_into;
 use crate::records::MarsRecord;
 use crate::rows::MarsRow;
 use crate::settings::{MarsSettings, parameters};
 use crate::states::{MarsDeath, MarsStanding, give_state};
+use crate::touches::MarsTouched;
 use redcode_asm::{assemble_load, source_lines};
 use std::alloc::Global;
 
@@ -83,12 +86,12 @@ fn lines(
 }
 
 /// The version: 1,000 for each major one, and the minor one. It is MARS_VERSION of `include/mars.h`.
-const VERSION: u32 = 1001;
+const VERSION: u32 = 1002;
 
 /// Tells the version of the library.
 #[unsafe(no_mangle)]
 pub extern "C" fn mars_version() -> u32
-    ensures { result ≡ 1001 }
+    ensures { result ≡ 1002 }
 {
     VERSION
 }
@@ -253,14 +256,45 @@ pub extern "C" fn mars_record(
 ) -> u32
     ensures told { result ≡ fault.new.code }
     ensures refused { 1 ≤ result → result ≤ 9 → Tells (RefusesDebugging settings.now loads.now lengths.now round history) fault.new }
-    ensures done { result ≡ 0 → HoldsRecords settings.now loads.now lengths.now round history lines.now first count.new rows.old rows.new }
+    ensures done { result ≡ 0 → HoldsRows turn_row settings.now loads.now lengths.now round history lines.now first count.new rows.old rows.new }
     ensures kept { result ≢ 0 → rows.new ≡ rows.old }
     ensures uncounted { result ≢ 0 → count.new ≡ count.old }
     ensures few { result ≤ 9 }
 {
     match battle_of(alloc, settings, loads, lengths, round, history, lines) {
         Ok(battle) => {
-            give_records(battle, first, rows, count);
+            give_rows_of_turns(battle, first, rows, count);
+            answer(fault, given(true))
+        }
+        Err(refusal) => answer(fault, told(refusal)),
+    }
+}
+
+/// Tells which cells the turns of the battle of a round read or write, from where the debugger's lines lead it.
+#[unsafe(no_mangle)]
+pub extern "C" fn mars_touched(
+    alloc: Global,
+    settings: &MarsSettings,
+    loads: &[u8],
+    lengths: &[usize],
+    round: u32,
+    history: u32,
+    lines: &[u8],
+    first: u32,
+    rows: &mut [MarsTouched],
+    count: &mut usize,
+    fault: &mut MarsFault,
+) -> u32
+    ensures told { result ≡ fault.new.code }
+    ensures refused { 1 ≤ result → result ≤ 9 → Tells (RefusesDebugging settings.now loads.now lengths.now round history) fault.new }
+    ensures done { result ≡ 0 → HoldsRows touched_row settings.now loads.now lengths.now round history lines.now first count.new rows.old rows.new }
+    ensures kept { result ≢ 0 → rows.new ≡ rows.old }
+    ensures uncounted { result ≢ 0 → count.new ≡ count.old }
+    ensures few { result ≤ 9 }
+{
+    match battle_of(alloc, settings, loads, lengths, round, history, lines) {
+        Ok(battle) => {
+            give_rows_of_turns(battle, first, rows, count);
             answer(fault, given(true))
         }
         Err(refusal) => answer(fault, told(refusal)),

@@ -20,3 +20,4 @@ mod records;
 mod rows;
 mod settings;
 mod states;
+mod touches;

@@ -1,35 +1,44 @@
-//! A battle that is played on, and the records of its turns.
-ghost use Rattle.std.specs.Prelude.{◌≡◌, length};
-ghost use Rattle.mars_core.specs.Turn.{after_turns};
+//! A battle that is played on, and what is told of its turns.
+ghost use Rattle.std.specs.Prelude.{◌≡◌, if◌then◌else◌, length, None, Some};
+ghost use Rattle.mars_core.specs.State.{State, is_over_of};
+ghost use Rattle.mars_core.specs.Turn.{after_turns, turn_of};
 ghost use Rattle.mars_c.specs.Code.{recorded};
-ghost use Rattle.mars_c.specs.Records.{AreRecords, IsLeft};
+ghost use Rattle.mars_c.specs.Records.{AreRows, IsLeft};
 
-use crate::records::MarsRecord;
 use mars_core::Battle;
 
-/// Makes turns, as many as there are rows for, and writes the record of each.
-fn record_turns(battle: &mut Battle, rows: &mut [MarsRecord])
-    ensures rows { rows.new ≡ recorded battle.old rows.old }
+/// What a caller is told of a turn, in one row.
+pub trait TurnRow: Copy {
+    ghost row_of: { State → Self };
+
+    /// Makes a turn of a battle, and tells of it; `None`, and no turn, where the battle is over.
+    fn of_turn(battle: &mut Battle) -> Option<Self>
+        ensures row { result ≡ (if is_over_of battle.old then None else Some (row_of battle.old)) }
+        ensures battle { battle.new ≡ (if is_over_of battle.old then battle.old else turn_of battle.old) };
+}
+
+/// Makes turns, as many as there are rows for, and tells of each.
+fn tell_turns<R: TurnRow>(battle: &mut Battle, rows: &mut [R])
+    ensures rows { rows.new ≡ recorded R.row_of battle.old rows.old }
     ensures battle { battle.new ≡ after_turns (length rows.old) battle.old }
 {
     for i in 0..rows.len() {
-        let Ok(atom) = battle.turn() else {
+        let Some(row) = R::of_turn(battle) else {
             return;
         };
-        rows[i] = MarsRecord::of(&atom, battle.cycle());
+        rows[i] = row;
     }
 }
 
-/// Plays so many turns of a battle, writes the records of those that follow, as many as there are rows for, and tells how many
-/// follow in all.
-pub fn give_records(battle: Battle, first: u32, rows: &mut [MarsRecord], count: &mut usize)
+/// Plays so many turns of a battle, tells of those that follow, as many as there are rows for, and how many follow in all.
+pub fn give_rows_of_turns<R: TurnRow>(battle: Battle, first: u32, rows: &mut [R], count: &mut usize)
     ensures count { IsLeft (after_turns first battle) count.new }
-    ensures rows { AreRecords (after_turns first battle) count.new rows.old rows.new }
+    ensures rows { AreRows R.row_of (after_turns first battle) count.new rows.old rows.new }
 {
     let mut battle = battle;
     battle.run(first);
     let before = battle.turns();
-    record_turns(&mut battle, rows);
+    tell_turns(&mut battle, rows);
     battle.run_to_end();
     *count = (battle.turns() - before) as usize;
 }

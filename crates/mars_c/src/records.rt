@@ -1,9 +1,10 @@
 //! Records of turns as numbers.
 ghost use Rattle.std.specs.Prelude.{◌≡◌, if◌then◌else◌, slice_get, slice_index_or};
-ghost use Rattle.mars_c.specs.Records.{change_of as spec_change_of, plain_change, plain_record, taken_by};
+ghost use Rattle.mars_c.specs.Records.{change_of as spec_change_of, plain_change, plain_record, taken_by, turn_row};
 
 use crate::cells::MarsCell;
-use mars_core::{Atom, CellChange, Work};
+use crate::playing::TurnRow;
+use mars_core::{Atom, Battle, CellChange, Work};
 
 /// A write of a cell: its address, and the cell before and after.
 #[repr(C)]
@@ -79,7 +80,7 @@ fn change_at(changes: &[CellChange], place: usize) -> Option<CellChange>
 }
 
 /// The address at a place, where there is one.
-fn address_at(addresses: &[u32], place: usize) -> u32
+pub fn address_at(addresses: &[u32], place: usize) -> u32
     ensures { result ≡ slice_index_or addresses.now place 0 }
 {
     addresses.get(place).copied().unwrap_or(0)
@@ -107,7 +108,7 @@ fn taken(work: Work) -> (u32, u32)
 
 impl MarsRecord {
     /// The numbers of a turn's record, and the cycles that are complete then.
-    pub fn of(atom: &Atom, cycle: u32) -> MarsRecord
+    fn of(atom: &Atom, cycle: u32) -> MarsRecord
         ensures { result ≡ plain_record atom.now cycle }
     {
         let (warrior, address) = taken(atom.work);
@@ -127,6 +128,17 @@ impl MarsRecord {
                 change_of(change_at(cells, 2)),
             ],
             process: [address_at(queued, 0), address_at(queued, 1)],
+        }
+    }
+}
+
+impl TurnRow for MarsRecord {
+    ghost row_of = { turn_row };
+
+    fn of_turn(battle: &mut Battle) -> Option<Self> {
+        match battle.turn() {
+            Ok(atom) => Some(MarsRecord::of(&atom, battle.cycle())),
+            Err(_) => None,
         }
     }
 }

@@ -1,8 +1,8 @@
 //! Rows as numbers.
 ghost use Rattle.std.specs.Prelude.{◌≡◌, ◌≢◌, Err, IfErr, IfOk, OnErr, OnOk, length, map};
-ghost use Rattle.mars_c.specs.Contests.{first_row, no_rounds, plain_row};
+ghost use Rattle.mars_c.specs.Contests.{plain_row, plain_sum};
 
-use mars_match::{MatchFault, Row};
+use mars_match::{MatchFault, Row, Sum};
 use std::alloc::Global;
 
 /// How one warrior fared.
@@ -28,25 +28,15 @@ impl MarsRow {
         }
     }
 
-    /// The numbers of no rounds.
-    pub fn of_none() -> MarsRow
-        ensures { result ≡ no_rounds }
+    /// The numbers of a sum.
+    fn of_sum(sum: Sum) -> MarsRow
+        ensures { result ≡ plain_sum sum }
     {
         MarsRow {
-            points: 0,
-            wins: 0,
-            ties: 0,
-            losses: 0,
-        }
-    }
-
-    /// The numbers of the first row, where there is one.
-    pub fn of_first(rows: &[Row]) -> MarsRow
-        ensures { result ≡ first_row rows.now }
-    {
-        match rows.first() {
-            Some(row) => MarsRow::of(row),
-            None => MarsRow::of_none(),
+            points: sum.points,
+            wins: sum.wins,
+            ties: sum.ties,
+            losses: sum.losses,
         }
     }
 }
@@ -80,4 +70,14 @@ pub fn give_rows(alloc: Global, rows: &[Row], place: &mut [MarsRow]) -> Result<(
     }
     place.copy_from_slice(&plain);
     Ok(())
+}
+
+/// Gives sums to the caller, in a place for exactly as many.
+pub fn give_sums(sums: &[Sum], place: &mut [MarsRow])
+    requires { length sums.now ≡ length place.old }
+    ensures { place.new ≡ map plain_sum sums.now }
+{
+    for i in 0..place.len() {
+        place[i] = MarsRow::of_sum(sums[i]);
+    }
 }

@@ -1,4 +1,5 @@
 pub mod Ascending
+pub mod Candidates
 pub mod Draws
 pub mod Ends
 pub mod ForLaws

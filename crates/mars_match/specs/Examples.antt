@@ -3,3 +3,4 @@ pub mod Placements
 pub mod Listings
 pub mod Rounds
 pub mod Contests
+pub mod Populations

@@ -4,6 +4,7 @@ pub mod Tables
 pub mod Battles
 pub mod Rounds
 pub mod Leagues
+pub mod Populations
 pub mod Results
 pub mod Answers
 pub mod Laws

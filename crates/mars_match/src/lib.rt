@@ -3,8 +3,8 @@
 //! The layers above may use: `place` gives exactly the defined starts and next seed (`specs/Placement`), or its first
 //! fault; any two of the starts lie at least the least distance apart, both ways round the core. `round_starts` is that, or a fixed
 //! position of the second of two. `fight` tells who survives a
-//! round (`specs/Battles`), `rounds` gives the table of a match (`specs/Rounds`), and `league` that of a league
-//! (`specs/Leagues`), each or its first fault, or want of memory (`specs/Answers`). `write_results` writes exactly the
+//! round (`specs/Battles`), `rounds` gives the table of a match (`specs/Rounds`), `league` that of a league
+//! (`specs/Leagues`), and `population` the sums of candidates (`specs/Populations`), each or its first fault, or want of memory (`specs/Answers`). `write_results` writes exactly the
 //! defined text of a table (`specs/Results`), or, where the writer fails, a beginning of it; it takes no memory. What
 //! ascending order and a ranking are stands in `laws`.
 #![tactic(auto)]
@@ -15,6 +15,7 @@ mod kept;
 pub mod laws;
 mod matches;
 mod placement;
+mod populations;
 mod report;
 mod starts;
 mod table;
@@ -23,6 +24,7 @@ pub use fault::MatchFault;
 pub use fights::fight;
 pub use matches::{Plan, league, rounds};
 pub use placement::{GREATEST_SEED, PlaceFault, place};
+pub use populations::{Sum, population};
 pub use report::write_results;
 pub use starts::round_starts;
 pub use table::{Row, Table};

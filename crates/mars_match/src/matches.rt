@@ -58,7 +58,7 @@ pub fn first_tallies(alloc: Global, count: usize) -> Result<Vec<Tally>, MatchFau
 }
 
 /// The points in 64 bits, where they fit.
-fn fitting(points: i128) -> Option<i64>
+pub fn fitting(points: i128) -> Option<i64>
     ensures { MatchOption result (fits_in_64 points ≡ false) (λ same. (fits_in_64 points ≡ true) × (same ≡ points)) }
 {
     i64::try_from(points).ok()
@@ -222,7 +222,7 @@ fn check_points(tally: Tally) -> Result<(), MatchFault>
 }
 
 /// The tallies of the two of a lineup after their match.
-fn play_pair(
+pub fn play_pair(
     alloc: Global,
     params: &Params,
     lineup: &Lineup,

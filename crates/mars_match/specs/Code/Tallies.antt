@@ -9,6 +9,7 @@ use Rattle.redcode_text.specs.Tokens.{Scanned}
 use Rattle.mars_match.specs.Rounds.{Outcome, placed_for, ended, has_lived, how_many}
 use Rattle.mars_match.specs.Tables.{RowValue}
 use Rattle.mars_match.specs.declared.fault.MatchFault.{MatchFault}
+use Rattle.mars_match.specs.declared.populations.Sum.{Sum}
 use Rattle.mars_match.specs.declared.table.Tally.{Tally}
 
 abbrev pub no_rounds : Tally
@@ -72,3 +73,7 @@ abbrev pub rows_with : List WarriorValue → List Tally → List RowValue
 rows_with [] tallies = []
 rows_with (w ∷ warriors) [] = []
 rows_with (w ∷ warriors) (t ∷ tallies) = row_with w t ∷ rows_with warriors tallies
+
+-- what a candidate got so far, and its tally of a match more
+abbrev pub summed : Sum → Tally → Sum
+summed sum t = record { points = sum.points +ℤ t.points; wins = sum.wins + t.wins; ties = sum.ties + t.ties; losses = sum.losses + t.losses }

@@ -27,7 +27,7 @@ use Rattle.mars_match.specs.declared.fault.MatchFault.TheVariants as fault
 use Rattle.mars_match.specs.Examples.Listings.{row_of}
 use Rattle.mars_match.specs.Examples.Placements.{sizes}
 
-abbrev one_cell : Op → Modifier → ℕ → ℕ → WarriorValue
+abbrev pub one_cell : Op → Modifier → ℕ → ℕ → WarriorValue
 one_cell op modifier a b = record {
   name = codes "W";
   author = [];
@@ -40,10 +40,10 @@ abbrev shot : WarriorValue
 shot = one_cell Mov I 1 2
 
 -- JMP.B $0, $0 and DAT.F $0, $0
-abbrev stay : WarriorValue
+abbrev pub stay : WarriorValue
 stay = one_cell Jmp B 0 0
 
-abbrev dead : WarriorValue
+abbrev pub dead : WarriorValue
 dead = one_cell Dat F 0 0
 
 -- points, wins, ties, losses

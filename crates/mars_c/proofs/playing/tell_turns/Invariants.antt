@@ -1,10 +1,10 @@
 use Rattle.std.proofs.Common.{◌≡◌, ◌-◌, ◌++◌, length, take, drop}
 use Rattle.mars_core.specs.Turn.{after_turns}
 use Rattle.mars_c.specs.Code.{recorded}
-use Rattle.mars_c.proofs.playing.record_turns.Given as goal
+use Rattle.mars_c.proofs.playing.tell_turns.Given as goal
 
 abbrev pub invariant-loop-i : goal.invariant-loop-i
-invariant-loop-i l = record {
-  rows : take l.i l.rows ++ recorded l.battle (drop l.i l.rows) ≡ recorded l.fn.battle l.fn.rows;
+invariant-loop-i g l = record {
+  rows : take l.i l.rows ++ recorded g.R.TurnRow.row_of l.battle (drop l.i l.rows) ≡ recorded g.R.TurnRow.row_of l.fn.battle l.fn.rows;
   battle : after_turns (length l.rows - l.i) l.battle ≡ after_turns (length l.rows) l.fn.battle;
 }

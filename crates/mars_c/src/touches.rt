@@ -1,0 +1,39 @@
+//! The cells that turns read or write, as numbers.
+ghost use Rattle.std.specs.Prelude.{◌≡◌, ◌≤◌, length, slice_index_or};
+ghost use Rattle.mars_c.specs.Touches.{plain_touched, touched_row};
+
+use crate::playing::TurnRow;
+use crate::records::address_at;
+use mars_core::{Battle, MOST_TOUCHED};
+
+/// The cells that a turn reads or writes: how many addresses there are, and which. What doesn't apply is 0.
+#[repr(C)]
+#[derive(Clone, Copy)]
+pub struct MarsTouched {
+    pub count: u32,
+    pub address: [u32; 8],
+}
+
+/// The row of addresses.
+fn plain(addresses: &[u32]) -> MarsTouched
+    requires few { length addresses.now ≤ 8 }
+    ensures { result ≡ plain_touched addresses.now }
+{
+    let at = |place| address_at(addresses, place);
+    MarsTouched {
+        count: addresses.len() as u32,
+        address: [at(0), at(1), at(2), at(3), at(4), at(5), at(6), at(7)],
+    }
+}
+
+impl TurnRow for MarsTouched {
+    ghost row_of = { touched_row };
+
+    fn of_turn(battle: &mut Battle) -> Option<Self> {
+        let touched = battle.touched();
+        match battle.turn() {
+            Ok(_) => Some(plain(touched.as_slice())),
+            Err(_) => None,
+        }
+    }
+}

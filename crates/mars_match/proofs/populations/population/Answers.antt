@@ -1,0 +1,13 @@
+use Rattle.std.proofs.Common.{rules}
+use Rattle.mars_match.specs.Populations.{population_of}
+use Rattle.mars_match.proofs.Candidates.{none_before}
+use Rattle.mars_match.proofs.populations.population.Goals as goal
+
+pub loop-candidate-init : goal.loop-candidate-init
+loop-candidate-init c =
+    let plan = c.args.plan.now in
+    record {
+      many = search rules;
+      sums = rw c.in-Ok.ensures.items (none_before (population_of c.args.params.now plan.formula plan.fixed plan.rounds plan.seed c.args.opponents.now c.args.candidates.now));
+      kept = c.nothing_kept-kept.ensures c.args.params.now 2 plan.formula;
+    }

@@ -1,0 +1,43 @@
+-- Populations: each candidate fights a match with each opponent, and what it gets is summed.
+use Rattle.std.specs.Prelude.{ℕ, ◌+◌, ◌^◌, ℤ, pos, ◌+ℤ◌, Bool, ◌&&◌, nat_lt, if◌then◌else◌, List, [], ◌∷◌, Option, Result, Ok, Err}
+use Rattle.mars_cell.specs.Parameters.{Parameters}
+use Rattle.mars_cell.specs.Warriors.{WarriorValue}
+use Rattle.redcode_text.specs.Results.{◌>>=◌}
+use Rattle.redcode_text.specs.Tokens.{Scanned}
+use Rattle.redcode_text.specs.declared.fault.ExprFault.TheVariants.{Range}
+use Rattle.mars_match.specs.Rounds.{fits_in_64, table_of}
+use Rattle.mars_match.specs.Tables.{RowValue}
+use Rattle.mars_match.specs.declared.fault.MatchFault.{MatchFault}
+use Rattle.mars_match.specs.declared.fault.MatchFault.TheVariants.{Score}
+use Rattle.mars_match.specs.declared.populations.Sum.{Sum}
+
+-- the sum of no matches
+abbrev pub no_matches : Sum
+no_matches = record { points = pos 0; wins = 0; ties = 0; losses = 0 }
+
+-- a sum and a row of a match
+abbrev pub plus : Sum → RowValue → Sum
+plus sum row = record { points = sum.points +ℤ row.points; wins = sum.wins + row.wins; ties = sum.ties + row.ties; losses = sum.losses + row.losses }
+
+-- a sum's numbers have 64 bits
+abbrev pub fits : Sum → Bool
+fits sum = fits_in_64 sum.points && nat_lt sum.wins (2 ^ 64) && nat_lt sum.ties (2 ^ 64) && nat_lt sum.losses (2 ^ 64)
+
+-- a sum and the first row of a match, where that fits; a match of two has two rows
+abbrev pub with_match : Sum → List RowValue → Result Sum MatchFault
+with_match sum [] = Ok sum
+with_match sum (row ∷ rows) = if fits (plus sum row) then Ok (plus sum row) else Err (Score Range)
+
+-- a sum and what a candidate gets in its matches with opponents, each of n rounds and from the same seed, one after the other; or the fault of the first
+-- match, or sum, that has one
+abbrev pub sum_from : Parameters → Scanned → Option ℕ → ℕ → ℕ → WarriorValue → Sum → List WarriorValue → Result Sum MatchFault
+sum_from p formula fixed n seed candidate sum [] = Ok sum
+sum_from p formula fixed n seed candidate sum (opponent ∷ opponents) =
+    table_of p (candidate ∷ opponent ∷ []) formula fixed n seed >>= with_match sum >>= λ more. sum_from p formula fixed n seed candidate more opponents
+
+-- what each candidate gets, in order; or the fault of the first of them that has one
+abbrev pub population_of : Parameters → Scanned → Option ℕ → ℕ → ℕ → List WarriorValue → List WarriorValue → Result (List Sum) MatchFault
+population_of p formula fixed n seed opponents [] = Ok []
+population_of p formula fixed n seed opponents (candidate ∷ candidates) =
+    sum_from p formula fixed n seed candidate no_matches opponents >>= λ sum.
+    population_of p formula fixed n seed opponents candidates >>= λ sums. Ok (sum ∷ sums)
