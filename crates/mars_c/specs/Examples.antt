@@ -1,27 +1,30 @@
 -- Worked examples, as theorems: faults, cells and records as numbers, where the warriors of a later round are laid, when a battle has one turn left,
 -- what is out of its range, and populations.
-use Rattle.std.specs.Prelude.{◌≡◌, ℕ, pos, refl, true, false, List, [], ◌∷◌, None, Some, Ok, Err, codes}
+use Rattle.std.specs.Prelude.{◌≡◌, ℕ, zero, suc, ◌<◌, ◌≤◌, pos, refl, true, false, List, [], ◌∷◌, None, Some, Ok, Err, codes, slice_get}
 use Rattle.std.specs.List.{concat}
 use Rattle.std.proofs.Common.{arith, subst}
 use Rattle.mars_cell.specs.ParameterFaults.{checked_parameters}
 use Rattle.mars_cell.specs.Parameters.{Parameters}
 use Rattle.mars_cell.specs.Warriors.{WarriorValue}
 use Rattle.mars_cell.specs.declared.instruction.Op.{Op}
-use Rattle.mars_cell.specs.declared.instruction.Op.TheVariants.{Dat, Djn, Jmp, Spl}
+use Rattle.mars_cell.specs.declared.instruction.Op.TheVariants.{Dat, Djn, Jmp, Mov, Sne, Spl}
 use Rattle.mars_cell.specs.declared.instruction.Modifier.{Modifier}
-use Rattle.mars_cell.specs.declared.instruction.Modifier.TheVariants.{B, Ba, F}
-use Rattle.mars_cell.specs.declared.instruction.Mode.TheVariants.{Immediate, Direct, APredecrement, BPostincrement}
+use Rattle.mars_cell.specs.declared.instruction.Modifier.TheVariants.{B, Ba, F, I, X}
+use Rattle.mars_cell.specs.declared.instruction.Mode.TheVariants.{Immediate, Direct, AIndirect, APredecrement, BPredecrement, BPostincrement}
 use Rattle.mars_cell.specs.declared.fault.LoadFault.TheVariants.{Syntax}
 use Rattle.redcode_asm.specs.Formula.{formula_of}
 use Rattle.redcode_asm.specs.declared.fault.AsmProblem.TheVariants.{Text}
+use Rattle.redcode_asm.specs.declared.fault.AsmProblem.TheVariants as assembly
 use Rattle.redcode_text.specs.Expression.{value_of, tree_within}
+use Rattle.redcode_text.specs.Results.{◌>>=◌}
 use Rattle.redcode_text.specs.Tokens.{scanned}
-use Rattle.redcode_text.specs.declared.fault.ExprFault.TheVariants.{DivideByZero}
+use Rattle.redcode_text.specs.declared.fault.ExprFault.TheVariants.{DivideByZero, Range}
 use Rattle.redcode_text.specs.declared.fault.TextProblem.TheVariants.{Expression}
+use Rattle.mars_core.specs.Start.{start_state, overlap}
 use Rattle.mars_core.specs.State.{is_over_of}
 use Rattle.mars_core.specs.Touched.{touched}
 use Rattle.mars_core.specs.Turn.{after_turns}
-use Rattle.mars_core.specs.Examples.{the_machine, cell_of, imp, of_eight, eight, lone}
+use Rattle.mars_core.specs.Examples.{the_machine, battle_of, cell_of, imp, of_eight, eight, lone}
 use Rattle.mars_core.specs.declared.battle.start.BattleFault.TheVariants.{FieldOutside}
 use Rattle.mars_core.specs.declared.battle.start.BattleFault.TheVariants as battle
 use Rattle.mars_match.specs.Battles.{survivors_of_round, end_of}
@@ -32,18 +35,23 @@ use Rattle.mars_match.specs.declared.placement.PlaceFault.TheVariants.{NoRoom}
 use Rattle.mars_match.specs.declared.placement.PlaceFault.TheVariants as place
 use Rattle.mars_match.specs.Examples.Placements.{sizes}
 use Rattle.mars_c.specs.Asked.{asked}
-use Rattle.mars_c.specs.Battles.{placed_in}
+use Rattle.mars_c.specs.Battles.{begun, placed_in}
 use Rattle.mars_c.specs.Cells.{plain_cell}
 use Rattle.mars_c.specs.Codes.{fault_of}
 use Rattle.mars_c.specs.Contests.{population}
-use Rattle.mars_c.specs.Records.{change_of, turn_row}
+use Rattle.mars_c.specs.Records.{AreRows, IsLeft, change_of, turn_row}
 use Rattle.mars_c.specs.Touches.{touched_row}
 use Rattle.mars_c.specs.Refusals.{IsOutside, fight_refusal}
-use Rattle.mars_c.specs.States.{counts_of, fits_in}
+use Rattle.mars_c.specs.States.{counts_of, fits_in, plain_standing}
 use Rattle.mars_c.specs.declared.faults.Refusal.TheVariants.{Assembly, Battle, Load, OutOfMemory, Placement, Score}
 use Rattle.mars_c.specs.declared.ranges.SettingsFault.TheVariants.{Lengths, Position, Rounds, Seed}
 use Rattle.mars_c.specs.declared.settings.MarsSettings.{MarsSettings}
 use Rattle.mars_c.specs.declared.settings.Terms.{Terms}
+
+-- a limit of 0 is the core size, and each other number its own
+pub settings_are_parameters : asked (record { core = 8000; processes = 64; cycles = 80000; read_limit = 0; write_limit = 300; longest = 100; distance = 200; rounds = 1; seed = 2; position = 3 })
+    ≡ record { core_size = 8000; processes = 64; cycles = 80000; read_limit = 8000; write_limit = 300; max_length = 100; distance = 200 }
+settings_are_parameters = refl
 
 -- line 3 of the second load file
 pub load_file_is_told : fault_of (Load 1 (Syntax 3)) ≡ record { code = 6; number = 1; problem = 0; expression = 0; line = 3; warrior = 1 }
@@ -53,9 +61,15 @@ load_file_is_told = refl
 pub source_is_told : fault_of (Assembly (record { line = 2; problem = Text (Expression DivideByZero) })) ≡ record { code = 5; number = 1; problem = 10; expression = 3; line = 2; warrior = 0 }
 source_is_told = refl
 
--- DJN.BA >7, {3
-pub parts_have_their_numbers : plain_cell (cell_of Djn Ba BPostincrement 7 APredecrement 3) ≡ record { op = 10; modifier = 3; a_mode = 7; b_mode = 4; a = 7; b = 3 }
-parts_have_their_numbers = refl
+-- a number beyond 32 bits in an operand of line 4
+pub operand_is_told : fault_of (Assembly (record { line = 4; problem = assembly.Expression Range })) ≡ record { code = 5; number = 4; problem = 0; expression = 4; line = 4; warrior = 0 }
+operand_is_told = refl
+
+-- DJN.BA >7, {3 and SNE.X <1, *2
+pub parts_have_their_numbers :
+    (plain_cell (cell_of Djn Ba BPostincrement 7 APredecrement 3) ≡ record { op = 10; modifier = 3; a_mode = 7; b_mode = 4; a = 7; b = 3 })
+    × (plain_cell (cell_of Sne X BPredecrement 1 AIndirect 2) ≡ record { op = 12; modifier = 5; a_mode = 5; b_mode = 2; a = 1; b = 2 })
+parts_have_their_numbers = (refl, refl)
 
 -- the imp writes one cell and goes on there
 pub row_of_an_imp : turn_row (lone of_eight (eight (imp ∷ [])) (0 ∷ [])) ≡ record {
@@ -76,10 +90,15 @@ pub row_of_an_imp : turn_row (lone of_eight (eight (imp ∷ [])) (0 ∷ [])) ≡
 unfolding the_machine
 row_of_an_imp = refl
 
--- it reads its own cell, and writes to the next one
-pub touched_by_an_imp : touched_row (lone of_eight (eight (imp ∷ [])) (0 ∷ [])) ≡ record { count = 4; address = 0 ∷ 0 ∷ 1 ∷ 1 ∷ 0 ∷ 0 ∷ 0 ∷ 0 ∷ [] }
+-- MOV.I $1, $2 reads the cell behind it, and writes to the one behind that
+pub touched_by_a_move : touched_row (lone of_eight (eight (cell_of Mov I Direct 1 Direct 2 ∷ [])) (0 ∷ [])) ≡ record { count = 4; address = 0 ∷ 1 ∷ 2 ∷ 2 ∷ 0 ∷ 0 ∷ 0 ∷ 0 ∷ [] }
 unfolding the_machine touched
-touched_by_an_imp = refl
+touched_by_a_move = refl
+
+-- the first of two has its turn, and then the second is next
+pub next_is_told : (turn_row (battle_of of_eight (eight (imp ∷ [])) ((0 ∷ []) ∷ (4 ∷ []) ∷ []))).next ≡ 1
+unfolding the_machine
+next_is_told = refl
 
 -- a split writes nothing and queues two processes
 pub row_of_a_split : turn_row (lone of_eight (eight (cell_of Spl B Direct 5 Immediate 0 ∷ [])) (0 ∷ 3 ∷ [])) ≡ record {
@@ -111,13 +130,48 @@ pub row_of_a_death : turn_row (lone of_eight (eight []) (6 ∷ [])) ≡ record {
 unfolding the_machine
 row_of_a_death = refl
 
-pub a_turn_is_left : is_over_of (lone of_eight (eight []) (6 ∷ [])) ≡ false
+none_before : (k : ℕ) → k < 1 → is_over_of (after_turns k (lone of_eight (eight []) (6 ∷ []))) ≡ false
 unfolding the_machine
-a_turn_is_left = refl
+none_before zero less = refl
+none_before (suc k) less = absurd (omega (arith, less))
 
-pub none_is_left_then : is_over_of (after_turns 1 (lone of_eight (eight []) (6 ∷ []))) ≡ true
+pub a_turn_is_left : IsLeft (lone of_eight (eight []) (6 ∷ [])) 1
 unfolding the_machine
-none_is_left_then = refl
+a_turn_is_left = record { ends = refl; runs = none_before }
+
+-- two rows are there, and one turn is left: the first row has it, told by how many turns were made, and the second stays
+turn_told : (k : ℕ) → k < 1 → k < 2 → slice_get (0 ∷ 7 ∷ []) k ≡ Some (after_turns k (lone of_eight (eight []) (6 ∷ []))).turns
+turn_told zero less inside = refl
+turn_told (suc k) less inside = absurd (omega (arith, less))
+
+row_stays : (k : ℕ) → 1 ≤ k → slice_get {X = ℕ} (0 ∷ 7 ∷ []) k ≡ slice_get {X = ℕ} (7 ∷ 7 ∷ []) k
+row_stays zero more = absurd (omega (arith, more))
+row_stays (suc k) more = refl
+
+pub rows_begin_there : AreRows (λ s. s.turns) (lone of_eight (eight []) (6 ∷ [])) 1 (7 ∷ 7 ∷ []) (0 ∷ 7 ∷ [])
+rows_begin_there = record { many = refl; written = turn_told; kept = row_stays }
+
+-- one round of one cycle in a core of four cells, by a formula
+abbrev by_formula : List ℕ → Terms
+by_formula text = record {
+  params = sizes 4 2;
+  plan = record {
+    rounds = 1;
+    seed = 1;
+    fixed = None;
+    formula = elim (formula_of text) [ Ok formula ↦ formula | Err fault ↦ record { tokens = []; names = [] } ];
+  };
+}
+
+abbrev one_cell : Op → Modifier → WarriorValue
+one_cell op modifier = record { name = []; author = []; cells = cell_of op modifier Direct 0 Direct 0 ∷ []; start = 0 }
+
+-- JMP.B $0, $0 lives on, and DAT.F $0, $0 dies
+abbrev stay : WarriorValue
+stay = one_cell Jmp B
+
+abbrev dead : WarriorValue
+dead = one_cell Dat F
 
 -- the first round draws once for two warriors, so the second is laid by the second draw
 pub second_round_is_drawn_anew : placed_in (sizes 8000 100) 2 None 1 1 ≡ Ok (0 ∷ 1139 ∷ [])
@@ -126,6 +180,11 @@ second_round_is_drawn_anew = refl
 
 pub fixed_position_stays : placed_in (sizes 8000 100) 2 (Some 4000) 5 1 ≡ Ok (0 ∷ 4000 ∷ [])
 fixed_position_stays = refl
+
+-- in round 1 the second warrior has the first turn, from where it stands
+pub second_round_begins_with_the_second : (begun (by_formula (codes "0")) (stay ∷ dead ∷ []) 1 >>= λ s. Ok s.queues) ≡ Ok ((2 ∷ []) ∷ (0 ∷ []) ∷ [])
+unfolding starts_of next_seed drawn start_state overlap the_machine
+second_round_begins_with_the_second = refl
 
 -- three warriors, of whom the second is dead
 pub queues_lie_one_behind_the_other : concat ((4 ∷ 5 ∷ []) ∷ [] ∷ (7 ∷ []) ∷ []) ≡ 4 ∷ 5 ∷ 7 ∷ []
@@ -142,6 +201,10 @@ state_fits = refl
 pub processes_do_not_fit : fits_in (lone of_eight (eight []) (6 ∷ 7 ∷ [])) 9 9 1 9 ≡ false
 unfolding the_machine
 processes_do_not_fit = refl
+
+pub standing_is_told : plain_standing (lone of_eight (eight []) (6 ∷ 7 ∷ [])) ≡ record { turns = 0; cycle = 0; next = 0; over = 0; processes = 2; deaths = 0 }
+unfolding the_machine
+standing_is_told = refl
 
 -- settings of nano, with so many rounds, this seed and this position
 abbrev nano : ℕ → ℕ → ℕ → MarsSettings
@@ -193,30 +256,7 @@ pub fights_are_refused : (fight_refusal (fight.Place NoRoom) ≡ Placement NoRoo
     × (fight_refusal (fight.Place place.OutOfMemory) ≡ OutOfMemory) × (fight_refusal (fight.Battle battle.OutOfMemory) ≡ OutOfMemory)
 fights_are_refused = (refl, refl, refl, refl, refl, refl)
 
--- one round of one cycle in a core of four cells, by a formula
-abbrev by_formula : List ℕ → Terms
-by_formula text = record {
-  params = sizes 4 2;
-  plan = record {
-    rounds = 1;
-    seed = 1;
-    fixed = None;
-    formula = elim (formula_of text) [ Ok formula ↦ formula | Err fault ↦ record { tokens = []; names = [] } ];
-  };
-}
-
-abbrev one_cell : Op → Modifier → WarriorValue
-one_cell op modifier = record { name = []; author = []; cells = cell_of op modifier Direct 0 Direct 0 ∷ []; start = 0 }
-
--- JMP.B $0, $0 lives on, and DAT.F $0, $0 dies
-abbrev stay : WarriorValue
-stay = one_cell Jmp B
-
-abbrev dead : WarriorValue
-dead = one_cell Dat F
-
--- the first two are the candidates: a tie and a win, and two losses
-pub candidates_are_summed : population (by_formula (codes "(W*W-1)/S")) 2 (stay ∷ dead ∷ stay ∷ dead ∷ [])
-    ≡ Ok (record { points = pos 4; wins = 1; ties = 1; losses = 0 } ∷ record { points = pos 0; wins = 0; ties = 0; losses = 2 } ∷ [])
+-- the first is the candidate, and the others are its opponents
+pub candidates_come_first : population (by_formula (codes "(W*W-1)/S")) 1 (stay ∷ dead ∷ dead ∷ []) ≡ Ok (record { points = pos 6; wins = 2; ties = 0; losses = 0 } ∷ [])
 unfolding table_of starts_of drawn next_seed survivors_of_round end_of scanned value_of tree_within the_machine
-candidates_are_summed = refl
+candidates_come_first = refl

@@ -10,7 +10,7 @@ use Rattle.mars_core.specs.Turn.{turn_of, executed, accepted, execution_of}
 use Rattle.mars_core.specs.State.{advanced, ends}
 use Rattle.mars_core.specs.Start.{start_state, overlap}
 use Rattle.mars_core.specs.declared.battle.start.BattleFault.TheVariants.{FieldOutside}
-use Rattle.redcode_text.specs.Tokens.{Scanned, scanned}
+use Rattle.redcode_text.specs.Tokens.{scanned}
 use Rattle.redcode_text.specs.Expression.{value_of, tree_within}
 use Rattle.redcode_text.specs.declared.fault.ExprFault.TheVariants.{Range}
 use Rattle.redcode_asm.specs.Formula.{formula_of}
