@@ -27,7 +27,7 @@ extern "C" {
 
 /* The version of this header: 1000 for each major version, and the minor one. A minor version adds to what is there, a major one
  * changes it. */
-#define MARS_VERSION 1001
+#define MARS_VERSION 1002
 
 /* The version of the library that is called. */
 uint32_t mars_version(void);
@@ -112,6 +112,14 @@ typedef struct {
     uint32_t process[2];  /* where the processes stand that were queued */
 } MarsRecord;
 
+/* The cells that a turn reads or writes. */
+typedef struct {
+    uint32_t count;      /* how many addresses there are, 4 to 8 */
+    uint32_t address[8]; /* that of the instruction; for A those by which an indirect mode goes (two: by the read limit, by the write
+                            limit), then that of the cell that A copies; the same of B; and that of the cell that B writes to. What
+                            doesn't apply is 0. */
+} MarsTouched;
+
 /* A death: which warrior, and how many turns had been made by all then, its last one among them. */
 typedef struct {
     uint32_t warrior;
@@ -190,6 +198,12 @@ uint32_t mars_record(const MarsSettings *settings,
                      const uint8_t *loads, size_t loads_length, const size_t *lengths, size_t warriors,
                      uint32_t round, uint32_t history, const uint8_t *lines, size_t lines_length,
                      uint32_t first, MarsRecord *rows, size_t row_count, size_t *count, MarsFault *fault);
+
+/* Tells which cells turns touch: arguments, rows and *count as those of mars_record. Since version 1002. */
+uint32_t mars_touched(const MarsSettings *settings,
+                      const uint8_t *loads, size_t loads_length, const size_t *lengths, size_t warriors,
+                      uint32_t round, uint32_t history, const uint8_t *lines, size_t lines_length,
+                      uint32_t first, MarsTouched *rows, size_t row_count, size_t *count, MarsFault *fault);
 
 /* Shows where the same battle stands `turns` turns further on, or at its end, where there are fewer: each cell of the core; how
  * many processes each warrior has; where these stand, one queue behind the other, the front of each first; and the deaths in
