@@ -4,6 +4,7 @@ from __future__ import annotations
 import functools
 from collections.abc import Callable
 from dataclasses import dataclass, replace
+from pathlib import Path
 from typing import Any
 
 import click
@@ -36,11 +37,13 @@ class Asked:
 
 
 class Output(click.Path):
-    """A file or a folder that is written. Its name isn't empty."""
+    """A file or a folder that is written. Its name isn't empty, and that in which a file lies is there."""
 
     def convert(self, value: Any, param: click.Parameter | None, context: click.Context | None) -> Any:
         if not value:
             self.fail("a name is asked for", param, context)
+        if self.file_okay and not Path(value).absolute().parent.is_dir():
+            self.fail(f"there is no folder {Path(value).parent}", param, context)
         return super().convert(value, param, context)
 
 
@@ -65,6 +68,17 @@ class LimitType(click.ParamType):
         if not 1 <= len(numbers) <= 2 or not all(1 <= number <= 1_000_000 for number in numbers):
             self.fail(f"{value} isn't S or S,MB, with numbers from 1 to 1000000", param, context)
         return replace(Limit(), **dict(zip(("seconds", "megabytes"), numbers)))
+
+
+def with_options(*options: Callable[[Any], Any]) -> Callable[[Callable[..., Any]], Callable[..., Any]]:
+    """Gives a command these options, in this order."""
+
+    def decorate(command: Callable[..., Any]) -> Callable[..., Any]:
+        for option in reversed(options):
+            command = option(command)
+        return command
+
+    return decorate
 
 
 def number_option(name: str, **how: Any) -> Callable[[Any], Any]:
@@ -122,11 +136,7 @@ def battle_options(
             contest: dict[str, Any] = {name: given.pop(name) or 0 for name in ("rounds", "seed", "position", "formula")}
             return command(Asked(files, settings, round=round_, limit=limit, **contest), **given)
 
-        options = [*SETTINGS, *CONTEST, *([ROUND] if one_round else [])]
-        options.append(click.argument("files", nargs=-1, required=needs_files))
-        made: Callable[..., Any] = asking
-        for option in reversed(options):
-            made = option(made)
-        return made
+        files = click.argument("files", nargs=-1, required=needs_files)
+        return with_options(*SETTINGS, *CONTEST, *([ROUND] if one_round else []), files)(asking)
 
     return decorate
