@@ -112,12 +112,12 @@ typedef struct {
     uint32_t process[2];  /* where the processes stand that were queued */
 } MarsRecord;
 
-/* The cells that a turn reads or writes. */
+/* The cells that a turn reads or writes: the instruction; for A those by which an indirect mode goes, by the read limit and by the
+ * write limit, and the one that is copied; the same for B; and the one that B leads to for writing. They are named whatever the
+ * opcode makes of them, and a cell may come more than once. */
 typedef struct {
     uint32_t count;      /* how many addresses there are, 4 to 8 */
-    uint32_t address[8]; /* that of the instruction; for A those by which an indirect mode goes (two: by the read limit, by the write
-                            limit), then that of the cell that A copies; the same of B; and that of the cell that B writes to. What
-                            doesn't apply is 0. */
+    uint32_t address[8]; /* in this order; what doesn't apply is 0 */
 } MarsTouched;
 
 /* A death: which warrior, and how many turns had been made by all then, its last one among them. */
@@ -199,7 +199,8 @@ uint32_t mars_record(const MarsSettings *settings,
                      uint32_t round, uint32_t history, const uint8_t *lines, size_t lines_length,
                      uint32_t first, MarsRecord *rows, size_t row_count, size_t *count, MarsFault *fault);
 
-/* Tells which cells turns touch: arguments, rows and *count as those of mars_record. Since version 1002. */
+/* Tells which cells turns read or write: the same battle and the same turns, and a row for each as mars_record has. Since version
+ * 1002. */
 uint32_t mars_touched(const MarsSettings *settings,
                       const uint8_t *loads, size_t loads_length, const size_t *lengths, size_t warriors,
                       uint32_t round, uint32_t history, const uint8_t *lines, size_t lines_length,

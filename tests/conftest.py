@@ -26,7 +26,7 @@ EXAMPLES = TOP / "examples"
 sys.path[:0] = [str(TOP / "python"), str(TOP / "tests")]
 
 # The command, as its script starts it.
-COMMAND = [sys.executable, str(TOP / "python" / "corewar" / "__main__.py")]
+COMMAND = [sys.executable, "-P", str(TOP / "python" / "corewar" / "__main__.py")]
 ENVIRONMENT = {**os.environ, "PYTHONPATH": str(TOP / "python"), "PYTHONUNBUFFERED": "1"}
 Run = Callable[..., "subprocess.CompletedProcess[str]"]
 
