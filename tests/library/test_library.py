@@ -291,7 +291,8 @@ def test_c(tmp_path, built, more, before):
     if before and not shutil.which(before[0]) or more and compiled.returncode:
         skip("the C program", "it isn't here", before[0] if before else "gcc")
     done = subprocess.run([*before, made], capture_output=True, text=True, timeout=300)
-    assert (compiled.stderr, done.stdout, done.stderr, done.returncode) == ("", "20 passed, 0 failed\n", "", 0)
+    assert (compiled.stderr, done.stderr, done.returncode) == ("", "", 0)
+    assert re.fullmatch(r"[1-9]\d* passed, 0 failed\n", done.stdout)
 
 
 def test_rust(tmp_path, built):
