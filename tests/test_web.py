@@ -227,6 +227,14 @@ def page(browser: Any, site: Site) -> Any:
     return browser
 
 
+@pytest.fixture
+def fought(page: Any) -> Any:
+    """The page with the fight of Dwarf and Imp."""
+    page.find_element("id", "fight").click()
+    until(page, "document.getElementById('outcome').textContent.startsWith('Dwarf wins')")
+    return page
+
+
 def text(browser: Any, name: str) -> str:
     found: str = browser.find_element("id", name).text
     return found
@@ -290,13 +298,11 @@ def test_a_new_source(page: Any, site: Site) -> None:
     assert (site.folder / "mine.red").read_text().startswith(";redcode-94\n;name mine\n")
 
 
-def test_a_link_leads_to_the_line_that_comes_next(page: Any) -> None:
-    page.find_element("id", "fight").click()
-    until(page, "document.getElementById('outcome').textContent.startsWith('Dwarf wins')")
-    page.execute_script("bench.shelf.show(bench.shelf.find('dwarf.red')); bench.time.go(1)")
-    until(page, "document.querySelector('#following button')?.textContent === 'imp.red, line 5'")
-    page.find_element("css selector", "#following button").click()
-    assert page.execute_script("return bench.shelf.shown.name") == "imp.red"
+def test_a_link_leads_to_the_line_that_comes_next(fought: Any) -> None:
+    fought.execute_script("bench.shelf.show(bench.shelf.find('dwarf.red')); bench.time.go(1)")
+    until(fought, "document.querySelector('#following button')?.textContent === 'imp.red, line 5'")
+    fought.find_element("css selector", "#following button").click()
+    assert fought.execute_script("return bench.shelf.shown.name") == "imp.red"
 
 
 def test_by_keyboard(page: Any) -> None:
@@ -329,19 +335,17 @@ def test_by_keyboard(page: Any) -> None:
     until(page, "bench.time.kept !== null")
 
 
-def test_a_cell_is_edited_by_keyboard(page: Any) -> None:
+def test_a_cell_is_edited_by_keyboard(fought: Any) -> None:
     from selenium.webdriver import ActionChains, Keys
 
-    page.find_element("id", "fight").click()
-    until(page, "document.getElementById('outcome').textContent.startsWith('Dwarf wins')")
-    page.execute_script("bench.time.keep(0)")
-    until(page, "document.getElementById('where').textContent === 'Cell 0'")
+    fought.execute_script("bench.time.keep(0)")
+    until(fought, "document.getElementById('where').textContent === 'Cell 0'")
     time.sleep(0.3)
-    page.execute_script("document.querySelector('#listing li:nth-child(5) .address').focus()")
-    ActionChains(page).send_keys(Keys.TAB, Keys.ENTER, "dat 0, 0", Keys.ENTER).perform()
-    until(page, "document.getElementById('outcome').textContent.startsWith('Imp wins')")
+    fought.execute_script("document.querySelector('#listing li:nth-child(5) .address').focus()")
+    ActionChains(fought).send_keys(Keys.TAB, Keys.ENTER, "dat 0, 0", Keys.ENTER).perform()
+    until(fought, "document.getElementById('outcome').textContent.startsWith('Imp wins')")
     time.sleep(0.3)
-    assert page.execute_script("return document.activeElement.textContent") == "DAT.F $0, $0"
+    assert fought.execute_script("return document.activeElement.textContent") == "DAT.F $0, $0"
 
 
 def test_a_tab_that_is_loaded_anew(page: Any, site: Site) -> None:
@@ -383,8 +387,6 @@ def test_a_tab_that_is_loaded_anew(page: Any, site: Site) -> None:
 
 
 @pytest.mark.parametrize("width", [390, 800, 1600])
-def test_no_window_scrolls_sideways(page: Any, width: int) -> None:
-    page.set_window_size(width, 900)
-    page.find_element("id", "fight").click()
-    until(page, "document.getElementById('outcome').textContent.includes('wins')")
-    assert page.execute_script("return document.documentElement.scrollWidth <= innerWidth + 1")
+def test_no_window_scrolls_sideways(fought: Any, width: int) -> None:
+    fought.set_window_size(width, 900)
+    until(fought, "document.documentElement.scrollWidth <= innerWidth + 1")

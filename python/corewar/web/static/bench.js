@@ -98,7 +98,7 @@ class Shelf {
     this.draft = settle(() => this.keepDrafts(), 300);
     addEventListener("beforeunload", event => { if (!this.sources.every(Shelf.isSaved)) event.preventDefault(); });
     element("save").onclick = () => this.save();
-    element("new").onclick = () => this.ask();
+    element("new").onclick = () => this.askName();
   }
 
   async load() {
@@ -184,7 +184,7 @@ class Shelf {
   }
 
   /** Asks for the name of a new source at the end of the list: Enter makes it, Esc doesn't. */
-  ask() {
+  askName() {
     let number = 1;
     while (this.find(`warrior-${number}.red`)) number++;
     const input = make("input", {value: `warrior-${number}.red`, onblur: () => row.remove(), onkeydown: event => {
