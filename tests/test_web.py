@@ -186,6 +186,8 @@ def test_a_turn_is_what_the_machine_says(site: Site) -> None:
         assert np.array_equal(np.frombuffer(body[:800], np.uint8), history.owners(turn))
         assert np.array_equal(np.frombuffer(body[1600:], np.uint32), np.concatenate(state.queues))
         assert told["processes"] == [len(queue) for queue in state.queues]
+    third = json.loads(site.ask("turn/3")[1].partition(b"\n")[0])
+    assert (third["mover"], third["reads"]) == (0, [3]) and "; reads 3 (bomb); " in third["told"]
     overview = site.told("overview")
     assert overview["turns"][-1] == history.end and overview["processes"][-1] == [1, 0]
     death = site.told("search/dies/0/0/on")["turn"]

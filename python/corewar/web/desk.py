@@ -89,6 +89,8 @@ class Desk:
             "next": block.following(turn),
             "head": head,
             "told": teller.turn(turn) if turn else "the start",
+            "mover": int(history.record(turn)["warrior"]) if turn else None,
+            "reads": teller.reads(turn) if turn else [],
             "following": teller.following(turn),
             "line": line and {"file": history.warriors[line.warrior].file, "number": line.number},
             "cells": np.bincount(owners, minlength=256)[: len(queues)].tolist(),

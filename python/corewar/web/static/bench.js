@@ -417,6 +417,8 @@ class Time {
     this.track.follow(Math.floor(frame));
     if (this.track.isStale) this.track.draw(this.palette);
     this.grid.draw(this.palette, this.focus);
+    const radius = this.grid.inner / 2 + 2.5 * devicePixelRatio;
+    moment.reads.forEach(address => this.grid.mark(address, SQUARE, radius, 1.5, this.palette.mark[moment.mover]));
     element("time").value = frame;
     element("time").setAttribute("aria-valuetext", `turn ${moment.turn} of ${battle.last}`);
     element("whole").hidden = this.track.length === live.end;
