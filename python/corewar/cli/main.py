@@ -62,6 +62,7 @@ def open_streams() -> None:
 def main() -> None:
     """Runs the command. What can't be done is told in one line, and no traceback reaches a user."""
     open_streams()
+    # While all this was loaded Ctrl-C ended the process; from here on it is told.
     if signal.getsignal(signal.SIGINT) == signal.SIG_DFL:
         signal.signal(signal.SIGINT, signal.default_int_handler)
     try:
