@@ -19,7 +19,7 @@ from ..model.faults import Refused
 from ..model.settings import whole
 from .blocks import Block
 
-# How many turns a block has, and how many blocks are kept: 5 to 10 MB each.
+# How many turns a block has, and how many blocks are kept: 5 to 13 MB each.
 BLOCK, KEPT = 65_536, 24
 # The most turns that a line of the debugger makes.
 LONGEST_RUN = 1_000_000
