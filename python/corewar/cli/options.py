@@ -14,6 +14,7 @@ from ..engine.sources import Limit, read_warriors
 from ..model.settings import FORMULA, HILLS, NUMBERS, Settings, whole
 
 PICTURES = (".png", ".svg", ".pdf")
+Decorator = Callable[[Callable[..., Any]], Callable[..., Any]]
 HELP = {"help_option_names": ["-h", "--help"], "max_content_width": 120}
 
 
@@ -70,7 +71,7 @@ class LimitType(click.ParamType):
         return replace(Limit(), **dict(zip(("seconds", "megabytes"), numbers)))
 
 
-def with_options(*options: Callable[[Any], Any]) -> Callable[[Callable[..., Any]], Callable[..., Any]]:
+def with_options(*options: Decorator) -> Decorator:
     """Gives a command these options, in this order."""
 
     def decorate(command: Callable[..., Any]) -> Callable[..., Any]:
@@ -81,7 +82,7 @@ def with_options(*options: Callable[[Any], Any]) -> Callable[[Callable[..., Any]
     return decorate
 
 
-def number_option(name: str, **how: Any) -> Callable[[Any], Any]:
+def number_option(name: str, **how: Any) -> Decorator:
     """The option of a number, with its range and what it means."""
     number = NUMBERS[name]
     words = {number.word, f"--{name.replace('_', '-')}"}
@@ -121,9 +122,7 @@ ROUND = click.option(
 )
 
 
-def battle_options(
-    *, one_round: bool = False, needs_files: bool = True
-) -> Callable[[Callable[..., Any]], Callable[..., Any]]:
+def battle_options(*, one_round: bool = False, needs_files: bool = True) -> Decorator:
     """Gives a command the options of a contest and its files, as its argument `asked`; with `one_round` that of a
     round, too.
     """

@@ -2,22 +2,20 @@
 from __future__ import annotations
 
 import os
-from collections.abc import Callable
 from pathlib import Path
-from typing import Any
 
 import click
 
 from ..battle.frames import parts
 from ..battle.history import History
 from ..model.settings import whole
-from .options import Asked, Output, Picture, battle_options, with_options
+from .options import Asked, Decorator, Output, Picture, battle_options, with_options
 
 # A battle of few turns is shown turn by turn.
 FEW_TURNS = 2000
 
 
-def part_options(kind: Output) -> Callable[[Callable[..., Any]], Callable[..., Any]]:
+def part_options(kind: Output) -> Decorator:
     """The options that say which part of a battle is shown, and in which kind of file."""
     return with_options(
         click.option("--from", "first", type=click.IntRange(1), default=1, help="The first turn that is shown."),

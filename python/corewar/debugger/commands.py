@@ -3,6 +3,7 @@ from __future__ import annotations
 
 from collections.abc import Callable, Iterable, Iterator
 from dataclasses import dataclass
+from typing import NoReturn
 
 import numpy as np
 
@@ -312,9 +313,8 @@ def tell_help(session: Session, rest: str) -> Iterator[str]:
 
 
 @command("quit", "leaves", "q")
-def leave(session: Session, _: str) -> Iterator[str]:
+def leave(session: Session, _: str) -> NoReturn:
     raise Left
-    yield ""
 
 
 def execute(session: Session, line: str) -> list[str]:
