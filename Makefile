@@ -45,9 +45,9 @@ man:
 
 completion:
 	mkdir -p build/completion
-	_COREWAR_COMPLETE=bash_source $(COREWAR) -m corewar.cli.main >build/completion/corewar.bash
+	_COREWAR_COMPLETE=bash_source $(COREWAR) -m corewar >build/completion/corewar.bash
 # A function that zsh loads by itself completes when it is loaded, too.
-	_COREWAR_COMPLETE=zsh_source $(COREWAR) -m corewar.cli.main | sed 's/^compdef _corewar_completion corewar;/_corewar_completion "$$@"/' >build/completion/_corewar
+	_COREWAR_COMPLETE=zsh_source $(COREWAR) -m corewar | sed 's/^compdef _corewar_completion corewar;/_corewar_completion "$$@"/' >build/completion/_corewar
 
 install: $(PROGRAM) $(LIBRARY) man completion
 	rm -rf $(documents) $(package)/corewar

@@ -1,10 +1,10 @@
-"""Random battles for hypothesis: warriors of any cells in a small core, and edits by hand."""
+"""Random battles for hypothesis: warriors of any cells in a small core, and lines of the debugger."""
 from __future__ import annotations
 
 from hypothesis import strategies as st
 
-from corewar.engine.calls import Match
-from corewar.model.cells import MODES, MODIFIERS, OPCODES
+from corewar.engine.calls import Match, State, debug
+from corewar.model.cells import MODES, MODIFIERS, OPCODES, cell_text
 from corewar.model.settings import Settings
 from corewar.model.warriors import Warrior
 
@@ -56,3 +56,15 @@ def edits(draw: st.DrawFn) -> str:
             st.just(f"move {warrior} 0 {address}"),
         )
     )
+
+
+MOVES = st.one_of(edits(), st.sampled_from(["step", "run 3", "run 11", "undo", "redo"]))
+
+
+def is_listed(fight: Match, lines: list[str], now: State) -> bool:
+    """Whether the debugger lists this state, cells and queues, where these lines lead it."""
+    core = fight.settings.core
+    expected = [f"{address} {cell_text(cell, core)}" for address, cell in enumerate(now.cells)]
+    expected += [" ".join([f"queue {number}:", *map(str, queue)]) for number, queue in enumerate(now.queues)]
+    asked = [f"list 0 {core}", *(f"queue {number}" for number in range(len(now.queues)))]
+    return debug(fight, [*lines, *asked]).splitlines()[-len(expected) :] == expected

@@ -25,7 +25,16 @@ TOP = Path(__file__).resolve().parents[1]
 EXAMPLES = TOP / "examples"
 sys.path[:0] = [str(TOP / "python"), str(TOP / "tests")]
 
+# The command, as its script starts it.
+COMMAND = [sys.executable, "-P", str(TOP / "python" / "corewar" / "__main__.py")]
+ENVIRONMENT = {**os.environ, "PYTHONPATH": str(TOP / "python"), "PYTHONUNBUFFERED": "1"}
 Run = Callable[..., "subprocess.CompletedProcess[str]"]
+
+
+def begin(*words: object, **how: Any) -> subprocess.Popen[str]:
+    """`corewar` with words, as it is begun and not waited for."""
+    options = {"env": ENVIRONMENT, "stdout": subprocess.PIPE, "stderr": subprocess.PIPE, "text": True, **how}
+    return subprocess.Popen([*COMMAND, *map(str, words)], **options)
 
 
 @pytest.fixture
@@ -36,16 +45,10 @@ def run(tmp_path: Path) -> Run:
 
     def started(*words: object, given: str | bytes = "", **how: object) -> subprocess.CompletedProcess[str]:
         named = [str(EXAMPLES / f"{str(word)[1:]}.red") if str(word).startswith("@") else str(word) for word in words]
-        environment = {
-            **os.environ,
-            "PYTHONPATH": str(TOP / "python"),
-            "NO_COLOR": "1",
-            "XDG_STATE_HOME": str(tmp_path / "state"),
-        }
+        environment = {**ENVIRONMENT, "NO_COLOR": "1", "XDG_STATE_HOME": str(tmp_path / "state")}
         data = given.encode() if isinstance(given, str) else given
         options = {"cwd": tmp_path, "env": environment, "capture_output": True, "timeout": 300, **how}
-        command: Any = [sys.executable, "-m", "corewar.cli.main", *named]
-        done: Any = subprocess.run(command, input=data, **options)  # type: ignore[call-overload]
+        done: Any = subprocess.run([*COMMAND, *named], input=data, **options)  # type: ignore[call-overload]
         text = [part.decode(errors="replace") if part is not None else "" for part in (done.stdout, done.stderr)]
         return subprocess.CompletedProcess(done.args, done.returncode, *text)
 

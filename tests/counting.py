@@ -1,4 +1,4 @@
-"""What tests of the program and of the library share: where it is, and how they say what holds."""
+"""What tests of the program and of the library share: where it is, and how they are skipped."""
 from __future__ import annotations
 
 import os
@@ -9,19 +9,7 @@ import pytest
 TOP = str(Path(__file__).resolve().parents[1])
 SCRIPTS = os.path.join(TOP, "scripts")
 # The program, which `./mars` or the gate has built; MARS names another one.
-PROGRAM = os.environ.get("MARS") or os.path.join(TOP, "crates", "mars", "out", "mars")
-
-
-def check(name: str, got: object, expected: object = True) -> None:
-    """What came is what was expected."""
-    __tracebackhide__ = True
-    assert got == expected, name
-
-
-def holds(is_so: object, *told: object) -> None:
-    """Something is so."""
-    __tracebackhide__ = True
-    assert is_so, told
+PROGRAM = os.path.abspath(os.environ.get("MARS") or f"{TOP}/crates/mars/out/mars")
 
 
 def skip(name: str, why: str, package: str | None = None) -> None:

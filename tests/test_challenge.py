@@ -1,13 +1,11 @@
-"""challenge: its lines against values that were worked out by hand and the program's own tables, and its faults."""
+"""challenge: its lines against values that were worked out by hand, and its faults."""
 from __future__ import annotations
 
-import subprocess
 from pathlib import Path
 
 import pytest
-from conftest import EXAMPLES, TOP, Run
+from conftest import Run
 
-PROGRAM = TOP / "crates" / "mars" / "out" / "mars"
 HEAD = "  points   wins   ties losses   theirs  opponent\n"
 FILES = {
     "stay.red": ";name Stay\njmp 0\n",
@@ -42,24 +40,8 @@ def test_by_hand(run: Run) -> None:
         "       6      2      0      2        6  sum of 1\n"
     )
     words = "-s 400 -c 10 -p 5 -l 10 -d 20 -F 100 --seed 5 --read-limit 200 --write-limit 200".split()
-    told = run("challenge", "--sum", "-r", 4, *words, "made.red", "dead.red")
+    told = run("challenge", "--sum", "--jobs", 3, "-r", 4, *words, "made.red", "dead.red")
     assert told.stdout == "      12      4      0      0        0  sum of 1\n"
-
-
-def test_by_the_program(run: Run) -> None:
-    names = sorted(path.name for path in EXAMPLES.glob("*.red"))
-    lines = []
-    for name in names:
-        command = [str(PROGRAM), "-b", "-r", "6", "--seed", "7", "dwarf.red", name]
-        table = subprocess.run(command, cwd=EXAMPLES, capture_output=True, text=True).stdout.splitlines()
-        counts = [int(count) for count in [*table[1].split()[:4], table[2].split()[0]]]
-        lines.append((counts, f"{name:{max(map(len, names))}}  {table[2][31:]}"))
-    sums = [sum(column) for column in zip(*(counts for counts, _ in lines))]
-    lines = [*sorted(lines, key=lambda line: -line[0][0]), (sums, f"sum of {len(names)}")]
-    own = "".join("{:8} {:6} {:6} {:6} {:8}  ".format(*counts) + f"{told}\n" for counts, told in lines)
-    for jobs in (1, 3):
-        told = run("challenge", "--jobs", jobs, "-r", 6, "--seed", 7, "dwarf.red", *names, cwd=EXAMPLES)
-        assert told.stdout == HEAD + own
 
 
 def test_faults(run: Run) -> None:

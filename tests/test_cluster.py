@@ -12,7 +12,7 @@ from pathlib import Path
 from typing import Any
 
 import pytest
-from conftest import EXAMPLES, TOP, Run
+from conftest import ENVIRONMENT, EXAMPLES, TOP, Run, begin
 
 pytest.importorskip("distributed", reason="package python3-distributed")
 
@@ -64,12 +64,7 @@ def worker(start: Start, address: str, **how: str) -> subprocess.Popen[bytes]:
 
 def begun(*words: object) -> subprocess.Popen[str]:
     """A league of the examples that was started."""
-    command = [sys.executable, "-m", "corewar.cli.main", "league", *map(str, words), *FILES]
-    environment = {**os.environ, "PYTHONPATH": str(TOP / "python")}
-    signal.signal(signal.SIGINT, signal.default_int_handler)
-    return subprocess.Popen(
-        command, cwd=EXAMPLES, env=environment, text=True, stdout=subprocess.PIPE, stderr=subprocess.PIPE
-    )
+    return begin("league", *words, *FILES, cwd=EXAMPLES)
 
 
 def test_it_is_the_same_there(run: Run, start: Start, scheduler: tuple[str, Any]) -> None:
@@ -122,6 +117,5 @@ def test_no_scheduler_and_no_package(run: Run) -> None:
     assert told.returncode == 1 and told.stderr.startswith("corewar: --scheduler 127.0.0.1:9: ")
     hidden = "import sys; sys.modules['distributed'] = None; from corewar.cli.main import main; main()"
     command = [sys.executable, "-c", hidden, "league", "--scheduler", "127.0.0.1:9", "imp.red", "dwarf.red"]
-    environment = {**os.environ, "PYTHONPATH": str(TOP / "python")}
-    done = subprocess.run(command, cwd=EXAMPLES, env=environment, capture_output=True, text=True)
+    done = subprocess.run(command, cwd=EXAMPLES, env=ENVIRONMENT, capture_output=True, text=True)
     assert done.returncode == 1 and done.stderr.endswith("apt-get install python3-distributed\n")

@@ -5,7 +5,7 @@ import os
 from pathlib import Path
 
 import pytest
-from battles import edits, matches
+from battles import MOVES, is_listed, matches
 from conftest import EXAMPLES, Run
 from hypothesis import given, strategies as st
 
@@ -13,9 +13,8 @@ from corewar.battle.history import History, distinct
 from corewar.battle.labels import Sources
 from corewar.debugger.commands import COMMANDS, Left, execute, find_command
 from corewar.debugger.session import Session
-from corewar.engine.calls import Match, assemble, debug
+from corewar.engine.calls import Match, assemble
 from corewar.engine.sources import read
-from corewar.model.cells import cell_text
 from corewar.model.faults import Refused
 
 
@@ -31,9 +30,6 @@ def refused(session: Session, line: str) -> str:
     return str(fault.value)
 
 
-MOVES = st.one_of(edits(), st.sampled_from(["step", "run 3", "run 11", "undo", "redo"]))
-
-
 @given(matches(), st.lists(MOVES, max_size=12))
 def test_a_session_is_the_program_s(fight: Match, lines: list[str]) -> None:
     """After any list of commands, accepted or refused, the battle is the one that the program's debugger has."""
@@ -44,11 +40,7 @@ def test_a_session_is_the_program_s(fight: Match, lines: list[str]) -> None:
             execute(session, line)
         except Refused:
             pass
-    state, core = session.history.state(session.turn), fight.settings.core
-    queues = [f"queue {number}" for number in range(len(fight.warriors))]
-    answers = debug(fight, [*lines, f"list 0 {core}", *queues]).splitlines()[-core - len(queues) :]
-    assert answers[:core] == [f"{at} {cell_text(cell, core)}" for at, cell in enumerate(state.cells)]
-    assert answers[core:] == [" ".join([f"queue {n}:", *map(str, queue)]) for n, queue in enumerate(state.queues)]
+    assert is_listed(fight, lines, session.history.state(session.turn))
 
 
 def test_moves() -> None:
@@ -85,7 +77,13 @@ def test_searches_go_both_ways() -> None:
     assert execute(session, "d all") == []
     assert refused(session, "rc dies imp") == "not found before turn 1"
     assert refused(session, "c dies nobody") == "`nobody` is no warrior: 0 Dwarf, 1 Imp"
-    assert refused(session, "break reads 3").startswith("a condition is at A")
+    assert refused(session, "break sees 3").startswith("a condition is at, changes or reads A")
+    assert execute(session, "c reads bomb")[:2] == [
+        "reads 3 (bomb):",
+        "turn 3: Dwarf at 1: MOV.I $2, @2; reads 3 (bomb); 7: DAT.F $0, $0 -> DAT.F #0, #4; then at 2",
+    ]
+    assert execute(session, "c reads 0..7999 by imp")[0] == "reads 0 (loop)..7999 by Imp:" and session.turn == 4
+    assert execute(session, "rc reads 3 by dwarf")[0] == "reads 3 (bomb) by Dwarf:" and session.turn == 3
 
 
 def test_edits_make_futures() -> None:

@@ -5,15 +5,15 @@ from collections.abc import Iterator
 
 import numpy as np
 import pytest
-from battles import edits, matches
+from battles import CELLS, MOVES, edits, is_listed, matches
 from conftest import EXAMPLES
 from hypothesis import given, strategies as st
 
 from corewar.battle import history as module
-from corewar.battle.conditions import Condition, last_change, next_change, search_back, search_forward
+from corewar.battle.conditions import Condition, last_change, search
 from corewar.battle.frames import frames, parts
 from corewar.battle.history import BY_HAND, NOBODY, History, run_lines
-from corewar.engine.calls import Match, State, debug, record, state
+from corewar.engine.calls import HISTORY, Match, State, debug, record, state, touched
 from corewar.engine.sources import read
 from corewar.model.cells import cell_text
 
@@ -58,15 +58,13 @@ def test_each_state_is_the_machine_s(fight: Match, round: int, places: list[tupl
         assert all(np.array_equal(mine[name], theirs[name]) for name in mine.dtype.names or ())
 
 
-@given(matches(), st.integers(0, 60))
-def test_a_state_is_what_the_debugger_lists(fight: Match, turn: int) -> None:
-    history = History(fight)
-    turn = min(turn, history.end)
-    now, core = history.state(turn), fight.settings.core
-    queues = [f"queue {number}" for number in range(len(fight.warriors))]
-    answers = debug(fight, [*run_lines(turn), f"list 0 {core}", *queues]).splitlines()[bool(turn) :]
-    assert answers[:core] == [f"{at} {cell_text(cell, core)}" for at, cell in enumerate(now.cells)]
-    assert answers[core:] == [" ".join([f"queue {n}:", *map(str, queue)]) for n, queue in enumerate(now.queues)]
+@given(matches(), st.lists(MOVES, max_size=4), st.integers(0, 60))
+def test_a_state_is_what_the_debugger_lists(fight: Match, lines: list[str], turn: int) -> None:
+    now = state(fight, 0, lines, turn, HISTORY)
+    assert is_listed(fight, [*lines, *run_lines(turn)], now)
+    told = debug(fight, [*lines, *run_lines(turn), "show"]).splitlines()[-len(fight.warriors) - 2 :]
+    assert told[0].startswith(f"turn {now.turns} cycle {now.cycle} next {now.next} ")
+    assert (told[-1] == "battle over") == now.over and sum(" dead " in line for line in told) == len(now.deaths)
 
 
 def steps(history: History) -> Iterator[tuple[int, State, State]]:
@@ -83,11 +81,38 @@ def test_searches_are_those_of_single_steps(fight: Match, address: int) -> None:
     died = [turn for turn, before, after in steps(history) if len(after.deaths) > len(before.deaths)]
     for turn in range(history.end + 1):
         assert last_change(history, address, turn) == max((one for one in changed if one <= turn), default=None)
-        assert next_change(history, address, turn) == min((one for one in changed if one > turn), default=None)
         held = [Condition("at", address, address), *(Condition("dies", n, n) for n in range(len(fight.warriors)))]
-        found, back = search_forward(history, held, turn), search_back(history, held, turn)
+        found, back = search(history, held, turn), search(history, held, turn, False)
         assert (found and found[0]) == min((one for one in at + died if one > turn), default=None)
         assert (back and back[0]) == max((one for one in at + died if one < turn), default=None)
+
+
+@given(matches(), st.floats(0, 1), st.integers(0, 60), CELLS)
+def test_a_cell_that_a_turn_does_not_touch_changes_nothing(fight: Match, part: float, place: int, cell: str) -> None:
+    turn = int(part * (History(fight).end - 1))
+    row = touched(fight, first=turn)[0]
+    assert 4 <= row["count"] <= 8 and not row["address"][row["count"] :].any()
+    free = sorted({*range(fight.settings.core)} - {*row["address"][: row["count"]].tolist()})
+    lines = [*run_lines(turn), f"edit {free[place % len(free)]} {cell}"]
+    assert record(fight, first=turn).tobytes() == record(fight, lines=lines).tobytes()
+
+
+@given(matches(), st.integers(0, 23), st.integers(0, 3), PLACES)
+def test_reads_are_those_of_each_turn(fight: Match, first: int, more: int, places: list[tuple[float, str]]) -> None:
+    """What a turn touched, but for what it wrote."""
+    history, lines = edited(History(fight), places)
+    begin, cells = history.segments[-1].first, {(first + place) % history.core for place in range(more + 1)}
+    rows, made = (call(fight, 0, lines, 0, history.end) for call in (touched, record))
+    reads = []
+    for turn, (row, one) in enumerate(zip(rows, made), begin + 1):
+        written = one["change"]["address"][: one["changes"]].tolist()
+        if cells & {*row["address"][: row["count"]].tolist()} - {*written}:
+            reads.append(turn)
+    for turn in range(begin, history.end + 1):
+        found = search(history, [Condition("reads", first, first + more)], turn)
+        assert (found and found[0]) == min((one for one in reads if one > turn), default=None)
+        found = search(history, [Condition("reads", first, first + more)], turn, False)
+        assert not reads or turn <= reads[0] or found and found[0] == max(one for one in reads if one < turn)
 
 
 @given(matches(), st.integers(1, 20), PLACES)

@@ -8,14 +8,13 @@ import os
 import signal
 import sqlite3
 import subprocess
-import sys
 import time
 from pathlib import Path
 from xml.etree import ElementTree
 
 import numpy as np
 import pytest
-from conftest import EXAMPLES, TOP, Run
+from conftest import ENVIRONMENT, EXAMPLES, TOP, Run, begin
 from costly import large, slow
 
 import corewar
@@ -258,16 +257,6 @@ def count_kept(path: Path) -> int:
         return int(file.execute("SELECT count(*) FROM fought").fetchone()[0])
 
 
-def begun(folder: Path, *words: object) -> subprocess.Popen[str]:
-    """A league that was started, as it is from a shell: it hears Ctrl-C."""
-    environment = {**os.environ, "PYTHONPATH": str(TOP / "python")}
-    command = [sys.executable, "-m", "corewar.cli.main", "league", *map(str, words)]
-    signal.signal(signal.SIGINT, signal.default_int_handler)
-    return subprocess.Popen(
-        command, cwd=folder, env=environment, stdout=subprocess.PIPE, stderr=subprocess.PIPE, text=True
-    )
-
-
 def wait_for_results(path: Path, count: int) -> None:
     end = time.monotonic() + 60
     while count_kept(path) <= count and time.monotonic() < end:
@@ -279,7 +268,7 @@ def test_it_goes_on_where_it_was_ended(folder: Path) -> None:
     path, before = folder / "kept.sqlite", 0
     words = ["-r", 300, "--jobs", 1, "--results", path, *(EXAMPLES / name for name in NAMES[:7])]
     for how in (signal.SIGKILL, signal.SIGINT):
-        process = begun(folder, *words)
+        process = begin("league", *words)
         wait_for_results(path, before)
         process.send_signal(how)
         output, told = process.communicate(timeout=60)
@@ -291,7 +280,7 @@ def test_it_goes_on_where_it_was_ended(folder: Path) -> None:
                 and told == f"corewar: {kept} of 21 matches are kept: the same command goes on\n"
             )
         before = kept
-    both = [begun(folder, *words) for _ in range(2)]
+    both = [begin("league", *words) for _ in range(2)]
     tables = [process.communicate(timeout=300) for process in both]
     own = own_rows(EXAMPLES, f"-o -r 300 {' '.join(NAMES[:7])}")
     assert [(rows(output), told) for output, told in tables] == 2 * [(own, "")] and count_kept(path) == 21
@@ -301,7 +290,7 @@ def test_ctrl_c_without_results(folder: Path) -> None:
     """What is under way isn't waited for."""
     os.mkfifo(folder / "pipe")
     for words in ("pipe", "-c 10000000 -r 100000 same.red"):
-        process = begun(folder, "stay.red", *words.split())
+        process = begin("league", "stay.red", *words.split(), cwd=folder)
         children, end = Path(f"/proc/{process.pid}/task/{process.pid}/children"), time.monotonic() + 60
         # Its assembler has begun, so it isn't being loaded any more.
         while not children.read_text() and time.monotonic() < end:
@@ -356,13 +345,12 @@ def test_it_tells_what_is_kept_the_other_way_round(run: Run, folder: Path) -> No
 def test_progress(folder: Path) -> None:
     """On a terminal standard error has a bar, and standard output the table alone."""
     ours, theirs = os.openpty()
-    command = [sys.executable, "-m", "corewar.cli.main", "league", "stay.red", "dead.red", "late.red"]
-    environment = {**os.environ, "PYTHONPATH": str(TOP / "python"), "TERM": "xterm"}
-    done = subprocess.run(command, cwd=folder, env=environment, stdout=subprocess.PIPE, stderr=theirs, text=True)
+    words = ["league", "stay.red", "dead.red", "late.red"]
+    table, _ = begin(*words, cwd=folder, env={**ENVIRONMENT, "TERM": "xterm"}, stderr=theirs).communicate()
     shown = os.read(ours, 10000).decode()
     os.close(ours)
     os.close(theirs)
-    assert "3/3" in shown and "matches" in shown and rows(done.stdout)
+    assert "3/3" in shown and "matches" in shown and rows(table)
 
 
 def test_names_that_a_terminal_obeys(run: Run, folder: Path) -> None:

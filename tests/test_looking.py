@@ -8,12 +8,12 @@ import sys
 import time
 from pathlib import Path
 
-from conftest import EXAMPLES, Run
+from conftest import ENVIRONMENT, EXAMPLES, Run, begin
 
 DEATH = """Imp died in turn 7798:
 turn 7798: Imp at 5203: DAT.F #0, #-2800
 Cell 5203 was last changed in turn 7797:
-turn 7797: Dwarf at 1: MOV.I $2, @2
+turn 7797: Dwarf at 1: MOV.I $2, @2; reads 3 (bomb)
     5203: MOV.I $0, $1 -> DAT.F #0, #-2800
 Its turns before that:
 turn 7796: Imp at 5202: MOV.I $0, $1
@@ -91,16 +91,6 @@ def test_streams(run: Run) -> None:
     assert done.returncode == 1 and done.stderr == "corewar: No space left on device\n"
 
 
-def test_a_source_is_held_to_its_limit(run: Run, tmp_path: object) -> None:
-    """A source that would take minutes, or all memory, is refused by name."""
-    lines = ["e0 EQU 1", *(f"e{n} EQU e{n - 1}+e{n - 1}" for n in range(1, 16)), "FOR 10000", "DAT e15", "ROF"]
-    slow = run("why", "--source-limit", "1", "-", given="\n".join(lines))
-    assert (slow.returncode, slow.stderr) == (1, "corewar: -: more than 1 s of a processor\n")
-    wide = f"i FOR 10000\n{'a' * 20000}&i DAT 0\nROF\n"
-    large = run("why", "--source-limit", "60,20", "-", given=wide)
-    assert (large.returncode, large.stderr) == (1, "corewar: -: more than 20 MB of memory\n")
-
-
 def test_streams_that_are_closed_or_no_text(run: Run) -> None:
     """A stream that isn't there takes nothing and gives nothing; bytes that are no text are no end of a session."""
     words = "import os, sys; [os.close(n) for n in map(int, sys.argv[1])]; os.execv(sys.argv[2], sys.argv[2:])"
@@ -154,10 +144,22 @@ def test_numbers_and_names_that_none_has(run: Run) -> None:
     assert (memory.returncode, memory.stderr) == (1, "corewar: out of memory\n")
 
 
+def test_ctrl_c_while_it_is_loaded(tmp_path: Path) -> None:
+    """It ends without a traceback, wherever it was."""
+    environment = {**ENVIRONMENT, "PYTHONPROFILEIMPORTTIME": "1"}
+    for module in ("corewar.model", "numpy", "cffi", "click", "corewar.cli.options", "prompt_toolkit.shortcuts"):
+        with begin("debug", EXAMPLES / "imp.red", env=environment, stdin=subprocess.PIPE) as one:
+            assert one.stderr
+            told = next(line for line in one.stderr if line.split("|")[-1].strip() == module)
+            one.send_signal(signal.SIGINT)
+            told += one.stderr.read()
+        assert one.returncode in (-signal.SIGINT, 130) and "Traceback" not in told, module
+
+
 def test_ctrl_c_ends_a_match(tmp_path: Path) -> None:
     """One call of the library fights all rounds, and isn't waited for."""
     words = ["fight", "-r", "100000", "-c", "10000000", *[str(EXAMPLES / f"{name}.red") for name in ("imp", "dwarf")]]
-    with subprocess.Popen([EXAMPLES.parent / "corewar", *words], stderr=subprocess.PIPE, text=True) as process:
+    with begin(*words, stdout=None) as process:
         status = Path(f"/proc/{process.pid}/task")
         while process.poll() is None and len([*status.iterdir()]) < 2:
             time.sleep(0.05)

@@ -2,11 +2,8 @@
 from __future__ import annotations
 
 import json
-import os
 import re
 import signal
-import subprocess
-import sys
 import time
 import urllib.error
 import urllib.request
@@ -17,7 +14,7 @@ from typing import Any
 
 import numpy as np
 import pytest
-from conftest import EXAMPLES, TOP, until
+from conftest import ENVIRONMENT, EXAMPLES, begin, until
 
 from corewar.battle.history import History
 from corewar.engine.calls import Match, assemble
@@ -52,9 +49,7 @@ class Site:
 def site(tmp_path: Path) -> Iterator[Site]:
     for name in ("dwarf", "imp"):
         (tmp_path / f"{name}.red").write_bytes((EXAMPLES / f"{name}.red").read_bytes())
-    words = [sys.executable, "-u", "-m", "corewar.cli.main", "web", "--no-browser", "--results", str(tmp_path / "kept")]
-    environment = {**os.environ, "PYTHONPATH": str(TOP / "python")}
-    with subprocess.Popen([*words, str(tmp_path)], stdout=subprocess.PIPE, text=True, env=environment) as process:
+    with begin("web", "--no-browser", "--results", tmp_path / "kept", tmp_path, stderr=None) as process:
         assert process.stdout
         found = re.search(r"at (http://\S+)", process.stdout.readline())
         assert found
@@ -84,6 +79,21 @@ def test_who_it_answers_to(site: Site) -> None:
     assert "127.0.0.1" in site.address
     with urllib.request.urlopen(site.address, timeout=WAIT) as page:
         assert "script-src 'self'" in page.headers["Content-Security-Policy"]
+
+
+def test_the_browser_is_led_by_a_file(tmp_path: Path) -> None:
+    """The token is in no word of a command: it stands in a file that its user alone may read."""
+    (tmp_path / "imp.red").write_text("MOV 0, 1\n")
+    (tmp_path / "browser").write_text('#!/bin/sh\necho "$@"\nstat -c %a "${1#file://}"\ncat "${1#file://}"\n')
+    (tmp_path / "browser").chmod(0o755)
+    environment = {**ENVIRONMENT, "BROWSER": f"{tmp_path}/browser %s"}
+    with begin("web", tmp_path, env=environment) as process:
+        assert process.stdout
+        told, word, mode, page = [process.stdout.readline() for _ in range(4)]
+        found = re.search(r"at (http://\S+)", told)
+        assert found and f"url={found[1]}" in page and found[1] not in word and mode == "600\n"
+        process.send_signal(signal.SIGINT)
+        assert process.wait(WAIT) == 130 and not Path(word.strip().removeprefix("file://")).exists()
 
 
 def test_requests_that_are_none(site: Site) -> None:
@@ -176,6 +186,8 @@ def test_a_turn_is_what_the_machine_says(site: Site) -> None:
         assert np.array_equal(np.frombuffer(body[:800], np.uint8), history.owners(turn))
         assert np.array_equal(np.frombuffer(body[1600:], np.uint32), np.concatenate(state.queues))
         assert told["processes"] == [len(queue) for queue in state.queues]
+    third = json.loads(site.ask("turn/3")[1].partition(b"\n")[0])
+    assert (third["mover"], third["reads"]) == (0, [3]) and "; reads 3 (bomb); " in third["told"]
     overview = site.told("overview")
     assert overview["turns"][-1] == history.end and overview["processes"][-1] == [1, 0]
     death = site.told("search/dies/0/0/on")["turn"]
@@ -215,6 +227,14 @@ def page(browser: Any, site: Site) -> Any:
     browser.get(site.address)
     until(browser, "bench.shelf?.shown")
     return browser
+
+
+@pytest.fixture
+def fought(page: Any) -> Any:
+    """The page with the fight of Dwarf and Imp."""
+    page.find_element("id", "fight").click()
+    until(page, "document.getElementById('outcome').textContent.startsWith('Dwarf wins')")
+    return page
 
 
 def text(browser: Any, name: str) -> str:
@@ -261,6 +281,32 @@ def test_by_mouse(page: Any, site: Site) -> None:
     assert not [entry for entry in page.get_log("browser") if entry["level"] == "SEVERE"]
 
 
+def test_a_new_source(page: Any, site: Site) -> None:
+    """Its name is chosen; one that is there isn't taken again. It is saved beside the others."""
+    from selenium.webdriver import Keys
+
+    def name(*keys: str) -> None:
+        page.find_element("id", "new").click()
+        page.find_element("css selector", "#names input:not([type])").send_keys(Keys.CONTROL, "a", Keys.NULL, *keys)
+
+    name("imp", Keys.ENTER)
+    assert text(page, "saved") == "imp.red is there already"
+    page.find_element("css selector", "#names input:not([type])").send_keys(Keys.ESCAPE)
+    assert not page.find_elements("css selector", "#names input:not([type])")
+    name("mine", Keys.ENTER)
+    until(page, "bench.shelf.shown.name === 'mine.red'")
+    page.find_element("id", "save").click()
+    until(page, "document.getElementById('saved').textContent === 'saved'")
+    assert (site.folder / "mine.red").read_text().startswith(";redcode-94\n;name mine\n")
+
+
+def test_a_link_leads_to_the_line_that_comes_next(fought: Any) -> None:
+    fought.execute_script("bench.shelf.show(bench.shelf.find('dwarf.red')); bench.time.go(1)")
+    until(fought, "document.querySelector('#following button')?.textContent === 'imp.red, line 5'")
+    fought.find_element("css selector", "#following button").click()
+    assert fought.execute_script("return bench.shelf.shown.name") == "imp.red"
+
+
 def test_by_keyboard(page: Any) -> None:
     from selenium.webdriver import ActionChains, Keys
 
@@ -291,19 +337,17 @@ def test_by_keyboard(page: Any) -> None:
     until(page, "bench.time.kept !== null")
 
 
-def test_a_cell_is_edited_by_keyboard(page: Any) -> None:
+def test_a_cell_is_edited_by_keyboard(fought: Any) -> None:
     from selenium.webdriver import ActionChains, Keys
 
-    page.find_element("id", "fight").click()
-    until(page, "document.getElementById('outcome').textContent.startsWith('Dwarf wins')")
-    page.execute_script("bench.time.keep(0)")
-    until(page, "document.getElementById('where').textContent === 'Cell 0'")
+    fought.execute_script("bench.time.keep(0)")
+    until(fought, "document.getElementById('where').textContent === 'Cell 0'")
     time.sleep(0.3)
-    page.execute_script("document.querySelector('#listing li:nth-child(5) .address').focus()")
-    ActionChains(page).send_keys(Keys.TAB, Keys.ENTER, "dat 0, 0", Keys.ENTER).perform()
-    until(page, "document.getElementById('outcome').textContent.startsWith('Imp wins')")
+    fought.execute_script("document.querySelector('#listing li:nth-child(5) .address').focus()")
+    ActionChains(fought).send_keys(Keys.TAB, Keys.ENTER, "dat 0, 0", Keys.ENTER).perform()
+    until(fought, "document.getElementById('outcome').textContent.startsWith('Imp wins')")
     time.sleep(0.3)
-    assert page.execute_script("return document.activeElement.textContent") == "DAT.F $0, $0"
+    assert fought.execute_script("return document.activeElement.textContent") == "DAT.F $0, $0"
 
 
 def test_a_tab_that_is_loaded_anew(page: Any, site: Site) -> None:
@@ -345,8 +389,6 @@ def test_a_tab_that_is_loaded_anew(page: Any, site: Site) -> None:
 
 
 @pytest.mark.parametrize("width", [390, 800, 1600])
-def test_no_window_scrolls_sideways(page: Any, width: int) -> None:
-    page.set_window_size(width, 900)
-    page.find_element("id", "fight").click()
-    until(page, "document.getElementById('outcome').textContent.includes('wins')")
-    assert page.execute_script("return document.documentElement.scrollWidth <= innerWidth + 1")
+def test_no_window_scrolls_sideways(fought: Any, width: int) -> None:
+    fought.set_window_size(width, 900)
+    until(fought, "document.documentElement.scrollWidth <= innerWidth + 1")

@@ -12,18 +12,17 @@ It calls the library that `scripts/library` builds, and needs Debian's python3-c
 """
 from . import league as _league  # (loaded first, so that `corewar.league` stays the call below)
 from .battle.history import History
-from .engine.calls import Match, State, assemble, debug, league, match, population, record, state
+from .engine.calls import Match, Row, State, assemble, debug, league, match, population, record, state, touched
 from .engine.sources import Limit, read
 from .model.cells import cell_text
 from .model.faults import Fault, FileFault, Refused
-from .model.results import Row
 from .model.settings import HILLS, Settings
 from .model.warriors import Warrior
 
 # The version of the kit: that of the package, the packages of Debian's, and the library (MARS_VERSION in its header).
-__version__ = "1.1"
+__version__ = "1.2"
 
 __all__ = [
-    *("History", "Match", "State", "assemble", "debug", "league", "match", "population", "record", "state"),
-    *("Limit", "read", "cell_text", "Fault", "FileFault", "Refused", "Row", "HILLS", "Settings", "Warrior"),
+    *("History", "Match", "Row", "State", "assemble", "debug", "league", "match", "population", "record", "state"),
+    *("touched", "Limit", "read", "cell_text", "Fault", "FileFault", "Refused", "HILLS", "Settings", "Warrior"),
 ]

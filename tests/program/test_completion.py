@@ -2,7 +2,7 @@
 """
 import os, re, shutil, subprocess
 
-from counting import PROGRAM, TOP, check, skip
+from counting import PROGRAM, TOP, skip
 
 FOLDER = os.path.join(TOP, "packaging", "completion")
 # Offers what bash would for the last of these words.
@@ -23,10 +23,10 @@ def offered(folder, *words):
 
 def test_zsh():
     zsh = open(os.path.join(FOLDER, "_mars")).read()
-    check("the words for zsh", sorted(re.findall(r"^    '(--?[\w-]+)\[", zsh, re.M)), sorted(words_of_the_program()))
+    assert sorted(re.findall(r"^    '(--?[\w-]+)\[", zsh, re.M)) == sorted(words_of_the_program())
     if not shutil.which("zsh"):
         skip("zsh reads it", "it isn't there", "zsh")
-    check("zsh reads it", subprocess.run(["zsh", "-n", os.path.join(FOLDER, "_mars")]).returncode, 0)
+    assert subprocess.run(["zsh", "-n", os.path.join(FOLDER, "_mars")]).returncode == 0
 
 
 def test_bash(tmp_path):
@@ -34,7 +34,7 @@ def test_bash(tmp_path):
     for name in ("imp.red", "imp.load", "notes.txt"):
         open(os.path.join(folder, name), "w").close()
     os.mkdir(os.path.join(folder, "more"))
-    check("files and folders", offered(folder, ""), (["imp.load", "imp.red", "more"], ""))
-    check("a word begun", offered(folder, "-b", "--re"), (["--read-limit"], ""))
-    check("nothing behind a word that takes a number", offered(folder, "-s", ""), ([], ""))
-    check("all words", offered(folder, "-")[0], sorted(words_of_the_program()))
+    assert offered(folder, "") == (["imp.load", "imp.red", "more"], "")
+    assert offered(folder, "-b", "--re") == (["--read-limit"], "")
+    assert offered(folder, "-s", "") == ([], "")
+    assert offered(folder, "-")[0] == sorted(words_of_the_program())

@@ -3,7 +3,7 @@ import json, os, shutil, signal, stat, subprocess, sys, tempfile, time
 
 import pytest
 
-from counting import SCRIPTS, TOP, check
+from counting import SCRIPTS, TOP
 
 sys.path.insert(0, SCRIPTS)
 import progress  # noqa: E402
@@ -179,45 +179,41 @@ def is_in_order(order, below):
 def test_first_start(place):
     done = place.run("-b", "a.red")
     order, below = place.proved(), stands_on(os.path.join(TOP, "crates.txt"))
-    check("the words reach the program", (done.stdout, done.returncode), ("played -b a.red\n", 0))
-    check("each crate once, none before those that it stands on", is_in_order(order, below))
-    check("each is told", all(f"mars: proved {name}, " in done.stderr for name in below))
-    check("each is counted", f", {len(below)} of {len(below)} (" in done.stderr)
-    check(
-        "each has its part of the jobs, the program one",
-        (min(place.jobs().values()) >= 1, place.jobs()["mars"]),
-        (True, 1),
-    )
-    check("the program alone stays", place.work(), ["mars"])
+    assert (done.stdout, done.returncode) == ("played -b a.red\n", 0), "the words reach the program"
+    assert is_in_order(order, below), "each crate once, none before those that it stands on"
+    assert all(f"mars: proved {name}, " in done.stderr for name in below), "each is told"
+    assert f", {len(below)} of {len(below)} (" in done.stderr, "each is counted"
+    assert (min(place.jobs().values()) >= 1, place.jobs()["mars"]) == (
+        True,
+        1,
+    ), "each has its part of the jobs, the program one"
+    assert place.work() == ["mars"], "the program alone stays"
     place.run("again")
-    check("what is built isn't proved again", place.proved() == order)
+    assert place.proved() == order, "what is built isn't proved again"
     place.touch("mars_core_tests")
     done = place.run("again")
-    check("nor where a test has changed", (place.proved() == order, done.stdout), (True, "played again\n"))
+    assert (place.proved() == order, done.stdout) == (True, "played again\n"), "nor where a test has changed"
     place.touch("mars_match")
     place.run("again")
-    check("a changed source is proved, with what it stands on", is_in_order(place.proved()[len(order) :], below))
+    assert is_in_order(place.proved()[len(order) :], below), "a changed source is proved, with what it stands on"
 
 
 def test_failure(place):
     done = place.run("-b", "a.red", fails="mars_core")
-    check(
-        "a failed proof is told",
+    assert (
         done.returncode == 1
         and "mars: mars_core isn't proved" in done.stderr
-        and "no proof of mars_core" in done.stderr,
-    )
-    check("nothing is built on it", ("mars" in place.proved(), done.stdout), (False, ""))
-    check("no proof of those beside it is lost", "format" in place.work())
+        and "no proof of mars_core" in done.stderr
+    ), "a failed proof is told"
+    assert ("mars" in place.proved(), done.stdout) == (False, ""), "nothing is built on it"
+    assert "format" in place.work(), "no proof of those beside it is lost"
     before = len(place.proved())
     place.touch("redcode_asm")
     place.run("-b", "a.red")
-    check(
-        "the next start goes on from there",
-        set(place.proved()[before:]) & {"mars_cell", "redcode_text", "mars_core"},
-        {"mars_core"},
-    )
-    check("and leaves the program alone", place.work(), ["mars"])
+    assert set(place.proved()[before:]) & {"mars_cell", "redcode_text", "mars_core"} == {
+        "mars_core"
+    }, "the next start goes on from there"
+    assert place.work() == ["mars"], "and leaves the program alone"
 
 
 def test_changes_meanwhile(place):
@@ -230,19 +226,20 @@ def test_changes_meanwhile(place):
         )
         before = len(place.proved())
         place.run("-b", "a.red")
-        check("what changed meanwhile", "mars_cell" in place.proved()[before:])
+        assert "mars_cell" in place.proved()[before:], "what changed meanwhile"
         place.touch("mars_cell")
 
 
 def test_stopped(place):
-    check(
-        "Ctrl-C ends it in a line",
-        place.interrupted("mars_core"),
-        (True, "", "mars: stopped; what is proved is kept", False),
-    )
+    assert place.interrupted("mars_core") == (
+        True,
+        "",
+        "mars: stopped; what is proved is kept",
+        False,
+    ), "Ctrl-C ends it in a line"
     before = len(place.proved())
     place.run("-b", "a.red")
-    check("what was proved is kept", "mars_cell" in place.proved()[before:], False)
+    assert "mars_cell" not in place.proved()[before:], "what was proved is kept"
 
 
 def test_two_starts(place):
@@ -256,41 +253,38 @@ def test_two_starts(place):
     while not os.path.exists(f"{place.log}-mars_cell"):
         time.sleep(0.05)
     second = subprocess.run(command, env=place.environment(), **how)
-    check("both play", (first.communicate()[0], second.stdout), ("played a.red\n", "played a.red\n"))
-    check(
-        "the second one tells why it waits",
-        second.stderr,
-        "mars: another start is under way here, and this one waits until it has ended\n",
-    )
-    check("each crate is proved once", len(place.proved()), len({*place.proved()}))
+    assert (first.communicate()[0], second.stdout) == ("played a.red\n", "played a.red\n"), "both play"
+    assert (
+        second.stderr == "mars: another start is under way here, and this one waits until it has ended\n"
+    ), "the second one tells why it waits"
+    assert len(place.proved()) == len({*place.proved()}), "each crate is proved once"
 
 
 def test_kept_work(place):
     """By --keep, and where such work is, `rt` proves in rooms, and what it made stays."""
     place.leave_out("mars_match", "redcode_text")
     done = place.run("--keep", script="scripts/prove")
-    check("each is proved by rt", (done.returncode, {words[1] for words in place.calls()}), (0, {"rt"}))
-    check(
-        "each beside all that it stands on, by itself or through others",
-        all(name in room and is_closed(room) for name, room in place.rooms().items()),
-    )
-    check("all have all jobs", len({*place.jobs().values()}), 1)
+    assert (done.returncode, {words[1] for words in place.calls()}) == (0, {"rt"}), "each is proved by rt"
+    assert all(
+        name in room and is_closed(room) for name, room in place.rooms().items()
+    ), "each beside all that it stands on, by itself or through others"
+    assert len({*place.jobs().values()}) == 1, "all have all jobs"
     kept = place.work()
-    check("what they made stays", (kept.count("mars"), kept.count("work")), (1, len(place.proved())))
+    assert (kept.count("mars"), kept.count("work")) == (1, len(place.proved())), "what they made stays"
     place.touch("mars_cell")
     place.run("-b", "a.red")
-    check("and is taken up again", ({words[1] for words in place.calls()}, place.work()), ({"rt"}, kept))
+    assert ({words[1] for words in place.calls()}, place.work()) == ({"rt"}, kept), "and is taken up again"
     count = len(place.proved())
     place.touch("mars_core_tests")
     place.run("-b", "a.red")
-    check("what is newer than its sources isn't built again", len(place.proved()), count)
+    assert len(place.proved()) == count, "what is newer than its sources isn't built again"
     place.run("--library", script="scripts/prove")
-    check("nor beside the library", "mars" in place.proved()[count:], False)
+    assert "mars" not in place.proved()[count:], "nor beside the library"
     link = os.path.join(place.folder, "linked")
     os.symlink(os.path.join(place.folder, "mars"), link)
-    check(
-        "a link reaches the program", subprocess.run([link, "x"], capture_output=True, text=True).stdout, "played x\n"
-    )
+    assert (
+        subprocess.run([link, "x"], capture_output=True, text=True).stdout == "played x\n"
+    ), "a link reaches the program"
 
 
 def test_terminal(place):
@@ -301,69 +295,67 @@ def test_terminal(place):
     )
     told = os.read(mine, 100_000).decode().split("\r\n")
     first, last = told[0], told[-2]
-    check(
-        "what a start takes is told first", "this start proves 8 crates: 10 to 13 minutes on four processors" in first
-    )
-    check("what it took at the end", last.rpartition("\r\033[K")[2].startswith("mars: proved 8 crates in 0 min "))
-    check("nothing else has a line of its own", (len(told), told[-1]), (3, ""))
+    assert (
+        "this start proves 8 crates: 10 to 13 minutes on four processors" in first
+    ), "what a start takes is told first"
+    assert last.rpartition("\r\033[K")[2].startswith("mars: proved 8 crates in 0 min "), "what it took at the end"
+    assert (len(told), told[-1]) == (3, ""), "nothing else has a line of its own"
     with open(os.path.join(place.folder, "out", "last-start.json")) as file:
-        check("it is kept for the next start", list(json.load(file))[-1], "mars")
+        assert list(json.load(file))[-1] == "mars", "it is kept for the next start"
     environment = {**place.environment(), "PATH": "/usr/bin:/bin"}
     place.touch("mars")
     done = subprocess.run([os.path.join(place.folder, "mars")], env=environment, capture_output=True, text=True)
-    check(
-        "without the toolchain it is told what runs without it",
-        (done.returncode, "`rt`" in done.stderr, "make packages" in done.stderr),
-        (1, True, True),
-    )
+    assert (done.returncode, "`rt`" in done.stderr, "make packages" in done.stderr) == (
+        1,
+        True,
+        True,
+    ), "without the toolchain it is told what runs without it"
 
 
 def test_progress(folder):
     """How long a start takes still, by the last one; and that one isn't silent where there is no terminal."""
     path = os.path.join(folder, "last-start.json")
     unknown = progress.Reckoning(path, ["a", "b", "c"], 600)
-    check("without a last start", [unknown.left({}, 0), unknown.left({"a": 50}, 100)], [600, 500])
+    assert [unknown.left({}, 0), unknown.left({"a": 50}, 100)] == [600, 500], "without a last start"
     unknown.keep({"a": 100, "b": 200, "c": 400})
     known = progress.Reckoning(path, ["a", "b", "c"], 600)
-    check("as the last one", [known.left({}, 50), known.left({"a": 100}, 150)], [350, 250])
-    check(
-        "quicker, and slower",
-        [known.left({"a": 50}, 50), known.left({"a": 200}, 200), known.left({}, 200)],
-        [150, 600, 600],
-    )
-    check("a crate that isn't known", progress.Reckoning(path, ["a", "d"], 600).due, {"d": 600})
+    assert [known.left({}, 50), known.left({"a": 100}, 150)] == [350, 250], "as the last one"
+    assert [known.left({"a": 50}, 50), known.left({"a": 200}, 200), known.left({}, 200)] == [
+        150,
+        600,
+        600,
+    ], "quicker, and slower"
+    assert progress.Reckoning(path, ["a", "d"], 600).due == {"d": 600}, "a crate that isn't known"
     told, progress.SILENCE = [], 0
     one = progress.Progress(2)
     one.is_terminal, one.tell = False, told.append
     one.add("a")
     one.go_on(["b", "c"])
-    check(
-        "each crate, and what goes on",
-        told,
-        ["mars: proved a, 1 of 2 (0 min 0 s)", "mars: 1 of 2 crates proved in 0 min 0 s; b and c under way"],
-    )
+    assert told == [
+        "mars: proved a, 1 of 2 (0 min 0 s)",
+        "mars: 1 of 2 crates proved in 0 min 0 s; b and c under way",
+    ], "each crate, and what goes on"
 
 
 def test_library(place):
     """The library for C is proved in the same run as the program, and anew where a source is newer than its archive."""
     below = {**stands_on(os.path.join(TOP, "crates.txt"), "_tests:"), "mars": {"mars_app"}}
     done = place.run(script="scripts/library")
-    check("in the same run", is_in_order(place.proved(), below))
-    check("beside the program, which takes one job", place.jobs()["mars"], 1)
-    check("what is built of them stays", place.work(), ["libmars_c.a", "mars"])
-    check(
-        "what can't be built of that is told",
-        (done.returncode, done.stderr.splitlines()[-1].partition(":")[0]),
-        (1, "library"),
-    )
+    assert is_in_order(place.proved(), below), "in the same run"
+    assert place.jobs()["mars"] == 1, "beside the program, which takes one job"
+    assert place.work() == ["libmars_c.a", "mars"], "what is built of them stays"
+    assert (done.returncode, done.stderr.splitlines()[-1].partition(":")[0]) == (
+        1,
+        "library",
+    ), "what can't be built of that is told"
     count = len(place.proved())
     place.run(script="scripts/library")
     place.run("b.red")
-    check("what is proved isn't proved again", len(place.proved()), count)
+    assert len(place.proved()) == count, "what is proved isn't proved again"
     place.touch("mars_c")
     place.run(script="scripts/library")
-    check("an archive older than its source is made anew", "mars_c" in place.proved()[count:])
-    check("and the program isn't", "mars" in place.proved()[count:], False)
+    assert "mars_c" in place.proved()[count:], "an archive older than its source is made anew"
+    assert "mars" not in place.proved()[count:], "and the program isn't"
 
 
 def test_what_the_gate_leaves(place):
@@ -378,8 +370,8 @@ def test_what_the_gate_leaves(place):
             stdout=subprocess.DEVNULL,
         )
     place.run("--library", script="scripts/prove")
-    check("what is left", sorted(place.proved()), ["mars", "mars_c"])
-    check("the crates' own stays", place.work().count("format"), 7)
+    assert sorted(place.proved()) == ["mars", "mars_c"], "what is left"
+    assert place.work().count("format") == 7, "the crates' own stays"
     place.touch("mars_match")
     place.run("--library", script="scripts/prove")
-    check("with a changed crate", sorted(place.proved()[2:]), ["mars", "mars_app", "mars_c", "mars_match"])
+    assert sorted(place.proved()[2:]) == ["mars", "mars_app", "mars_c", "mars_match"], "with a changed crate"

@@ -4,7 +4,7 @@ import os, shutil, subprocess, tempfile
 
 import pytest
 
-from counting import TOP, check
+from counting import TOP
 
 STEPS = [
     "bin/rt",

@@ -1,10 +1,12 @@
 """Tests the program over what the system hands it: words of all kinds, files and pipes of all sizes, streams that fail.
 """
 import contextlib, fcntl, itertools, os, resource, select, shutil, signal, struct, subprocess, tempfile, termios, threading, time
+from functools import partial
+from pathlib import Path
 
 import pytest
 from costly import large, slow
-from counting import PROGRAM, check, skip
+from counting import PROGRAM, skip
 
 LARGEST = 1_048_576
 CORE = ["-s", "8", "-l", "1", "-d", "1"]
@@ -17,36 +19,27 @@ NOBODY = {"user": 65534, "group": 65534, "extra_groups": []}
 WORDS = "-r 2 --seed 1 --score W -s 8000 -c 10 -p 2 -l 1 -d 1 --read-limit 8 --write-limit 8 --history 5 -b -o --league".split()
 
 
-def run(folder, *words, name=PROGRAM, **streams):
+def run(*words, name=PROGRAM, **how):
     """Runs the program on words, under a name of its own."""
-    given = {} if "input" in streams else {"stdin": subprocess.DEVNULL}
-    done = subprocess.run(
-        [name, *words],
-        **{
-            "executable": PROGRAM,
-            "cwd": folder,
-            "stdout": subprocess.PIPE,
-            "stderr": subprocess.PIPE,
-            "timeout": 60,
-            **given,
-            **streams,
-        },
-    )
+    if "input" not in how:
+        how.setdefault("stdin", subprocess.DEVNULL)
+    how = {"executable": PROGRAM, "stdout": subprocess.PIPE, "stderr": subprocess.PIPE, "timeout": 60, **how}
+    done = subprocess.run([name, *words], **how)
     return done.returncode, (done.stdout or b"").decode(), (done.stderr or b"").decode()
 
 
-def write(folder, name, text):
-    with open(os.path.join(folder, name), "w") as file:
-        file.write(text)
+def load(path, **how):
+    """The load file of a source in a core of 8 cells."""
+    return run("--load", *SMALL, path, **how)
 
 
-@pytest.fixture
+@pytest.fixture(autouse=True)
 def folder():
-    """A folder with an imp, whose name once has a letter that isn't ASCII."""
-    with tempfile.TemporaryDirectory() as folder:
+    """Each test stands in a folder with an imp, whose name once has a letter that isn't ASCII."""
+    with tempfile.TemporaryDirectory() as folder, contextlib.chdir(folder):
         for name in ("imp.red", "w\u00e4chter.red"):
-            write(folder, name, "MOV 0, 1\n")
-        yield folder
+            Path(name).write_text("MOV 0, 1\n")
+        yield
 
 
 def is_read(stream):
@@ -66,11 +59,10 @@ def feed(stream, text, size):
 
 
 @contextlib.contextmanager
-def debugger(folder, *words):
+def debugger(*words):
     """The debugger of an imp over pipes, its faults among its replies. Where it says nothing for long it is ended."""
     with subprocess.Popen(
         [PROGRAM, "-e", *words, "imp.red"],
-        cwd=folder,
         stdin=subprocess.PIPE,
         stdout=subprocess.PIPE,
         stderr=subprocess.STDOUT,
@@ -84,60 +76,38 @@ def debugger(folder, *words):
             ending.cancel()
 
 
-def test_words(folder):
+def test_words():
     for word in (b"\xff.red", b"-\xff", b"--score=\xc3\x28"):
-        check(f"a word that isn't UTF-8, {word!r}", run(folder, word, "imp.red"), (2, "", "mars: bad words\n"))
-    check("no word", run(folder), (2, "", "mars: bad words\n"))
+        assert run(word, "imp.red") == (2, "", "mars: bad words\n"), f"a word that isn't UTF-8, {word!r}"
+    assert run() == (2, "", "mars: bad words\n")
     for name in (b"\xff/mars", b"", b"x" * 5000, b"--help"):
-        check(
-            f"started as {name[:10]!r}",
-            run(folder, "--load", *SMALL, "imp.red", name=name),
-            run(folder, "--load", *SMALL, "imp.red"),
-        )
-        check(f"a bad word, started as {name[:10]!r}", run(folder, "-x", name=name), (2, "", "mars: bad words\n"))
-    check(
-        "a name in UTF-8", run(folder, "--load", *SMALL, "w\u00e4chter.red"), (0, f";load 2 8\n{UNNAMED}{LISTED}", "")
-    )
+        assert load("imp.red", name=name) == load("imp.red"), f"started as {name[:10]!r}"
+        assert run("-x", name=name) == (2, "", "mars: bad words\n"), f"a bad word, started as {name[:10]!r}"
+    assert load("w\u00e4chter.red") == (0, f";load 2 8\n{UNNAMED}{LISTED}", "")
     for words in (["imp.red", "--help"], ["--help", "-e", "imp.red"]):
-        check(f"a help beside other words, {words}", run(folder, *words), run(folder, "--help"))
+        assert run(*words) == run("--help"), f"a help beside other words, {words}"
 
 
-def test_many_words(folder):
+def test_many_words():
     """Each of the words counts, the last one too, and each byte of a long one."""
     table = "  points   wins   ties losses  warrior\n" + 16 * "      60      0     30      0  Unknown by Anonymous\n"
     files = ["imp.red"] * 16
-    check("41 words", run(folder, *WORDS, *files), (0, table, ""))
-    check(
-        "41 words, of which the last is no file",
-        run(folder, *WORDS, *files[1:], "none.red"),
-        (1, "", "mars: none.red: cannot read\n"),
-    )
-    check("60 words", run(folder, *WORDS, *files, *["imp.red"] * 19), (2, "", "mars: bad words\n"))
-    check(
-        "a number of 5,000 digits",
-        run(folder, "--load", "-s", "8".zfill(5000), *SMALL[2:], "imp.red"),
-        run(folder, "--load", *SMALL, "imp.red"),
-    )
+    assert run(*WORDS, *files) == (0, table, "")
+    assert run(*WORDS, *files[1:], "none.red") == (1, "", "mars: none.red: cannot read\n")
+    assert run(*WORDS, *files, *["imp.red"] * 19) == (2, "", "mars: bad words\n")
+    assert run("--load", "-s", "8".zfill(5000), *SMALL[2:], "imp.red") == load("imp.red")
 
 
-def test_names(folder):
+def test_names():
     """The name of a file is told whole in the line of its fault, but for control characters."""
     for name in ("x" * 300, "x" * 5000, "\u00e4" * 150, "k\u00e4fer.red", "\u4e16\u754c.red"):
-        check(f"{name[:10]}, {len(name)} letters", run(folder, name), (1, "", f"mars: {name}: cannot read\n"))
-    check(
-        "a name with control characters",
-        run(folder, "-b", "no\nsuch\x1b[1m\x85\x9b.red"),
-        (1, "", "mars: no?such?[1m??.red: cannot read\n"),
-    )
-    write(folder, "b\u00f6se.red", "NOP\nHOP 1\n")
-    check(
-        "a fault of a source, with letters outside ASCII",
-        run(folder, "b\u00f6se.red"),
-        (1, "", "mars: b\u00f6se.red: line 2: 2 Operation\n"),
-    )
+        assert run(name) == (1, "", f"mars: {name}: cannot read\n"), f"{name[:10]}, {len(name)} letters"
+    assert run("-b", "no\nsuch\x1b[1m\x85\x9b.red") == (1, "", "mars: no?such?[1m??.red: cannot read\n")
+    Path("b\u00f6se.red").write_text("NOP\nHOP 1\n")
+    assert run("b\u00f6se.red") == (1, "", "mars: b\u00f6se.red: line 2: 2 Operation\n")
     longest = "n" * 251 + ".red"
-    write(folder, longest, "MOV 0, 1\n")
-    check("the longest name", run(folder, "--load", *SMALL, longest), run(folder, "--load", *SMALL, "imp.red"))
+    Path(longest).write_text("MOV 0, 1\n")
+    assert load(longest) == load("imp.red")
 
 
 def source(size):
@@ -146,49 +116,45 @@ def source(size):
     return ";" * (size - len(code)) + code
 
 
-def test_files(folder):
+def test_files():
     for size in (4_095, 4_096, 4_097, 65_537, LARGEST):
         name = f"{size}.red"
-        write(folder, name, source(size))
-        status, output, faults = run(folder, "--load", *SMALL, name)
-        check(f"a file of {size} bytes", (status, output.endswith("\n" + LISTED), faults), (0, True, ""))
-    write(folder, "larger.red", ";" * (LARGEST + 1))
-    os.mkdir(os.path.join(folder, "folder.red"))
-    os.symlink("imp.red", os.path.join(folder, "link.red"))
-    os.symlink("loop.red", os.path.join(folder, "loop.red"))
+        Path(name).write_text(source(size))
+        status, output, faults = load(name)
+        assert (status, output.endswith("\n" + LISTED), faults) == (0, True, ""), f"a file of {size} bytes"
+    Path("larger.red").write_text(";" * (LARGEST + 1))
+    os.mkdir("folder.red")
+    os.symlink("imp.red", "link.red")
+    os.symlink("loop.red", "loop.red")
     for name in ("larger.red", "/dev/zero"):
-        check(name, run(folder, "--load", name), (1, "", f"mars: {name}: too large\n"))
+        assert run("--load", name) == (1, "", f"mars: {name}: too large\n"), name
     for name in ("folder.red", "none.red", "imp.red/none.red", "loop.red"):
-        check(name, run(folder, "--load", name), (1, "", f"mars: {name}: cannot read\n"))
-    check("a link", run(folder, "--load", *SMALL, "link.red"), run(folder, "--load", *SMALL, "imp.red"))
-    check("the first file's fault", run(folder, "none.red", "larger.red"), (1, "", "mars: none.red: cannot read\n"))
+        assert run("--load", name) == (1, "", f"mars: {name}: cannot read\n"), name
+    assert load("link.red") == load("imp.red")
+    assert run("none.red", "larger.red") == (1, "", "mars: none.red: cannot read\n")
 
 
-def test_limits(folder):
+def test_limits():
     """A source that costs more than the system lets the program have: it is ended, or answers want of memory by name, and writes nothing."""
     for name, text, seconds, answer in (
         ("slow.red", slow(), 1, (-signal.SIGKILL, "", "")),
         ("large.red", large(), 60, (1, "", "mars: out of memory\n")),
     ):
-        write(folder, name, text)
+        Path(name).write_text(text)
         command = ["sh", "-c", f'ulimit -t {seconds} && ulimit -v 200000 && exec "$@"', "sh", PROGRAM, "imp.red", name]
-        done = subprocess.run(command, cwd=folder, capture_output=True, text=True)
-        check(name, (done.returncode, done.stdout, done.stderr), answer)
+        done = subprocess.run(command, capture_output=True, text=True)
+        assert (done.returncode, done.stdout, done.stderr) == answer, name
 
 
-def test_leave(folder):
+def test_leave():
     """A file that may not be read. Who may read all files tries it as nobody, with a copy of the program."""
-    write(folder, "closed.red", "MOV 0, 1\n")
-    os.chmod(os.path.join(folder, "closed.red"), 0)
-    os.chmod(folder, 0o755)
-    copy = shutil.copy(PROGRAM, os.path.join(folder, "program"))
+    Path("closed.red").write_text("MOV 0, 1\n")
+    os.chmod("closed.red", 0)
+    os.chmod(".", 0o755)
+    copy = os.path.abspath(shutil.copy(PROGRAM, "program"))
     user = NOBODY if os.geteuid() == 0 else {}
     try:
-        check(
-            "a file that may not be read",
-            run(folder, "closed.red", executable=copy, **user),
-            (1, "", "mars: closed.red: cannot read\n"),
-        )
+        assert run("closed.red", executable=copy, **user) == (1, "", "mars: closed.red: cannot read\n")
     except PermissionError as fault:
         skip("a file that may not be read", fault)
 
@@ -198,84 +164,58 @@ def feed_fifo(path, text, size):
         feed(stream, text, size)
 
 
-def test_pipes(folder):
+def test_pipes():
     """Files that come by a pipe are read whole."""
-    fifo = os.path.join(folder, "fifo.red")
-    os.mkfifo(fifo)
-    threading.Thread(target=feed_fifo, args=(fifo, b"NOP\nNOP\nNOP\n", 4), daemon=True).start()
-    check(
-        "a FIFO in pieces",
-        run(folder, "--load", "-s", "8", "-l", "3", "-d", "3", "fifo.red"),
-        (0, f";load 2 8\n{UNNAMED}ORG 0\n" + 3 * "NOP.F $0, $0\n", ""),
-    )
-    write(folder, f"{LARGEST}.red", source(LARGEST))
-    whole = run(folder, "--load", *SMALL, f"{LARGEST}.red")
+    os.mkfifo("fifo.red")
+    threading.Thread(target=feed_fifo, args=("fifo.red", b"NOP\nNOP\nNOP\n", 4), daemon=True).start()
+    listed = f";load 2 8\n{UNNAMED}ORG 0\n" + 3 * "NOP.F $0, $0\n"
+    assert run("--load", "-s", "8", "-l", "3", "-d", "3", "fifo.red") == (0, listed, "")
+    Path(f"{LARGEST}.red").write_text(source(LARGEST))
+    whole = load(f"{LARGEST}.red")
     for size, answer in ((LARGEST, whole), (LARGEST + 1, (1, "", "mars: /dev/stdin: too large\n"))):
-        check(
-            f"{size} bytes by a pipe", run(folder, "--load", *SMALL, "/dev/stdin", input=source(size).encode()), answer
-        )
+        assert load("/dev/stdin", input=source(size).encode()) == answer, f"{size} bytes by a pipe"
 
 
-def test_long_outputs(folder):
+def test_long_outputs():
     """Outputs of more than 4,096 bytes, the most warriors, the greatest core."""
-    write(folder, "long.red", "".join(f"DAT 0, {number}\n" for number in range(300)))
+    Path("long.red").write_text("".join(f"DAT 0, {number}\n" for number in range(300)))
     text = f";load 2 8000\n{UNNAMED}ORG 0\n" + "".join(f"DAT.F $0, ${number}\n" for number in range(300))
-    check("a source of 300 lines", run(folder, "--load", "-l", "300", "-d", "300", "long.red"), (0, text, ""))
+    assert run("--load", "-l", "300", "-d", "300", "long.red") == (0, text, "")
     listing = "".join(
         f"warrior {number}: Unknown by Anonymous, 1 instructions\n;load 2 8000\n{UNNAMED}{LISTED}\n"
         for number in range(16)
     )
     table = "  points   wins   ties losses  warrior\n" + 16 * "      15      0      1      0  Unknown by Anonymous\n"
-    check("16 warriors listed", run(folder, "-c", "10", *["imp.red"] * 16), (0, listing + table, ""))
+    assert run("-c", "10", *["imp.red"] * 16) == (0, listing + table, "")
     lines = b"edit 1048575 NOP.F $1, $-1\nlist 1048575 2\n"
     replies = "turn 0 cycle 0 next 0 alive 1 at 1/1\n1048575 NOP.F $1, $-1\n0 MOV.I $0, $1\n"
-    check("the greatest core", run(folder, "-e", "-s", "1048576", "imp.red", input=lines), (0, replies, ""))
+    assert run("-e", "-s", "1048576", "imp.red", input=lines) == (0, replies, "")
 
 
-def test_streams(folder):
+def test_streams():
     full = (1, "", "mars: cannot write\n")
-    for words in (
-        ["--help"],
-        ["--load", "imp.red"],
-        ["imp.red"],
-        ["-b", "imp.red"],
-        ["--league", "-b", "imp.red", "imp.red"],
-    ):
+    for words in ("--help", "--load imp.red", "imp.red", "-b imp.red", "--league -b imp.red imp.red"):
         with open("/dev/full", "wb") as output:
-            check(f"{words} to a full device", run(folder, *words, stdout=output), full)
+            assert run(*words.split(), stdout=output) == full, f"{words} to a full device"
     with open("/dev/full", "wb") as output:
-        check(
-            "a transcript to a full device", run(folder, "-e", *SMALL, "imp.red", input=b"show\n", stdout=output), full
-        )
+        assert run("-e", *SMALL, "imp.red", input=b"show\n", stdout=output) == full
     with open("/dev/full", "wb") as faults:
-        check("a fault to a full device", run(folder, "none.red", stderr=faults)[0], 1)
-        check("bad words to a full device", run(folder, "-x", stderr=faults)[0], 2)
-    commands = os.open(folder, os.O_RDONLY)
-    check(
-        "commands that can't be read",
-        run(folder, "-e", *SMALL, "imp.red", stdin=commands),
-        (1, "", "mars: cannot read the commands\n"),
-    )
+        assert run("none.red", stderr=faults)[0] == 1
+        assert run("-x", stderr=faults)[0] == 2
+    commands = os.open(".", os.O_RDONLY)
+    assert run("-e", *SMALL, "imp.red", stdin=commands) == (1, "", "mars: cannot read the commands\n")
     os.close(commands)
 
 
-def test_sizes_of_files(folder):
+def test_sizes_of_files():
     """A file that may not grow takes a part and fails. Where the signal of that isn't ignored, it ends the program first."""
-    whole, kept = run(folder, "--load", *SMALL, "imp.red")[1], os.path.join(folder, "kept")
+    whole, kept = load("imp.red")[1], "kept"
     for size in (0, 10):
         for is_ignored, ended in ((True, (1, "", "mars: cannot write\n")), (False, (-signal.SIGXFSZ, "", ""))):
             with open(kept, "wb") as output:
-                limited = {
-                    "preexec_fn": lambda: resource.setrlimit(resource.RLIMIT_FSIZE, (size, size)),
-                    "restore_signals": not is_ignored,
-                }
-                got = run(folder, "--load", *SMALL, "imp.red", stdout=output, **limited)
-            with open(kept) as output:
-                check(
-                    f"a file of at most {size} bytes, its signal ignored: {is_ignored}",
-                    (got, output.read()),
-                    (ended, whole[:size]),
-                )
+                limit = partial(resource.setrlimit, resource.RLIMIT_FSIZE, (size, size))
+                got = load("imp.red", stdout=output, preexec_fn=limit, restore_signals=not is_ignored)
+            assert (got, Path(kept).read_text()) == (ended, whole[:size]), (size, is_ignored)
 
 
 CONVERSATION = (
@@ -286,14 +226,14 @@ CONVERSATION = (
 )
 
 
-def test_answers(folder):
+def test_answers():
     """Commands that come byte by byte, and for each a reply before the next one comes."""
-    with debugger(folder, *SMALL) as process:
+    with debugger(*SMALL) as process:
         for line, reply in CONVERSATION:
             feed(process.stdin, f"{line}\n".encode(), 1)
-            check(f"{line!r} is answered before the next line", process.stdout.readline().decode(), reply + "\n")
+            assert process.stdout.readline().decode() == reply + "\n", f"{line!r} is answered before the next line"
         feed(process.stdin, b"quit\nstep\n", 10)
-        check("nothing is answered behind quit", (process.stdout.read(), process.wait()), (b"", 0))
+        assert (process.stdout.read(), process.wait()) == (b"", 0)
 
 
 def long_session():
@@ -309,30 +249,24 @@ def long_session():
     return "".join(f"{line}\n" for line in lines).encode(), "".join(f"{reply}\n" for reply in replies).encode()
 
 
-def test_pieces(folder):
+def test_pieces():
     """Long inputs in pieces near what is read at once, and replies that are taken in such pieces."""
     lines, replies = long_session()
     for size in range(4_094, 4_099):
-        with debugger(folder, *CORE) as process:
+        with debugger(*CORE) as process:
             feeding = threading.Thread(target=feed, args=(process.stdin, lines, size))
             feeding.start()
             got = b"".join(iter(lambda: os.read(process.stdout.fileno(), size), b""))
             feeding.join()
-            differing = [
-                pair for pair in itertools.zip_longest(got.splitlines(), replies.splitlines()) if pair[0] != pair[1]
-            ]
-            check(f"{len(lines)} bytes in pieces of {size}", (process.wait(), differing[:1]), (0, []))
+            pairs = itertools.zip_longest(got.splitlines(), replies.splitlines())
+            assert (process.wait(), next((pair for pair in pairs if pair[0] != pair[1]), None)) == (0, None), size
 
 
-def test_many_reads(folder):
+def test_many_reads():
     """A line of 410,000,000 bytes is read in more than 100,000 pieces, and what stands behind it is answered."""
-    path = os.path.join(folder, "commands")
-    with open(path, "wb") as file:
+    with open("commands", "wb") as file:
         file.seek(410_000_000)
         file.write(b"\nstep\n")
-    with open(path, "rb") as commands:
-        check(
-            "a line of 410,000,000 bytes",
-            run(folder, "-e", *SMALL, "imp.red", stdin=commands),
-            (0, "unknown\nturn 1 cycle 1 next 0 alive 1 at 1/1\n", ""),
-        )
+    with open("commands", "rb") as commands:
+        answer = run("-e", *SMALL, "imp.red", stdin=commands)
+    assert answer == (0, "unknown\nturn 1 cycle 1 next 0 alive 1 at 1/1\n", "")

@@ -3,7 +3,7 @@
 import os
 import subprocess
 
-from counting import PROGRAM, SCRIPTS, TOP, check
+from counting import PROGRAM, SCRIPTS, TOP
 
 STAND_IN = """#!/bin/sh
 [ "$1" != doc ] || { echo /kit/START-HERE.md; exit 0; }
@@ -34,25 +34,21 @@ def test_words(tmp_path):
         os.makedirs(os.path.dirname(os.path.join(folder, name)), exist_ok=True)
         open(os.path.join(folder, name), "w").close()
     status, words, told = tried(folder, "-b", "more/a.red", "x=y.red", "stdin", "none.red", "more/a.red")
-    check("in the crate of the program", words[0], os.path.join(TOP, "crates", "mars"))
+    assert words[0] == os.path.join(TOP, "crates", "mars")
     data = [
         part
         for name, path in (("a.red", "more/a.red"), ("file-x=y.red", "x=y.red"), ("file-stdin", "stdin"))
         for part in ("--data", f"{name}={folder}/{path}")
     ]
-    check(
-        "files by their last names",
-        words[1:],
-        ["try", *data, "--", "-b", "a.red", "file-x=y.red", "file-stdin", "none.red", "a.red"],
+    assert words[1:] == ["try", *data, "--", "-b", "a.red", "file-x=y.red", "file-stdin", "none.red", "a.red"]
+    assert status == 3
+    assert told.startswith("try: nothing is proved of what runs now.")
+    assert tried(folder, "a.red", "more/a.red") == (
+        1,
+        [],
+        "try: two files would have the name a.red in the folder of the run\n",
     )
-    check("the status is that of the run", status, 3)
-    check("each run says that nothing is proved", told.startswith("try: nothing is proved of what runs now."))
-    check(
-        "two files of one name",
-        tried(folder, "a.red", "more/a.red"),
-        (1, [], "try: two files would have the name a.red in the folder of the run\n"),
-    )
-    check("no words", (tried(folder)[0], tried(folder, "--help")[0]), (2, 0))
+    assert (tried(folder)[0], tried(folder, "--help")[0]) == (2, 0)
     os.remove(os.path.join(folder, "rt"))
     done = subprocess.run(
         [os.path.join(SCRIPTS, "try"), "a.red"],
@@ -61,16 +57,12 @@ def test_words(tmp_path):
         text=True,
         env={**os.environ, "PATH": "/usr/bin:/bin"},
     )
-    check(
-        "without the toolchain",
-        (done.returncode, done.stderr),
-        (1, "try: the command `rt` of the Rattle toolchain isn't on the path\n"),
-    )
+    assert (done.returncode, done.stderr) == (1, "try: the command `rt` of the Rattle toolchain isn't on the path\n")
 
 
 def test_run():
     """The match of the README, unproved and proved."""
     run = lambda program: subprocess.run([program, *WORDS], cwd=TOP, capture_output=True, text=True)
     done = run(os.path.join(SCRIPTS, "try"))
-    check("the same match", (done.returncode, done.stdout), (0, run(PROGRAM).stdout))
-    check("it ends in proved=no", done.stderr.endswith(" proved=no\n"))
+    assert (done.returncode, done.stdout) == (0, run(PROGRAM).stdout)
+    assert done.stderr.endswith(" proved=no\n")

@@ -31,7 +31,7 @@ def change_told(teller: Teller, address: int, turn: int) -> list[str]:
 def cause_told(teller: Teller, address: int, turn: int) -> list[str]:
     """How a cell came about up to a turn: its last change, and that of its opcode."""
     history = teller.history
-    found, became = last_change(history, address, turn), last_change(history, address, turn, "op")
+    found, became = last_change(history, address, turn), last_change(history, address, turn, "becomes")
     by_hand, told = history.by_hand(address, turn), change_told(teller, address, turn)
     if found is not None and became not in (None, found) and (by_hand is None or by_hand[0] < (became or 0)):
         opcode = OPCODES[history.block(turn).cell(address, turn)["op"]]

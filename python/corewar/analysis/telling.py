@@ -49,19 +49,25 @@ class Teller:
         return some([self.where(int(address)) for address in addresses])
 
     def head(self, turn: int) -> str:
-        """What a turn executed, and who."""
+        """What a turn executed, and who; and what it read besides."""
         record = self.history.record(turn)
         name, where = self.names[record["warrior"]], self.where(int(record["address"]))
-        return f"turn {turn}: {name} at {where}: {self.cell(self.history.executed(turn))}"
+        told = f"turn {turn}: {name} at {where}: {self.cell(self.history.executed(turn))}"
+        reads = self.places(self.reads(turn))
+        return f"{told}; reads {reads}" if reads else told
+
+    def reads(self, turn: int) -> list[int]:
+        """The cells that a turn read, but for its own and those where its process went."""
+        record, reads = self.history.record(turn), self.history.block_of(turn).reads
+        known, found = [record["address"], *record["process"][: record["queued"]]], reads.addresses[reads.of(turn)]
+        return [address for address in dict.fromkeys(found.tolist()) if address not in known]
 
     def changes(self, turn: int) -> list[str]:
         """What a turn changed."""
         changes = self.history.block_of(turn).changes
-        first, last = np.searchsorted(changes.turns, [turn, turn + 1])
+        found = (part[changes.of(turn)] for part in (changes.addresses, changes.before, changes.after))
         return [
-            f"{self.where(int(changes.addresses[place]))}: "
-            f"{self.cell(changes.before[place])} -> {self.cell(changes.after[place])}"
-            for place in range(first, last)
+            f"{self.where(int(at))}: {self.cell(before)} -> {self.cell(after)}" for at, before, after in zip(*found)
         ]
 
     def went(self, turn: int) -> str:

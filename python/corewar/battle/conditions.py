@@ -8,20 +8,22 @@ from operator import itemgetter
 import numpy as np
 from numpy.typing import NDArray
 
-from .history import Block, History
+from .blocks import Block, Touches
+from .history import History
 
 # What a condition is about: cells, or a warrior.
-OF_CELLS, OF_WARRIORS = ("at", "changes"), ("splits", "ends", "dies")
+OF_CELLS, OF_WARRIORS = ("at", "changes", "reads"), ("splits", "ends", "dies")
 
 
 @dataclass(frozen=True)
 class Condition:
     """A condition on a place, which is a number of turns made:
 
-    `at`: one of the cells is executed next; `changes`: the last turn changed one of the cells; `splits`, `ends`,
-    `dies`: in the last turn the warrior got a further process, lost one, died. The cells are those from `first` to
-    `last`, around the core; `by` is the warrior whose turn it has to be, where that counts. For a condition on a
-    warrior `first` is its number.
+    `at`: one of the cells is executed next; `changes`, `reads`: the last turn changed one of the cells, or read it;
+    `splits`, `ends`, `dies`: in the last turn the warrior got a further process, lost one, died. The cells are those
+    from `first` to `last`, around the core; `by` is the warrior whose turn it has to be, where that counts. For a
+    condition on a warrior `first` is its number. Besides, `becomes`: the opcode changed; `moves`: it was the warrior's
+    turn.
     """
 
     word: str
@@ -33,14 +35,18 @@ class Condition:
         """The places of a block, in order, where this holds: for `at` from its first one on, else from that behind
         its first turn.
         """
-        records, changes = block.records, block.changes
-        if self.word == "changes":
-            held = self._among(changes.addresses, core) & self._of(changes.warriors)
-            return np.asarray(np.unique(changes.turns[held]), np.int64)
+        records = block.records
         if self.word == "at":
             held = self._among(records["address"], core) & self._of(records["warrior"])
             return block.first + np.flatnonzero(held)
-        field, value = {"splits": ("queued", 2), "ends": ("queued", 0), "dies": ("died", 1)}[self.word]
+        if self.word in ("changes", "reads", "becomes"):
+            found: Touches = block.reads if self.word == "reads" else block.changes
+            held = self._among(found.addresses, core) & self._of(found.warriors)
+            if self.word == "becomes":
+                held &= block.changes.before["op"] != block.changes.after["op"]
+            return np.asarray(np.unique(found.turns[held]), np.int64)
+        told = {"splits": ("queued", 2), "ends": ("queued", 0), "dies": ("died", 1), "moves": ("warrior", self.first)}
+        field, value = told[self.word]
         return block.first + 1 + np.flatnonzero((records["warrior"] == self.first) & (records[field] == value))
 
     def _among(self, addresses: NDArray[np.uint32], core: int) -> NDArray[np.bool_]:
@@ -51,39 +57,22 @@ class Condition:
         return np.asarray(warriors == self.by) if self.by is not None else np.ones(len(warriors), bool)
 
 
-def search_forward(history: History, conditions: Sequence[Condition], turn: int) -> tuple[int, Condition] | None:
-    """The first place behind a turn where one of the conditions holds."""
-    for block in history.blocks(turn):
-        places = [condition.places(block, history.core) for condition in conditions]
-        found = [(int(at[at > turn][0]), condition) for at, condition in zip(places, conditions) if (at > turn).any()]
+def search(
+    history: History, conditions: Sequence[Condition], turn: int, forward: bool = True
+) -> tuple[int, Condition] | None:
+    """The first place behind a turn where one of the conditions holds, or the last one before it."""
+    for block in history.blocks(turn) if forward else history.blocks_back(turn):
+        found = []
+        for condition in conditions:
+            places = condition.places(block, history.core)
+            near = places[places > turn][:1] if forward else places[places < turn][-1:]
+            found += [(int(place), condition) for place in near]
         if found:
-            return min(found, key=itemgetter(0))
+            return (min if forward else max)(found, key=itemgetter(0))
     return None
 
 
-def search_back(history: History, conditions: Sequence[Condition], turn: int) -> tuple[int, Condition] | None:
-    """The last place before a turn where one of the conditions holds."""
-    for block in history.blocks_back(turn):
-        places = [condition.places(block, history.core) for condition in conditions]
-        found = [(int(at[at < turn][-1]), condition) for at, condition in zip(places, conditions) if (at < turn).any()]
-        if found:
-            return max(found, key=itemgetter(0))
-    return None
-
-
-def last_change(history: History, address: int, turn: int, part: str | None = None) -> int | None:
-    """The last turn, up to this one, that changed a cell, or that part of it."""
-    for block in history.blocks_back(turn):
-        changes = block.changes
-        held = (changes.addresses == address) & (changes.turns <= turn)
-        if part is not None:
-            held &= changes.before[part] != changes.after[part]
-        if held.any():
-            return int(changes.turns[held][-1])
-    return None
-
-
-def next_change(history: History, address: int, turn: int) -> int | None:
-    """The first turn behind this one that changes a cell."""
-    found = search_forward(history, [Condition("changes", address, address)], turn)
-    return found[0] if found else None
+def last_change(history: History, address: int, turn: int, word: str = "changes") -> int | None:
+    """The last turn, up to this one, that changed a cell; with `becomes` its opcode."""
+    found = search(history, [Condition(word, address, address)], turn + 1, False)
+    return found and found[0]

@@ -12,15 +12,14 @@ from functools import cached_property, lru_cache, partial
 from itertools import count
 
 import numpy as np
-from numpy.lib.recfunctions import repack_fields
 from numpy.typing import NDArray
 
-from ..engine.calls import Match, State, count_turns, record, state
-from ..model.cells import Cells, Records
+from ..engine.calls import Match, State, count_turns, record, state, touched
 from ..model.faults import Refused
 from ..model.settings import whole
+from .blocks import Block
 
-# How many turns a block has, and how many blocks are kept: 5 to 10 MB each.
+# How many turns a block has, and how many blocks are kept: 5 to 13 MB each.
 BLOCK, KEPT = 65_536, 24
 # The most turns that a line of the debugger makes.
 LONGEST_RUN = 1_000_000
@@ -38,99 +37,6 @@ class Segment:
     lines: tuple[str, ...]
     first: int
     last: int
-
-
-@dataclass(frozen=True, eq=False)
-class Changes:
-    """The cells that turns left other than they were, in the order of the turns."""
-
-    turns: NDArray[np.int64]
-    addresses: NDArray[np.uint32]
-    warriors: NDArray[np.uint32]
-    before: Cells
-    after: Cells
-
-
-def changes_of(first: int, records: Records) -> Changes:
-    """What the turns behind a turn changed. Of several writes of a cell in one turn the first one's cell before and the
-    last one's after count.
-    """
-    change = records["change"]
-    address, before, after = change["address"], change["before"].copy(), change["after"]
-    used = np.arange(3) < records["changes"][:, None]
-    for later in (2, 1):
-        for earlier in reversed(range(later)):
-            same = used[:, later] & used[:, earlier] & (address[:, later] == address[:, earlier])
-            if same.any():
-                before[same, later] = before[same, earlier]
-                used[same, earlier] = False
-    used &= before != after
-    turns = np.broadcast_to(np.arange(first + 1, first + 1 + len(records))[:, None], used.shape)[used]
-    warriors = np.broadcast_to(records["warrior"][:, None], used.shape)[used]
-    return Changes(turns, address[used], warriors, before[used], after[used])
-
-
-class Block:
-    """Turns `first` + 1 to `last` of a battle: what is in their records besides the writes, what they changed, and
-    where the battle stands before them.
-    """
-
-    def __init__(self, first: int, start: State, records: Records) -> None:
-        self.first, self.last, self.start = first, first + len(records), start
-        self.changes = changes_of(first, records)
-        # The writes are four fifths of a record.
-        self.records: Records = repack_fields(records[[name for name in records.dtype.names or () if name != "change"]])
-
-    def count(self, turn: int) -> int:
-        """How many of the changes there were up to a turn."""
-        return int(np.searchsorted(self.changes.turns, turn, "right"))
-
-    def cells(self, turn: int) -> Cells:
-        """The core after a turn."""
-        cells, count = self.start.cells.copy(), self.count(turn)
-        cells[self.changes.addresses[:count]] = self.changes.after[:count]
-        return cells
-
-    def cell(self, address: int, turn: int) -> np.void:
-        """A cell after a turn."""
-        found = np.flatnonzero(self.changes.addresses[: self.count(turn)] == address)
-        cell: np.void = self.changes.after[found[-1]] if len(found) else self.start.cells[address]
-        return cell
-
-    @cached_property
-    def _queued(self) -> list[tuple[NDArray[np.uint32], NDArray[np.intp], NDArray[np.intp]]]:
-        """For each warrior what it queued, how much of it up to each turn, and how many turns it had up to each."""
-        used = np.arange(2) < self.records["queued"][:, None]
-        found = []
-        for warrior in range(len(self.start.queues)):
-            own = self.records["warrior"] == warrior
-            queued, turns = np.cumsum(np.where(own, self.records["queued"], 0)), np.cumsum(own)
-            found.append((self.records["process"][used & own[:, None]], queued.astype(np.intp), turns.astype(np.intp)))
-        return found
-
-    def queue(self, warrior: int, turn: int) -> NDArray[np.uint32]:
-        """Where the processes of a warrior stand after a turn, the next one first: all that were queued, less one for
-        each of its turns.
-        """
-        if turn == self.first:
-            return self.start.queues[warrior]
-        processes, queued, turns = self._queued[warrior]
-        place = turn - self.first - 1
-        queue: NDArray[np.uint32] = np.concatenate([self.start.queues[warrior], processes[: queued[place]]])
-        return queue[turns[place] :]
-
-    def processes(self, warrior: int) -> NDArray[np.intp]:
-        """How many processes a warrior has after each turn, that before the block first."""
-        _, queued, turns = self._queued[warrior]
-        return len(self.start.queues[warrior]) + np.concatenate([[0], queued - turns]).astype(np.intp)
-
-    def following(self, turn: int) -> int:
-        """The warrior whose turn is next after a turn."""
-        return self.start.next if turn == self.first else int(self.records["next"][turn - self.first - 1])
-
-    def cycle(self, turn: int) -> int:
-        """How many cycles are complete after a turn."""
-        return self.start.cycle if turn == self.first else int(self.records["cycle"][turn - self.first - 1])
 
 
 class History:
@@ -316,8 +222,8 @@ class History:
 
 def ask(fight: Match, round: int, lines: tuple[str, ...], first: int, skipped: int, count: int) -> Block:
     """So many turns of a segment, without the first `skipped`, by the machine."""
-    start = state(fight, round, lines, skipped)
-    return Block(first + skipped, start, record(fight, round, lines, skipped, count))
+    turns = fight, round, lines, skipped
+    return Block(first + skipped, state(*turns), record(*turns, count), partial(touched, *turns, count))
 
 
 def run_lines(turns: int) -> list[str]:

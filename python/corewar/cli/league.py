@@ -21,18 +21,11 @@ from ..league.results import Results
 from ..league.table import FORMATS, League
 from ..model.faults import FileFault
 from ..model.warriors import Warrior, printable
-from .options import Asked, Output, Picture, battle_options
+from .options import Asked, Output, Picture, battle_options, with_options
 from .telling import tell, tell_fault
 
 ADDRESS = re.compile(r"(tcp://)?(\[[0-9a-fA-F:]+\]|[^\s/:\[\]]+):\d+")
 TURNED = "{} of {} matches are kept the other way round alone: those are other matches, so these are fought"
-
-
-def writable(context: click.Context, param: click.Parameter, path: str | None) -> str | None:
-    """A file that can be made where it isn't there."""
-    if path is not None and not Path(path).absolute().parent.is_dir():
-        raise click.BadParameter(f"there is no folder {Path(path).parent}")
-    return path
 
 
 def address(context: click.Context, param: click.Parameter, given: str | None) -> str | None:
@@ -43,7 +36,7 @@ def address(context: click.Context, param: click.Parameter, given: str | None) -
 
 FILE = Output(dir_okay=False, writable=True)
 PLACE = [
-    click.option("--results", type=FILE, callback=writable, help="Keeps results here, and fights none that are here."),
+    click.option("--results", type=FILE, help="Keeps results here, and fights none that are here."),
     click.option(
         "--jobs",
         type=click.IntRange(1),
@@ -110,10 +103,7 @@ def contest_options(command: Callable[..., Any]) -> Callable[..., Any]:
             raise click.UsageError("at least two files are asked for")
         return command(asked, Hall(results, jobs, scheduler), **given)
 
-    made: Callable[..., Any] = asking
-    for option in reversed(PLACE):
-        made = option(made)
-    return made
+    return with_options(*PLACE)(asking)
 
 
 def entered(asked: Asked) -> tuple[Contest, list[Warrior], list[FileFault]]:
@@ -143,12 +133,9 @@ def write(text: str, output: str | None) -> None:
     help="The most points first, or as the files stand.",
 )
 @click.option("--format", "form", type=click.Choice(list(FORMATS)), default="table", show_default=True)
-@click.option("-o", "--output", type=FILE, callback=writable, help="Writes the table there.")
+@click.option("-o", "--output", type=FILE, help="Writes the table there.")
 @click.option(
-    "--picture",
-    type=Picture(dir_okay=False, writable=True),
-    callback=writable,
-    help="Draws who beats whom, as .png, .svg or .pdf.",
+    "--picture", type=Picture(dir_okay=False, writable=True), help="Draws who beats whom, as .png, .svg or .pdf."
 )
 @click.option("--pages", type=Output(file_okay=False), help="Writes index.html there, with table and matrix.")
 @click.option("--page-pairs", "named", multiple=True, metavar="A,B", help="Two files that have a replay, too.")

@@ -52,7 +52,7 @@ def why(asked: Asked, named: str | None, turns: int | None) -> None:
 )
 @TURNS
 def trace(asked: Asked, first: int | None, turns: int | None) -> None:
-    """Tells turn by turn what was executed, and each cell that changed."""
+    """Tells turn by turn what was executed and read, and each cell that changed."""
     teller, count = teller_of(asked), turns or 20
     end = teller.history.end
     first = max(1, end - count + 1) if first is None else first

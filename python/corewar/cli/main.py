@@ -2,6 +2,7 @@
 from __future__ import annotations
 
 import os
+import signal
 import sys
 from importlib import import_module
 
@@ -61,6 +62,9 @@ def open_streams() -> None:
 def main() -> None:
     """Runs the command. What can't be done is told in one line, and no traceback reaches a user."""
     open_streams()
+    # While all this was loaded Ctrl-C ended the process; from here on it is told.
+    if signal.getsignal(signal.SIGINT) == signal.SIG_DFL:
+        signal.signal(signal.SIGINT, signal.default_int_handler)
     try:
         status = commands.main(prog_name="corewar", standalone_mode=False)
         sys.stdout.flush()
@@ -83,7 +87,3 @@ def main() -> None:
         # What standard output didn't take isn't tried again.
         os.dup2(os.open(os.devnull, os.O_WRONLY), sys.stdout.fileno())
         sys.exit(1)
-
-
-if __name__ == "__main__":
-    main()

@@ -4,6 +4,7 @@ from __future__ import annotations
 import functools
 from collections.abc import Callable
 from dataclasses import dataclass, replace
+from pathlib import Path
 from typing import Any
 
 import click
@@ -13,6 +14,7 @@ from ..engine.sources import Limit, read_warriors
 from ..model.settings import FORMULA, HILLS, NUMBERS, Settings, whole
 
 PICTURES = (".png", ".svg", ".pdf")
+Decorator = Callable[[Callable[..., Any]], Callable[..., Any]]
 HELP = {"help_option_names": ["-h", "--help"], "max_content_width": 120}
 
 
@@ -36,11 +38,13 @@ class Asked:
 
 
 class Output(click.Path):
-    """A file or a folder that is written. Its name isn't empty."""
+    """A file or a folder that is written. Its name isn't empty, and that in which a file lies is there."""
 
     def convert(self, value: Any, param: click.Parameter | None, context: click.Context | None) -> Any:
         if not value:
             self.fail("a name is asked for", param, context)
+        if self.file_okay and not Path(value).absolute().parent.is_dir():
+            self.fail(f"there is no folder {Path(value).parent}", param, context)
         return super().convert(value, param, context)
 
 
@@ -67,7 +71,18 @@ class LimitType(click.ParamType):
         return replace(Limit(), **dict(zip(("seconds", "megabytes"), numbers)))
 
 
-def number_option(name: str, **how: Any) -> Callable[[Any], Any]:
+def with_options(*options: Decorator) -> Decorator:
+    """Gives a command these options, in this order."""
+
+    def decorate(command: Callable[..., Any]) -> Callable[..., Any]:
+        for option in reversed(options):
+            command = option(command)
+        return command
+
+    return decorate
+
+
+def number_option(name: str, **how: Any) -> Decorator:
     """The option of a number, with its range and what it means."""
     number = NUMBERS[name]
     words = {number.word, f"--{name.replace('_', '-')}"}
@@ -107,9 +122,7 @@ ROUND = click.option(
 )
 
 
-def battle_options(
-    *, one_round: bool = False, needs_files: bool = True
-) -> Callable[[Callable[..., Any]], Callable[..., Any]]:
+def battle_options(*, one_round: bool = False, needs_files: bool = True) -> Decorator:
     """Gives a command the options of a contest and its files, as its argument `asked`; with `one_round` that of a
     round, too.
     """
@@ -122,11 +135,7 @@ def battle_options(
             contest: dict[str, Any] = {name: given.pop(name) or 0 for name in ("rounds", "seed", "position", "formula")}
             return command(Asked(files, settings, round=round_, limit=limit, **contest), **given)
 
-        options = [*SETTINGS, *CONTEST, *([ROUND] if one_round else [])]
-        options.append(click.argument("files", nargs=-1, required=needs_files))
-        made: Callable[..., Any] = asking
-        for option in reversed(options):
-            made = option(made)
-        return made
+        files = click.argument("files", nargs=-1, required=needs_files)
+        return with_options(*SETTINGS, *CONTEST, *([ROUND] if one_round else []), files)(asking)
 
     return decorate

@@ -2,36 +2,27 @@
 from __future__ import annotations
 
 import os
-from collections.abc import Callable
 from pathlib import Path
-from typing import Any
 
 import click
 
 from ..battle.frames import parts
 from ..battle.history import History
 from ..model.settings import whole
-from .options import Asked, Output, Picture, battle_options
+from .options import Asked, Decorator, Output, Picture, battle_options, with_options
 
 # A battle of few turns is shown turn by turn.
-FEW_TURNS, FRAMES = 2000, 600
+FEW_TURNS = 2000
 
 
-def part_options(kind: Output) -> Callable[[Callable[..., Any]], Callable[..., Any]]:
+def part_options(kind: Output) -> Decorator:
     """The options that say which part of a battle is shown, and in which kind of file."""
-    options = [
+    return with_options(
         click.option("--from", "first", type=click.IntRange(1), default=1, help="The first turn that is shown."),
         click.option("--turns", type=click.IntRange(1), help="How many turns are shown; without it all that follow."),
         click.option("-o", "--output", type=kind, help="The file that is written; one that is there is written over."),
         click.option("--force", is_flag=True, help="Writes over battle.html or battle.png."),
-    ]
-
-    def decorate(command: Callable[..., Any]) -> Callable[..., Any]:
-        for option in reversed(options):
-            command = option(command)
-        return command
-
-    return decorate
+    )
 
 
 def ends_of(history: History, first: int, turns: int | None, count: int) -> list[int]:
@@ -100,7 +91,7 @@ def page(asked: Asked, first: int, turns: int | None, output: str | None, force:
     battle.html without -o.
     """
     from ..pages.render import write_page
-    from ..pages.replay import page_of
+    from ..pages.replay import FRAMES, page_of
 
     output = named(output, "battle.html", force)
     history = History(asked.fight(), asked.round)

@@ -3,12 +3,13 @@ from __future__ import annotations
 
 from collections.abc import Callable, Iterable, Iterator
 from dataclasses import dataclass
+from typing import NoReturn
 
 import numpy as np
 
 from ..analysis.causes import cause_told, change_told, death_told
 from ..analysis.telling import processes
-from ..battle.history import History
+from ..battle.conditions import Condition, search
 from ..model.faults import Refused
 from ..model.settings import whole
 from .session import MOST_FILLED, Session
@@ -71,32 +72,17 @@ def here(session: Session) -> Iterator[str]:
     yield session.teller.following(session.turn)
 
 
-def count_of(session: Session, text: str, what: str) -> int:
-    return session.number(text, what) if text else 1
-
-
-def turns_of(history: History, warrior: int, turn: int, forward: bool) -> int | None:
-    """The next turn of a warrior behind a turn, or its last one up to that."""
-    for block in history.blocks(turn) if forward else history.blocks_back(turn):
-        own = block.first + 1 + np.flatnonzero(block.records["warrior"] == warrior)
-        own = own[own > turn][:1] if forward else own[own < turn][-1:]
-        if len(own):
-            return int(own[0])
-    return None
-
-
 def step_by(session: Session, rest: str, sign: int) -> Iterator[str]:
     """Steps so many turns on or back, or to the next or last turn of a warrior."""
     if rest and not rest.isdecimal():
         warrior = session.warrior(rest)
-        found = turns_of(session.history, warrior, session.turn, sign > 0)
+        found = search(session.history, [Condition("moves", warrior, warrior)], session.turn, sign > 0)
         if found is None:
-            raise Refused(
-                f"{session.names[warrior]} has no turn {'behind' if sign > 0 else 'before'} turn {session.turn}"
-            )
-        session.go(found)
+            where = "behind" if sign > 0 else "before"
+            raise Refused(f"{session.names[warrior]} has no turn {where} turn {session.turn}")
+        session.go(found[0])
     else:
-        to = session.turn + sign * count_of(session, rest, "turns")
+        to = session.turn + sign * session.number(rest or "1", "turns")
         session.go(max(0, min(session.history.end, to)))
     yield from here(session)
 
@@ -308,6 +294,7 @@ def changed(session: Session, rest: str) -> Iterator[str]:
 CONDITIONS = """A CONDITION, for continue, reverse-continue and break:
   at A[..B]       a cell from A to B is executed next
   changes A[..B]  a turn changed a cell from A to B
+  reads A[..B]    a turn came by a cell from A to B and didn't write it
   .. by W         .. and warrior W does it
   splits W        warrior W got a further process
   ends W          warrior W lost a process
@@ -326,9 +313,8 @@ def tell_help(session: Session, rest: str) -> Iterator[str]:
 
 
 @command("quit", "leaves", "q")
-def leave(session: Session, _: str) -> Iterator[str]:
+def leave(session: Session, _: str) -> NoReturn:
     raise Left
-    yield ""
 
 
 def execute(session: Session, line: str) -> list[str]:

@@ -54,17 +54,19 @@ class Words(Completer):
             return
         if words[0] in ("help", "h"):
             yield from ((name, "") for name in COMMANDS)
-        if len(words) + is_new == 2 and "CONDITION" in usage(words[0]):
+        command = command_of(words[0])
+        if len(words) + is_new == 2 and command and "CONDITION" in command.usage:
             yield from ((word, "") for word in (*OF_CELLS, *OF_WARRIORS))
         yield from ((label, str(address)) for label, address in self.session.sources.addresses.items())
         yield from ((name, f"warrior {number}") for number, name in enumerate(self.session.names))
 
 
-def usage(word: str) -> str:
+def command_of(line: str) -> Command | None:
+    """The command that a line begins with, if there is one."""
     try:
-        return find_command(word).usage
-    except Refused:
-        return ""
+        return find_command(line.split()[0])
+    except (IndexError, Refused):
+        return None
 
 
 class Runner:
@@ -168,19 +170,12 @@ def run_prompt(session: Session, coloured: bool) -> None:
             line = prompt.prompt(f"turn {session.turn}> ").strip()
             line = line or last
             runner.make(line)
-            last = line if line and repeats(line) else ""
+            command = command_of(line)
+            last = line if command and command.repeats else ""
         except KeyboardInterrupt:
             continue
         except (EOFError, Left):
             return
-
-
-def repeats(line: str) -> bool:
-    """Whether an empty line makes this one again."""
-    try:
-        return find_command(line.split()[0]).repeats
-    except Refused:
-        return False
 
 
 def bar(session: Session) -> str:

@@ -8,7 +8,7 @@ from collections.abc import Callable, Sequence
 from dataclasses import dataclass, field, replace
 
 from ..analysis.telling import Teller
-from ..battle.conditions import OF_CELLS, OF_WARRIORS, Condition, search_back, search_forward
+from ..battle.conditions import OF_CELLS, OF_WARRIORS, Condition, search
 from ..battle.history import History
 from ..battle.labels import Sources
 from ..engine.calls import load_file
@@ -18,7 +18,7 @@ from ..model.settings import whole
 # The most cells that one edit fills, as the debugger of the program has it.
 MOST_FILLED = 1_000_000
 WORD = re.compile(r"[A-Za-z_]\w*")
-CONDITION = "a condition is at A[..B] [by W], changes A[..B] [by W], splits W, ends W or dies W"
+CONDITION = "a condition is at, changes or reads A[..B] [by W], or splits, ends or dies W"
 
 
 @dataclass
@@ -77,7 +77,7 @@ class Session:
         """Goes to the next place where one of the conditions holds, or to the one before."""
         if not conditions:
             raise Refused("there is no break: break sets one, and continue takes a condition, too")
-        found = (search_forward if forward else search_back)(self.history, conditions, self.turn)
+        found = search(self.history, conditions, self.turn, forward)
         if found is None:
             raise Refused(f"not found {'behind' if forward else 'before'} turn {self.turn}")
         self.go(found[0])

@@ -87,12 +87,7 @@ def kind_of(declared: Any) -> np.dtype[Any]:
     if declared.kind == "array":
         return np.dtype((kind_of(declared.item), (declared.length,)))
     if declared.kind == "struct":
-        fields = dict(declared.fields)
-        formats, offsets = [kind_of(field.type) for field in fields.values()], [
-            field.offset for field in fields.values()
-        ]
-        size = library()[0].sizeof(declared)
-        return np.dtype({"names": list(fields), "formats": formats, "offsets": offsets, "itemsize": size})
+        return np.dtype([(name, kind_of(field.type)) for name, field in declared.fields], align=True)
     return np.dtype(np.uintp if declared.cname == "size_t" else declared.cname.removesuffix("_t"))
 
 

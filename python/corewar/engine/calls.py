@@ -9,7 +9,6 @@ import numpy as np
 from numpy.typing import NDArray
 
 from ..model.cells import Cells, Records
-from ..model.results import Row
 from ..model.settings import FORMULA, Settings
 from ..model.warriors import Warrior
 from .binding import ROOM, array, call, library, number, slice_of
@@ -46,6 +45,16 @@ class State:
     cycle: int
     next: int
     over: bool
+
+
+@dataclass(frozen=True)
+class Row:
+    """How a warrior fared: points by the formula, and how many rounds it survived alone, with others, and not."""
+
+    points: int
+    wins: int
+    ties: int
+    losses: int
 
 
 def load_file(source: str | bytes, settings: Settings = Settings(), rounds: int = 1, warriors: int = 2) -> bytes:
@@ -114,11 +123,7 @@ def debug(fight: Match, lines: Sequence[str], history: int = HISTORY) -> str:
 
 def count_turns(fight: Match, round: int = 0, lines: Sequence[str] = (), history: int = FORWARD_ALONE) -> int:
     """How many turns are left in the battle of a round from where the debugger's lines lead it."""
-    count = library()[0].new("size_t *")
-    call(
-        "mars_record", *battle(fight, round, lines, history), 0, *slice_of("MarsRecord", array("MarsRecord", 0)), count
-    )
-    return int(count[0])
+    return turns_of("mars_record", "MarsRecord", (fight, round, lines, history), 0, 0)[1]
 
 
 def record(
@@ -130,9 +135,18 @@ def record(
     An array with the fields of MarsRecord of the header: warrior, address, next, cycle, died, changes, queued,
     change (three of address, before, after), process (two). What doesn't apply is 0. A turn takes 120 bytes.
     """
-    made, count = array("MarsRecord", most), library()[0].new("size_t *")
-    call("mars_record", *battle(fight, round, lines, history), number(first), *slice_of("MarsRecord", made), count)
-    return made[: count[0]]
+    return turns_of("mars_record", "MarsRecord", (fight, round, lines, history), first, most)[0]
+
+
+def touched(
+    fight: Match, round: int = 0, lines: Sequence[str] = (), first: int = 0, most: int = 1, history: int = FORWARD_ALONE
+) -> Records:
+    """The cells that the same turns read or write, as those of `record`.
+
+    An array with the fields of MarsTouched of the header: count, and address (eight), in which a cell may come more
+    than once. What doesn't apply is 0.
+    """
+    return turns_of("mars_touched", "MarsTouched", (fight, round, lines, history), first, most)[0]
 
 
 def state(
@@ -186,6 +200,15 @@ def battle(fight: Match, round: int, lines: Sequence[str], history: int) -> tupl
     """What a call on the battle of a round is given first."""
     given = held(fight.settings, number(round) + 1, fight.seed, fight.position)
     return given, *loads(fight.warriors), round, number(history), *slice_of("uint8_t", lines_of(lines))
+
+
+def turns_of(
+    name: str, kind: str, given: tuple[Match, int, Sequence[str], int], first: int, most: int
+) -> tuple[Records, int]:
+    """What a call tells of each of so many turns of a battle at most, and how many there are."""
+    made, count = array(kind, most), library()[0].new("size_t *")
+    call(name, *battle(*given), number(first), *slice_of(kind, made), count)
+    return made[: count[0]], int(count[0])
 
 
 def rows(name: str, given: Any, formula: str, warriors: Sequence[Warrior], count: int) -> list[Row]:

@@ -8,8 +8,8 @@ import multiprocessing
 import resource
 import signal
 import threading
-from collections.abc import Sequence
-from dataclasses import dataclass
+from collections.abc import Callable, Sequence
+from dataclasses import dataclass, replace
 from multiprocessing.connection import Connection
 from typing import Any
 
@@ -130,7 +130,7 @@ def read_file(path: str) -> bytes:
 
 
 def read_warrior(
-    assembler: Assembler, path: str, settings: Settings = Settings(), rounds: int = 1, warriors: int = 2
+    assemble: Callable[..., bytes], path: str, settings: Settings = Settings(), rounds: int = 1, warriors: int = 2
 ) -> Warrior:
     """The warrior of a file: a load file where the name ends in .load, else a source. Raises FileFault, and Fault for
     the settings.
@@ -138,20 +138,16 @@ def read_warrior(
     text = read_file(path)
     try:
         if path.endswith(".load"):
-            made = Warrior(text, path)
             # The library reads a load file where it fights, so a fight of one cycle tells its fault.
-            match([made], settings=Settings(**{**vars(settings), "cycles": 1}))
-            return made
-        return Warrior(assembler.assemble(text, settings, rounds, warriors), path, text)
+            match([Warrior(text)], settings=replace(settings, cycles=1))
+            return Warrior(text, path)
+        return Warrior(assemble(text, settings, rounds, warriors), path, text)
     except Overrun as overrun:
         raise FileFault(path, str(overrun), text) from None
     except Fault as fault:
-        raise of_file(path, fault, text) from None
-
-
-def of_file(path: str, fault: Fault, text: bytes) -> Refused:
-    """A fault as that of a file, where it is one: faults of the settings aren't."""
-    return FileFault(path, fault, text) if fault.code in (ASSEMBLY, LOAD) else fault
+        if fault.code in (ASSEMBLY, LOAD):
+            raise FileFault(path, fault, text) from None
+        raise
 
 
 def read_warriors(
@@ -166,17 +162,9 @@ def read_warriors(
     """
     with Assembler(limit) as assembler:
         count = len(paths) if warriors is None else warriors
-        return tuple(read_warrior(assembler, path, settings, rounds, count) for path in paths)
+        return tuple(read_warrior(assembler.assemble, path, settings, rounds, count) for path in paths)
 
 
 def read(path: str, settings: Settings = Settings(), rounds: int = 1, warriors: int = 2) -> Warrior:
     """The warrior of a file of one's own, without a limit. Raises FileFault."""
-    text = read_file(path)
-    try:
-        return (
-            Warrior(text, path)
-            if path.endswith(".load")
-            else Warrior(load_file(text, settings, rounds, warriors), path, text)
-        )
-    except Fault as fault:
-        raise of_file(path, fault, text) from None
+    return read_warrior(load_file, path, settings, rounds, warriors)

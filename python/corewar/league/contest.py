@@ -59,7 +59,7 @@ def enter(contest: Contest, files: Sequence[str], limit: Limit) -> tuple[list[Wa
     with Assembler(limit) as assembler:
         for file in files:
             try:
-                warriors.append(read_warrior(assembler, file, contest.settings, contest.rounds))
+                warriors.append(read_warrior(assembler.assemble, file, contest.settings, contest.rounds))
             except FileFault as left:
                 faults.append(left)
     return warriors, faults

@@ -7,7 +7,6 @@ from pathlib import Path
 from typing import Any
 from urllib.parse import quote
 
-from ..battle.frames import parts
 from ..battle.history import History, distinct
 from ..engine.calls import Match
 from ..league.table import League
@@ -17,7 +16,6 @@ from .replay import page_of
 
 # The matrix of more warriors is too much for a browser.
 LARGEST_MATRIX = 250
-FRAMES = 600
 
 
 class Pages:
@@ -79,4 +77,4 @@ class Pages:
         history = History(Match(fighters, contest.settings, contest.seed, contest.position, contest.rounds))
         path = self.folder / self.replay(first, second)
         path.parent.mkdir(exist_ok=True)
-        write_page(path, page_of(history, parts(0, history.end, FRAMES)))
+        write_page(path, page_of(history))

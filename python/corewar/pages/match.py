@@ -5,13 +5,10 @@ from pathlib import Path
 from typing import Any
 
 from ..analysis.captions import command
-from ..battle.frames import parts
 from ..battle.rounds import Round, sums
 from ..engine.calls import Match
 from .render import render, write_page
 from .replay import page_of
-
-FRAMES = 600
 
 
 class Pages:
@@ -26,7 +23,7 @@ class Pages:
         """Writes the page of a round."""
         history = one.history
         page = f"round-{history.round}.html"
-        write_page(self.folder / page, page_of(history, parts(0, history.end, FRAMES)))
+        write_page(self.folder / page, page_of(history))
         told = {"number": history.round, "outcomes": one.outcomes, "end": history.end}
         self.rounds.append({**told, "page": page, "words": command(history, "debug")})
 

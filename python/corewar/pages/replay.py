@@ -16,14 +16,14 @@ import numpy as np
 from numpy.typing import NDArray
 
 from ..analysis.captions import command, fate, outcome, settings_told, title
-from ..battle.frames import Frame, frames
+from ..battle.frames import Frame, frames, parts
 from ..battle.history import BY_HAND, NOBODY, History
 from ..model.cells import Cells, cell_text
 from ..pictures.colours import DARK, LIGHT, coloured
 from .render import render
 
-# How many frames a piece has.
-PIECE = 100
+# How many frames a page has where nothing else is said, and a piece.
+FRAMES, PIECE = 600, 100
 EMPTY = "DAT.F $0, $0"
 
 
@@ -115,7 +115,7 @@ def grave(history: History, warrior: int) -> int | None:
 
 
 def head_of(history: History) -> dict[str, Any]:
-    """What a page knows besides its frames."""
+    """What a page shows of a battle besides its turns."""
     warriors = [
         {
             "name": history.names[number],
@@ -126,17 +126,13 @@ def head_of(history: History) -> dict[str, Any]:
         }
         for number, warrior in enumerate(history.warriors)
     ]
-    return {
-        "size": history.core,
-        "last": history.end,
-        "empty": EMPTY,
-        "warriors": warriors,
-        "command": command(history, "debug --turn TURN"),
-    }
+    return {"size": history.core, "last": history.end, "warriors": warriors}
 
 
-def page_of(history: History, ends: list[int]) -> str:
-    """The page of a battle in frames at these turns."""
+def page_of(history: History, ends: list[int] | None = None) -> str:
+    """The page of a battle in frames at these turns; without them all of it."""
+    ends = ends or parts(0, history.end, FRAMES)
+    head = {**head_of(history), "empty": EMPTY, "command": command(history, "debug --turn TURN")}
     return render(
         "replay.html.j2",
         title=title(history),
@@ -146,5 +142,5 @@ def page_of(history: History, ends: list[int]) -> str:
         deaths=[{"name": history.names[number], "turn": turn} for number, turn in history.ending.deaths.tolist()],
         light=coloured(LIGHT, history),
         dark=coloured(DARK, history),
-        battle="\n".join([packed(head_of(history)), *pieces(history, ends)]),
+        battle="\n".join([packed(head), *pieces(history, ends)]),
     )

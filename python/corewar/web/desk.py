@@ -7,9 +7,9 @@ from typing import Any
 
 import numpy as np
 
-from ..analysis.captions import fate, outcome, settings_told, title
+from ..analysis.captions import outcome, settings_told, title
 from ..analysis.causes import change_told
-from ..battle.conditions import OF_CELLS, Condition, last_change, next_change, search_back, search_forward
+from ..battle.conditions import OF_CELLS, Condition, last_change, search
 from ..battle.frames import frames, parts
 from ..battle.history import BY_HAND, NOBODY, History
 from ..battle.labels import Sources
@@ -18,7 +18,7 @@ from ..debugger.session import Session
 from ..engine.calls import Match
 from ..model.cells import cell_text
 from ..model.faults import Refused
-from ..pages.replay import grave, page_of
+from ..pages.replay import head_of, page_of
 
 # How many moments the overview has; a cell that was written within so many of them is shown as lately written.
 MOMENTS, FADING = 600, 16
@@ -32,6 +32,10 @@ class Desk:
 
     session: Session
 
+    def within(self, turn: int) -> int:
+        """A turn that the battle has: another window may have made it shorter."""
+        return max(0, min(turn, self.session.history.end))
+
     @classmethod
     def of(cls, fought: Match, round: int) -> Desk:
         """A round of a match, laid out, with how it ends."""
@@ -40,27 +44,13 @@ class Desk:
 
     def battle(self) -> dict[str, Any]:
         """What the page shows of a battle besides its turns."""
-        session = self.session
-        history = session.history
-        warriors = [
-            {
-                "name": history.names[number],
-                "author": warrior.author,
-                "file": warrior.file,
-                "death": history.death(number),
-                "grave": grave(history, number),
-                "fate": fate(history, number),
-            }
-            for number, warrior in enumerate(history.warriors)
-        ]
+        session, history = self.session, self.session.history
         futures = [
             {"edits": [f"turn {turn}: {line}" for turn, line in one.edits], "end": one.end, "here": one is history}
             for one in session.futures
         ]
         return {
-            "size": history.core,
-            "last": history.end,
-            "warriors": warriors,
+            **head_of(history),
             "outcome": outcome(history),
             "title": title(history),
             "settings": settings_told(history),
@@ -84,9 +74,8 @@ class Desk:
         """A turn: a line of JSON, then a byte for the owner of each cell, one for how lately it was written, and
         where processes stand.
         """
-        session = self.session
-        history = session.history
-        session.turn = turn = max(0, min(turn, history.end))
+        session, history = self.session, self.session.history
+        session.turn = turn = self.within(turn)
         block, teller = history.block(turn), session.teller
         owners, written = history.written(turn)
         queues = [block.queue(number, turn) for number in range(len(history.warriors))]
@@ -100,6 +89,8 @@ class Desk:
             "next": block.following(turn),
             "head": head,
             "told": teller.turn(turn) if turn else "the start",
+            "mover": int(history.record(turn)["warrior"]) if turn else None,
+            "reads": teller.reads(turn) if turn else [],
             "following": teller.following(turn),
             "line": line and {"file": history.warriors[line.warrior].file, "number": line.number},
             "cells": np.bincount(owners, minlength=256)[: len(queues)].tolist(),
@@ -110,9 +101,8 @@ class Desk:
 
     def cell(self, address: int, turn: int) -> dict[str, Any]:
         """A cell with its neighbours, and the turns that changed it last and will change it next."""
-        session = self.session
-        history = session.history
-        turn, address = max(0, min(turn, history.end)), address % history.core
+        session, history = self.session, self.session.history
+        turn, address = self.within(turn), address % history.core
         block, owners, cells = history.block(turn), history.owners(turn), history.block(turn).cells(turn)
         queues = [block.queue(number, turn) for number in range(len(history.warriors))]
         around = []
@@ -134,7 +124,7 @@ class Desk:
             "around": around,
             "told": change_told(session.teller, address, turn),
             "before": last_change(history, address, turn),
-            "after": next_change(history, address, turn),
+            "after": self.search("changes", address, turn, True)["turn"],
         }
 
     def search(self, word: str, address: int, turn: int, forward: bool) -> dict[str, Any]:
@@ -142,18 +132,17 @@ class Desk:
         history = self.session.history
         numbers = [address] if word in OF_CELLS else range(len(history.warriors))
         conditions = [Condition(word, number, number) for number in numbers]
-        found = (search_forward if forward else search_back)(history, conditions, max(0, min(turn, history.end)))
+        found = search(history, conditions, self.within(turn), forward)
         return {"turn": found and found[0]}
 
     def replay(self) -> str:
         """The page that replays the battle."""
-        history = self.session.history
-        return page_of(history, parts(0, history.end, MOMENTS))
+        return page_of(self.session.history)
 
     def debug(self, line: str, turn: int) -> dict[str, Any]:
         """Makes a line of the debugger at a turn."""
         session = self.session
-        session.turn, before = max(0, min(turn, session.history.end)), session.history
+        session.turn, before = self.within(turn), session.history
         try:
             answer = execute(session, line)
         except Left:

@@ -5,9 +5,11 @@ import asyncio
 import json
 import secrets
 import webbrowser
-from collections.abc import Awaitable, Callable
+from collections.abc import Awaitable, Callable, Iterator
 from concurrent.futures import ThreadPoolExecutor
+from contextlib import contextmanager, nullcontext
 from pathlib import Path
+from tempfile import NamedTemporaryFile
 from typing import Any
 
 from aiohttp import web
@@ -42,8 +44,9 @@ def desk_of(request: web.Request) -> Desk:
     return bench_of(request).desk(request.query.get("desk", ""))
 
 
-async def given(request: web.Request) -> Any:
-    return await request.json()
+async def answer(act: Callable[..., Any], *given: Any) -> web.Response:
+    """What a call gives, which is made in a thread."""
+    return web.json_response(await asyncio.to_thread(act, *given))
 
 
 def guard(ports: list[int]) -> Any:
@@ -93,32 +96,29 @@ async def sources(request: web.Request) -> web.Response:
 
 @routes.post("/save")
 async def save(request: web.Request) -> web.Response:
-    asked = await given(request)
+    asked = await request.json()
     return web.json_response({"seen": bench_of(request).folder.save(asked["name"], asked["text"], asked["seen"])})
 
 
 @routes.post("/assemble")
 async def assemble(request: web.Request) -> web.Response:
-    asked = await given(request)
-    made = await asyncio.to_thread(bench_of(request).lint, asked["source"], Settings(**asked["settings"]))
-    return web.json_response(made)
+    asked = await request.json()
+    return await answer(bench_of(request).lint, asked["source"], Settings(**asked["settings"]))
 
 
 @routes.post("/fight")
 async def fight(request: web.Request) -> web.Response:
-    return web.json_response(
-        await asyncio.to_thread(bench_of(request).fight, request.query.get("desk", ""), await given(request))
-    )
+    return await answer(bench_of(request).fight, request.query.get("desk", ""), await request.json())
 
 
 @routes.get("/battle")
 async def battle(request: web.Request) -> web.Response:
-    return web.json_response(await asyncio.to_thread(desk_of(request).battle))
+    return await answer(desk_of(request).battle)
 
 
 @routes.get("/overview")
 async def overview(request: web.Request) -> web.Response:
-    return web.json_response(await asyncio.to_thread(desk_of(request).overview))
+    return await answer(desk_of(request).overview)
 
 
 @routes.get("/turn/{turn}")
@@ -130,7 +130,7 @@ async def turn(request: web.Request) -> web.Response:
 @routes.get("/cell/{address}/{turn}")
 async def cell(request: web.Request) -> web.Response:
     numbers = int(request.match_info["address"]), int(request.match_info["turn"])
-    return web.json_response(await asyncio.to_thread(desk_of(request).cell, *numbers))
+    return await answer(desk_of(request).cell, *numbers)
 
 
 @routes.post("/league")
@@ -138,7 +138,7 @@ async def league(request: web.Request) -> web.StreamResponse:
     """The counts of matches as they end, a line of JSON for each bundle; a fault behind the first one is the last
     line.
     """
-    fought, loop = bench_of(request).league(await given(request)), asyncio.get_running_loop()
+    fought, loop = bench_of(request).league(await request.json()), asyncio.get_running_loop()
 
     def more() -> dict[str, Any]:
         return next(fought, {})
@@ -163,13 +163,13 @@ async def league(request: web.Request) -> web.StreamResponse:
 async def search(request: web.Request) -> web.Response:
     asked = request.match_info
     numbers = int(asked["address"]), int(asked["turn"]), asked["way"] == "on"
-    return web.json_response(await asyncio.to_thread(desk_of(request).search, asked["word"], *numbers))
+    return await answer(desk_of(request).search, asked["word"], *numbers)
 
 
 @routes.post("/debug")
 async def debug(request: web.Request) -> web.Response:
-    asked = await given(request)
-    return web.json_response(await asyncio.to_thread(desk_of(request).debug, asked["line"], int(asked["turn"])))
+    asked = await request.json()
+    return await answer(desk_of(request).debug, asked["line"], int(asked["turn"]))
 
 
 @routes.get("/replay.html")
@@ -199,10 +199,25 @@ async def serve(bench: Bench, port: int, opens: bool, say: Callable[[str], None]
     token, ports = secrets.token_urlsafe(16), [port]
     runner = web.AppRunner(application(bench, ports, token))
     await runner.setup()
-    await web.TCPSite(runner, "127.0.0.1", port).start()
+    await web.TCPSite(runner, "127.0.0.1", port, shutdown_timeout=1).start()
     ports[0] = runner.addresses[0][1]
     address = f"http://127.0.0.1:{ports[0]}/{token}/"
     say(f"The workbench is at {address} until Ctrl-C ends it.")
-    if opens:
-        webbrowser.open(address)
-    await asyncio.Event().wait()
+    try:
+        with opened(address) if opens else nullcontext():
+            await asyncio.Event().wait()
+    finally:
+        # Nothing is answered any more when the threads that make answers end.
+        await runner.cleanup()
+
+
+@contextmanager
+def opened(address: str) -> Iterator[None]:
+    """Opens an address in the browser, by a page that leads there and that only this user may read: all users of the
+    machine see the words of a browser that is started.
+    """
+    with NamedTemporaryFile("w", prefix="corewar-", suffix=".html") as page:
+        page.write(f'<meta http-equiv="refresh" content="0; url={address}">\n')
+        page.flush()
+        webbrowser.open(Path(page.name).as_uri())
+        yield

@@ -98,7 +98,7 @@ class Shelf {
     this.draft = settle(() => this.keepDrafts(), 300);
     addEventListener("beforeunload", event => { if (!this.sources.every(Shelf.isSaved)) event.preventDefault(); });
     element("save").onclick = () => this.save();
-    element("new").onclick = () => this.create();
+    element("new").onclick = () => this.askName();
   }
 
   async load() {
@@ -183,10 +183,30 @@ class Shelf {
     }
   }
 
-  create() {
+  /** Asks for the name of a new source at the end of the list: Enter makes it, Esc doesn't. */
+  askName() {
     let number = 1;
     while (this.find(`warrior-${number}.red`)) number++;
-    const source = this.add({name: `warrior-${number}.red`, text: `;redcode-94\n;name Warrior ${number}\n;author \n\n        MOV 0, 1\n`, seen: "", example: false});
+    const input = make("input", {value: `warrior-${number}.red`, onblur: () => row.remove(), onkeydown: event => {
+      if (event.key !== "Enter" && event.key !== "Escape") return;
+      event.preventDefault();
+      if (event.key === "Enter") this.create(input.value.trim().replace(/(\.red)?$/, ".red"));
+      else element("new").focus();
+    }}), row = make("li", {}, input);
+    input.setAttribute("aria-label", "Name of the new source");
+    element("names").append(row);
+    input.focus();
+    input.setSelectionRange(0, input.value.length - ".red".length);
+  }
+
+  /** Makes a source of a name that none has yet. */
+  create(name) {
+    const stem = name.slice(0, -".red".length), fault = this.find(name) ? "is there already" : !stem || name.includes("/") ? "is no name of a file" : "";
+    if (fault) {
+      element("saved").textContent = `${name} ${fault}`;
+      return;
+    }
+    const source = this.add({name, text: `;redcode-94\n;name ${stem}\n;author \n\n        MOV 0, 1\n`, seen: "", example: false});
     Object.assign(source, {saved: ""});
     source.box.click();
     this.show(source);
@@ -194,12 +214,15 @@ class Shelf {
     this.editor.focus();
   }
 
-  /** Marks the line of the process that moves. */
+  /** Marks the line of the process that moves, and names it where another source is in the editor. */
   mark(line) {
     if (this.moving) this.moving.doc.removeLineClass(this.moving.line, "wrap", "moves");
-    const source = line && this.find(line.file);
-    this.moving = source && {doc: source.doc, line: source.doc.addLineClass(line.number - 1, "wrap", "moves")};
-    if (source === this.shown && source) this.editor.scrollIntoView(CodeMirror.Pos(line.number - 1, 0), 60);
+    const source = line && this.find(line.file), place = source && CodeMirror.Pos(line.number - 1, 0);
+    this.moving = source && {doc: source.doc, line: source.doc.addLineClass(place.line, "wrap", "moves")};
+    const reveal = () => this.editor.scrollIntoView(place, 60);
+    if (source === this.shown && source) reveal();
+    else if (source) element("following").append(" ", make("button", {className: "link", textContent: `${line.file}, line ${line.number}`,
+      title: "Shows it in the editor", onclick: () => { this.show(source); reveal(); }}));
   }
 }
 
@@ -394,6 +417,8 @@ class Time {
     this.track.follow(Math.floor(frame));
     if (this.track.isStale) this.track.draw(this.palette);
     this.grid.draw(this.palette, this.focus);
+    const radius = this.grid.inner / 2 + 2.5 * devicePixelRatio;
+    moment.reads.forEach(address => this.grid.mark(address, SQUARE, radius, 1.5, this.palette.mark[moment.mover]));
     element("time").value = frame;
     element("time").setAttribute("aria-valuetext", `turn ${moment.turn} of ${battle.last}`);
     element("whole").hidden = this.track.length === live.end;
@@ -421,8 +446,8 @@ class Time {
     element("cell").textContent = told.told.join("\n");
     const changes = [["◀ changed", told.before], ["changes ▶", told.after]].filter(([, at]) => at !== null)
       .map(([text, at]) => make("button", {textContent: `${text} in turn ${number(at)}`, onclick: () => this.go(at === turn ? at - 1 : at)}));
-    const acts = [["break at", `break at ${focus}`], ["break at changes", `break changes ${focus}`]]
-      .map(([textContent, line]) => make("button", {textContent, onclick: () => this.debug(line)}));
+    const acts = ["at", "changes", "reads"].map(word =>
+      make("button", {textContent: `break ${word}`, onclick: () => this.debug(`break ${word} ${focus}`)}));
     const spawns = warriors.map(({name}, who) => make("button", {textContent: `spawn ${name}`, onclick: () => this.debug(`spawn ${who} ${focus}`)}));
     refill("acts", ...changes, ...acts, ...spawns);
   }

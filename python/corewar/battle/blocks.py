@@ -1,0 +1,122 @@
+"""Turns in blocks: their records, with where the battle stands before them, and what they changed and read."""
+from __future__ import annotations
+
+from collections.abc import Callable
+from dataclasses import dataclass
+from functools import cached_property
+
+import numpy as np
+from numpy.lib.recfunctions import repack_fields
+from numpy.typing import NDArray
+
+from ..engine.calls import State
+from ..model.cells import Cells, Records
+
+
+@dataclass(frozen=True, eq=False)
+class Touches:
+    """Cells that turns came by, in the order of the turns, and whose turns these were."""
+
+    turns: NDArray[np.int64]
+    addresses: NDArray[np.uint32]
+    warriors: NDArray[np.uint32]
+
+    def of(self, turn: int) -> slice:
+        """Where those of a turn stand."""
+        return slice(*np.searchsorted(self.turns, [turn, turn + 1]))
+
+
+@dataclass(frozen=True, eq=False)
+class Changes(Touches):
+    """The cells that turns left other than they were."""
+
+    before: Cells
+    after: Cells
+
+
+def changes_of(first: int, records: Records) -> Changes:
+    """What the turns behind a turn changed. Of several writes of a cell in one turn the first one's cell before and the
+    last one's after count.
+    """
+    change = records["change"]
+    address, before, after = change["address"], change["before"].copy(), change["after"]
+    used = np.arange(3) < records["changes"][:, None]
+    for later in (2, 1):
+        for earlier in reversed(range(later)):
+            same = used[:, later] & used[:, earlier] & (address[:, later] == address[:, earlier])
+            if same.any():
+                before[same, later] = before[same, earlier]
+                used[same, earlier] = False
+    used &= before != after
+    rows = np.nonzero(used)[0]
+    return Changes(first + 1 + rows, address[used], records["warrior"][rows], before[used], after[used])
+
+
+class Block:
+    """Turns `first` + 1 to `last` of a battle: what is in their records besides the writes, what they changed, and
+    where the battle stands before them. `touched` asks which cells they touch.
+    """
+
+    def __init__(self, first: int, start: State, records: Records, touched: Callable[[], Records]) -> None:
+        self.first, self.last, self.start = first, first + len(records), start
+        self.changes = changes_of(first, records)
+        self._writes, self._touched = records["change"]["address"].copy(), touched
+        # The writes are four fifths of a record.
+        self.records: Records = repack_fields(records[[name for name in records.dtype.names or () if name != "change"]])
+
+    @cached_property
+    def reads(self) -> Touches:
+        """The cells that turns touched and didn't write, some more than once; asked of the machine where wanted."""
+        touched = self._touched()
+        address, used = touched["address"], np.arange(touched["address"].shape[1]) < touched["count"][:, None]
+        for place in range(self._writes.shape[1]):
+            is_written = address == self._writes[:, place, None]
+            used &= ~(is_written & (place < self.records["changes"])[:, None])
+        rows = np.nonzero(used)[0]
+        return Touches(self.first + 1 + rows, address[used], self.records["warrior"][rows])
+
+    def count(self, turn: int) -> int:
+        """How many of the changes there were up to a turn."""
+        return int(np.searchsorted(self.changes.turns, turn, "right"))
+
+    def cells(self, turn: int) -> Cells:
+        """The core after a turn."""
+        cells, count = self.start.cells.copy(), self.count(turn)
+        cells[self.changes.addresses[:count]] = self.changes.after[:count]
+        return cells
+
+    def cell(self, address: int, turn: int) -> np.void:
+        """A cell after a turn."""
+        found = np.flatnonzero(self.changes.addresses[: self.count(turn)] == address)
+        cell: np.void = self.changes.after[found[-1]] if len(found) else self.start.cells[address]
+        return cell
+
+    @cached_property
+    def _queued(self) -> list[tuple[NDArray[np.uint32], NDArray[np.intp], NDArray[np.intp]]]:
+        """For each warrior what it queued, how much of it up to each turn, and how many turns it had up to each."""
+        used = np.arange(2) < self.records["queued"][:, None]
+        found = []
+        for warrior in range(len(self.start.queues)):
+            own = self.records["warrior"] == warrior
+            queued, turns = np.cumsum(np.where(own, self.records["queued"], 0)), np.cumsum(own)
+            found.append((self.records["process"][used & own[:, None]], queued.astype(np.intp), turns.astype(np.intp)))
+        return found
+
+    def queue(self, warrior: int, turn: int) -> NDArray[np.uint32]:
+        """Where the processes of a warrior stand after a turn, the next one first: all that were queued, less one for
+        each of its turns.
+        """
+        if turn == self.first:
+            return self.start.queues[warrior]
+        processes, queued, turns = self._queued[warrior]
+        place = turn - self.first - 1
+        queue: NDArray[np.uint32] = np.concatenate([self.start.queues[warrior], processes[: queued[place]]])
+        return queue[turns[place] :]
+
+    def following(self, turn: int) -> int:
+        """The warrior whose turn is next after a turn."""
+        return self.start.next if turn == self.first else int(self.records["next"][turn - self.first - 1])
+
+    def cycle(self, turn: int) -> int:
+        """How many cycles are complete after a turn."""
+        return self.start.cycle if turn == self.first else int(self.records["cycle"][turn - self.first - 1])
