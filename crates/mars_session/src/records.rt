@@ -104,6 +104,7 @@ impl Records {
 
     /// Appends a record to the last place, which leads to a present one of so many turns from then on. Where there is no room for
     /// it, the first place is forgotten.
+    #[inline(always)]
     pub fn push(&mut self, atom: Atom, turns: u32)
         requires last { self.old.at ≡ length self.old.ring.items }
         requires some { 1 ≤ self.old.ring.capacity }

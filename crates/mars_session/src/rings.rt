@@ -101,6 +101,7 @@ impl Tape for RingTape {
         self.records.last_turns = self.battle.turns();
     }
 
+    #[inline(always)]
     fn turn(&mut self) {
         let Ok(atom) = self.battle.turn() else {
             unreachable!()
