@@ -103,10 +103,7 @@ impl Tape for RingTape {
 
     #[inline(always)]
     fn turn(&mut self) {
-        let Ok(atom) = self.battle.turn() else {
-            unreachable!()
-        };
-        self.records.push(atom, self.battle.turns());
+        self.records.push_turn(&mut self.battle);
     }
 
     fn edit(&mut self, edit: Edit) {
