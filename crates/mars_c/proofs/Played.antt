@@ -1,5 +1,5 @@
 -- Turns that are made one after the other.
-use Rattle.std.proofs.Common.{◌≡◌, ℕ, zero, suc, ◌+◌, ◌-◌, ◌≤◌, ◌<◌, ◌∙◌, Bool, true, false, if◌then◌else◌, List, [], ◌∷◌, ◌++◌, length, take, drop, set, get_or, Ok, Err, ap, refl, ap, arith, append_assoc}
+use Rattle.std.proofs.Common.{◌≡◌, ℕ, zero, suc, ◌+◌, ◌-◌, ◌≤◌, ◌<◌, ◌∙◌, Bool, true, false, if◌then◌else◌, List, [], ◌∷◌, ◌++◌, length, take, drop, set, get_or, ap, refl, ap, arith, append_assoc}
 use Rattle.std.proofs.lemmas.List.{take_more_set, drop-set-lt, drop_more}
 use Rattle.mars_core.specs.State.{State, is_over_of}
 use Rattle.mars_core.specs.Turn.{turn_of, after_turns}
@@ -7,19 +7,6 @@ use Rattle.mars_core.proofs.CallerLemmas.{turns-turn_of}
 use Rattle.mars_c.specs.Code.{recorded}
 use Rattle.mars_c.specs.Records.{turn_row, IsLeft}
 use Rattle.mars_c.specs.declared.records.MarsRecord.{MarsRecord}
-
--- a turn that was made, or wasn't
-pub runs : {A E : Type 0} (over : Bool) (e : E) (y x : A) → Ok x ≡ (if over then Err e else Ok y) → over ≡ false
-runs true e y x told = cc
-runs false e y x told = refl
-
-pub made : {A E : Type 0} (over : Bool) (e : E) (y x : A) → Ok x ≡ (if over then Err e else Ok y) → x ≡ y
-made true e y x told = cc
-made false e y x told = cc
-
-pub ended : {A E : Type 0} (over : Bool) (e d : E) (y : A) → Err d ≡ (if over then Err e else Ok y) → over ≡ true
-ended true e d y told = refl
-ended false e d y told = cc
 
 -- a battle that is over has no turns
 pub over_stays : (n : ℕ) (s : State) → is_over_of s ≡ true → after_turns n s ≡ s

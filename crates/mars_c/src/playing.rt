@@ -5,17 +5,19 @@ ghost use Rattle.mars_c.specs.Code.{recorded};
 ghost use Rattle.mars_c.specs.Records.{AreRecords, IsLeft};
 
 use crate::records::MarsRecord;
-use mars_core::Battle;
+use mars_core::{Atom, Battle};
 
 /// Makes turns, as many as there are rows for, and writes the record of each.
 fn record_turns(battle: &mut Battle, rows: &mut [MarsRecord])
     ensures rows { rows.new ≡ recorded battle.old rows.old }
     ensures battle { battle.new ≡ after_turns (length rows.old) battle.old }
 {
+    let mut atom = Atom::default();
     for i in 0..rows.len() {
-        let Ok(atom) = battle.turn() else {
+        if battle.is_over() {
             return;
-        };
+        }
+        battle.turn_into(&mut atom);
         rows[i] = MarsRecord::of(&atom, battle.cycle());
     }
 }
