@@ -5,3 +5,4 @@ pub mod Turns
 pub mod Runs
 pub mod Records
 pub mod Distances
+pub mod Tags

@@ -40,6 +40,14 @@ pub struct Atom {
     pub died: bool,
 }
 
+impl Default for Atom {
+    /// A record to be written over.
+    #[inline(always)]
+    fn default() -> Self {
+        quiet_atom(Work::SetCell, ArrayVec::new(), 0)
+    }
+}
+
 /// The warrior whose queue the work changes.
 pub fn warrior_of(work: Work) -> Option<u32>
     ensures { result ≡ spec_warrior_of work }
@@ -73,20 +81,17 @@ pub fn cycles_of(added: bool) -> u32
     if added { 1 } else { 0 }
 }
 
-/// The record of a turn.
+/// Completes the record of a turn, whose changes of cells it has.
 #[inline(always)]
-pub fn atom_of(before: Clock, made: MadeTurn, changes: ArrayVec<CellChange, 3>) -> Atom
-    ensures { result ≡ made_atom before made changes }
+pub fn note_turn(atom: &mut Atom, before: Clock, made: MadeTurn)
+    ensures { atom.new ≡ made_atom before made atom.old.cells }
 {
-    Atom {
-        work: Work::Turn(before.next, made.taken),
-        cells: changes,
-        queued: made.queued.list(),
-        next_before: before.next,
-        next_after: made.clock.next,
-        cycle_added: made.clock.cycle != before.cycle,
-        died: made.died,
-    }
+    atom.work = Work::Turn(before.next, made.taken);
+    atom.queued = made.queued.list();
+    atom.next_before = before.next;
+    atom.next_after = made.clock.next;
+    atom.cycle_added = made.clock.cycle != before.cycle;
+    atom.died = made.died;
 }
 
 /// The record of an edit that kills nobody, and so leaves the clock.

@@ -5,6 +5,7 @@ pub mod Ends
 pub mod ForLaws
 pub mod Forgetting
 pub mod Places
+pub mod Replacing
 pub mod Rising
 pub mod Scripts
 pub mod Stepping

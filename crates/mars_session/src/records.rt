@@ -1,12 +1,15 @@
 //! The records between the places of a tape that forgets.
 ghost use Rattle.std.specs.Prelude.{◌≡◌, ◌+◌, ◌-◌, ◌<◌, ◌≤◌, ◌||◌, ◌++◌, [], ◌∷◌, IfOk, length, slice_set, nat_lt, true, false, if◌then◌else◌};
 ghost use Rattle.circular_buffer.specs.Buffer.{buffer, keep_last};
+ghost use Rattle.mars_core.specs.State.{is_over_of};
+ghost use Rattle.mars_core.specs.Turn.{turn_of, turn_record};
+ghost use Rattle.mars_core.specs.Leads.{Leads};
 ghost use Rattle.mars_core.specs.Record.{turns_of as spec_turns_of};
 ghost use Rattle.mars_session.specs.Limits.{longest_history};
 ghost use Rattle.mars_session.specs.Code.Journals.{entry_at, mark_at};
 
 use circular_buffer::HeapCircularBuffer;
-use mars_core::{Atom, turns_of};
+use mars_core::{Atom, Battle, turns_of};
 use std::alloc::{AllocError, Global};
 
 /// The records between at most so many places and one more, each with the mark of the place that it leads to. Room for all of
@@ -104,6 +107,7 @@ impl Records {
 
     /// Appends a record to the last place, which leads to a present one of so many turns from then on. Where there is no room for
     /// it, the first place is forgotten.
+    #[inline(always)]
     pub fn push(&mut self, atom: Atom, turns: u32)
         requires last { self.old.at ≡ length self.old.ring.items }
         requires some { 1 ≤ self.old.ring.capacity }
@@ -131,5 +135,39 @@ impl Records {
                 self.first_turns += turns_of(oldest.0.work);
             }
         }
+    }
+    /// Appends the turn of a battle to its last place. The record is made where it stays.
+    #[inline(always)]
+    pub fn push_turn(&mut self, battle: &mut Battle)
+        requires last { self.old.at ≡ length self.old.ring.items }
+        requires some { 1 ≤ self.old.ring.capacity }
+        requires few { self.old.ring.capacity ≤ longest_history }
+        requires within { length self.old.ring.items ≤ self.old.ring.capacity }
+        requires turns { self.old.first_turns + spec_turns_of (entry_at self.old.ring.items 0).0.work ≤ battle.old.turns }
+        requires running { is_over_of battle.old ≡ false }
+        ensures battle { battle.new ≡ turn_of battle.old }
+        ensures leads { Leads battle.old (turn_record battle.old) battle.new }
+
+        // As `push` does.
+        ensures ring { self.new.ring ≡ buffer
+            (keep_last self.old.ring.capacity (self.old.ring.items ++ (turn_record battle.old, false) ∷ [])) self.old.ring.capacity }
+        ensures at { self.new.at ≡ (if nat_lt self.old.at self.old.ring.capacity then self.old.at + 1 else self.old.at) }
+        ensures first_mark { self.new.first_mark ≡ (if nat_lt self.old.at self.old.ring.capacity
+            then self.old.first_mark else (entry_at self.old.ring.items 0).1) }
+        ensures forgotten { self.new.forgotten ≡ (self.old.forgotten || nat_lt self.old.ring.capacity (self.old.at + 1)) }
+        ensures first_turns { self.new.first_turns ≡ (if nat_lt self.old.at self.old.ring.capacity
+            then self.old.first_turns else self.old.first_turns + spec_turns_of (entry_at self.old.ring.items 0).0.work) }
+        ensures last_turns { self.new.last_turns ≡ battle.new.turns }
+    {
+        self.push(Atom::default(), battle.turns());
+        let last = self.ring.len() - 1;
+        match self.ring.get_mut(last) {
+            Some(entry) => {
+                battle.turn_into(&mut entry.0);
+                entry.1 = false;
+            }
+            None => unreachable!(),
+        }
+        self.last_turns = battle.turns();
     }
 }

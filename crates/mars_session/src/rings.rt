@@ -101,11 +101,9 @@ impl Tape for RingTape {
         self.records.last_turns = self.battle.turns();
     }
 
+    #[inline(always)]
     fn turn(&mut self) {
-        let Ok(atom) = self.battle.turn() else {
-            unreachable!()
-        };
-        self.records.push(atom, self.battle.turns());
+        self.records.push_turn(&mut self.battle);
     }
 
     fn edit(&mut self, edit: Edit) {

@@ -1,26 +1,22 @@
-use Rattle.std.proofs.Common.{◌≡◌, ◌∙◌, Some, false, ap, length, arith}
-use Rattle.mars_core.specs.State.{State, is_over_of}
-use Rattle.mars_core.specs.Turn.{turn_of}
-use Rattle.mars_core.specs.Leads.{Leads}
+use Rattle.std.proofs.Common.{◌≡◌, ◌∙◌, Some, ap, length, arith}
+use Rattle.mars_core.specs.State.{State}
+use Rattle.mars_core.specs.Turn.{turn_of, turn_record}
 use Rattle.mars_session.specs.History.{append, following}
 use Rattle.mars_session.specs.Retention.{kept, noted}
 use Rattle.mars_session.specs.Tapes.{Ringed}
 use Rattle.mars_session.specs.Code.Journals.{journal_history}
 use Rattle.mars_session.proofs.Ends.{second_below, pushed_ends}
-use Rattle.mars_session.proofs.Rising.{leads_turns}
 use Rattle.mars_session.proofs.Stepping.{journal_following}
 use Rattle.mars_session.proofs.Forgetting.{ring_pushed, pushed_ring, pushed_memory}
 use Rattle.mars_session.proofs.rings.RingTapeTape.turn.Goals as goal
 
-pub push-requires-clause-turns : goal.push-requires-clause-turns
-push-requires-clause-turns c =
+pub push_turn-requires-clause-turns : goal.push_turn-requires-clause-turns
+push_turn-requires-clause-turns c =
     let s = c.self.inside in
     let r = s.records in
     let rest : following (journal_history r.first_mark r.ring.items r.at s.battle) ≡ 0 = ap (λ (t : Ringed). following t.history) c.self.view_is ∙ ap length c.requires.last in
     let at_end : length r.ring.items ≡ r.at = omega (arith, rest, journal_following r.first_mark r.ring.items r.at s.battle, c.self.invariant.0.journal.inside) in
-    let leads : Leads s.battle c.in-Ok.atom c.turn.new.self = rw c.in-Ok.is at c.turn.ensures.leads in
-    let before = second_below r.first_mark r.ring.items r.at s.battle r.first_turns r.last_turns c.self.invariant.0.journal at_end c.self.invariant.1 in
-    omega (arith, before, (leads_turns s.battle c.turn.new.self c.in-Ok.atom leads).0, c.turns.ensures)
+    second_below r.first_mark r.ring.items r.at s.battle r.first_turns r.last_turns c.self.invariant.0.journal at_end c.self.invariant.1
 
 pub invariant_of-self : goal.invariant_of-self
 invariant_of-self c =
@@ -28,10 +24,10 @@ invariant_of-self c =
     let r = s.records in
     let rest : following (journal_history r.first_mark r.ring.items r.at s.battle) ≡ 0 = ap (λ (t : Ringed). following t.history) c.self.view_is ∙ ap length c.requires.last in
     let at_end : length r.ring.items ≡ r.at = omega (arith, rest, journal_following r.first_mark r.ring.items r.at s.battle, c.self.invariant.0.journal.inside) in
-    let leads : Leads s.battle c.in-Ok.atom c.turn.new.self = rw c.in-Ok.is at c.turn.ensures.leads in
-    rw (c.push.ensures.ring, c.push.ensures.at, c.push.ensures.first_mark, c.push.ensures.first_turns, c.push.ensures.last_turns, c.turns.ensures) (
-      pushed_ring r.ring.items r.ring.capacity r.at s.battle c.turn.new.self c.in-Ok.atom c.self.invariant.0 at_end leads,
-      pushed_ends r.first_mark r.ring.items r.ring.capacity r.at s.battle c.turn.new.self c.in-Ok.atom r.first_turns r.last_turns c.self.invariant.0 at_end leads c.self.invariant.1,
+    let leads = c.push_turn.ensures.leads in
+    rw (c.push_turn.ensures.ring, c.push_turn.ensures.at, c.push_turn.ensures.first_mark, c.push_turn.ensures.first_turns, c.push_turn.ensures.last_turns) (
+      pushed_ring r.ring.items r.ring.capacity r.at s.battle c.push_turn.new.battle (turn_record s.battle) c.self.invariant.0 at_end leads,
+      pushed_ends r.first_mark r.ring.items r.ring.capacity r.at s.battle c.push_turn.new.battle (turn_record s.battle) r.first_turns r.last_turns c.self.invariant.0 at_end leads c.self.invariant.1,
     )
 
 pub returns-clause-places : goal.returns-clause-places
@@ -40,18 +36,15 @@ returns-clause-places c =
     let r = s.records in
     let rest : following (journal_history r.first_mark r.ring.items r.at s.battle) ≡ 0 = ap (λ (t : Ringed). following t.history) c.self.view_is ∙ ap length c.requires.last in
     let at_end : length r.ring.items ≡ r.at = omega (arith, rest, journal_following r.first_mark r.ring.items r.at s.battle, c.self.invariant.0.journal.inside) in
-    let leads : Leads s.battle c.in-Ok.atom c.turn.new.self = rw c.in-Ok.is at c.turn.ensures.leads in
-    let may : is_over_of s.battle ≡ false = ap (λ (t : Ringed). is_over_of t.history.present.state) c.self.view_is ∙ c.requires.runs in
-    let made : c.turn.new.self ≡ turn_of s.battle = rw may at c.turn.ensures.state in
-    rw (c.push.ensures.ring, c.push.ensures.at, c.push.ensures.first_mark)
-    (ring_pushed r.first_mark r.ring.items r.ring.capacity r.at s.battle c.turn.new.self c.in-Ok.atom c.self.invariant.0 at_end leads
-    ∙ ap (λ (x : State). kept (Some r.ring.capacity) (append (journal_history r.first_mark r.ring.items r.at s.battle) x)) made
+    rw (c.push_turn.ensures.ring, c.push_turn.ensures.at, c.push_turn.ensures.first_mark)
+    (ring_pushed r.first_mark r.ring.items r.ring.capacity r.at s.battle c.push_turn.new.battle (turn_record s.battle) c.self.invariant.0 at_end c.push_turn.ensures.leads
+    ∙ ap (λ (x : State). kept (Some r.ring.capacity) (append (journal_history r.first_mark r.ring.items r.at s.battle) x)) c.push_turn.ensures.battle
     ∙ ap (λ (t : Ringed). kept (Some t.most) (append t.history (turn_of t.history.present.state))) c.self.view_is)
 
 pub returns-clause-retention : goal.returns-clause-retention
 returns-clause-retention c =
     let s = c.self.inside in
     let r = s.records in
-    rw (c.push.ensures.ring, c.push.ensures.forgotten)
+    rw (c.push_turn.ensures.ring, c.push_turn.ensures.forgotten)
     (pushed_memory r.first_mark r.forgotten r.ring.items r.ring.capacity r.at s.battle (turn_of s.battle)
     ∙ ap (λ (t : Ringed). noted (record { most = Some t.most; forgotten = t.forgotten }) (append t.history (turn_of t.history.present.state))) c.self.view_is)
