@@ -136,6 +136,7 @@ impl Records {
             }
         }
     }
+
     /// Appends the turn of a battle to its last place. The record is made where it stays.
     #[inline(always)]
     pub fn push_turn(&mut self, battle: &mut Battle)
