@@ -1,6 +1,8 @@
 -- What the text of a source means, apart from how it is read.
-use Rattle.std.specs.Prelude.{◌≡◌, ◌⊎◌, ℕ, zero, suc, ◌+◌, ◌^◌, ◌<◌, pos, List, [], ◌∷◌, ◌++◌, length, All, Bool, false, true, ◌==◌, Option, Some, Result, Ok, Err, IfOk, codes, decimal}
-use Rattle.std.specs.List.{flat_map, list_any}
+use Rattle.std.specs.Prelude.{◌≡◌, ◌⊎◌, ℕ, zero, suc, ◌+◌, ◌^◌, ◌<◌, pos, List, [], ◌∷◌, ◌++◌, length, take, drop, map, All, Bool, false, true, ◌||◌, ◌==◌, Option, Some, is_some, Result, Ok, Err, IfOk, codes, decimal}
+use Rattle.std.specs.Char.{is_ascii_digit}
+use Rattle.std.specs.List.{flat_map, list_all, list_any}
+use Rattle.std.specs.Str.{str_eq_ignore_ascii_case}
 use Rattle.redcode_text.specs.Results.{◌>>=◌}
 use Rattle.redcode_text.specs.declared.token.Token.{Token}
 use Rattle.redcode_text.specs.declared.token.TokenKind.{TokenKind}
@@ -11,12 +13,13 @@ use Rattle.redcode_text.specs.declared.fault.ExprFault.{ExprFault}
 use Rattle.redcode_text.specs.declared.fault.ExprFault.TheVariants.{Syntax, Depth}
 use Rattle.redcode_text.specs.declared.fault.TextFault.{TextFault}
 use Rattle.redcode_text.specs.Alike.{AreAlike}
-use Rattle.redcode_text.specs.Bytes.{line_feed}
+use Rattle.redcode_text.specs.Bytes.{ampersand, line_feed}
 use Rattle.redcode_text.specs.Expression.{Tree, shape, start, tree_within}
 use Rattle.redcode_text.specs.Trees.{IsLevelled, IsWithin, spelling}
-use Rattle.redcode_text.specs.Source.{Row, Items, Loop, LineKind, RofLine, ForLine, begins_redcode, has_directive, line_kind, lines_of, read_rows, tree_of, tree_of_rows}
+use Rattle.redcode_text.specs.Source.{Row, Items, Loop, LineKind, RofLine, ForLine, begins_redcode, directive_text_at, has_directive, has_directive_word, is_comment, line_kind, lines_of, read_rows, tree_of, tree_of_rows}
+use Rattle.redcode_text.specs.Tokens.{begins_name, is_word_byte}
 use Rattle.redcode_text.specs.Equates.{equate_lines}
-use Rattle.redcode_text.specs.Lines.{Reading, Predefined, Parts, line_read, tokens_counted, parts_of, ordinary_line, unless_ended}
+use Rattle.redcode_text.specs.Lines.{Reading, Predefined, Parts, line_read, tokens_counted, operations, parts_of, ordinary_line, predefined_value, unless_ended, with_current_line}
 use Rattle.redcode_text.specs.Expansion.{Head, ProgramValue, expansion, flat, head_line, nothing_read, rounds}
 
 -- lines before the first `;redcode` have no effect
@@ -90,6 +93,52 @@ LoopsAreWrittenOut = (ps : Predefined) (n : ℕ) (before body after : List (List
     → n < 2 ^ 63 → All IsLine before → All IsLine body → All IsLine after → All IsBodyLine body
     → expansion ps (text_of_lines (before ++ (loop_lines n body ++ after))) ≡ Ok s
     → (t : ProgramValue) × (expansion ps (text_of_lines (before ++ (copies n body ++ after))) ≡ Ok t) × AreAlike s t
+
+-- ---- other names
+
+-- a text behind part of a word, with each word renamed: as many letters, digits and `_` as stand together
+abbrev pub renamed_from : (List ℕ → List ℕ) → List ℕ → List ℕ → List ℕ
+renamed_from rename word [] = rename word
+renamed_from rename word (b ∷ bs) =
+    elim (is_word_byte b) [ true ↦ renamed_from rename (word ++ b ∷ []) bs | false ↦ rename word ++ b ∷ renamed_from rename [] bs ]
+
+abbrev pub renamed_text : (List ℕ → List ℕ) → List ℕ → List ℕ
+renamed_text rename bytes = renamed_from rename [] bytes
+
+-- of the lines that are comments only what `;assert` says has names
+abbrev pub renamed_comment : (List ℕ → List ℕ) → List ℕ → List ℕ
+renamed_comment rename bytes =
+    elim (has_directive_word (codes "assert") bytes) [
+      | true ↦ take (directive_text_at (codes "assert") bytes) bytes ++ renamed_text rename (drop (directive_text_at (codes "assert") bytes) bytes)
+      | false ↦ bytes
+    ]
+
+abbrev pub renamed_line : (List ℕ → List ℕ) → List ℕ → List ℕ
+renamed_line rename bytes = elim (is_comment bytes) [ true ↦ renamed_comment rename bytes | false ↦ renamed_text rename bytes ]
+
+-- a source with its names renamed
+abbrev pub renamed : (List ℕ → List ℕ) → List ℕ → List ℕ
+renamed rename source = text_of_lines (map (renamed_line rename) (lines_of source))
+
+-- whether a word is an operation (EQU, FOR, ROF, ORG and END are too), in either case, or a predefined name
+abbrev pub is_reserved : Predefined → List ℕ → Bool
+is_reserved ps word = list_any (str_eq_ignore_ascii_case word) operations || is_some (predefined_value (with_current_line ps 0) word)
+
+-- names are replaced one for one, by names; what is no name, and what has a meaning of its own, stays, so that no name takes its place
+pub record IsRenaming (ps : Predefined) (rename : List ℕ → List ℕ) : Type 0 where
+  pub distinct : (one other : List ℕ) → rename one ≡ rename other → one ≡ other
+  pub names : (word : List ℕ) → begins_name word ≡ true → begins_name (rename word) ≡ true
+  pub words : (word : List ℕ) → list_all is_word_byte word ≡ true → list_all is_word_byte (rename word) ≡ true
+  pub others : (word : List ℕ) → begins_name word ≡ false → rename word ≡ word
+  pub reserved : (word : List ℕ) → is_reserved ps word ≡ true → rename word ≡ word
+
+-- digits at the end of a name stay, so that what a join makes of a name is renamed as the name is
+abbrev pub KeepsDigits : (List ℕ → List ℕ) → Type 0
+KeepsDigits rename = (word : List ℕ) (digit : ℕ) → is_ascii_digit digit ≡ true → rename (word ++ digit ∷ []) ≡ rename word ++ digit ∷ []
+
+-- where joins may stand, digits stay
+abbrev pub JoinsAreRenamed : (List ℕ → List ℕ) → List ℕ → Type 0
+JoinsAreRenamed rename bytes = list_any (λ b. b == ampersand) bytes ≡ true → KeepsDigits rename
 
 -- ---- the shape of an expression
 
