@@ -1,14 +1,13 @@
 -- Where the first and the second word of a line begin, in a text and in the text renamed.
-use Rattle.std.proofs.Common.{◌≡◌, ◌∙◌, refl, ap, sym, subst, true≢false, ℕ, zero, suc, ◌+◌, ◌-◌, ◌<◌, ◌≤◌, not, ◌==◌, ◌&&◌, ◌||◌, Bool, true, false, cond, nat_lt, List, [], ◌∷◌, ◌++◌, length, take, drop, drop-drop, length-drop, map, Option, Some, None, Result, Ok, Err, arith, one-add, add-one}
-use Rattle.std.specs.List.{list_any, prefix_len}
+use Rattle.std.proofs.Common.{◌≡◌, ◌∙◌, refl, ap, sym, ℕ, suc, ◌+◌, ◌==◌, ◌&&◌, ◌||◌, Bool, true, false, cond, List, [], ◌∷◌, ◌++◌, drop, drop-drop, arith, one-add, add-one}
 use Rattle.std.proofs.lemmas.Bool.Decides.{nat_tests}
-use Rattle.redcode_text.specs.Laws.{IsRenaming, JoinsAreRenamed, renamed_from, renamed_text}
+use Rattle.redcode_text.specs.Laws.{IsRenaming, renamed_from, renamed_text}
 use Rattle.redcode_text.specs.Lines.{Predefined, before_comment}
-use Rattle.redcode_text.specs.Source.{blank_len, colon_len, first_word_at, past_blanks, past_colon, past_word, second_word_at}
-use Rattle.redcode_text.specs.Tokens.{OpenLoop, Scanned, begins_name, begins_word, is_blank, is_word_byte, word_len}
-use Rattle.redcode_text.proofs.ForLaws.RenamedPlaces.{SameScan, Scans, any-drop, blanks-renamed, past-blanks, scan-blank, scan-end, scan-on, scan-step}
+use Rattle.redcode_text.specs.Source.{blank_len, colon_len, first_word_at, past_blanks, past_word, second_word_at}
+use Rattle.redcode_text.specs.Tokens.{begins_name, begins_word, is_blank, is_word_byte, word_len}
+use Rattle.redcode_text.proofs.ForLaws.RenamedPlaces.{blanks-renamed, past-blanks}
 use Rattle.redcode_text.proofs.ForLaws.RenamedScans.{first-byte}
-use Rattle.redcode_text.proofs.ForLaws.RenamedWords.{empty-stays, other-stays, raw_of, raw-long, raw-renamed, rest-dropped, rest-renamed}
+use Rattle.redcode_text.proofs.ForLaws.RenamedWords.{empty-stays, other-stays, rest-dropped, rest-renamed}
 
 -- ---- lengths at the front, one after another
 

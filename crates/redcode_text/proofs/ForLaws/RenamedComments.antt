@@ -1,8 +1,8 @@
 -- A comment line with its names renamed: what `;assert` says, and nothing else.
-use Rattle.std.proofs.Common.{◌≡◌, ◌∙◌, refl, ap, sym, subst, true≢false, ℕ, zero, suc, ◌+◌, ◌<◌, ◌==◌, ◌&&◌, ◌||◌, ◌⊎◌, inl, inr, Bool, true, false, cond, List, [], ◌∷◌, ◌++◌, length, length-append, take, drop, drop-drop, map, nat_eq, append_assoc, arith, one-add}
+use Rattle.std.proofs.Common.{◌≡◌, ◌∙◌, refl, ap, sym, subst, true≢false, ℕ, zero, suc, ◌+◌, ◌&&◌, ◌⊎◌, inl, inr, Bool, true, false, cond, List, [], ◌∷◌, ◌++◌, length, length-append, take, drop, map, nat_eq, append_assoc, arith, one-add}
 use Rattle.std.specs.Prelude.{codes}
 use Rattle.std.specs.Char.{to_ascii_lowercase}
-use Rattle.std.specs.List.{list_all, prefix_len, starts_with}
+use Rattle.std.specs.List.{list_all, starts_with}
 use Rattle.std.proofs.lemmas.Bool.{and_parts}
 use Rattle.std.proofs.lemmas.Bool.Decides.{nat_tests}
 use Rattle.std.proofs.lemmas.List.{length-map, map-append}
@@ -10,7 +10,6 @@ use Rattle.redcode_text.specs.Laws.{IsRenaming, renamed_comment, renamed_from, r
 use Rattle.redcode_text.specs.Lines.{Predefined}
 use Rattle.redcode_text.specs.Source.{blank_len, directive_text, directive_text_at, ends_word, has_directive, has_directive_word, is_comment, without_blanks}
 use Rattle.redcode_text.specs.Tokens.{is_blank, is_word_byte}
-use Rattle.redcode_text.proofs.ForLaws.RenamedKinds.{comment-same}
 use Rattle.redcode_text.proofs.ForLaws.RenamedScans.{first-byte, word-shows}
 use Rattle.redcode_text.proofs.ForLaws.RenamedWords.{empty-stays, other-stays}
 

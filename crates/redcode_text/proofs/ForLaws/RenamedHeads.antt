@@ -1,12 +1,10 @@
 -- Whole lines, heads of loops and their ends, read by two readings, of a source and of the source with its names renamed.
-use Rattle.std.proofs.Common.{◌≡◌, ◌∙◌, refl, ap, sym, subst, true≢false, ℕ, zero, suc, ◌+◌, ◌-◌, ◌≤◌, ◌==◌, ◌&&◌, ◌||◌, ◌⊎◌, inl, inr, not, Bool, true, false, cond, nat_le, List, [], ◌∷◌, ◌++◌, length, drop, map, Option, Some, None, Result, Ok, Err, arith}
-use Rattle.std.specs.Prelude.{⊤, codes, ℤ, pos, negsuc, option_map}
-use Rattle.std.specs.List.{list_any}
+use Rattle.std.proofs.Common.{◌≡◌, ◌∙◌, refl, ap, sym, subst, ℕ, ◌+◌, ◌-◌, ◌||◌, ◌⊎◌, inl, inr, not, Bool, true, false, nat_le, List, [], ◌∷◌, ◌++◌, length, drop, map, Option, Some, None, Result, Ok, Err, arith}
+use Rattle.std.specs.Prelude.{⊤, codes, option_map}
 use Rattle.std.proofs.lemmas.List.{length-map}
 use Rattle.redcode_text.specs.Results.{◌>>=◌}
-use Rattle.redcode_text.specs.declared.fault.ExprFault.{ExprFault}
 use Rattle.redcode_text.specs.declared.fault.TextProblem.{TextProblem}
-use Rattle.redcode_text.specs.declared.fault.TextProblem.TheVariants.{BadCount, LabelInCount, TooLong, Expression}
+use Rattle.redcode_text.specs.declared.fault.TextProblem.TheVariants.{LabelInCount, TooLong}
 use Rattle.redcode_text.specs.declared.token.Token.{Token}
 use Rattle.redcode_text.specs.declared.token.TokenKind.{TokenKind}
 use Rattle.redcode_text.specs.declared.token.TokenKind.TheVariants.{Number, Name}
@@ -15,15 +13,15 @@ use Rattle.redcode_text.specs.Equates.{depth_limit, limit, substitution}
 use Rattle.redcode_text.specs.Expansion.{Head, as_count, count_of, counter_name, for_word_at, has_label, head_line, loop_limit, rof_line, room_for_loop}
 use Rattle.redcode_text.specs.Expression.{kinds, value_of}
 use Rattle.redcode_text.specs.Laws.{IsRenaming, JoinsAreRenamed, renamed_comment, renamed_line, renamed_text}
-use Rattle.redcode_text.specs.Lines.{Assert, Predefined, Reading, WithTokens, assert_line, before_comment, comment_line, directive_value, is_predefined, line_read, name_at, name_in_front, ordinary_line, plain_line, predefined_value, row_tokens, tokens_after, tokens_before, tokens_line, unless_empty, with_current_line}
+use Rattle.redcode_text.specs.Lines.{Predefined, Reading, WithTokens, assert_line, before_comment, comment_line, directive_value, line_read, name_at, name_in_front, ordinary_line, plain_line, predefined_value, row_tokens, tokens_after, tokens_before, tokens_line, unless_empty, with_current_line}
 use Rattle.redcode_text.specs.Source.{Row, LineKind, RofLine, ForLine, EquLine, OtherLine, directive_text, directive_text_at, has_directive_word, is_comment, line_kind}
-use Rattle.redcode_text.specs.Tokens.{OpenLoop, without_line}
+use Rattle.redcode_text.specs.Tokens.{without_line}
 use Rattle.redcode_text.proofs.ForLaws.Agreement.{pairwise-append}
 use Rattle.redcode_text.proofs.ForLaws.RenamedComments.{IsSameAssert, SameComment, comments-same}
-use Rattle.redcode_text.proofs.ForLaws.RenamedKinds.{Placed, SameKind, comment-other, comment-same, kind-same}
+use Rattle.redcode_text.proofs.ForLaws.RenamedKinds.{SameKind, comment-same, kind-same}
 use Rattle.redcode_text.proofs.ForLaws.RenamedLines.{ordinary-same}
 use Rattle.redcode_text.proofs.ForLaws.RenamedPlaces.{any-drop, scan-on}
-use Rattle.redcode_text.proofs.ForLaws.RenamedReadings.{Related, RenamedAssert, SameKinds, line-read-same, name-renamed, predefined-same, same-kinds, value-renamed, with-asserts, with-author, with-equates, with-name}
+use Rattle.redcode_text.proofs.ForLaws.RenamedReadings.{Related, RenamedAssert, SameKinds, line-read-same, name-renamed, predefined-same, value-renamed, with-asserts, with-author, with-equates, with-name}
 use Rattle.redcode_text.proofs.ForLaws.RenamedResults.{BothGive, both-elim, both-same, both-then}
 use Rattle.redcode_text.proofs.ForLaws.RenamedRows.{AnyPlace, SameCode, SameRead, SameSubstituted, after-same, any-code, anywhere, beside, comment-behind, equ-same, name-same, read-same, same-read, substituted-same}
 use Rattle.redcode_text.proofs.ForLaws.RenamedSides.{Sides}

@@ -1,21 +1,21 @@
 -- What a line is, and where its FOR or EQU stands, with its names renamed.
-use Rattle.std.proofs.Common.{◌≡◌, ◌∙◌, refl, ap, sym, subst, true≢false, ℕ, zero, suc, ◌+◌, ◌<◌, ◌==◌, ◌&&◌, ◌||◌, ◌⊎◌, inl, inr, Bool, true, false, cond, List, [], ◌∷◌, ◌++◌, length, take, drop, drop-drop, map, nat_eq, Option, Some, None, is_some, append_assoc, arith}
+use Rattle.std.proofs.Common.{◌≡◌, ◌∙◌, refl, ap, sym, subst, true≢false, ℕ, ◌&&◌, ◌||◌, ◌⊎◌, inl, inr, Bool, true, false, List, [], ◌∷◌, ◌++◌, take, drop, drop-drop, map, nat_eq, Option, Some, None, is_some, append_assoc, arith}
 use Rattle.std.specs.Prelude.{⊤, codes}
 use Rattle.std.specs.Char.{to_ascii_lowercase}
-use Rattle.std.specs.List.{list_all, list_any, prefix_len, starts_with}
+use Rattle.std.specs.List.{list_all, list_any, starts_with}
 use Rattle.std.specs.Str.{bytes_eq, str_eq_ignore_ascii_case, str_to_ascii_lowercase}
 use Rattle.std.proofs.lemmas.Bool.{and_parts}
 use Rattle.std.proofs.lemmas.Bool.Decides.{nat_tests}
 use Rattle.std.proofs.lemmas.List.{append-nil}
 use Rattle.std.proofs.lemmas.Slice.Eq.{bytes_eq-Decides}
 use Rattle.redcode_text.specs.Laws.{IsRenaming, is_reserved, renamed_from, renamed_text}
-use Rattle.redcode_text.specs.Lines.{Predefined, before_comment, operations, predefined_value, with_current_line}
-use Rattle.redcode_text.specs.Source.{LineKind, RofLine, ForLine, EquLine, OtherLine, blank_len, equ_or_other, first_word_at, for_or, has_directive, has_word, is_comment, leading_word_at, line_kind, second_word_at, without_blanks}
-use Rattle.redcode_text.specs.Tokens.{begins_word, is_blank, is_word_byte, word_len}
-use Rattle.redcode_text.proofs.ForLaws.RenamedColumns.{first-cut, first-is, second-cut, second-is, to_second, to_word}
-use Rattle.redcode_text.proofs.ForLaws.RenamedPlaces.{any-drop, either-second}
+use Rattle.redcode_text.specs.Lines.{Predefined, operations, predefined_value, with_current_line}
+use Rattle.redcode_text.specs.Source.{LineKind, RofLine, ForLine, EquLine, OtherLine, blank_len, equ_or_other, first_word_at, for_or, has_word, is_comment, leading_word_at, line_kind, second_word_at, without_blanks}
+use Rattle.redcode_text.specs.Tokens.{is_word_byte, word_len}
+use Rattle.redcode_text.proofs.ForLaws.RenamedColumns.{first-cut, first-is, second-cut, second-is, to_word}
+use Rattle.redcode_text.proofs.ForLaws.RenamedPlaces.{either-second}
 use Rattle.redcode_text.proofs.ForLaws.RenamedScans.{first-byte}
-use Rattle.redcode_text.proofs.ForLaws.RenamedWords.{empty-stays, other-stays, raw-renamed, raw-taken, raw_of, word-more}
+use Rattle.redcode_text.proofs.ForLaws.RenamedWords.{empty-stays, other-stays, raw-renamed, raw-taken, raw_of}
 
 -- ---- words in either case
 

@@ -1,10 +1,9 @@
 -- What a line's tokens add to two readings, of a source and of the source with its names renamed.
-use Rattle.std.proofs.Common.{◌≡◌, ◌∙◌, refl, ap, sym, subst, ℕ, zero, suc, ◌+◌, ◌==◌, ◌&&◌, ◌||◌, Bool, true, false, List, [], ◌∷◌, ◌++◌, length, map, Option, Some, None, Result, Ok, Err}
+use Rattle.std.proofs.Common.{◌≡◌, ◌∙◌, refl, ap, sym, subst, ℕ, zero, suc, ◌+◌, ◌||◌, true, false, List, [], ◌∷◌, ◌++◌, length, Option, Some, None, Result, Ok, Err}
 use Rattle.std.specs.Prelude.{⊤}
-use Rattle.std.specs.List.{list_any}
 use Rattle.redcode_text.specs.Results.{◌>>=◌}
 use Rattle.redcode_text.specs.declared.fault.TextProblem.{TextProblem}
-use Rattle.redcode_text.specs.declared.fault.TextProblem.TheVariants.{BadToken, Duplicate, EquDepth}
+use Rattle.redcode_text.specs.declared.fault.TextProblem.TheVariants.{BadToken, Duplicate}
 use Rattle.redcode_text.specs.declared.token.Sign.{Sign}
 use Rattle.redcode_text.specs.declared.token.Sign.TheVariants.{Colon}
 use Rattle.redcode_text.specs.declared.token.Token.{Token}
@@ -12,13 +11,12 @@ use Rattle.redcode_text.specs.declared.token.TokenKind.{TokenKind}
 use Rattle.redcode_text.specs.declared.token.TokenKind.TheVariants.{Number, Name}
 use Rattle.redcode_text.specs.declared.token.TokenKind.TheVariants as token
 use Rattle.redcode_text.specs.Equates.{Equate, equate_lines}
-use Rattle.redcode_text.specs.Expression.{kinds}
 use Rattle.redcode_text.specs.Laws.{IsRenaming}
-use Rattle.redcode_text.specs.Lines.{Line, Parts, Predefined, Reading, before_first, behind_last, each_line, equated, is_end, is_equate, is_instruction, is_label, is_operation, is_predefined, line_added, line_read, may_label, name_in_front, on_line, operation_lines, ordinary_line, ordinary_with, parts_of, parts_read, parts_within, split_colon, tokens_counted, token_on_line, unless_ended, with_line}
+use Rattle.redcode_text.specs.Lines.{Line, Parts, Predefined, Reading, before_first, behind_last, each_line, equated, is_end, is_equate, is_instruction, is_label, is_operation, is_predefined, line_added, line_read, may_label, on_line, operation_lines, ordinary_line, ordinary_with, parts_of, parts_read, parts_within, split_colon, tokens_counted, token_on_line, unless_ended, with_line}
 use Rattle.redcode_text.proofs.ForLaws.Agreement.{AgreeOption, Pairwise, pairwise-append}
 use Rattle.redcode_text.proofs.ForLaws.AlikeResults.{pairwise-both}
-use Rattle.redcode_text.proofs.ForLaws.RenamedReadings.{Related, RenamedEquate, SameKinds, RenamedLine, SameTexts, end-same, equate-same, equates-found, instruction-same, label-allowed, label-same, line-read-same, operation-known, predefined-same, same-kinds, same-length, tokens-counted-same, unless-same, with-equates, with-lines}
-use Rattle.redcode_text.proofs.ForLaws.RenamedResults.{BothGive, both-elim, both-same, both-then}
+use Rattle.redcode_text.proofs.ForLaws.RenamedReadings.{Related, RenamedEquate, SameKinds, RenamedLine, SameTexts, end-same, equate-same, equates-found, instruction-same, label-allowed, label-same, line-read-same, operation-known, predefined-same, same-length, tokens-counted-same, unless-same, with-equates, with-lines}
+use Rattle.redcode_text.proofs.ForLaws.RenamedResults.{BothGive, both-elim, both-then}
 
 same-append : (ts us vs ws : List Token) → SameKinds ts us → SameKinds vs ws → SameKinds (ts ++ vs) (us ++ ws)
 same-append ts us vs ws h k = pairwise-append (λ (t u : Token). t.kind ≡ u.kind) ts us vs ws h k

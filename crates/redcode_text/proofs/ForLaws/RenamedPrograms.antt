@@ -1,21 +1,20 @@
 -- What is read of a source and of the source with its names renamed.
-use Rattle.std.proofs.Common.{◌≡◌, ◌∙◌, refl, ap, sym, subst, ℕ, zero, suc, ◌+◌, Bool, true, false, List, [], ◌∷◌, map, Option, Result, Ok, Err}
+use Rattle.std.proofs.Common.{◌≡◌, refl, sym, subst, ℕ, zero, suc, ◌+◌, List, ◌∷◌, map, Option, Result, Ok, Err}
 use Rattle.std.specs.Prelude.{option_map}
 use Rattle.redcode_text.specs.Results.{◌>>=◌}
 use Rattle.redcode_text.specs.declared.fault.TextFault.{TextFault}
 use Rattle.redcode_text.specs.declared.fault.TextProblem.{TextProblem}
 use Rattle.redcode_text.specs.declared.fault.TextProblem.TheVariants.{UnclosedFor, RofAlone}
-use Rattle.redcode_text.specs.Expansion.{Head, ProgramValue, expansion, flat, head_line, in_round, nothing_read, program_of, rof_line, rounds, unpaired_line}
+use Rattle.redcode_text.specs.Expansion.{ProgramValue, expansion, flat, head_line, in_round, nothing_read, program_of, rof_line, rounds, unpaired_line}
 use Rattle.redcode_text.specs.Laws.{IsRenaming, JoinsAreRenamed, renamed}
 use Rattle.redcode_text.specs.Lines.{Predefined, Reading, line_read, plain_line, unless_ended}
 use Rattle.redcode_text.specs.Source as source
 use Rattle.redcode_text.specs.Source.{Row, Items, Nothing, Plain, Loop, LoneRof, tree_of}
-use Rattle.redcode_text.specs.Tokens.{OpenLoop, at_line}
+use Rattle.redcode_text.specs.Tokens.{at_line}
 use Rattle.redcode_text.proofs.ForLaws.Agreement.{Pairwise}
 use Rattle.redcode_text.proofs.ForLaws.RenamedHeads.{SameHead, head-same, plain-line-same, rof-same}
 use Rattle.redcode_text.proofs.ForLaws.RenamedReadings.{Related, RenamedAssert, RenamedEquate, RenamedLine, line-read-same, start, unless-same, with-loops}
 use Rattle.redcode_text.proofs.ForLaws.RenamedResults.{BothGive, both-then}
-use Rattle.redcode_text.proofs.ForLaws.RenamedTokens.{renamed_loop}
 use Rattle.redcode_text.proofs.ForLaws.RenamedTrees.{SameTree, sources-tree}
 
 at-line-same : {A B : Type 0} (R : A → B → Type 0) (n m : ℕ) → n ≡ m → (x : Result A TextProblem) (y : Result B TextProblem) → BothGive R x y → BothGive R (at_line n x) (at_line m y)

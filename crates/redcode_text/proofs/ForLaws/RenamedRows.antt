@@ -1,36 +1,27 @@
 -- What a row adds to two readings, of a source and of the source with its names renamed.
-use Rattle.std.proofs.Common.{◌≡◌, ◌∙◌, refl, ap, sym, subst, true≢false, ℕ, zero, suc, ◌+◌, ◌-◌, ◌≤◌, ◌==◌, ◌&&◌, ◌||◌, ◌⊎◌, inl, inr, not, Bool, true, false, cond, nat_le, nat_lt, List, [], ◌∷◌, ◌++◌, length, drop, map, filter, Option, Some, None, is_some, Result, Ok, Err, append_assoc, arith}
-use Rattle.std.specs.Prelude.{⊤, codes, ℤ, pos, negsuc, option_map}
+use Rattle.std.proofs.Common.{◌≡◌, ◌∙◌, refl, ap, sym, subst, true≢false, ℕ, ◌+◌, ◌-◌, ◌==◌, ◌&&◌, ◌||◌, inl, inr, Bool, true, false, nat_lt, List, [], ◌∷◌, ◌++◌, length, drop, map, Result, Ok, Err, arith}
+use Rattle.std.specs.Prelude.{⊤}
 use Rattle.std.specs.List.{list_all, list_any}
 use Rattle.std.proofs.lemmas.Bool.{and_parts}
 use Rattle.std.proofs.lemmas.Bool.Decides.{nat_tests}
-use Rattle.std.proofs.lemmas.List.{append-nil, length-map}
-use Rattle.redcode_text.specs.Results.{◌>>=◌}
-use Rattle.redcode_text.specs.declared.fault.ExprFault.{ExprFault}
+use Rattle.std.proofs.lemmas.List.{append-nil}
 use Rattle.redcode_text.specs.declared.fault.TextProblem.{TextProblem}
-use Rattle.redcode_text.specs.declared.fault.TextProblem.TheVariants.{BadCount, BadToken, LabelInCount, TooLong, Expression}
-use Rattle.redcode_text.specs.declared.token.Sign.TheVariants.{Colon}
 use Rattle.redcode_text.specs.declared.token.Token.{Token}
-use Rattle.redcode_text.specs.declared.token.TokenKind.{TokenKind}
-use Rattle.redcode_text.specs.declared.token.TokenKind.TheVariants.{Number, Name}
-use Rattle.redcode_text.specs.declared.token.TokenKind.TheVariants as token
-use Rattle.redcode_text.specs.Equates.{Equate, depth_limit, limit, substitution}
-use Rattle.redcode_text.specs.Expansion.{Head, as_count, count_limit, count_of, counter_name, for_word_at, has_label, head_line, loop_limit, rof_line, room_for_loop}
-use Rattle.redcode_text.specs.Expression.{kinds, value_of}
-use Rattle.redcode_text.specs.Laws.{IsRenaming, JoinsAreRenamed, renamed_from, renamed_line, renamed_text}
-use Rattle.redcode_text.specs.Lines.{Assert, Predefined, Reading, WithTokens, assert_line, before_comment, comment_line, directive_value, equ_line, equated, is_predefined, line_read, name_at, name_in_front, ordinary_line, plain_line, predefined_value, row_tokens, tokens_after, tokens_before, tokens_line, unless_empty, with_current_line}
-use Rattle.redcode_text.specs.Source.{Row, blank_len, LineKind, RofLine, ForLine, EquLine, OtherLine, directive_text, directive_text_at, first_word_at, has_directive_word, is_comment, line_kind, second_word_at}
-use Rattle.redcode_text.specs.Tokens.{OpenLoop, Scanned, is_word_byte, scan_from, tokens, without_line}
-use Rattle.redcode_text.proofs.ForLaws.Agreement.{AgreeOption, Pairwise, pairwise-append, pairwise-filter, pairwise-length}
+use Rattle.redcode_text.specs.Equates.{Equate, limit, substitution}
+use Rattle.redcode_text.specs.Expression.{kinds}
+use Rattle.redcode_text.specs.Laws.{IsRenaming, JoinsAreRenamed, renamed_from, renamed_text}
+use Rattle.redcode_text.specs.Lines.{Predefined, Reading, WithTokens, before_comment, equ_line, equated, name_in_front, row_tokens, tokens_after, tokens_before}
+use Rattle.redcode_text.specs.Source.{Row, blank_len, is_comment}
+use Rattle.redcode_text.specs.Tokens.{is_word_byte, scan_from, tokens, without_line}
+use Rattle.redcode_text.proofs.ForLaws.Agreement.{Pairwise, pairwise-filter, pairwise-length}
 use Rattle.redcode_text.proofs.ForLaws.AlikeResults.{pairwise-map, pairwise-weaker}
 use Rattle.redcode_text.proofs.ForLaws.Moved.{kinds-moved, moved_equate, moved_tokens, substitution-moved}
 use Rattle.redcode_text.proofs.ForLaws.RenamedColumns.{first-before, second-before, to_second}
-use Rattle.redcode_text.proofs.ForLaws.RenamedComments.{SameComment, comments-same}
-use Rattle.redcode_text.proofs.ForLaws.RenamedKinds.{Placed, SameKind, comment-other, comment-same, kind-same}
-use Rattle.redcode_text.proofs.ForLaws.RenamedLines.{equated-same, ordinary-same}
-use Rattle.redcode_text.proofs.ForLaws.RenamedPlaces.{SameScan, SameToken, any-drop, scan-on}
-use Rattle.redcode_text.proofs.ForLaws.RenamedReadings.{Related, RenamedEquate, SameKinds, line-read-same, name-renamed, predefined-same, same-kinds, value-renamed, with-asserts, with-author, with-equates, with-name, with-tokens-read}
-use Rattle.redcode_text.proofs.ForLaws.RenamedResults.{BothGive, both-elim, both-same, both-then}
+use Rattle.redcode_text.proofs.ForLaws.RenamedKinds.{Placed}
+use Rattle.redcode_text.proofs.ForLaws.RenamedLines.{equated-same}
+use Rattle.redcode_text.proofs.ForLaws.RenamedPlaces.{SameScan, scan-on}
+use Rattle.redcode_text.proofs.ForLaws.RenamedReadings.{Related, RenamedEquate, SameKinds, same-kinds, with-tokens-read}
+use Rattle.redcode_text.proofs.ForLaws.RenamedResults.{BothGive, both-same, both-then}
 use Rattle.redcode_text.proofs.ForLaws.RenamedSides.{Sides, goes-first, goes-second}
 use Rattle.redcode_text.proofs.ForLaws.RenamedTokens.{renamed_loop}
 

@@ -1,25 +1,22 @@
 -- One token after another of a text with its names renamed.
-use Rattle.std.proofs.Common.{◌≡◌, ◌∙◌, refl, ap, sym, subst, true≢false, ℕ, zero, suc, ◌+◌, ◌-◌, ◌<◌, ◌≤◌, not, ◌==◌, ◌&&◌, ◌||◌, Bool, true, false, cond, nat_lt, List, [], ◌∷◌, ◌++◌, length, take, drop, map, Option, Some, None, Result, Ok, Err, arith}
+use Rattle.std.proofs.Common.{◌≡◌, ◌∙◌, refl, ap, sym, subst, true≢false, ℕ, zero, suc, ◌+◌, ◌-◌, ◌≤◌, not, ◌==◌, ◌&&◌, ◌||◌, Bool, true, false, cond, List, [], ◌∷◌, ◌++◌, length, take, drop, map, Option, Some, None, Result, Ok, Err, arith}
 use Rattle.std.specs.Char.{is_ascii}
-use Rattle.std.specs.List.{list_all, list_any, prefix_len}
+use Rattle.std.specs.List.{list_all, list_any}
 use Rattle.std.specs.Str.{bytes_eq}
 use Rattle.std.proofs.lemmas.Bool.{and_parts}
 use Rattle.std.proofs.lemmas.Bool.Decides.{nat_tests}
 use Rattle.std.proofs.lemmas.List.{append-nil}
 use Rattle.std.proofs.lemmas.Slice.Eq.{bytes_eq-Decides}
-use Rattle.redcode_text.specs.Results.{◌>>=◌}
 use Rattle.redcode_text.specs.declared.fault.TextProblem.{TextProblem}
-use Rattle.redcode_text.specs.declared.fault.TextProblem.TheVariants.{BadToken, NotAscii, TooLong}
+use Rattle.redcode_text.specs.declared.fault.TextProblem.TheVariants.{NotAscii}
 use Rattle.redcode_text.specs.declared.token.Sign.{Sign}
 use Rattle.redcode_text.specs.declared.token.Sign.TheVariants.{Equal, NotEqual, LessEqual, GreaterEqual, And, Or}
-use Rattle.redcode_text.specs.declared.token.Token.{Token}
 use Rattle.redcode_text.specs.Laws.{IsRenaming, KeepsDigits, renamed_from, renamed_text}
 use Rattle.redcode_text.specs.Lines.{Predefined}
-use Rattle.redcode_text.specs.Tokens.{Found, OpenLoop, Scanned, begins_name, begins_word, is_blank, is_word_byte, look_up, one_byte_signs, scan_from, sign_found, sign_token, token_at, two_byte_signs, with_room, with_token, word_len, word_token}
-use Rattle.redcode_text.proofs.ForLaws.Agreement.{Pairwise, pairwise-append, pairwise-length}
-use Rattle.redcode_text.proofs.ForLaws.RenamedResults.{BothGive, both-cond, both-then}
+use Rattle.redcode_text.specs.Tokens.{Found, OpenLoop, Scanned, begins_name, begins_word, is_blank, is_word_byte, look_up, one_byte_signs, scan_from, sign_found, sign_token, token_at, two_byte_signs, word_len, word_token}
+use Rattle.redcode_text.proofs.ForLaws.RenamedResults.{BothGive, both-cond}
 use Rattle.redcode_text.proofs.ForLaws.RenamedTokens.{SameFound, renamed_loop, word-renamed}
-use Rattle.redcode_text.proofs.ForLaws.RenamedWords.{begins-from, empty-stays, other-stays, raw-long, raw-renamed, raw-taken, raw_of, rest-dropped, rest-renamed, rest_of, word-more}
+use Rattle.redcode_text.proofs.ForLaws.RenamedWords.{begins-from, empty-stays, other-stays, raw-long, raw-renamed, raw-taken, raw_of, rest-dropped, rest-renamed, word-more}
 
 -- ---- bytes
 

@@ -1,9 +1,9 @@
 -- The tokens before a place of a line, and those behind it: in a renamed text they are the same.
-use Rattle.std.proofs.Common.{◌≡◌, ◌∙◌, refl, ap, sym, subst, true≢false, ℕ, zero, suc, ◌+◌, ◌-◌, ◌<◌, ◌≤◌, ◌==◌, ◌&&◌, ◌||◌, Bool, true, false, cond, nat_lt, List, [], ◌∷◌, ◌++◌, length, take, drop, drop-drop, Option, Some, None, Ok, Err, arith, one-add, add-one}
-use Rattle.std.specs.List.{list_any, prefix_len}
+use Rattle.std.proofs.Common.{◌≡◌, ◌∙◌, refl, ap, sym, ℕ, suc, ◌+◌, ◌<◌, ◌≤◌, ◌==◌, ◌&&◌, ◌||◌, Bool, true, false, cond, nat_lt, List, [], ◌∷◌, length, take, drop, None, arith, one-add}
+use Rattle.std.specs.List.{list_any}
 use Rattle.std.proofs.lemmas.Bool.Decides.{nat_tests}
-use Rattle.redcode_text.specs.Laws.{IsRenaming, JoinsAreRenamed, renamed_from, renamed_text}
-use Rattle.redcode_text.specs.Lines.{Predefined, before_comment}
+use Rattle.redcode_text.specs.Laws.{IsRenaming, JoinsAreRenamed, renamed_text}
+use Rattle.redcode_text.specs.Lines.{Predefined}
 use Rattle.redcode_text.specs.Source.{blank_len, colon_len}
 use Rattle.redcode_text.specs.Tokens.{OpenLoop, Scanned, begins_name, begins_word, is_blank, is_word_byte, look_up, two_byte_signs, word_len}
 use Rattle.redcode_text.proofs.ForLaws.RenamedColumns.{behind, colon-renamed, to_blanks, to_colon, to_second, to_word, word-cut}

@@ -1,7 +1,7 @@
 -- The tokens of a text with its names renamed: the same, but for the names and for where they stand.
-use Rattle.std.proofs.Common.{◌≡◌, ◌∙◌, refl, ap, sym, subst, true≢false, ℕ, zero, suc, ◌+◌, ◌-◌, ◌^◌, ◌<◌, ◌≤◌, pos, not, ◌==◌, ◌&&◌, ◌||◌, Bool, true, false, cond, nat_lt, List, [], ◌∷◌, ◌++◌, length, take, drop, map, decimal, Option, Some, None, Result, Ok, Err, append_assoc, arith}
-use Rattle.std.specs.Prelude.{⊤, option_map, ◌/◌, ◌%◌}
-use Rattle.std.specs.Char.{is_ascii, is_ascii_digit}
+use Rattle.std.proofs.Common.{◌≡◌, ◌∙◌, refl, ap, sym, true≢false, ℕ, zero, suc, ◌+◌, ◌^◌, ◌<◌, pos, not, ◌==◌, ◌&&◌, ◌||◌, Bool, true, false, cond, nat_lt, List, [], ◌∷◌, ◌++◌, length, map, decimal, Option, Some, None, Result, Ok, Err, append_assoc, arith}
+use Rattle.std.specs.Prelude.{option_map, ◌/◌, ◌%◌}
+use Rattle.std.specs.Char.{is_ascii_digit}
 use Rattle.std.specs.Fmt.{digit_glyph, digits, digits_onto}
 use Rattle.std.specs.List.{list_all, list_any, onto_first}
 use Rattle.std.proofs.lemmas.List.{append-nil, map-append}
@@ -12,14 +12,12 @@ use Rattle.std.proofs.lemmas.Bool.Decides.{nat_tests}
 use Rattle.std.proofs.lemmas.Slice.Eq.{bytes_eq-Decides}
 use Rattle.redcode_text.specs.Results.{◌>>=◌}
 use Rattle.redcode_text.specs.declared.fault.TextProblem.{TextProblem}
-use Rattle.redcode_text.specs.declared.fault.TextProblem.TheVariants.{BadToken, NotAscii, TooLong}
-use Rattle.redcode_text.specs.declared.token.Token.{Token}
-use Rattle.redcode_text.specs.declared.token.TokenKind.{TokenKind}
+use Rattle.redcode_text.specs.declared.fault.TextProblem.TheVariants.{BadToken}
 use Rattle.redcode_text.specs.declared.token.TokenKind.TheVariants.{Number, Name}
-use Rattle.redcode_text.specs.Laws.{IsRenaming, JoinsAreRenamed, KeepsDigits, renamed_from, renamed_text}
+use Rattle.redcode_text.specs.Laws.{IsRenaming, KeepsDigits, renamed_text}
 use Rattle.redcode_text.specs.Lines.{Predefined}
-use Rattle.redcode_text.specs.Tokens.{Found, OpenLoop, begins_name, is_counter, is_letter, is_word_byte, join_counters, join_parts, joined, name_found, name_index, number_found, parts_at_joins, plain_word_found, round_digits, round_of, round_or_bad, with_name, word_found, word_token}
-use Rattle.redcode_text.proofs.ForLaws.RenamedResults.{BothGive, both-cond, both-then}
+use Rattle.redcode_text.specs.Tokens.{Found, OpenLoop, begins_name, is_counter, is_letter, join_counters, join_parts, name_index, number_found, parts_at_joins, plain_word_found, round_digits, round_of, round_or_bad, with_name, word_found, word_token}
+use Rattle.redcode_text.proofs.ForLaws.RenamedResults.{BothGive}
 use Rattle.redcode_text.proofs.ForLaws.RenamedWords.{begins-same, onto_front, parts-renamed, raw_of, some-part}
 
 -- ---- digits

@@ -1,31 +1,22 @@
 -- The tree of a source and that of the source with its names renamed, and what is read of them.
-use Rattle.std.proofs.Common.{◌≡◌, ◌∙◌, refl, ap, sym, subst, true≢false, ℕ, zero, suc, ◌+◌, ◌==◌, ◌&&◌, ◌||◌, ◌⊎◌, inl, inr, Bool, true, false, List, [], ◌∷◌, ◌++◌, length, take, drop, map, nat_eq, Option, Some, None, Result, Ok, Err, arith}
-use Rattle.std.specs.Prelude.{⊤, codes, option_map}
+use Rattle.std.proofs.Common.{◌≡◌, ◌∙◌, refl, ap, sym, subst, true≢false, ℕ, zero, suc, ◌+◌, ◌==◌, ◌&&◌, ◌||◌, Bool, true, false, List, [], ◌∷◌, ◌++◌, length, take, drop, map, nat_eq, arith}
+use Rattle.std.specs.Prelude.{codes}
 use Rattle.std.specs.Char.{to_ascii_lowercase}
 use Rattle.std.specs.List.{AllByRecursion, list_all, list_any, onto_first, starts_with}
 use Rattle.std.specs.Str.{str_to_ascii_lowercase}
 use Rattle.std.proofs.lemmas.Bool.{and_parts}
 use Rattle.std.proofs.lemmas.Bool.Decides.{nat_tests}
-use Rattle.redcode_text.specs.Results.{◌>>=◌}
-use Rattle.redcode_text.specs.declared.fault.TextFault.{TextFault}
-use Rattle.redcode_text.specs.declared.fault.TextProblem.{TextProblem}
-use Rattle.redcode_text.specs.declared.fault.TextProblem.TheVariants.{UnclosedFor, RofAlone}
-use Rattle.redcode_text.specs.Equates.{Equate}
-use Rattle.redcode_text.specs.Expansion.{Head, ProgramValue, expansion, flat, head_line, in_round, nothing_read, program_of, rof_line, rounds, unpaired_line}
-use Rattle.redcode_text.specs.Laws.{IsLine, IsRenaming, JoinsAreRenamed, renamed, renamed_comment, renamed_from, renamed_line, renamed_text, text_of_lines}
-use Rattle.redcode_text.specs.Lines.{Assert, Line, Predefined, Reading, line_read, plain_line, unless_ended}
+use Rattle.redcode_text.specs.Laws.{IsLine, IsRenaming, JoinsAreRenamed, renamed, renamed_comment, renamed_from, renamed_line, renamed_text}
+use Rattle.redcode_text.specs.Lines.{Predefined}
 use Rattle.redcode_text.specs.Source as source
 use Rattle.redcode_text.specs.Source.{Row, Items, Nothing, Plain, Loop, LoneRof, LineKind, RofLine, ForLine, EquLine, OtherLine, Pairing, begins_redcode, directive_text_at, from_redcode, has_directive, has_directive_word, is_comment, line_kind, lines_of, opened, paired, paired_with, read_rows, rows_from, then_lone, tree_of, tree_of_rows, with_lone, without_blanks}
-use Rattle.redcode_text.specs.Tokens.{OpenLoop, at_line, is_word_byte}
+use Rattle.redcode_text.specs.Tokens.{is_word_byte}
 use Rattle.redcode_text.proofs.ForLaws.Agreement.{Pairwise}
 use Rattle.redcode_text.proofs.ForLaws.AlikeResults.{pairwise-any}
 use Rattle.redcode_text.proofs.ForLaws.RenamedComments.{comments-same}
-use Rattle.redcode_text.proofs.ForLaws.RenamedHeads.{IsFor, SameHead, SameRow, code-row, head-same, plain-line-same, rof-same}
+use Rattle.redcode_text.proofs.ForLaws.RenamedHeads.{IsFor, SameRow, code-row}
 use Rattle.redcode_text.proofs.ForLaws.RenamedKinds.{SameKind, comment-other, comment-same, kind-same}
-use Rattle.redcode_text.proofs.ForLaws.RenamedReadings.{Related, RenamedAssert, RenamedEquate, RenamedLine, line-read-same, start, unless-same, with-loops}
-use Rattle.redcode_text.proofs.ForLaws.RenamedResults.{BothGive, both-then}
 use Rattle.redcode_text.proofs.ForLaws.RenamedRows.{SameCode}
-use Rattle.redcode_text.proofs.ForLaws.RenamedTokens.{renamed_loop}
 use Rattle.redcode_text.proofs.ForLaws.WrittenTrees.{lines-read}
 
 -- ---- lines
