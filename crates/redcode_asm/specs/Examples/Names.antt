@@ -5,7 +5,8 @@ use Rattle.std.specs.List.{list_all}
 use Rattle.std.proofs.Common.{◌∙◌, ap, subst, sym, true≢false}
 use Rattle.std.proofs.lemmas.Bool.{eqb-true}
 use Rattle.mars_cell.specs.Words.{op_of, modifier_of}
-use Rattle.redcode_text.specs.Laws.{IsRenaming, KeepsDigits, is_reserved, renamed, text_of_lines}
+use Rattle.redcode_text.specs.Laws.{IsRenaming, KeepsDigits, is_reserved}
+use Rattle.redcode_text.specs.Examples.Laws.{swap, swapped}
 use Rattle.redcode_text.specs.Lines.{Predefined}
 use Rattle.redcode_text.specs.Tokens.{begins_name, is_word_byte}
 use Rattle.redcode_asm.specs.Assembly.{predefined}
@@ -42,15 +43,7 @@ names_that_say_something = (
   λ s. cc (s.value 0),
 )
 
--- ---- a renaming
-
--- `q` in front becomes `z`, and `z` becomes `q`: no word with a meaning begins so
-abbrev swapped : ℕ → ℕ
-swapped b = elim (b == 113) [ true ↦ 122 | false ↦ elim (b == 122) [ true ↦ 113 | false ↦ b ] ]
-
-abbrev swap : List ℕ → List ℕ
-swap [] = []
-swap (b ∷ bs) = swapped b ∷ bs
+-- ---- a renaming: that of the examples of redcode_text
 
 -- a byte that is neither, or one of them
 by-cases : (P : ℕ → Type 0) → P 113 → P 122 → ((b : ℕ) → swapped b ≡ b → P b) → (b : ℕ) → P b
@@ -104,8 +97,3 @@ swap_renames = (
   stays (λ w. is_some (modifier_of w)) (λ bs. refl) (λ bs. refl),
   swap-digits,
 )
-
--- names in joins and asserts are renamed, those in a comment that stands alone aren't
-pub swapped_source : renamed swap (text_of_lines (codes "qi FOR 2" ∷ codes "q&qi DAT #qi, z ; q" ∷ codes "rof" ∷ codes ";Assert q01<q" ∷ codes ";name q" ∷ []))
-    ≡ text_of_lines (codes "zi FOR 2" ∷ codes "z&zi DAT #zi, q ; z" ∷ codes "rof" ∷ codes ";Assert z01<z" ∷ codes ";name q" ∷ [])
-swapped_source = refl

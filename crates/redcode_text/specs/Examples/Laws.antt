@@ -1,5 +1,5 @@
 -- Worked examples: a loop, the lines that are written in its place, and programs that are alike.
-use Rattle.std.specs.Prelude.{◌≡◌, ℕ, pos, List, [], ◌∷◌, ◌++◌, map, true, Option, Some, Result, Ok, Err, codes, refl}
+use Rattle.std.specs.Prelude.{◌≡◌, ◌==◌, ℕ, pos, List, [], ◌∷◌, ◌++◌, map, false, true, Option, Some, Result, Ok, Err, codes, refl}
 use Rattle.std.specs.Fmt.{digits}
 use Rattle.std.proofs.Common.{ap}
 use Rattle.redcode_text.specs.declared.fault.TextFault.{TextFault}
@@ -8,7 +8,7 @@ use Rattle.redcode_text.specs.declared.token.TokenKind.TheVariants.{Number, Name
 use Rattle.redcode_text.specs.Alike.{AreAlike, spelled_kind, spelled_line}
 use Rattle.redcode_text.specs.Expansion.{ProgramValue, expansion}
 use Rattle.redcode_text.specs.Expression.{tree_within, value_of}
-use Rattle.redcode_text.specs.Laws.{IsBodyLine, copies, is_loop_kind, loop_lines, text_of_lines}
+use Rattle.redcode_text.specs.Laws.{IsBodyLine, copies, is_loop_kind, loop_lines, renamed, text_of_lines}
 use Rattle.redcode_text.specs.Source.{line_kind}
 use Rattle.redcode_text.specs.Examples.Expansion.{predefined}
 
@@ -73,3 +73,18 @@ longer_label same = cc
 
 pub row_not_alike : AreAlike (labelled (codes "a" ∷ codes "nop" ∷ []) 0 1) (labelled (codes "ab" ∷ codes "nop" ∷ []) 0 1) → ⊥
 row_not_alike alike = longer_label (ap (λ (lines : List (List (List ℕ) × Option (List ℕ) × List (TokenKind × List ℕ))). map (λ l. l.0) lines) alike.lines)
+
+-- ---- other names
+
+-- `q` in front becomes `z`, and `z` becomes `q`: no word with a meaning begins so
+abbrev pub swapped : ℕ → ℕ
+swapped b = elim (b == 113) [ true ↦ 122 | false ↦ elim (b == 122) [ true ↦ 113 | false ↦ b ] ]
+
+abbrev pub swap : List ℕ → List ℕ
+swap [] = []
+swap (b ∷ bs) = swapped b ∷ bs
+
+-- names in joins and asserts are renamed, those in a comment that stands alone aren't
+pub row_renamed : renamed swap (text_of_lines (codes "qi FOR 2" ∷ codes "q&qi DAT #qi, z ; q" ∷ codes "rof" ∷ codes ";Assert q01<q" ∷ codes ";name q" ∷ []))
+    ≡ text_of_lines (codes "zi FOR 2" ∷ codes "z&zi DAT #zi, q ; z" ∷ codes "rof" ∷ codes ";Assert z01<z" ∷ codes ";name q" ∷ [])
+row_renamed = refl
