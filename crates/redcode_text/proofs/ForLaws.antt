@@ -40,4 +40,8 @@ pub mod TokensRead
 pub mod Unread
 pub mod WrittenOut
 pub mod WrittenReadings
+pub mod WrittenScans
+pub mod WrittenTexts
+pub mod WrittenTokens
 pub mod WrittenTrees
+pub mod WrittenWords

@@ -20,7 +20,7 @@ use Rattle.redcode_text.proofs.ForLaws.RenamedWords.{begins-from, empty-stays, o
 
 -- ---- bytes
 
-word-ascii : (b : ℕ) → is_word_byte b ≡ true → is_ascii b ≡ true
+pub word-ascii : (b : ℕ) → is_word_byte b ≡ true → is_ascii b ≡ true
 word-ascii b e = grind (arith, nat_tests)
 
 pub word-shows : (b : ℕ) → is_word_byte b ≡ true → is_blank b ≡ false
@@ -37,10 +37,10 @@ no-sign-byte a k b c e f = go (bytes_eq (a ∷ k ∷ []) (b ∷ c ∷ [])) refl
         let second : k ≡ c = cc in
         absurd (true≢false (sym e ∙ ap is_word_byte (sym second) ∙ f))
 
-no-sign : (b c : ℕ) → is_word_byte c ≡ true → look_up two_byte_signs (b ∷ c ∷ []) ≡ None
-no-sign b c e =
-    let one : (t u v w x y : Bool) → Option Sign =
-    λ t u v w x y. elim t as (λ _. Option Sign) [
+-- the sign of two bytes, by the tests for each
+abbrev signs : (t u v w x y : Bool) → Option Sign
+signs t u v w x y =
+    elim t as (λ _. Option Sign) [
       | true ↦ Some Equal
       | false ↦ elim u as (λ _. Option Sign) [
         | true ↦ Some NotEqual
@@ -52,10 +52,41 @@ no-sign b c e =
           ]
         ]
       ]
-    ] in
-    λ i. one (no-sign-byte 61 61 b c e refl i) (no-sign-byte 33 61 b c e refl i) (no-sign-byte 60 61 b c e refl i) (no-sign-byte 62 61 b c e refl i) (no-sign-byte 38 38 b c e refl i) (no-sign-byte 124 124 b c e refl i)
+    ]
 
-some-none : (s : Sign) → Some s ≡ None → ⊥
+pub no-sign : (b c : ℕ) → is_word_byte c ≡ true → look_up two_byte_signs (b ∷ c ∷ []) ≡ None
+no-sign b c e =
+    λ i. signs (no-sign-byte 61 61 b c e refl i) (no-sign-byte 33 61 b c e refl i) (no-sign-byte 60 61 b c e refl i) (no-sign-byte 62 61 b c e refl i) (no-sign-byte 38 38 b c e refl i) (no-sign-byte 124 124 b c e refl i)
+
+-- two bytes that differ in one
+differ : (a k b c : ℕ) → ((a == b) && (k == c)) ≡ false → bytes_eq (a ∷ k ∷ []) (b ∷ c ∷ []) ≡ false
+differ a k b c e = go (bytes_eq (a ∷ k ∷ []) (b ∷ c ∷ [])) refl
+  where
+    both-same : (a k b c : ℕ) → a ≡ b → k ≡ c → ((a == b) && (k == c)) ≡ true
+    both-same a k b c e f = grind (arith, nat_tests)
+
+    go : (t : Bool) → bytes_eq (a ∷ k ∷ []) (b ∷ c ∷ []) ≡ t → t ≡ false
+    go false is = refl
+    go true is =
+        let same : a ∷ k ∷ [] ≡ b ∷ c ∷ [] = (bytes_eq-Decides (a ∷ k ∷ []) (b ∷ c ∷ [])).0 is in
+        let first : a ≡ b = cc in
+        let second : k ≡ c = cc in
+        absurd (true≢false (sym (both-same a k b c first second) ∙ e))
+
+-- `&` is the second of `&&` alone
+pub lone-and : (b : ℕ) → (b == 38) ≡ false → look_up two_byte_signs (b ∷ 38 ∷ []) ≡ None
+lone-and b e =
+    λ i. signs (differ 61 61 b 38 (second (61 == b)) i) (differ 33 61 b 38 (second (33 == b)) i) (differ 60 61 b 38 (second (60 == b)) i) (differ 62 61 b 38 (second (62 == b)) i)
+    (differ 38 38 b 38 (first b e) i) (differ 124 124 b 38 (second (124 == b)) i)
+  where
+    second : (t : Bool) → (t && false) ≡ false
+    second true = refl
+    second false = refl
+
+    first : (b : ℕ) → (b == 38) ≡ false → ((38 == b) && true) ≡ false
+    first b e = grind (arith, nat_tests)
+
+pub some-none : (s : Sign) → Some s ≡ None → ⊥
 some-none s e = cc
 
 -- the rest of a token that was taken

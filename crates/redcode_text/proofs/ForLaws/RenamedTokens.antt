@@ -37,11 +37,11 @@ digits-onto (suc k) n acc e = go (n / 10 == 0) (digits-onto k (n / 10) (digit_gl
     go true h = more
     go false h = h
 
-decimal-digits : (n : ℕ) → list_all is_ascii_digit (decimal n) ≡ true
+pub decimal-digits : (n : ℕ) → list_all is_ascii_digit (decimal n) ≡ true
 unfolding digits
 decimal-digits n = digits-onto 64 n [] refl
 
-round-digits : (n : ℕ) → list_all is_ascii_digit (round_digits n) ≡ true
+pub round-digits : (n : ℕ) → list_all is_ascii_digit (round_digits n) ≡ true
 round-digits n = go (nat_lt n 10)
   where
     go : (t : Bool) → list_all is_ascii_digit (cond t (48 ∷ decimal n) (decimal n)) ≡ true
