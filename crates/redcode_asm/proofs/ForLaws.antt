@@ -13,4 +13,5 @@ pub mod PrintedCells
 pub mod PrintedLines
 pub mod PrintedTokens
 pub mod ReadBack
+pub mod RenamedSources
 pub mod Unplaced

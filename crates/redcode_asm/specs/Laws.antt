@@ -1,5 +1,5 @@
 -- The laws of names, of sources that are alike, of an instruction in front, of load files and of score formulas.
-use Rattle.std.specs.Prelude.{◌≡◌, ◌≢◌, ⊤, ℕ, ◌-◌, ◌/◌, ◌^◌, ◌<◌, ◌≤◌, nat_le, if◌then◌else◌, ℤ, pos, List, [], ◌∷◌, ◌++◌, length, map, All, true, Some, Ok, IfErr, codes}
+use Rattle.std.specs.Prelude.{◌≡◌, ◌≢◌, ⊤, ℕ, ◌-◌, ◌/◌, ◌^◌, ◌<◌, ◌≤◌, nat_le, if◌then◌else◌, ℤ, pos, List, [], ◌∷◌, ◌++◌, length, map, All, true, Some, is_some, Ok, IfErr, codes}
 use Rattle.std.specs.Str.{str_eq_ignore_ascii_case}
 use Rattle.mars_cell.specs.declared.instruction.Cell.{Cell}
 use Rattle.mars_cell.specs.declared.instruction.Mode.{Mode}
@@ -25,7 +25,7 @@ use Rattle.redcode_text.specs.Equates.{Equate}
 use Rattle.redcode_text.specs.Expression.{kinds}
 use Rattle.redcode_text.specs.Alike.{AreAlike}
 use Rattle.redcode_text.specs.Expansion.{ProgramValue, expansion}
-use Rattle.redcode_text.specs.Laws.{IsBodyLine, IsLine, copies, loop_lines, text_of_lines}
+use Rattle.redcode_text.specs.Laws.{IsBodyLine, IsLine, IsRenaming, JoinsAreRenamed, copies, loop_lines, renamed, text_of_lines}
 use Rattle.redcode_text.specs.Lines.{Assert, Line, Predefined, directive_value, is_instruction, name_at, predefined_value, with_current_line}
 use Rattle.redcode_asm.specs.Assembly.{Placed, assembly, at_line, cell_of, cells_of, instructions, predefined, warrior_of}
 use Rattle.redcode_asm.specs.Formula.{formula_of, score_of}
@@ -84,6 +84,19 @@ NamesOfSourcesAreFree = (p : Parameters) (rounds warriors : ℕ) (one other : Li
     → unplaced_program t ≡ record (unplaced_program s) { names = t.names }
     → ((n : ℕ) → SaysTheSame (predefined p rounds warriors) (name_at s.names n) (name_at t.names n))
     → assembly p rounds warriors one ≡ assembly p rounds warriors other
+
+-- a word that is a modifier, in either case, stays
+abbrev pub KeepsModifiers : (List ℕ → List ℕ) → Type 0
+KeepsModifiers rename = (word : List ℕ) → is_some (modifier_of word) ≡ true → rename word ≡ word
+
+-- A source with its names renamed is assembled to the same warrior, or has the same fault, on the same line. Its labels, EQU names and counters are
+-- renamed wherever they stand, also in joins and behind `;assert`. A word that is an operation, a modifier or a predefined name isn't, nor does
+-- a name become one: a word is renamed the same wherever it stands, so that a label `a` keeps its name, as the modifier does. Where `&` stands in
+-- the source, digits at the end of a name stay, since a join adds some.
+abbrev pub RenamedSourcesAreTheSame : Type 0
+RenamedSourcesAreTheSame = (p : Parameters) (rounds warriors : ℕ) (rename : List ℕ → List ℕ) (source : List ℕ)
+    → IsRenaming (predefined p rounds warriors) rename → KeepsModifiers rename → JoinsAreRenamed rename source
+    → assembly p rounds warriors (renamed rename source) ≡ assembly p rounds warriors source
 
 -- two sources whose programs are the same, name for name, are assembled to the same warrior
 abbrev pub AlikeSourcesAssembleAlike : Type 0

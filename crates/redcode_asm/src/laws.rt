@@ -1,5 +1,5 @@
 //! Laws of the definitions. The functions do nothing; their contracts are the laws.
-ghost use Rattle.redcode_asm.specs.Laws.{AlikeSourcesAssembleAlike, AssembledLoadIsRead, CellIsAssembled, CellIsScanned, InstructionsInFrontMoveNothing, LoadFileIsSource, LoopsAreWrittenOut, NamesAreFree, NamesOfSourcesAreFree, ScoresHaveValues};
+ghost use Rattle.redcode_asm.specs.Laws.{AlikeSourcesAssembleAlike, AssembledLoadIsRead, CellIsAssembled, CellIsScanned, InstructionsInFrontMoveNothing, LoadFileIsSource, LoopsAreWrittenOut, NamesAreFree, NamesOfSourcesAreFree, RenamedSourcesAreTheSame, ScoresHaveValues};
 
 /// `Formula::score` of a formula that `Formula::new` read is refused by DivideByZero and Range alone.
 pub fn scores_have_values()
@@ -20,6 +20,13 @@ pub fn names_are_free()
 /// the same warrior, or have the same fault.
 pub fn names_of_sources_are_free()
     ensures { NamesOfSourcesAreFree }
+{}
+
+/// A source with its names renamed is assembled to the same warrior, or has the same fault, on the same line. Labels, EQU
+/// names and counters are renamed wherever they stand, also in joins and behind `;assert`: one for one, by names, none of
+/// which is an operation, a modifier or a predefined name. Where `&` stands in the source, digits at the end of a name stay.
+pub fn renamed_sources_are_the_same()
+    ensures { RenamedSourcesAreTheSame }
 {}
 
 /// Two sources whose programs are the same, name for name, are assembled to the same warrior: in which order names are met,

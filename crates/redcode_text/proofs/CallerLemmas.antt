@@ -1,5 +1,5 @@
 -- What the crates above may cite of values, replacements, sums in short, the spelling of trees, the words that a name may be, lines that are read one after
--- another, and programs that are the same, name for name, whose definitions they don't see into.
+-- another, programs that are the same, name for name, and sources with their names renamed, whose definitions they don't see into.
 use Rattle.std.specs.Bool.{⊤}
 use Rattle.std.proofs.lemmas.List.{length-map, map-append}
 use Rattle.std.proofs.Common.{◌≡◌, ◌∙◌, ℕ, zero, suc, ◌+◌, List, [], ◌∷◌, ◌++◌, length, Bool, true, false, nat_le, Option, Some, None, Result, Ok, Err, refl, ap, sym, subst, arith}
@@ -27,6 +27,11 @@ pub use Rattle.redcode_text.proofs.ForLaws.AlikeValues.{substitution-same, value
 pub use Rattle.redcode_text.proofs.Named.{AreDistinct, IsNamed}
 pub use Rattle.redcode_text.proofs.ForLaws.SameNames.{SameAssert, SameEquate, SameKind, SameLine, SameName, SameToken, SameTokens, asserts-same, equates-same, index-same, lines-same}
 pub use Rattle.redcode_text.proofs.ForLaws.SourcePrograms.{loops-written-out, source-named}
+pub use Rattle.redcode_text.proofs.ForLaws.AlikeResults.{pairwise-map}
+pub use Rattle.redcode_text.proofs.ForLaws.RenamedKinds.{operation-same}
+pub use Rattle.redcode_text.proofs.ForLaws.RenamedPrograms.{RenamedProgram, source-renamed}
+pub use Rattle.redcode_text.proofs.ForLaws.RenamedReadings.{RenamedAssert, RenamedEquate, RenamedLine, SameKinds, name-renamed, value-renamed}
+pub use Rattle.redcode_text.proofs.ForLaws.RenamedResults.{BothGive}
 
 -- ---- tokens of the same kinds, wherever they stand
 

@@ -1,6 +1,8 @@
 -- What the text of a source means, apart from how it is read.
-use Rattle.std.specs.Prelude.{◌≡◌, ◌⊎◌, ℕ, zero, suc, ◌+◌, ◌^◌, ◌<◌, pos, List, [], ◌∷◌, ◌++◌, length, All, Bool, false, true, ◌==◌, Option, Some, Result, Ok, Err, IfOk, codes, decimal}
-use Rattle.std.specs.List.{flat_map, list_any}
+use Rattle.std.specs.Prelude.{◌≡◌, ◌⊎◌, ℕ, zero, suc, ◌+◌, ◌^◌, ◌<◌, pos, List, [], ◌∷◌, ◌++◌, length, take, drop, map, All, Bool, false, true, ◌&&◌, ◌||◌, ◌==◌, if◌then◌else◌, Option, Some, None, is_some, Result, Ok, Err, IfOk, codes, decimal}
+use Rattle.std.specs.Char.{is_ascii_digit}
+use Rattle.std.specs.List.{flat_map, list_all, list_any}
+use Rattle.std.specs.Str.{bytes_eq, str_eq_ignore_ascii_case}
 use Rattle.redcode_text.specs.Results.{◌>>=◌}
 use Rattle.redcode_text.specs.declared.token.Token.{Token}
 use Rattle.redcode_text.specs.declared.token.TokenKind.{TokenKind}
@@ -10,13 +12,15 @@ use Rattle.redcode_text.specs.declared.token.Sign.TheVariants.{Plus, Minus, Bang
 use Rattle.redcode_text.specs.declared.fault.ExprFault.{ExprFault}
 use Rattle.redcode_text.specs.declared.fault.ExprFault.TheVariants.{Syntax, Depth}
 use Rattle.redcode_text.specs.declared.fault.TextFault.{TextFault}
+use Rattle.redcode_text.specs.declared.fault.TextProblem.{TextProblem}
 use Rattle.redcode_text.specs.Alike.{AreAlike}
-use Rattle.redcode_text.specs.Bytes.{line_feed}
-use Rattle.redcode_text.specs.Expression.{Tree, shape, start, tree_within}
+use Rattle.redcode_text.specs.Bytes.{ampersand, line_feed}
+use Rattle.redcode_text.specs.Expression.{Tree, kinds, shape, start, tree_within}
 use Rattle.redcode_text.specs.Trees.{IsLevelled, IsWithin, spelling}
-use Rattle.redcode_text.specs.Source.{Row, Items, Loop, LineKind, RofLine, ForLine, begins_redcode, has_directive, line_kind, lines_of, read_rows, tree_of, tree_of_rows}
+use Rattle.redcode_text.specs.Source.{Row, Items, Loop, LineKind, RofLine, ForLine, begins_redcode, directive_text_at, has_directive, has_directive_word, is_comment, line_kind, lines_of, read_rows, tree_of, tree_of_rows}
+use Rattle.redcode_text.specs.Tokens.{OpenLoop, Scanned, begins_name, begins_word, is_word_byte, parts_at_joins, round_digits, round_of, tokens, word_len}
 use Rattle.redcode_text.specs.Equates.{equate_lines}
-use Rattle.redcode_text.specs.Lines.{Reading, Predefined, Parts, line_read, tokens_counted, parts_of, ordinary_line, unless_ended}
+use Rattle.redcode_text.specs.Lines.{Reading, Predefined, Parts, line_read, tokens_counted, operations, parts_of, ordinary_line, predefined_value, unless_ended, with_current_line}
 use Rattle.redcode_text.specs.Expansion.{Head, ProgramValue, expansion, flat, head_line, nothing_read, rounds}
 
 -- lines before the first `;redcode` have no effect
@@ -90,6 +94,114 @@ LoopsAreWrittenOut = (ps : Predefined) (n : ℕ) (before body after : List (List
     → n < 2 ^ 63 → All IsLine before → All IsLine body → All IsLine after → All IsBodyLine body
     → expansion ps (text_of_lines (before ++ (loop_lines n body ++ after))) ≡ Ok s
     → (t : ProgramValue) × (expansion ps (text_of_lines (before ++ (copies n body ++ after))) ≡ Ok t) × AreAlike s t
+
+-- ---- other names
+
+-- a text behind part of a word, with each word renamed: as many letters, digits and `_` as stand together
+abbrev pub renamed_from : (List ℕ → List ℕ) → List ℕ → List ℕ → List ℕ
+renamed_from rename word [] = rename word
+renamed_from rename word (b ∷ bs) =
+    elim (is_word_byte b) [ true ↦ renamed_from rename (word ++ b ∷ []) bs | false ↦ rename word ++ b ∷ renamed_from rename [] bs ]
+
+abbrev pub renamed_text : (List ℕ → List ℕ) → List ℕ → List ℕ
+renamed_text rename bytes = renamed_from rename [] bytes
+
+-- of the lines that are comments only what `;assert` says has names
+abbrev pub renamed_comment : (List ℕ → List ℕ) → List ℕ → List ℕ
+renamed_comment rename bytes =
+    elim (has_directive_word (codes "assert") bytes) [
+      | true ↦ take (directive_text_at (codes "assert") bytes) bytes ++ renamed_text rename (drop (directive_text_at (codes "assert") bytes) bytes)
+      | false ↦ bytes
+    ]
+
+abbrev pub renamed_line : (List ℕ → List ℕ) → List ℕ → List ℕ
+renamed_line rename bytes = elim (is_comment bytes) [ true ↦ renamed_comment rename bytes | false ↦ renamed_text rename bytes ]
+
+-- a source with its names renamed
+abbrev pub renamed : (List ℕ → List ℕ) → List ℕ → List ℕ
+renamed rename source = text_of_lines (map (renamed_line rename) (lines_of source))
+
+-- whether a word is an operation (EQU, FOR, ROF, ORG and END are too), in either case, or a predefined name
+abbrev pub is_reserved : Predefined → List ℕ → Bool
+is_reserved ps word = list_any (str_eq_ignore_ascii_case word) operations || is_some (predefined_value (with_current_line ps 0) word)
+
+-- names are replaced one for one, by names; what is no name, and what has a meaning of its own, stays, so that no name takes its place
+pub record IsRenaming (ps : Predefined) (rename : List ℕ → List ℕ) : Type 0 where
+  pub distinct : (one other : List ℕ) → rename one ≡ rename other → one ≡ other
+  pub names : (word : List ℕ) → begins_name word ≡ true → begins_name (rename word) ≡ true
+  pub words : (word : List ℕ) → list_all is_word_byte word ≡ true → list_all is_word_byte (rename word) ≡ true
+  pub others : (word : List ℕ) → begins_name word ≡ false → rename word ≡ word
+  pub reserved : (word : List ℕ) → is_reserved ps word ≡ true → rename word ≡ word
+
+-- digits at the end of a name stay, so that what a join makes of a name is renamed as the name is
+abbrev pub KeepsDigits : (List ℕ → List ℕ) → Type 0
+KeepsDigits rename = (word : List ℕ) (digit : ℕ) → is_ascii_digit digit ≡ true → rename (word ++ digit ∷ []) ≡ rename word ++ digit ∷ []
+
+-- where joins may stand, digits stay
+abbrev pub JoinsAreRenamed : (List ℕ → List ℕ) → List ℕ → Type 0
+JoinsAreRenamed rename bytes = list_any (λ b. b == ampersand) bytes ≡ true → KeepsDigits rename
+
+-- ---- counters written in place
+
+-- the joins of a word, with the digits of a round in place of those of the counter
+abbrev pub written_joins : List ℕ → ℕ → List (List ℕ) → List ℕ
+written_joins counter round [] = []
+written_joins counter round (name ∷ names) = (if bytes_eq counter name then round_digits round else ampersand ∷ name) ++ written_joins counter round names
+
+abbrev pub written_parts : List ℕ → ℕ → List (List ℕ) → List ℕ
+written_parts counter round [] = []
+written_parts counter round (front ∷ names) = front ++ written_joins counter round names
+
+-- a word with its joins, or the round where the word is the counter
+abbrev pub written_word : List ℕ → ℕ → List ℕ → List ℕ
+written_word counter round word = if bytes_eq counter word then decimal round else written_parts counter round (parts_at_joins word)
+
+-- whether a text begins with `&&`, which is no join
+abbrev pub begins_and : List ℕ → Bool
+begins_and bytes = bytes_eq (take 2 bytes) (ampersand ∷ ampersand ∷ [])
+
+-- a text with each word written so; `skip` bytes of it belong to what stands before
+abbrev pub written_from : List ℕ → ℕ → ℕ → List ℕ → List ℕ
+written_from counter round skip [] = []
+written_from counter round (suc skip) (b ∷ bs) = written_from counter round skip bs
+written_from counter round zero (b ∷ bs) =
+    elim (begins_word (b ∷ bs)) [
+      | true ↦ written_word counter round (take (word_len (b ∷ bs)) (b ∷ bs)) ++ written_from counter round (word_len bs) bs
+      | false ↦ elim (begins_and (b ∷ bs)) [ true ↦ b ∷ b ∷ written_from counter round 1 bs | false ↦ b ∷ written_from counter round 0 bs ]
+    ]
+
+abbrev pub written_text : List ℕ → ℕ → List ℕ → List ℕ
+written_text counter round bytes = written_from counter round 0 bytes
+
+-- whether each join of a word is the counter's
+abbrev pub are_its_joins : List ℕ → List (List ℕ) → Bool
+are_its_joins counter [] = true
+are_its_joins counter (front ∷ names) = list_all (bytes_eq counter) names
+
+-- whether each join of a text is
+abbrev pub has_its_joins : List ℕ → ℕ → List ℕ → Bool
+has_its_joins counter skip [] = true
+has_its_joins counter (suc skip) (b ∷ bs) = has_its_joins counter skip bs
+has_its_joins counter zero (b ∷ bs) =
+    elim (begins_word (b ∷ bs)) [
+      | true ↦ are_its_joins counter (parts_at_joins (take (word_len (b ∷ bs)) (b ∷ bs))) && has_its_joins counter (word_len bs) bs
+      | false ↦ elim (begins_and (b ∷ bs)) [ true ↦ has_its_joins counter 1 bs | false ↦ has_its_joins counter 0 bs ]
+    ]
+
+-- tokens, and the names with theirs, without the places
+abbrev pub unplaced_scan : Result Scanned TextProblem → Result (List TokenKind × List (List ℕ)) TextProblem
+unplaced_scan (Ok s) = Ok (kinds s.tokens, s.names)
+unplaced_scan (Err e) = Err e
+
+-- In a round of a loop a text has the tokens of the text with the round written in place of the counter, and its digits in place of the counter's
+-- joins; or it has the same fault. A name that a join makes ends in a digit, so the counter's name doesn't, and no counter is called by a number.
+-- Joins of other counters are left out: `x&j&i` couldn't be written, since the digits would belong to the name `j`.
+abbrev pub CountersAreWrittenInPlace : Type 0
+CountersAreWrittenInPlace = (counter : List ℕ) (round line at to room : ℕ) (loops : List OpenLoop) (names : List (List ℕ)) (bytes : List ℕ)
+    → list_all is_word_byte counter ≡ true → round < 2 ^ 63 → round_of loops (decimal round) ≡ None → ((word : List ℕ) (digit : ℕ) → is_ascii_digit digit ≡ true → bytes_eq counter (word ++ digit ∷ []) ≡ false)
+    → has_its_joins counter 0 bytes ≡ true
+    → unplaced_scan (tokens (record { counter = Some counter; round = round } ∷ loops) line at room names bytes)
+    ≡ unplaced_scan (tokens loops line to room names (written_text counter round bytes))
 
 -- ---- the shape of an expression
 

@@ -1,6 +1,6 @@
 //! Laws of the definitions: what the text of a source means, apart from how it is read. The functions do nothing; their
 //! contracts are the laws.
-ghost use Rattle.redcode_text.specs.Laws.{LinesBeforeRedcodeAreUnread, LinesBehindEndAreUnread, LinesInNoRoundAreUnread, LoopsAreWrittenOut, MisshapenAtFirst, OperationsAreWrittenInPlace, RoundsAddUp, ShapesAreTrees, TreesHaveShapes};
+ghost use Rattle.redcode_text.specs.Laws.{CountersAreWrittenInPlace, LinesBeforeRedcodeAreUnread, LinesBehindEndAreUnread, LinesInNoRoundAreUnread, LoopsAreWrittenOut, MisshapenAtFirst, OperationsAreWrittenInPlace, RoundsAddUp, ShapesAreTrees, TreesHaveShapes};
 
 /// Lines before the first `;redcode` have no effect.
 pub fn lines_before_redcode_are_unread()
@@ -32,6 +32,13 @@ pub fn rounds_add_up()
 /// may be inside other loops.
 pub fn loops_are_written_out()
     ensures { LoopsAreWrittenOut }
+{}
+
+/// In a round of a loop a text has the tokens of the text with the round written in place of the counter, and its digits in
+/// place of the counter's joins, or the same fault. Each join of the text is the counter's, whose name doesn't end in a
+/// digit, and no counter outside is called by the round's number.
+pub fn counters_are_written_in_place()
+    ensures { CountersAreWrittenInPlace }
 {}
 
 /// A line whose operation is an EQU name of one line is read as the line with that text in place of the name, counted as

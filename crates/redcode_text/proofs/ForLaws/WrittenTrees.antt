@@ -408,7 +408,7 @@ line-first (b ∷ line) bs e = go (b == 10) e (line-first line bs)
     go true e h = cc
     go false e h = ap (onto_first b) (h e)
 
-lines-read : (lines : List (List ℕ)) → AllByRecursion IsLine lines → lines_of (text_of_lines lines) ≡ lines
+pub lines-read : (lines : List (List ℕ)) → AllByRecursion IsLine lines → lines_of (text_of_lines lines) ≡ lines
 lines-read [] all = refl
 lines-read (l ∷ lines) all =
     ap lines_of (append_assoc l (10 ∷ []) (text_of_lines lines)) ∙ line-first l (text_of_lines lines) all.0

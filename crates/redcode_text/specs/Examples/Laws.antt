@@ -1,14 +1,17 @@
 -- Worked examples: a loop, the lines that are written in its place, and programs that are alike.
-use Rattle.std.specs.Prelude.{◌≡◌, ℕ, pos, List, [], ◌∷◌, ◌++◌, map, true, Option, Some, Result, Ok, Err, codes, refl}
+use Rattle.std.specs.Prelude.{◌≡◌, ◌==◌, ℕ, pos, List, [], ◌∷◌, ◌++◌, map, false, true, Option, Some, Result, Ok, Err, ◌&&◌, Bool, nat_eq, codes, refl}
 use Rattle.std.specs.Fmt.{digits}
-use Rattle.std.proofs.Common.{ap}
+use Rattle.std.specs.Char.{is_ascii_digit}
+use Rattle.std.specs.Str.{bytes_eq}
+use Rattle.std.proofs.Common.{◌∙◌, ap, sym}
+use Rattle.std.proofs.lemmas.Slice.Eq.{bytes_eq-Decides}
 use Rattle.redcode_text.specs.declared.fault.TextFault.{TextFault}
 use Rattle.redcode_text.specs.declared.token.TokenKind.{TokenKind}
 use Rattle.redcode_text.specs.declared.token.TokenKind.TheVariants.{Number, Name}
 use Rattle.redcode_text.specs.Alike.{AreAlike, spelled_kind, spelled_line}
 use Rattle.redcode_text.specs.Expansion.{ProgramValue, expansion}
 use Rattle.redcode_text.specs.Expression.{tree_within, value_of}
-use Rattle.redcode_text.specs.Laws.{IsBodyLine, copies, is_loop_kind, loop_lines, text_of_lines}
+use Rattle.redcode_text.specs.Laws.{IsBodyLine, copies, has_its_joins, is_loop_kind, loop_lines, renamed, text_of_lines, written_text}
 use Rattle.redcode_text.specs.Source.{line_kind}
 use Rattle.redcode_text.specs.Examples.Expansion.{predefined}
 
@@ -73,3 +76,46 @@ longer_label same = cc
 
 pub row_not_alike : AreAlike (labelled (codes "a" ∷ codes "nop" ∷ []) 0 1) (labelled (codes "ab" ∷ codes "nop" ∷ []) 0 1) → ⊥
 row_not_alike alike = longer_label (ap (λ (lines : List (List (List ℕ) × Option (List ℕ) × List (TokenKind × List ℕ))). map (λ l. l.0) lines) alike.lines)
+
+-- ---- other names
+
+-- `q` in front becomes `z`, and `z` becomes `q`: no word with a meaning begins so
+abbrev pub swapped : ℕ → ℕ
+swapped b = elim (b == 113) [ true ↦ 122 | false ↦ elim (b == 122) [ true ↦ 113 | false ↦ b ] ]
+
+abbrev pub swap : List ℕ → List ℕ
+swap [] = []
+swap (b ∷ bs) = swapped b ∷ bs
+
+-- names in joins and asserts are renamed, those in a comment that stands alone aren't
+pub row_renamed : renamed swap (text_of_lines (codes "qi FOR 2" ∷ codes "q&qi DAT #qi, z ; q" ∷ codes "rof" ∷ codes ";Assert q01<q" ∷ codes ";name q" ∷ []))
+    ≡ text_of_lines (codes "zi FOR 2" ∷ codes "z&zi DAT #zi, q ; z" ∷ codes "rof" ∷ codes ";Assert z01<z" ∷ codes ";name q" ∷ [])
+row_renamed = refl
+
+-- ---- counters written in place
+
+-- the counter is written as a number, its joins with two digits; `&&` is no join
+pub row_written : written_text (codes "i") 3 (codes "x&i&i DAT i, (i2 && i)+&i") ≡ codes "x0303 DAT 3, (i2 && 3)+03"
+unfolding digits
+row_written = refl
+
+pub row_joins : (has_its_joins (codes "i") 0 (codes "x&i DAT a&&j") ≡ true) × (has_its_joins (codes "i") 0 (codes "x&j DAT i") ≡ false)
+row_joins = (refl, refl)
+
+-- a name with a letter at its end has no digit there
+letter-ends : (word : List ℕ) (digit : ℕ) → is_ascii_digit digit ≡ true → bytes_eq (codes "i") (word ++ digit ∷ []) ≡ false
+letter-ends [] digit e = by (bytes_eq (codes "i") (digit ∷ [])) refl
+  where
+    by : (t : Bool) → bytes_eq (codes "i") (digit ∷ []) ≡ t → t ≡ false
+    by false same = refl
+    by true same = let is : codes "i" ≡ digit ∷ [] = (bytes_eq-Decides (codes "i") (digit ∷ [])).0 same in let one : 105 ≡ digit = cc in sym e ∙ ap is_ascii_digit (sym one)
+letter-ends (b ∷ []) digit e = go (nat_eq 105 b)
+  where
+    go : (t : Bool) → (t && false) ≡ false
+    go true = refl
+    go false = refl
+letter-ends (b ∷ c ∷ word) digit e = go (nat_eq 105 b)
+  where
+    go : (t : Bool) → (t && false) ≡ false
+    go true = refl
+    go false = refl
