@@ -1,39 +1,17 @@
 -- The line FOR of a loop with a counter, where it stands in one of two alike readings alone.
-use Rattle.std.proofs.Common.{◌≡◌, ◌∙◌, refl, ap, sym, subst, true≢false, ℕ, suc, ◌+◌, ◌-◌, ◌^◌, ◌<◌, pos, ◌==◌, ◌&&◌, ◌||◌, ◌⊎◌, inl, inr, Bool, true, false, cond, nat_le, nat_lt, List, [], ◌∷◌, ◌++◌, length, length-append, take, drop, codes, decimal, Option, Some, None, Result, Ok, Err, not, append_assoc, arith}
-use Rattle.std.specs.Prelude.{⊤}
-use Rattle.std.specs.Char.{is_ascii_digit}
+use Rattle.std.proofs.Common.{◌≡◌, ◌∙◌, refl, ap, sym, true≢false, ℕ, suc, ◌+◌, ◌||◌, Bool, true, false, cond, List, [], ◌∷◌, ◌++◌, length, take, drop, codes, decimal, Option, Some, None, arith}
 use Rattle.std.specs.List.{list_all, list_any}
 use Rattle.std.specs.Str.{bytes_eq, str_eq_ignore_ascii_case}
-use Rattle.std.specs.Str.Parse.{digits_value}
-use Rattle.std.proofs.lemmas.Bool.{and_parts, lt-ltb}
-use Rattle.std.proofs.lemmas.Bool.Decides.{nat_tests}
-use Rattle.std.proofs.lemmas.Fmt.{digits_value-decimal}
+use Rattle.std.proofs.lemmas.Bool.{and_parts}
 use Rattle.std.proofs.lemmas.List.{append-nil}
 use Rattle.std.proofs.lemmas.Slice.Eq.{bytes_eq-Decides}
-use Rattle.redcode_text.specs.Results.{◌>>=◌}
-use Rattle.redcode_text.specs.declared.fault.TextProblem.{TextProblem}
-use Rattle.redcode_text.specs.declared.fault.TextProblem.TheVariants.{BadCount, BadToken, TooLong}
-use Rattle.redcode_text.specs.declared.token.Token.{Token}
-use Rattle.redcode_text.specs.declared.token.TokenKind.{TokenKind}
-use Rattle.redcode_text.specs.declared.token.TokenKind.TheVariants.{Number, Name}
-use Rattle.redcode_text.specs.Equates.{limit}
-use Rattle.redcode_text.specs.Expansion.{Head, as_count, count_limit, count_of, counter_name, for_word_at, head_line, room_for_loop}
-use Rattle.redcode_text.specs.Expression.{kinds}
 use Rattle.redcode_text.specs.Laws.{IsCounterName}
-use Rattle.redcode_text.specs.Lines.{Predefined, Reading, WithTokens, before_comment, line_read, name_at, name_in_front, operations, row_tokens, tokens_after, tokens_before}
-use Rattle.redcode_text.specs.Source.{LineKind, RofLine, ForLine, Row, blank_len, equ_or_other, first_word_at, for_or, has_word, leading_word_at, line_kind, second_word_at}
-use Rattle.redcode_text.specs.Tokens.{Found, OpenLoop, Scanned, begins_name, begins_word, is_blank, is_letter, is_word_byte, name_index, round_of, scan_from, token_at, tokens, with_name, with_room, with_token, word_found, word_len, word_token}
-use Rattle.redcode_text.proofs.ForLaws.AlikeCounts.{grows-no-more, headed}
-use Rattle.redcode_text.proofs.ForLaws.AlikeNames.{Grown, grown-itself}
-use Rattle.redcode_text.proofs.ForLaws.AlikeReadings.{AreCounters, ReadAlike, reading-grown}
-use Rattle.redcode_text.proofs.ForLaws.HeadLines.{code-whole, is_code}
-use Rattle.redcode_text.proofs.ForLaws.KeptNames.{KeepNames, named-with, with-keeps}
-use Rattle.redcode_text.proofs.ForLaws.LoneLoops.{Alone, alone-then, alone-weaker, any-room, digits-code, line-alone, number-count, number-scan, number_token, put-alone, scan-alone}
-use Rattle.redcode_text.proofs.ForLaws.RenamedColumns.{second-is, first-is, to_blanks, to_second, to_word}
-use Rattle.redcode_text.proofs.ForLaws.RenamedScans.{behind-token, word-ascii, word-shows}
+use Rattle.redcode_text.specs.Lines.{operations}
+use Rattle.redcode_text.specs.Source.{LineKind, RofLine, ForLine, blank_len, equ_or_other, first_word_at, for_or, has_word, leading_word_at, line_kind, second_word_at}
+use Rattle.redcode_text.specs.Tokens.{is_word_byte, word_len}
+use Rattle.redcode_text.proofs.ForLaws.RenamedColumns.{second-is, first-is, to_blanks, to_word}
+use Rattle.redcode_text.proofs.ForLaws.RenamedScans.{word-shows}
 use Rattle.redcode_text.proofs.ForLaws.RenamedWords.{raw-front, raw-long, raw-taken, raw_of, rest-dropped, rest-front}
-use Rattle.redcode_text.proofs.ForLaws.TokensRead.{are_digits, decimal-is}
-use Rattle.redcode_text.proofs.ForLaws.WrittenWords.{no-parts}
 
 -- the head of a loop of n rounds with this counter
 abbrev pub IsCounterHead : List ℕ → List ℕ → ℕ → Type 0

@@ -1,36 +1,21 @@
 -- A line of instructions in a round of a loop with a counter is read as the line with the round written in place of the counter.
-use Rattle.std.proofs.Common.{◌≡◌, ◌∙◌, refl, ap, sym, subst, true≢false, ℕ, zero, suc, ◌+◌, ◌-◌, ◌^◌, ◌<◌, ◌≤◌, ◌==◌, ◌&&◌, ◌||◌, Bool, true, false, nat_le, nat_lt, List, [], ◌∷◌, ◌++◌, length, length-drop, length-append, drop, map, decimal, Option, Some, None, Result, Ok, Err, arith}
+use Rattle.std.proofs.Common.{◌≡◌, refl, sym, subst, ℕ, zero, suc, ◌+◌, true, false, nat_le, nat_lt, List, [], ◌∷◌, ◌++◌, length, Option, Some, None, Result, Ok, Err}
 use Rattle.std.specs.Prelude.{⊤}
-use Rattle.std.specs.List.{list_all, list_any}
-use Rattle.std.specs.Str.{bytes_eq}
-use Rattle.std.proofs.lemmas.Bool.{and_parts}
-use Rattle.std.proofs.lemmas.Bool.Decides.{nat_tests}
-use Rattle.std.proofs.lemmas.List.{length-map}
-use Rattle.std.specs.Char.{is_ascii_digit}
 use Rattle.redcode_text.specs.Results.{◌>>=◌}
 use Rattle.redcode_text.specs.declared.fault.TextProblem.{TextProblem}
-use Rattle.redcode_text.specs.declared.fault.TextProblem.TheVariants.{Duplicate, EquDepth, TooLong}
+use Rattle.redcode_text.specs.declared.fault.TextProblem.TheVariants.{Duplicate, TooLong}
 use Rattle.redcode_text.specs.declared.token.Token.{Token}
 use Rattle.redcode_text.specs.declared.token.TokenKind.{TokenKind}
 use Rattle.redcode_text.specs.declared.token.TokenKind.TheVariants.{Number, Name}
 use Rattle.redcode_text.specs.declared.token.TokenKind.TheVariants as token
-use Rattle.redcode_text.specs.Equates.{depth_limit, equate_lines, limit}
+use Rattle.redcode_text.specs.Equates.{limit}
 use Rattle.redcode_text.specs.Expression.{kinds}
-use Rattle.redcode_text.specs.Laws.{HasItsJoins, IsCounterName, IsInstructionLine, IsLine, begins_and, written_from, written_line, written_text, written_word}
-use Rattle.redcode_text.specs.Lines.{Parts, Predefined, Reading, WithTokens, before_comment, comment_line, each_line, is_operation, line_added, line_read, may_label, operation_lines, ordinary_line, ordinary_with, parts_of, parts_read, parts_within, plain_line, row_tokens, split_colon, tokens_counted, tokens_line, unless_ended}
-use Rattle.redcode_text.specs.Source.{Row, LineKind, OtherLine, is_comment, line_kind}
-use Rattle.redcode_text.specs.Tokens.{OpenLoop, Scanned, begins_name, begins_word, is_word_byte, round_of, tokens}
+use Rattle.redcode_text.specs.Lines.{Parts, Predefined, Reading, each_line, is_operation, line_read, may_label, operation_lines, ordinary_line, ordinary_with, parts_of, parts_read, parts_within, split_colon, tokens_counted, unless_ended}
+use Rattle.redcode_text.specs.Tokens.{OpenLoop}
 use Rattle.redcode_text.proofs.ForLaws.Agreement.{Pairwise}
-use Rattle.redcode_text.proofs.ForLaws.AlikeLines.{ordinary-alike}
-use Rattle.redcode_text.proofs.ForLaws.AlikeReadings.{ReadAlike, ReadOn, SameRow, like_row, line-read-alike, row-alike}
-use Rattle.redcode_text.proofs.ForLaws.AlikeResults.{Together, together-made}
 use Rattle.redcode_text.proofs.ForLaws.AlikeTokens.{PlacedToken}
-use Rattle.redcode_text.proofs.ForLaws.LoneLoops.{no-counter}
-use Rattle.redcode_text.proofs.ForLaws.RenamedResults.{BothGive, both-elim, both-made, both-then}
+use Rattle.redcode_text.proofs.ForLaws.RenamedResults.{BothGive, both-elim, both-then}
 use Rattle.redcode_text.proofs.ForLaws.SameNames.{SameKind, SameTokens}
-use Rattle.redcode_text.proofs.ForLaws.TokensRead.{decimal-is}
-use Rattle.redcode_text.proofs.ForLaws.WrittenTokens.{SameScan, scan-same}
-use Rattle.redcode_text.proofs.Kept.{Kept, loops_of, plain-kept}
 
 -- ---- other open loops
 

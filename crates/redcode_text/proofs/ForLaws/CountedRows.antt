@@ -1,5 +1,5 @@
 -- A row of a round and the row in its place, in two readings of which the first has the loop open.
-use Rattle.std.proofs.Common.{◌≡◌, ◌∙◌, refl, ap, sym, subst, true≢false, ℕ, zero, suc, ◌+◌, ◌-◌, ◌^◌, ◌<◌, ◌≤◌, ◌==◌, ◌&&◌, ◌||◌, nat_le, Bool, true, false, List, [], ◌∷◌, ◌++◌, length, drop, map, decimal, Option, Some, None, Result, Ok, Err, arith}
+use Rattle.std.proofs.Common.{◌≡◌, ◌∙◌, refl, ap, sym, subst, true≢false, ℕ, zero, suc, ◌+◌, ◌-◌, ◌^◌, ◌<◌, ◌≤◌, ◌==◌, ◌||◌, nat_le, Bool, true, false, List, [], ◌∷◌, ◌++◌, length, decimal, Some, None, Result, Ok, Err, arith}
 use Rattle.std.specs.Char.{is_ascii_digit}
 use Rattle.std.specs.List.{list_all, list_any}
 use Rattle.std.proofs.lemmas.Bool.{and_parts}
@@ -13,11 +13,11 @@ use Rattle.redcode_text.specs.Equates.{depth_limit, limit}
 use Rattle.redcode_text.specs.Expression.{kinds}
 use Rattle.redcode_text.specs.Laws.{HasItsJoins, IsCounterName, IsInstructionLine, begins_and, has_its_joins, written_line, written_text, written_word}
 use Rattle.redcode_text.specs.Lines.{Predefined, Reading, WithTokens, before_comment, comment_line, line_read, ordinary_line, plain_line, row_tokens, tokens_line}
-use Rattle.redcode_text.specs.Source.{Row, LineKind, OtherLine, is_comment, line_kind}
-use Rattle.redcode_text.specs.Tokens.{OpenLoop, Scanned, begins_name, begins_word, is_letter, is_word_byte, parts_at_joins, round_of, tokens}
+use Rattle.redcode_text.specs.Source.{Row, LineKind, OtherLine}
+use Rattle.redcode_text.specs.Tokens.{OpenLoop, begins_name, begins_word, is_word_byte, round_of, tokens}
 use Rattle.redcode_text.proofs.ForLaws.AlikeLines.{ordinary-alike}
 use Rattle.redcode_text.proofs.ForLaws.AlikeReadings.{ReadAlike, ReadOn, SameRow, like_row, line-read-alike, row-alike}
-use Rattle.redcode_text.proofs.ForLaws.AlikeResults.{Together, together-made}
+use Rattle.redcode_text.proofs.ForLaws.AlikeResults.{together-made}
 use Rattle.redcode_text.proofs.ForLaws.SameNames.{SameTokens}
 use Rattle.redcode_text.proofs.ForLaws.CountedLines.{kinds-on, ordinary-opened}
 use Rattle.redcode_text.proofs.ForLaws.LoneLoops.{digit-begins-none, no-counter}

@@ -1,6 +1,6 @@
 -- Alike readings stay alike where a loop with a counter is read in the first alone, and what its rounds write in the second.
-use Rattle.std.proofs.Common.{◌≡◌, ◌∙◌, refl, ap, sym, subst, true≢false, ℕ, suc, ◌+◌, ◌-◌, ◌^◌, ◌<◌, ◌≤◌, pos, ◌&&◌, ◌⊎◌, inl, inr, Bool, true, false, cond, nat_le, nat_lt, List, [], ◌∷◌, ◌++◌, length, drop, codes, decimal, Option, Some, None, Result, Ok, Err, append_assoc, arith}
-use Rattle.std.specs.Prelude.{⊤, ℤ}
+use Rattle.std.proofs.Common.{◌≡◌, ◌∙◌, refl, ap, sym, subst, ℕ, ◌+◌, ◌-◌, ◌^◌, ◌<◌, pos, ◌&&◌, inl, inr, Bool, true, false, cond, nat_le, nat_lt, List, [], ◌∷◌, ◌++◌, length, codes, Option, Some, Result, Ok, Err, arith}
+use Rattle.std.specs.Prelude.{⊤}
 use Rattle.std.specs.List.{list_all}
 use Rattle.std.specs.Str.Parse.{digits_value}
 use Rattle.std.proofs.lemmas.Bool.{lt-ltb}
@@ -11,15 +11,14 @@ use Rattle.redcode_text.specs.Results.{◌>>=◌}
 use Rattle.redcode_text.specs.declared.fault.TextProblem.{TextProblem}
 use Rattle.redcode_text.specs.declared.fault.TextProblem.TheVariants.{BadCount}
 use Rattle.redcode_text.specs.declared.token.Token.{Token}
-use Rattle.redcode_text.specs.declared.token.TokenKind.{TokenKind}
-use Rattle.redcode_text.specs.declared.token.TokenKind.TheVariants.{Number, Name}
+use Rattle.redcode_text.specs.declared.token.TokenKind.TheVariants.{Number}
 use Rattle.redcode_text.specs.Equates.{limit}
-use Rattle.redcode_text.specs.Expansion.{Head, as_count, count_limit, count_of, counter_name, for_word_at, head_line, room_for_loop}
+use Rattle.redcode_text.specs.Expansion.{Head, count_limit, count_of, counter_name, for_word_at, head_line, room_for_loop}
 use Rattle.redcode_text.specs.Expression.{kinds}
 use Rattle.redcode_text.specs.Laws.{IsCounterName}
 use Rattle.redcode_text.specs.Lines.{Predefined, Reading, WithTokens, before_comment, line_read, name_at, name_in_front, row_tokens, tokens_after, tokens_before}
-use Rattle.redcode_text.specs.Source.{ForLine, LineKind, Row, line_kind, second_word_at}
-use Rattle.redcode_text.specs.Tokens.{OpenLoop, Scanned, tokens}
+use Rattle.redcode_text.specs.Source.{ForLine, Row, line_kind}
+use Rattle.redcode_text.specs.Tokens.{Scanned, tokens}
 use Rattle.redcode_text.proofs.ForLaws.AlikeCounts.{grows-no-more, headed}
 use Rattle.redcode_text.proofs.ForLaws.AlikeNames.{Grown, grown-itself}
 use Rattle.redcode_text.proofs.ForLaws.AlikeReadings.{ReadAlike, reading-grown}

@@ -1,37 +1,28 @@
 -- The tokens of the line FOR of a loop with a counter, and what the line gives.
-use Rattle.std.proofs.Common.{◌≡◌, ◌∙◌, refl, ap, sym, subst, true≢false, ℕ, suc, ◌+◌, ◌-◌, ◌^◌, ◌<◌, ◌≤◌, pos, ◌==◌, ◌&&◌, ◌||◌, ◌⊎◌, inl, inr, Bool, true, false, cond, nat_le, nat_lt, List, [], ◌∷◌, ◌++◌, length, take, drop, codes, decimal, Option, Some, None, Result, Ok, Err, not, append_assoc, arith}
-use Rattle.std.specs.Prelude.{⊤, ℤ}
+use Rattle.std.proofs.Common.{◌≡◌, ◌∙◌, refl, ap, sym, subst, true≢false, ℕ, suc, ◌+◌, ◌-◌, ◌^◌, ◌<◌, ◌≤◌, pos, ◌&&◌, ◌⊎◌, inl, inr, Bool, true, false, cond, List, [], ◌∷◌, ◌++◌, length, take, drop, codes, Option, Some, None, Result, Ok, Err, not, arith}
+use Rattle.std.specs.Prelude.{ℤ}
 use Rattle.std.specs.Char.{is_ascii, is_ascii_digit}
-use Rattle.std.specs.List.{list_all, list_any}
+use Rattle.std.specs.List.{list_all}
 use Rattle.std.specs.Str.Parse.{digits_value}
-use Rattle.std.proofs.lemmas.Bool.{and_parts, lt-ltb}
+use Rattle.std.proofs.lemmas.Bool.{and_parts}
 use Rattle.std.proofs.lemmas.Bool.Decides.{nat_tests}
-use Rattle.std.proofs.lemmas.Fmt.{digits_value-decimal}
-use Rattle.std.proofs.lemmas.List.{append-nil}
-use Rattle.std.proofs.lemmas.List.Folds.{list_all-append}
 use Rattle.redcode_text.specs.Results.{◌>>=◌}
 use Rattle.redcode_text.specs.declared.fault.TextProblem.{TextProblem}
-use Rattle.redcode_text.specs.declared.fault.TextProblem.TheVariants.{BadCount, BadToken, NotAscii, TooLong}
+use Rattle.redcode_text.specs.declared.fault.TextProblem.TheVariants.{BadToken, NotAscii}
 use Rattle.redcode_text.specs.declared.token.Token.{Token}
 use Rattle.redcode_text.specs.declared.token.TokenKind.{TokenKind}
 use Rattle.redcode_text.specs.declared.token.TokenKind.TheVariants.{Number, Name}
-use Rattle.redcode_text.specs.Equates.{limit}
-use Rattle.redcode_text.specs.Expansion.{Head, as_count, count_limit, count_of, counter_name, for_word_at, head_line, room_for_loop}
-use Rattle.redcode_text.specs.Expression.{kinds}
 use Rattle.redcode_text.specs.Laws.{IsCounterName}
-use Rattle.redcode_text.specs.Lines.{Predefined, Reading, WithTokens, before_comment, line_read, name_at, name_in_front, row_tokens, tokens_after, tokens_before}
-use Rattle.redcode_text.specs.Source.{ForLine, Row, line_kind, second_word_at}
-use Rattle.redcode_text.specs.Tokens.{Found, OpenLoop, Scanned, begins_name, begins_word, is_blank, is_letter, is_word_byte, join_parts, name_found, name_index, number_found, parts_at_joins, plain_word_found, round_of, scan_from, sign_token, token_at, tokens, with_name, with_room, with_token, word_found, word_len, word_token}
-use Rattle.redcode_text.proofs.ForLaws.AlikeCounts.{grows-no-more, headed}
-use Rattle.redcode_text.proofs.ForLaws.AlikeNames.{Grown, grown-itself}
-use Rattle.redcode_text.proofs.ForLaws.AlikeReadings.{AreCounters, ReadAlike, reading-grown}
-use Rattle.redcode_text.proofs.ForLaws.CountedHeads.{IsCounterHead, IsLetters, behind-name, head-kind, letters, long-name, raw-name, second-at}
-use Rattle.redcode_text.proofs.ForLaws.HeadLines.{code-whole, is_code}
+use Rattle.redcode_text.specs.Lines.{name_at}
+use Rattle.redcode_text.specs.Tokens.{Found, OpenLoop, Scanned, begins_name, begins_word, is_letter, is_word_byte, join_parts, name_index, number_found, round_of, scan_from, sign_token, token_at, tokens, with_name, with_room, with_token, word_found, word_len, word_token}
+use Rattle.redcode_text.proofs.ForLaws.AlikeReadings.{AreCounters}
+use Rattle.redcode_text.proofs.ForLaws.CountedHeads.{IsLetters, behind-name, letters, raw-name}
+use Rattle.redcode_text.proofs.ForLaws.HeadLines.{is_code}
 use Rattle.redcode_text.proofs.ForLaws.KeptNames.{KeepNames, named-with, with-keeps}
-use Rattle.redcode_text.proofs.ForLaws.LoneLoops.{Alone, alone-then, alone-weaker, any-room, digits-code, line-alone, number-count, number-scan, number_token, put-alone, scan-alone}
+use Rattle.redcode_text.proofs.ForLaws.LoneLoops.{Alone, alone-then, alone-weaker, number-scan, number_token, put-alone}
 use Rattle.redcode_text.proofs.ForLaws.RenamedScans.{behind-token, word-ascii, word-shows}
 use Rattle.redcode_text.proofs.ForLaws.RenamedWords.{raw-taken}
-use Rattle.redcode_text.proofs.ForLaws.TokensRead.{are_digits, begins, decimal-is}
+use Rattle.redcode_text.proofs.ForLaws.TokensRead.{begins}
 use Rattle.redcode_text.proofs.ForLaws.WrittenWords.{no-parts}
 
 letter-no-digit : (b : ℕ) → is_letter b ≡ true → is_ascii_digit b ≡ false

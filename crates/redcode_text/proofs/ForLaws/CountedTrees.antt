@@ -1,16 +1,16 @@
 -- Trees of a loop with a counter, and of what its rounds write; texts with such trees.
-use Rattle.std.proofs.Common.{◌≡◌, ◌∙◌, refl, ap, sym, subst, true≢false, ℕ, zero, suc, ◌+◌, ◌^◌, ◌<◌, ◌≤◌, ◌==◌, ◌&&◌, ◌||◌, Bool, true, false, List, [], ◌∷◌, ◌++◌, length, drop, map, nat_eq, append_assoc, inl, inr, arith}
+use Rattle.std.proofs.Common.{◌≡◌, ◌∙◌, refl, ap, sym, subst, ℕ, zero, suc, ◌+◌, ◌^◌, ◌<◌, ◌≤◌, ◌==◌, ◌&&◌, ◌||◌, Bool, true, false, List, [], ◌∷◌, ◌++◌, length, drop, map, nat_eq, append_assoc, inr, arith}
 use Rattle.std.specs.Prelude.{codes, decimal}
-use Rattle.std.specs.List.{AllByRecursion, list_all, list_any, starts_with}
+use Rattle.std.specs.List.{AllByRecursion, list_any, starts_with}
 use Rattle.std.proofs.lemmas.Bool.Decides.{nat_tests}
-use Rattle.redcode_text.specs.Laws.{HasItsJoins, IsBodyLine, IsCounterName, IsInstructionLine, IsLine, counter_lines, is_loop_kind, text_of_lines, written_line, written_rounds, written_text}
+use Rattle.redcode_text.specs.Laws.{HasItsJoins, IsBodyLine, IsCounterName, IsInstructionLine, IsLine, counter_lines, is_loop_kind, text_of_lines, written_line, written_rounds}
 use Rattle.redcode_text.specs.Lines.{before_comment}
-use Rattle.redcode_text.specs.Source.{ForLine, Items, Loop, Nothing, Pairing, Row, begins_redcode, blank_len, has_directive, is_comment, line_kind, lines_of, paired, paired_with, rows_from, second_word_at, tree_of, without_blanks}
+use Rattle.redcode_text.specs.Source.{Loop, Nothing, Pairing, Row, has_directive, line_kind, paired, paired_with, rows_from, tree_of}
 use Rattle.redcode_text.specs.Tokens.{is_word_byte}
 use Rattle.redcode_text.proofs.ForLaws.CountedHeads.{IsCounterHead, head-kind, l, no-blank, whole}
 use Rattle.redcode_text.proofs.ForLaws.CountedRows.{IsWritten, none-written}
 use Rattle.redcode_text.proofs.ForLaws.RenamedTrees.{any-both, line-tail, no-directive, word-line, word-no-feed}
-use Rattle.redcode_text.proofs.ForLaws.WrittenTrees.{AreCopies, LinesAlike, PairsAlike, RowsWritten, TreesAlike, WaitingAlike, all-append, begins, behind_rows, body-paired, cut-alike, decimal-line, front-none, lines-read, lines-themselves, onto, rows-tree}
+use Rattle.redcode_text.proofs.ForLaws.WrittenTrees.{AreCopies, LinesAlike, PairsAlike, RowsWritten, TreesAlike, WaitingAlike, all-append, begins, body-paired, cut-alike, decimal-line, front-none, lines-read, lines-themselves, onto, rows-tree}
 
 -- ---- lines
 

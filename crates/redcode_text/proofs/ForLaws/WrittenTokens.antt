@@ -1,5 +1,5 @@
 -- A text in a round of a loop has the tokens of the text with the round written in place of the counter.
-use Rattle.std.proofs.Common.{◌≡◌, ◌∙◌, refl, ap, sym, subst, true≢false, ℕ, zero, suc, ◌+◌, ◌-◌, ◌^◌, ◌<◌, ◌≤◌, ◌==◌, ◌&&◌, ◌||◌, Bool, true, false, nat_lt, List, [], ◌∷◌, ◌++◌, length, length-drop, drop, map, decimal, None, Some, Result, Ok, Err, arith}
+use Rattle.std.proofs.Common.{◌≡◌, ◌∙◌, refl, ap, sym, subst, true≢false, ℕ, zero, suc, ◌+◌, ◌-◌, ◌^◌, ◌<◌, ◌≤◌, ◌==◌, ◌&&◌, ◌||◌, Bool, true, false, nat_lt, List, [], ◌∷◌, ◌++◌, length, length-drop, drop, decimal, None, Some, Result, Ok, Err, arith}
 use Rattle.std.specs.Char.{is_ascii_digit}
 use Rattle.std.specs.List.{list_all}
 use Rattle.std.specs.Str.{bytes_eq}
@@ -15,8 +15,8 @@ use Rattle.redcode_text.specs.Tokens.{Found, OpenLoop, Scanned, begins_name, beg
 use Rattle.redcode_text.proofs.ForLaws.RenamedResults.{BothGive, both-cond, both-then}
 use Rattle.redcode_text.proofs.ForLaws.RenamedScans.{behind-token, word-shows}
 use Rattle.redcode_text.proofs.ForLaws.RenamedWords.{rest_of}
-use Rattle.redcode_text.proofs.ForLaws.WrittenScans.{Good, SameStep, W, inside, token-step}
-use Rattle.redcode_text.proofs.ForLaws.WrittenTexts.{and-bytes, either-word, first-byte, its-other, its-word, other-front, word-front}
+use Rattle.redcode_text.proofs.ForLaws.WrittenScans.{Good, SameStep, W, token-step}
+use Rattle.redcode_text.proofs.ForLaws.WrittenTexts.{and-bytes, first-byte, its-other, its-word, other-front, word-front}
 
 -- the same tokens wherever they stand, and the same names
 pub record SameScan (s t : Scanned) : Type 0 where
