@@ -95,7 +95,7 @@ row_renamed = refl
 -- ---- counters written in place
 
 -- the counter is written as a number, its joins with two digits; `&&` is no join
-pub row_written : written_text (codes "i") 3 (codes "x&i&i DAT i, (i2 && i)+&i") ≡ codes "x0303 DAT 3, (i2 && 3)+03"
+pub row_written : written_text (codes "i") 3 (codes "x&i&i DAT i, (i2&&i)+&i") ≡ codes "x0303 DAT 3, (i2&&3)+03"
 unfolding digits
 row_written = refl
 
