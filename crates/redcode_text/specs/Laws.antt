@@ -114,10 +114,11 @@ renamed_comment rename bytes =
       | false ↦ bytes
     ]
 
+-- another line is renamed with its comment, which means nothing
 abbrev pub renamed_line : (List ℕ → List ℕ) → List ℕ → List ℕ
 renamed_line rename bytes = elim (is_comment bytes) [ true ↦ renamed_comment rename bytes | false ↦ renamed_text rename bytes ]
 
--- a source with its names renamed
+-- a source with its names renamed, and its last line ended
 abbrev pub renamed : (List ℕ → List ℕ) → List ℕ → List ℕ
 renamed rename source = text_of_lines (map (renamed_line rename) (lines_of source))
 
