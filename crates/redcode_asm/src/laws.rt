@@ -1,5 +1,5 @@
 //! Laws of the definitions. The functions do nothing; their contracts are the laws.
-ghost use Rattle.redcode_asm.specs.Laws.{AlikeSourcesAssembleAlike, AssembledLoadIsRead, CellIsAssembled, CellIsScanned, InstructionsInFrontMoveNothing, LoadFileIsSource, LoopsAreWrittenOut, NamesAreFree, NamesOfSourcesAreFree, RenamedSourcesAreTheSame, ScoresHaveValues};
+ghost use Rattle.redcode_asm.specs.Laws.{AlikeSourcesAssembleAlike, AssembledLoadIsRead, CellIsAssembled, CellIsScanned, CounterLoopsAreWrittenOut, InstructionsInFrontMoveNothing, LoadFileIsSource, LoopsAreWrittenOut, NamesAreFree, NamesOfSourcesAreFree, RenamedSourcesAreTheSame, ScoresHaveValues};
 
 /// `Formula::score` of a formula that `Formula::new` read is refused by DivideByZero and Range alone.
 pub fn scores_have_values()
@@ -40,6 +40,14 @@ pub fn alike_sources_assemble_alike()
 /// `;redcode`; what stands before and behind the loop may be anything, so it may be inside other loops.
 pub fn loops_are_written_out()
     ensures { LoopsAreWrittenOut }
+{}
+
+/// A loop with a counter, written out by hand, gives the same warrior: where a source with `i FOR n`, some lines and `ROF`
+/// is assembled, so is the source with those lines for each round in its place, with the round for the counter and its
+/// digits for the counter's joins. The lines are instructions alone, their joins are the counter's, and its name is no
+/// operation and doesn't end in a digit; before and behind may stand anything.
+pub fn counter_loops_are_written_out()
+    ensures { CounterLoopsAreWrittenOut }
 {}
 
 /// An instruction in front moves nothing: where it has no label, and no name of the program is CURLINE, the cells are its

@@ -28,6 +28,7 @@ pub use Rattle.redcode_text.proofs.Named.{AreDistinct, IsNamed}
 pub use Rattle.redcode_text.proofs.ForLaws.SameNames.{SameAssert, SameEquate, SameKind, SameLine, SameName, SameToken, SameTokens, asserts-same, equates-same, index-same, lines-same}
 pub use Rattle.redcode_text.proofs.ForLaws.SourcePrograms.{loops-written-out, source-named}
 pub use Rattle.redcode_text.proofs.ForLaws.AlikeResults.{pairwise-map}
+pub use Rattle.redcode_text.proofs.ForLaws.CountedOut.{counter-loops}
 pub use Rattle.redcode_text.proofs.ForLaws.RenamedKinds.{operation-same}
 pub use Rattle.redcode_text.proofs.ForLaws.RenamedPrograms.{RenamedProgram, source-renamed}
 pub use Rattle.redcode_text.proofs.ForLaws.RenamedReadings.{RenamedAssert, RenamedEquate, RenamedLine, SameKinds, name-renamed, value-renamed}

@@ -10,6 +10,13 @@ pub mod AlikeSteps
 pub mod AlikeTokens
 pub mod AlikeValues
 pub mod BehindEnd
+pub mod CountedHeads
+pub mod CountedLines
+pub mod CountedOut
+pub mod CountedRows
+pub mod CountedSteps
+pub mod CountedTokens
+pub mod CountedTrees
 pub mod HeadLines
 pub mod KeptNames
 pub mod LineRead

@@ -17,10 +17,10 @@ use Rattle.redcode_text.specs.Alike.{AreAlike}
 use Rattle.redcode_text.specs.Bytes.{ampersand, line_feed}
 use Rattle.redcode_text.specs.Expression.{Tree, kinds, shape, start, tree_within}
 use Rattle.redcode_text.specs.Trees.{IsLevelled, IsWithin, spelling}
-use Rattle.redcode_text.specs.Source.{Row, Items, Loop, LineKind, RofLine, ForLine, begins_redcode, directive_text_at, has_directive, has_directive_word, is_comment, line_kind, lines_of, read_rows, tree_of, tree_of_rows}
+use Rattle.redcode_text.specs.Source.{Row, Items, Loop, LineKind, RofLine, ForLine, OtherLine, begins_redcode, directive_text_at, has_directive, has_directive_word, is_comment, line_kind, lines_of, read_rows, tree_of, tree_of_rows}
 use Rattle.redcode_text.specs.Tokens.{OpenLoop, Scanned, begins_name, begins_word, is_word_byte, parts_at_joins, round_digits, round_of, tokens, word_len}
 use Rattle.redcode_text.specs.Equates.{equate_lines}
-use Rattle.redcode_text.specs.Lines.{Reading, Predefined, Parts, line_read, tokens_counted, operations, parts_of, ordinary_line, predefined_value, unless_ended, with_current_line}
+use Rattle.redcode_text.specs.Lines.{Reading, Predefined, Parts, before_comment, line_read, tokens_counted, operations, parts_of, ordinary_line, predefined_value, unless_ended, with_current_line}
 use Rattle.redcode_text.specs.Expansion.{Head, ProgramValue, expansion, flat, head_line, nothing_read, rounds}
 
 -- lines before the first `;redcode` have no effect
@@ -114,10 +114,11 @@ renamed_comment rename bytes =
       | false ↦ bytes
     ]
 
+-- another line is renamed with its comment, which means nothing
 abbrev pub renamed_line : (List ℕ → List ℕ) → List ℕ → List ℕ
 renamed_line rename bytes = elim (is_comment bytes) [ true ↦ renamed_comment rename bytes | false ↦ renamed_text rename bytes ]
 
--- a source with its names renamed
+-- a source with its names renamed, and its last line ended
 abbrev pub renamed : (List ℕ → List ℕ) → List ℕ → List ℕ
 renamed rename source = text_of_lines (map (renamed_line rename) (lines_of source))
 
@@ -202,6 +203,47 @@ CountersAreWrittenInPlace = (counter : List ℕ) (round line at to room : ℕ) (
     → has_its_joins counter 0 bytes ≡ true
     → unplaced_scan (tokens (record { counter = Some counter; round = round } ∷ loops) line at room names bytes)
     ≡ unplaced_scan (tokens loops line to room names (written_text counter round bytes))
+
+-- ---- loops with a counter written out
+
+-- a line in a round: without its comment, and with the round in place of the counter
+abbrev pub written_line : List ℕ → ℕ → List ℕ → List ℕ
+written_line counter round line = written_text counter round (before_comment line)
+
+-- these lines in n rounds, from one on, one after another
+abbrev pub written_rounds : List ℕ → ℕ → ℕ → List (List ℕ) → List (List ℕ)
+written_rounds counter round zero lines = []
+written_rounds counter round (suc n) lines = map (written_line counter round) lines ++ written_rounds counter (round + 1) n lines
+
+-- the lines of a loop of n rounds with a counter
+abbrev pub counter_lines : List ℕ → ℕ → List (List ℕ) → List (List ℕ)
+counter_lines counter n body = (counter ++ (codes " FOR " ++ decimal n)) ∷ (body ++ codes "ROF" ∷ [])
+
+-- a name that is no operation, and doesn't end in a digit
+pub record IsCounterName (counter : List ℕ) : Type 0 where
+  pub begins : begins_name counter ≡ true
+  pub word : list_all is_word_byte counter ≡ true
+  pub free : list_any (str_eq_ignore_ascii_case counter) operations ≡ false
+  pub bare : (word : List ℕ) (digit : ℕ) → is_ascii_digit digit ≡ true → bytes_eq counter (word ++ digit ∷ []) ≡ false
+
+-- a line that is no FOR, ROF or EQU, and no comment alone
+pub record IsInstructionLine (line : List ℕ) : Type 0 where
+  pub kind : line_kind line ≡ OtherLine
+  pub plain : is_comment line ≡ false
+
+-- whether each join of a line is the counter's
+abbrev pub HasItsJoins : List ℕ → List ℕ → Type 0
+HasItsJoins counter line = has_its_joins counter 0 (before_comment line) ≡ true
+
+-- A loop with a counter, written out by hand, gives the same program: where a source with the loop is read, so is the source with the loop's body for
+-- each round in its place, to a program that is the same, name for name. The body and what is written are lines of instructions alone, and each join in the body
+-- is the counter's. Before and behind it may stand any lines. It holds one way only, as without a counter.
+abbrev pub CounterLoopsAreWrittenOut : Type 0
+CounterLoopsAreWrittenOut = (ps : Predefined) (counter : List ℕ) (n : ℕ) (before body after : List (List ℕ)) (s : ProgramValue)
+    → IsCounterName counter → n < 2 ^ 63 → All IsLine before → All IsLine body → All IsLine after → All IsInstructionLine body → All (HasItsJoins counter) body
+    → All IsInstructionLine (written_rounds counter 1 n body)
+    → expansion ps (text_of_lines (before ++ (counter_lines counter n body ++ after))) ≡ Ok s
+    → (t : ProgramValue) × (expansion ps (text_of_lines (before ++ (written_rounds counter 1 n body ++ after))) ≡ Ok t) × AreAlike s t
 
 -- ---- the shape of an expression
 

@@ -1,6 +1,6 @@
 //! Laws of the definitions: what the text of a source means, apart from how it is read. The functions do nothing; their
 //! contracts are the laws.
-ghost use Rattle.redcode_text.specs.Laws.{CountersAreWrittenInPlace, LinesBeforeRedcodeAreUnread, LinesBehindEndAreUnread, LinesInNoRoundAreUnread, LoopsAreWrittenOut, MisshapenAtFirst, OperationsAreWrittenInPlace, RoundsAddUp, ShapesAreTrees, TreesHaveShapes};
+ghost use Rattle.redcode_text.specs.Laws.{CounterLoopsAreWrittenOut, CountersAreWrittenInPlace, LinesBeforeRedcodeAreUnread, LinesBehindEndAreUnread, LinesInNoRoundAreUnread, LoopsAreWrittenOut, MisshapenAtFirst, OperationsAreWrittenInPlace, RoundsAddUp, ShapesAreTrees, TreesHaveShapes};
 
 /// Lines before the first `;redcode` have no effect.
 pub fn lines_before_redcode_are_unread()
@@ -32,6 +32,14 @@ pub fn rounds_add_up()
 /// may be inside other loops.
 pub fn loops_are_written_out()
     ensures { LoopsAreWrittenOut }
+{}
+
+/// A loop with a counter, written out by hand, gives the same program: where a source with `i FOR n`, some lines and `ROF`
+/// is read, so is the source with those lines for each round in its place, with the round for the counter and its digits
+/// for the counter's joins, to a program that is the same, name for name. The lines are instructions alone, their joins
+/// are the counter's, and its name is no operation and doesn't end in a digit; before and behind may stand anything.
+pub fn counter_loops_are_written_out()
+    ensures { CounterLoopsAreWrittenOut }
 {}
 
 /// In a round of a loop a text has the tokens of the text with the round written in place of the counter, and its digits in

@@ -6,8 +6,8 @@ use Rattle.redcode_text.specs.Results.{◌>>=◌}
 use Rattle.redcode_text.specs.declared.fault.TextFault.{TextFault}
 use Rattle.redcode_text.specs.Alike.{AreAlike}
 use Rattle.redcode_text.specs.Expansion.{ProgramValue, expansion}
-use Rattle.redcode_text.specs.Laws.{IsBodyLine, IsLine, copies, loop_lines, text_of_lines}
-use Rattle.redcode_text.proofs.CallerLemmas.{loops-written-out, source-named}
+use Rattle.redcode_text.specs.Laws.{HasItsJoins, IsBodyLine, IsCounterName, IsInstructionLine, IsLine, copies, counter_lines, loop_lines, text_of_lines, written_rounds}
+use Rattle.redcode_text.proofs.CallerLemmas.{counter-loops, loops-written-out, source-named}
 use Rattle.redcode_asm.specs.Assembly.{assembly, predefined, text_read, warrior_of}
 use Rattle.redcode_asm.proofs.ForLaws.AlikePrograms.{alike-warrior}
 
@@ -43,3 +43,13 @@ loops-assembled p rounds warriors n before body after w small first inside last 
     alike-assembled p rounds warriors (text_of_lines (before ++ (loop_lines n body ++ after)))
     (text_of_lines (before ++ (copies n body ++ after))) w
     (λ s is. loops-written-out (predefined p rounds warriors) n before body after s small first inside last plain is)
+
+pub counter-assembled : (p : Parameters) (rounds warriors : ℕ) (counter : List ℕ) (n : ℕ) (before body after : List (List ℕ)) (w : WarriorValue)
+    → IsCounterName counter → n < 2 ^ 63 → All IsLine before → All IsLine body → All IsLine after → All IsInstructionLine body → All (HasItsJoins counter) body
+    → All IsInstructionLine (written_rounds counter 1 n body)
+    → assembly p rounds warriors (text_of_lines (before ++ (counter_lines counter n body ++ after))) ≡ Ok w
+    → assembly p rounds warriors (text_of_lines (before ++ (written_rounds counter 1 n body ++ after))) ≡ Ok w
+counter-assembled p rounds warriors counter n before body after w name small first inside last all joins written =
+    alike-assembled p rounds warriors (text_of_lines (before ++ (counter_lines counter n body ++ after)))
+    (text_of_lines (before ++ (written_rounds counter 1 n body ++ after))) w
+    (λ s is. counter-loops (predefined p rounds warriors) counter n before body after s name small first inside last all joins written is)

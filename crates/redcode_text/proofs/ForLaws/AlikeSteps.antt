@@ -1,5 +1,5 @@
 -- Alike readings stay alike: one loop without a counter may be read in the first alone.
-use Rattle.std.proofs.Common.{◌≡◌, subst, List, ◌∷◌, None}
+use Rattle.std.proofs.Common.{◌≡◌, ap, sym, subst, List, ◌∷◌, None}
 use Rattle.redcode_text.specs.Expansion.{Head, head_line, rof_line}
 use Rattle.redcode_text.specs.Lines.{Predefined, Reading, plain_line}
 use Rattle.redcode_text.specs.Tokens.{OpenLoop}
@@ -9,15 +9,16 @@ use Rattle.redcode_text.proofs.ForLaws.AlikeReadings.{LoopsAlike, ReadAlike, bot
 use Rattle.redcode_text.proofs.ForLaws.AlikeResults.{Together, together-made}
 use Rattle.redcode_text.proofs.ForLaws.LoneLoops.{alone-made, lone-head, lone-rof}
 use Rattle.redcode_text.proofs.ForLaws.Simulations.{IsSimulation}
+use Rattle.redcode_text.proofs.ForLaws.WrittenTrees.{IsCopy, IsPlainHead}
 
 -- other open loops
-loops-changed : (st other : Reading) → ReadAlike st other → (loops ls : List OpenLoop) → LoopsAlike loops ls
+pub loops-changed : (st other : Reading) → ReadAlike st other → (loops ls : List OpenLoop) → LoopsAlike loops ls
     → ReadAlike (record st { loops = loops }) (record other { loops = ls })
 loops-changed st other r loops ls h =
     counts-alike st other r loops ls h st.equate_grows other.equate_grows r.grows st.lines_read other.lines_read st.tokens_read
     other.tokens_read r.lines_read r.tokens_read
 
-pub simulation : (ps : Predefined) → IsSimulation ps ReadAlike
+pub simulation : (ps : Predefined) → IsSimulation ps ReadAlike IsPlainHead IsCopy None (λ round. ReadAlike)
 simulation ps =
     record {
       plain = λ st other a row like e r h.
@@ -47,4 +48,10 @@ simulation ps =
           (one-opened st.loops other.loops round r.loops);
       closed = λ st other a b r s. loops-changed a b s st.loops other.loops r.loops;
       ended = λ st other r. r.ended;
+      one_line = λ st other a row like round e r h. together-made ReadAlike a (plain_line ps row st) (plain_line ps like other)
+          (subst (λ bs. Together ReadAlike (plain_line ps row st)
+          (plain_line ps (record { number = like.number; at = like.at; bytes = bs }) other)) e
+          (plain-alike ps row like.number like.at st other r)) h;
+      one_closed = λ st other a b round r e s. subst (λ y. ReadAlike (record a { loops = st.loops }) y) (ap (λ l. record b { loops = l }) (sym e)) (loops-changed a b s st.loops other.loops r.loops);
+      one_ended = λ st other round r. r.ended;
     }

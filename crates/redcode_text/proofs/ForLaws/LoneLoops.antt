@@ -52,14 +52,14 @@ pub alone-weaker : {A E : Type 0} (P Q : A → Type 0) (r : Result A E) → Alon
 alone-weaker P Q (Ok a) h k = k a h
 alone-weaker P Q (Err e) h k = tt
 
-alone-own : {A E : Type 0} (R : A → A → Type 0) (r : Result A E) → Together R r r → Alone (λ a. R a a) r
+pub alone-own : {A E : Type 0} (R : A → A → Type 0) (r : Result A E) → Together R r r → Alone (λ a. R a a) r
 alone-own R (Ok a) h = h
 alone-own R (Err e) h = tt
 
 -- ---- lines of the first reading alone
 
 module _ (st other : Reading) (r : ReadAlike st other) where
-  line-alone : Alone (λ (a : Reading). ReadAlike a other) (line_read st)
+  pub line-alone : Alone (λ (a : Reading). ReadAlike a other) (line_read st)
   line-alone = go (nat_le limit st.lines_read)
     where
       go : (c : Bool) → Alone (λ (a : Reading). ReadAlike a other)
@@ -69,7 +69,7 @@ module _ (st other : Reading) (r : ReadAlike st other) where
           counts-alike st other r st.loops other.loops r.loops st.equate_grows other.equate_grows r.grows (st.lines_read + 1)
           other.lines_read st.tokens_read other.tokens_read (let k = r.lines_read in omega arith) r.tokens_read
 
-  scan-alone : (line at room : ℕ) (bs : List ℕ) → Alone (λ (s : Scanned). Grown st.names s.names) (tokens st.loops line at room st.names bs)
+  pub scan-alone : (line at room : ℕ) (bs : List ℕ) → Alone (λ (s : Scanned). Grown st.names s.names) (tokens st.loops line at room st.names bs)
   scan-alone line at room bs =
       let own = alone-own (SameScanned st.names st.names at at) (tokens st.loops line at room st.names bs)
       (scan-alike st.loops st.loops (λ name. refl) st.names st.names at at line line room room (omega arith) bs at at 0 refl
@@ -101,7 +101,7 @@ module _ (st other : Reading) (r : ReadAlike st other) where
       go (Err e) g q = tt
 
 -- any tokens
-no-matter : (x : Result Scanned TextProblem) → Alone (λ (s : Scanned). ⊤) x
+pub no-matter : (x : Result Scanned TextProblem) → Alone (λ (s : Scanned). ⊤) x
 no-matter (Ok s) = tt
 no-matter (Err e) = tt
 
@@ -118,7 +118,7 @@ lone-rof row st other r =
 -- ---- the tokens of FOR and a number
 
 -- a number is no counter
-no-counter : (loops : List OpenLoop) (word : List ℕ) → AreCounters loops → begins_name word ≡ false → round_of loops word ≡ None
+pub no-counter : (loops : List OpenLoop) (word : List ℕ) → AreCounters loops → begins_name word ≡ false → round_of loops word ≡ None
 no-counter [] word h e = refl
 no-counter (l ∷ ls) word h e = go l.counter h.0 (no-counter ls word h.1 e)
   where
@@ -131,13 +131,13 @@ no-counter (l ∷ ls) word h e = go l.counter h.0 (no-counter ls word h.1 e)
         test true same = let one : c ≡ word = (bytes_eq-Decides c word).0 same in absurd (true≢false (sym is ∙ ap begins_name one ∙ e))
         test false same = rest
 
-digit-begins-none : (d : ℕ) → is_ascii_digit d ≡ true → is_letter d ≡ false
+pub digit-begins-none : (d : ℕ) → is_ascii_digit d ≡ true → is_letter d ≡ false
 digit-begins-none d e = grind (arith, nat_tests)
 
 digit-code : (d : ℕ) → is_ascii_digit d ≡ true → is_code d ≡ true
 digit-code d e = grind (arith, nat_tests)
 
-digits-code : (ds : List ℕ) → list_all is_ascii_digit ds ≡ true → list_all is_code ds ≡ true
+pub digits-code : (ds : List ℕ) → list_all is_ascii_digit ds ≡ true → list_all is_code ds ≡ true
 digits-code [] e = refl
 digits-code (d ∷ ds) e =
     let l = and_parts (is_ascii_digit d) (list_all is_ascii_digit ds) e in
@@ -166,14 +166,14 @@ module _ (loops : List OpenLoop) (counters : AreCounters loops) (line room : ℕ
       go (Some round) = refl
       go None = refl
 
-  put-alone : (s : Scanned) (at : ℕ) (f : Found) → Alone (λ (t : Scanned). t ≡ with_token s line at f) (with_room room s line at f)
+  pub put-alone : (s : Scanned) (at : ℕ) (f : Found) → Alone (λ (t : Scanned). t ≡ with_token s line at f) (with_room room s line at f)
   put-alone s at f = go (nat_lt (length s.tokens) room)
     where
       go : (c : Bool) → Alone (λ (t : Scanned). t ≡ with_token s line at f) (cond c (Ok (with_token s line at f)) (Err TooLong))
       go true = refl
       go false = tt
 
-  skipped : (bs : List ℕ) (at : ℕ) (s : Scanned) → scan_from loops line room at (length bs) bs s ≡ Ok s
+  pub skipped : (bs : List ℕ) (at : ℕ) (s : Scanned) → scan_from loops line room at (length bs) bs s ≡ Ok s
   skipped [] at s = refl
   skipped (b ∷ bs) at s = skipped bs (at + 1) s
 
@@ -181,7 +181,7 @@ module _ (loops : List OpenLoop) (counters : AreCounters loops) (line room : ℕ
     word : list_all is_word_byte (d ∷ ds) ≡ true
     word = digits-are-word (d ∷ ds) digits
 
-    abbrev number_token : List (List ℕ) → Found
+    abbrev pub number_token : List (List ℕ) → Found
     number_token names = record { kind = Number (pos n); len = length (d ∷ ds); names = names }
 
     number-word : (names : List (List ℕ)) → word_token loops names (d ∷ ds) ≡ Ok (number_token names)
@@ -194,7 +194,7 @@ module _ (loops : List OpenLoop) (counters : AreCounters loops) (line room : ℕ
         ∙ ap (λ t. cond t (Ok (Number (pos n))) (Err BadToken) >>= λ kind. Ok
         (record { kind = kind; len = length (d ∷ ds); names = names })) (lt-ltb n (2 ^ 63) small)
 
-    number-found : (names : List (List ℕ)) → token_at loops names (d ∷ ds) ≡ Ok (number_token names)
+    pub number-found : (names : List (List ℕ)) → token_at loops names (d ∷ ds) ≡ Ok (number_token names)
     number-found names =
         let l = and_parts (is_word_byte d) (list_all is_word_byte ds) word in
         let len : word_len (d ∷ ds) ≡ length (d ∷ ds) = ap word_len (sym (append-nil (d ∷ ds))) ∙ whole-word (d ∷ ds) [] word refl in
@@ -211,7 +211,7 @@ module _ (loops : List OpenLoop) (counters : AreCounters loops) (line room : ℕ
         front true false e f = cc
         front false t e f = cc
 
-    number-scan : (place : ℕ) (t : Scanned) → Alone (λ (u : Scanned). u ≡ with_token t line place (number_token t.names))
+    pub number-scan : (place : ℕ) (t : Scanned) → Alone (λ (u : Scanned). u ≡ with_token t line place (number_token t.names))
         (scan_from loops line room place 0 (d ∷ ds) t)
     number-scan place t =
         let P : Scanned → Type 0 = λ u. u ≡ with_token t line place (number_token t.names) in
@@ -271,7 +271,7 @@ module _ (line at n : ℕ) (ts : List Token) (q : IsForTokens line at n ts) wher
       ap (tokens_after at) q.are ∙ (λ i. cond (a i) (first ∷ cond (b i) (second ∷ []) []) (cond (b i) (second ∷ []) []))
 
 -- the count of a number
-number-count : (ps : Predefined) (st : Reading) (n line from to : ℕ)
+pub number-count : (ps : Predefined) (st : Reading) (n line from to : ℕ)
     → count_of ps st (record { kind = Number (pos n); line = line; from = from; to = to } ∷ []) ≡ as_count (Ok (pos n))
 unfolding value_of tree_within
 number-count ps st n line from to = refl
@@ -280,7 +280,7 @@ number-count ps st n line from to = refl
 abbrev IsLoneHead : ℕ → Reading → Head → Type 0
 IsLoneHead n other h = (h.counter ≡ None) × (h.count ≡ n) × ReadAlike h.reading other
 
-any-room : (st : Reading) → Alone (λ (a : Reading). ⊤) (room_for_loop st)
+pub any-room : (st : Reading) → Alone (λ (a : Reading). ⊤) (room_for_loop st)
 any-room st = go (nat_le loop_limit (length st.loops))
   where
     go : (c : Bool) → Alone (λ (a : Reading). ⊤) (elim c as (λ _. Result Reading TextProblem) [ true ↦ Err TooLong | false ↦ Ok st ])

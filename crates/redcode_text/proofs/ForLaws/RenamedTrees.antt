@@ -59,7 +59,7 @@ joins-in-lines K (b ∷ bs) keeps = go (b == 10) (joins-in-lines K bs (λ e. kee
     go false all =
         all-onto (λ l. list_any (λ c. c == 38) l ≡ true → K) b (lines_of bs) (λ l f. here (b == 38) (list_any (λ c. c == 38) l) byte f) (here (b == 38) false byte (λ e. absurd (true≢false (sym e)))) all
 
-any-both : (xs ys : List ℕ) → IsLine xs → IsLine ys → IsLine (xs ++ ys)
+pub any-both : (xs ys : List ℕ) → IsLine xs → IsLine ys → IsLine (xs ++ ys)
 any-both [] ys e f = f
 any-both (x ∷ xs) ys e f = go (x == 10) e (any-both xs ys)
   where
@@ -67,7 +67,7 @@ any-both (x ∷ xs) ys e f = go (x == 10) e (any-both xs ys)
     go true e h = absurd (true≢false e)
     go false e h = h e f
 
-line-tail : (b : ℕ) (bs : List ℕ) → IsLine (b ∷ bs) → ((b == 10) ≡ false) × IsLine bs
+pub line-tail : (b : ℕ) (bs : List ℕ) → IsLine (b ∷ bs) → ((b == 10) ≡ false) × IsLine bs
 line-tail b bs e = go (b == 10) e
   where
     go : (t : Bool) → (t || list_any (λ c. c == 10) bs) ≡ false → (t ≡ false) × IsLine bs
@@ -82,12 +82,23 @@ line-taken (suc n) (b ∷ bs) e =
     let h = line-taken n bs t.1 in
     ((λ i. t.0 i || h.0 i), h.1)
 
-word-no-feed : (b : ℕ) → is_word_byte b ≡ true → (b == 10) ≡ false
+pub word-no-feed : (b : ℕ) → is_word_byte b ≡ true → (b == 10) ≡ false
 word-no-feed b e = grind (arith, nat_tests)
 
-word-line : (ws : List ℕ) → list_all is_word_byte ws ≡ true → IsLine ws
+pub word-line : (ws : List ℕ) → list_all is_word_byte ws ≡ true → IsLine ws
 word-line [] e = refl
 word-line (w ∷ ws) e = let l = and_parts (is_word_byte w) (list_all is_word_byte ws) e in let a = word-no-feed w l.0 in let b = word-line ws l.1 in λ i. a i || b i
+
+-- a line that is no comment is no directive
+lower-semicolon : (b : ℕ) → (nat_eq 59 b && true) ≡ false → nat_eq 59 (to_ascii_lowercase b) ≡ false
+lower-semicolon b e = grind (arith, nat_tests, e)
+
+pub no-directive : (word bytes : List ℕ) → is_comment bytes ≡ false → has_directive word bytes ≡ false
+no-directive word bytes e = go (without_blanks bytes) e
+  where
+    go : (l : List ℕ) → starts_with nat_eq l (59 ∷ []) ≡ false → starts_with nat_eq (str_to_ascii_lowercase l) (59 ∷ word) ≡ false
+    go [] e = refl
+    go (b ∷ l) e = ap (λ t. t && starts_with nat_eq (str_to_ascii_lowercase l) word) (lower-semicolon b e)
 
 -- ---- trees
 
@@ -132,16 +143,6 @@ module _ (ps : Predefined) (rename : List ℕ → List ℕ) (r : IsRenaming ps r
   rows-renamed [] number at to all = tt
   rows-renamed (l ∷ ls) number at to all =
       (record { number = refl; bytes = refl; joins = all.0 }, rows-renamed ls (number + 1) (at + length l + 1) (to + length (renamed_line rename l) + 1) all.1)
-
-  lower-semicolon : (b : ℕ) → (nat_eq 59 b && true) ≡ false → nat_eq 59 (to_ascii_lowercase b) ≡ false
-  lower-semicolon b e = grind (arith, nat_tests, e)
-
-  no-directive : (word bytes : List ℕ) → is_comment bytes ≡ false → has_directive word bytes ≡ false
-  no-directive word bytes e = go (without_blanks bytes) e
-    where
-      go : (l : List ℕ) → starts_with nat_eq l (59 ∷ []) ≡ false → starts_with nat_eq (str_to_ascii_lowercase l) (59 ∷ word) ≡ false
-      go [] e = refl
-      go (b ∷ l) e = ap (λ t. t && starts_with nat_eq (str_to_ascii_lowercase l) word) (lower-semicolon b e)
 
   redcode-same : (row like : Row) → SameRow ps rename r row like → begins_redcode row ≡ begins_redcode like
   redcode-same row like s = sym (ap (has_directive (codes "redcode")) s.bytes ∙ go (is_comment row.bytes) refl)

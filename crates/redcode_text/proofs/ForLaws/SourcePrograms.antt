@@ -1,5 +1,5 @@
 -- Programs of sources: that with a loop and that with its lines written out are alike, and each has each name once.
-use Rattle.std.specs.Prelude.{◌≡◌, ℕ, List, Ok}
+use Rattle.std.specs.Prelude.{◌≡◌, ℕ, List, None, Ok}
 use Rattle.redcode_text.specs.Expansion.{ProgramValue, expansion}
 use Rattle.redcode_text.specs.Laws.{LoopsAreWrittenOut}
 use Rattle.redcode_text.specs.Lines.{Predefined}
@@ -7,9 +7,10 @@ use Rattle.redcode_text.proofs.ForLaws.AlikeReadings.{ReadAlike, alike, named, s
 use Rattle.redcode_text.proofs.ForLaws.AlikeSteps.{simulation}
 use Rattle.redcode_text.proofs.Named.{IsNamed}
 use Rattle.redcode_text.proofs.ForLaws.WrittenOut.{read-named, written-out}
+use Rattle.redcode_text.proofs.ForLaws.WrittenTrees.{IsCopy, IsPlainHead}
 
 pub loops-written-out : LoopsAreWrittenOut
-loops-written-out ps = written-out ps ReadAlike (simulation ps) start alike
+loops-written-out ps = written-out ps ReadAlike None (λ round. ReadAlike) (simulation ps) start alike
 
 pub source-named : (ps : Predefined) (source : List ℕ) (s : ProgramValue) → expansion ps source ≡ Ok s → IsNamed s
-source-named ps = read-named ps ReadAlike (simulation ps) start named
+source-named ps = read-named ps ReadAlike IsPlainHead IsCopy None (λ round. ReadAlike) (simulation ps) start named

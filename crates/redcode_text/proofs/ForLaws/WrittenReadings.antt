@@ -1,6 +1,6 @@
 -- Trees that are alike, where a loop may be written out in the second, are read to readings that are alike.
-use Rattle.std.proofs.Common.{◌≡◌, ◌∙◌, refl, ap, sym, subst, ℕ, zero, suc, ◌+◌, ◌^◌, ◌<◌, Bool, true, false, List, [], ◌∷◌, ◌++◌, length, drop, ◌-◌, inl, inr, Option, None, Result, Ok, Err}
-use Rattle.std.specs.Prelude.{⊤, codes, decimal}
+use Rattle.std.proofs.Common.{◌≡◌, ◌∙◌, refl, ap, sym, subst, ℕ, zero, suc, ◌+◌, ◌^◌, ◌<◌, Bool, true, false, List, [], ◌∷◌, length, drop, ◌-◌, inl, inr, Option, Result, Ok, Err}
+use Rattle.std.specs.Prelude.{⊤}
 use Rattle.redcode_text.specs.Results.{◌>>=◌}
 use Rattle.redcode_text.specs.declared.fault.TextFault.{TextFault}
 use Rattle.redcode_text.specs.declared.fault.TextProblem.{TextProblem}
@@ -15,7 +15,7 @@ use Rattle.redcode_text.specs.Tokens.{Scanned, at_line, tokens}
 use Rattle.redcode_text.proofs.ForLaws.BehindEnd.{unpaired-refused}
 use Rattle.redcode_text.proofs.Kept.{Kept, line-kept, loops_of, plain-kept, rof-ended}
 use Rattle.redcode_text.proofs.ForLaws.Simulations.{IsCounter, IsSimulation}
-use Rattle.redcode_text.proofs.ForLaws.WrittenTrees.{AreCopies, RowsAlike, TreesAlike, onto}
+use Rattle.redcode_text.proofs.ForLaws.WrittenTrees.{AreCopies, RowsWritten, TreesAlike, onto}
 
 -- ---- a head ends nothing
 
@@ -69,7 +69,8 @@ without-number : {A : Type 0} (n : ℕ) (r : Result A TextProblem) (a : A) → a
 without-number n (Ok b) a e = cc
 without-number n (Err p) a e = cc
 
-module _ (ps : Predefined) (R : Reading → Reading → Type 0) (sim : IsSimulation ps R) where
+module _ (ps : Predefined) (R : Reading → Reading → Type 0) (H : List ℕ → ℕ → Type 0) (W : ℕ → List ℕ → List ℕ → Type 0) (counter : Option (List ℕ)) (Inside : ℕ → Reading → Reading → Type 0)
+    (sim : IsSimulation ps R H W counter Inside) where
   -- ---- steps side by side
 
   -- what the first gives, the second has a reading beside
@@ -116,17 +117,17 @@ module _ (ps : Predefined) (R : Reading → Reading → Type 0) (sim : IsSimulat
   stops b f e = ap (λ t. elim t as (λ _. Result Reading TextFault) [ true ↦ Ok b | false ↦ f b ]) e
 
   -- a reading that the other items were read to, related to this one, in the loops that were open before
-  abbrev Beside : Reading → Reading → Items → Items → Type 0
-  Beside a other items rest = (b : Reading) × R a b × ReadTo items other rest b × (b.loops ≡ other.loops)
+  abbrev Beside : (Reading → Reading → Type 0) → Reading → Reading → Items → Items → Type 0
+  Beside S a other items rest = (b : Reading) × S a b × ReadTo items other rest b × (b.loops ≡ other.loops)
 
-  -- one row, before others
-  module _ (row like : Row) (rows : List Row) (others rest : Items) (same : row.bytes ≡ like.bytes)
-      (behind : (st other a : Reading) → st.ended ≡ false → R st other → flat ps (onto rows Nothing) st ≡ Ok a
-      → Beside a other others rest) where
-    row-beside : (a other x y : Reading) → plain_line ps like other ≡ Ok y → R x y → y.loops ≡ other.loops → (t : Bool) → x.ended ≡ t
+  -- one row of a round, before others
+  module _ (round : ℕ) (row like : Row) (rows : List Row) (others rest : Items) (same : W round row.bytes like.bytes)
+      (behind : (st other a : Reading) → st.ended ≡ false → Inside round st other → flat ps (onto rows Nothing) st ≡ Ok a
+      → Beside (Inside round) a other others rest) where
+    row-beside : (a other x y : Reading) → plain_line ps like other ≡ Ok y → Inside round x y → y.loops ≡ other.loops → (t : Bool) → x.ended ≡ t
         → x.ended ≡ y.ended
         → (elim t as (λ _. Result Reading TextFault) [ true ↦ Ok x | false ↦ flat ps (onto rows Nothing) x ]) ≡ Ok a
-        → Beside a other (Plain like others) rest
+        → Beside (Inside round) a other (Plain like others) rest
     row-beside a other x y read r kept true ends alike is =
         let here : a ≡ x = cc in
         let end : y.ended ≡ true = sym alike ∙ ends in (
@@ -145,73 +146,70 @@ module _ (ps : Predefined) (R : Reading → Reading → Type 0) (sim : IsSimulat
           b.3 ∙ kept,
         )
 
-    row-read : (st other a : Reading) → R st other → flat ps (Plain row (onto rows Nothing)) st ≡ Ok a
-        → Beside a other (Plain like others) rest
+    row-read : (st other a : Reading) → Inside round st other → flat ps (Plain row (onto rows Nothing)) st ≡ Ok a
+        → Beside (Inside round) a other (Plain like others) rest
     row-read st other a r is = go (plain_line ps row st) refl is
       where
         go : (s : Result Reading TextProblem) → plain_line ps row st ≡ s
-            → (at_line row.number s >>= λ x. unless_ended x (flat ps (onto rows Nothing))) ≡ Ok a → Beside a other (Plain like others) rest
+            → (at_line row.number s >>= λ x. unless_ended x (flat ps (onto rows Nothing))) ≡ Ok a → Beside (Inside round) a other (Plain like others) rest
         go (Ok x) e is =
-            let y = sim.plain st other x row like same r e in
+            let y = sim.one_line st other x row like round same r e in
             let kept = kept-of loops_of other.loops (plain_line ps like other) y.0 (plain-kept ps like other) y.1 in
-            row-beside a other x y.0 y.1 y.2 kept x.ended refl (sim.ended x y.0 y.2) is
+            row-beside a other x y.0 y.1 y.2 kept x.ended refl (sim.one_ended x y.0 round y.2) is
         go (Err p) e is = cc
 
-  rows-read : (rows likes : List Row) (rest : Items) → RowsAlike rows likes → (st other a : Reading) → st.ended ≡ false → R st other
+  rows-read : (round : ℕ) (rows likes : List Row) (rest : Items) → RowsWritten H W round rows likes → (st other a : Reading) → st.ended ≡ false → Inside round st other
       → flat ps (onto rows Nothing) st ≡ Ok a
-      → Beside a other (onto likes rest) rest
-  rows-read [] [] rest same st other a on r is =
+      → Beside (Inside round) a other (onto likes rest) rest
+  rows-read round [] [] rest same st other a on r is =
       let here : a ≡ st = cc in
-      (other, rw here r, sym (goes-on other (flat ps rest) (sym (sim.ended st other r) ∙ on)), refl)
-  rows-read [] (like ∷ likes) rest same st other a on r is = absurd same
-  rows-read (row ∷ rows) [] rest same st other a on r is = absurd same
-  rows-read (row ∷ rows) (like ∷ likes) rest same st other a on r is =
-      row-read row like rows (onto likes rest) rest same.0 (rows-read rows likes rest same.1) st other a r is
+      (other, rw here r, sym (goes-on other (flat ps rest) (sym (sim.one_ended st other round r) ∙ on)), refl)
+  rows-read round [] (like ∷ likes) rest same st other a on r is = absurd same
+  rows-read round (row ∷ rows) [] rest same st other a on r is = absurd same
+  rows-read round (row ∷ rows) (like ∷ likes) rest same st other a on r is =
+      row-read round row like rows (onto likes rest) rest same.0 (rows-read round rows likes rest same.1) st other a r is
 
   -- ---- rounds
 
-  in-loops : (b other : Reading) → b.loops ≡ other.loops → record b { loops = other.loops } ≡ b
-  in-loops b other e = ap (λ l. record b { loops = l }) (sym e)
-
   -- one round, before others: the copy that was read for it, and what follows
-  module _ (rows likes : List Row) (others rest : Items) (same : RowsAlike rows likes) (n : ℕ)
-      (behind : (round : ℕ) (st other a : Reading) → st.ended ≡ false → R st other
-      → rounds (flat ps (onto rows Nothing)) None round n st ≡ Ok a → Beside a other others rest) where
-    round-beside : (round : ℕ) (a other x y : Reading) → R x y → ReadTo (onto likes others) other others y → y.loops ≡ other.loops
+  module _ (now : ℕ) (rows likes : List Row) (others rest : Items) (same : RowsWritten H W now rows likes) (n : ℕ)
+      (behind : (st other a : Reading) → st.ended ≡ false → R st other
+      → rounds (flat ps (onto rows Nothing)) counter (now + 1) n st ≡ Ok a → Beside R a other others rest) where
+    round-beside : (a other x y : Reading) → R x y → ReadTo (onto likes others) other others y → y.loops ≡ other.loops
         → (t : Bool) → x.ended ≡ t → x.ended ≡ y.ended
-        → (elim t as (λ _. Result Reading TextFault) [ true ↦ Ok x | false ↦ rounds (flat ps (onto rows Nothing)) None round n x ]) ≡ Ok a
-        → Beside a other (onto likes others) rest
-    round-beside round a other x y r read kept true ends alike is =
+        → (elim t as (λ _. Result Reading TextFault) [ true ↦ Ok x | false ↦ rounds (flat ps (onto rows Nothing)) counter (now + 1) n x ]) ≡ Ok a
+        → Beside R a other (onto likes others) rest
+    round-beside a other x y r read kept true ends alike is =
         let here : a ≡ x = cc in
         let end : y.ended ≡ true = sym alike ∙ ends in
         (y, rw here r, read ∙ stops y (flat ps others) end ∙ sym (stops y (flat ps rest) end), kept)
-    round-beside round a other x y r read kept false on alike is =
-        let b = behind round x y a on r is in
+    round-beside a other x y r read kept false on alike is =
+        let b = behind x y a on r is in
         (b.0, b.1, read ∙ goes-on y (flat ps others) (sym alike ∙ on) ∙ b.2, b.3 ∙ kept)
 
-    round-read : (round : ℕ) (st other a : Reading) → st.ended ≡ false → R st other
-        → rounds (flat ps (onto rows Nothing)) None round (suc n) st ≡ Ok a → Beside a other (onto likes others) rest
-    round-read round st other a on r is = go (flat ps (onto rows Nothing) (in_round None round st)) refl is
+    round-read : (st other a : Reading) → st.ended ≡ false → R st other
+        → rounds (flat ps (onto rows Nothing)) counter now (suc n) st ≡ Ok a → Beside R a other (onto likes others) rest
+    round-read st other a on r is = go (flat ps (onto rows Nothing) (in_round counter now st)) refl is
       where
-        go : (s : Result Reading TextFault) → flat ps (onto rows Nothing) (in_round None round st) ≡ s
-            → (s >>= λ x. unless_ended (record x { loops = st.loops }) (rounds (flat ps (onto rows Nothing)) None (round + 1) n)) ≡ Ok a
-            → Beside a other (onto likes others) rest
+        go : (s : Result Reading TextFault) → flat ps (onto rows Nothing) (in_round counter now st) ≡ s
+            → (s >>= λ x. unless_ended (record x { loops = st.loops }) (rounds (flat ps (onto rows Nothing)) counter (now + 1) n)) ≡ Ok a
+            → Beside R a other (onto likes others) rest
         go (Ok x) e is =
-            let b = rows-read rows likes others same (in_round None round st) other x on (sim.one_open st other round r) e in
+            let b = rows-read now rows likes others same (in_round counter now st) other x on (sim.one_open st other now r) e in
             let x-behind : Reading = record x { loops = st.loops } in
-            let related : R x-behind b.0 = subst (λ y. R x-behind y) (in-loops b.0 other b.3) (sim.closed st other x b.0 r b.1) in
-            round-beside (round + 1) a other x-behind b.0 related b.2 b.3 x.ended refl (sim.ended x-behind b.0 related) is
+            let related : R x-behind b.0 = sim.one_closed st other x b.0 now r b.3 b.1 in
+            round-beside a other x-behind b.0 related b.2 b.3 x.ended refl (sim.ended x-behind b.0 related) is
         go (Err p) e is = cc
 
-  rounds-read : (n : ℕ) (rows : List Row) (rest items : Items) → AreCopies n rows rest items → (round : ℕ) (st other a : Reading)
+  rounds-read : (n : ℕ) (rows : List Row) (rest items : Items) (round : ℕ) → AreCopies H W round n rows rest items → (st other a : Reading)
       → st.ended ≡ false → R st other
-      → rounds (flat ps (onto rows Nothing)) None round n st ≡ Ok a → Beside a other items rest
-  rounds-read zero rows rest items c round st other a on r is =
+      → rounds (flat ps (onto rows Nothing)) counter round n st ≡ Ok a → Beside R a other items rest
+  rounds-read zero rows rest items round c st other a on r is =
       let here : a ≡ st = cc in
       (other, rw here r, ap (λ i. flat ps i other) c ∙ sym (goes-on other (flat ps rest) (sym (sim.ended st other r) ∙ on)), refl)
-  rounds-read (suc n) rows rest items c round st other a on r is =
-      subst (λ i. Beside a other i rest) (sym c.3)
-      (round-read rows c.0 c.1 rest c.2 n (rounds-read n rows rest c.1 c.4) round st other a on r is)
+  rounds-read (suc n) rows rest items round c st other a on r is =
+      subst (λ i. Beside R a other i rest) (sym c.3)
+      (round-read round rows c.0 c.1 rest c.2 n (rounds-read n rows rest c.1 (round + 1) c.4) st other a on r is)
 
   -- two loops with the same counter, going round as often
   rounds-both : (f g : Reading → Result Reading TextFault)
@@ -289,7 +287,7 @@ module _ (ps : Predefined) (R : Reading → Reading → Type 0) (sim : IsSimulat
           (λ a b is related. both-unless a b (behind rof rest) (behind end others) related (λ goes. behind-both a b goes related)))
 
   loop-written : (head rof : Row) (rows : List Row) (n : ℕ) (rest others items : Items) → n < 2 ^ 63
-      → head.bytes ≡ codes "FOR " ++ decimal n → AreCopies n rows others items → AreReadAlike rest others
+      → H head.bytes n → AreCopies H W 1 n rows others items → AreReadAlike rest others
       → AreReadAlike (Loop head (onto rows Nothing) rof rest) items
   loop-written head rof rows n rest others items small head-is are-copies rest-same st other on r =
       one-then (at_line head.number (head_line ps head st)) (flat ps items other)
@@ -306,18 +304,18 @@ module _ (ps : Predefined) (R : Reading → Reading → Type 0) (sim : IsSimulat
           let read = without-number rof.number (rof_line rof a) x is in
           rest-same x b (rof-goes-on rof a x going read) (sim.lone_rof a b x rof related read))
 
-      inside-written : (h : Head) → h.counter ≡ None → h.count ≡ n → h.reading.ended ≡ false → R h.reading other
+      inside-written : (h : Head) → h.counter ≡ counter → h.count ≡ n → h.reading.ended ≡ false → R h.reading other
           → Follows (rounds (flat ps (onto rows Nothing)) h.counter 1 h.count h.reading >>= λ a. unless_ended a (behind rof rest))
           (flat ps items other)
       inside-written h none count going related =
-          rw (none, count) (one-then (rounds (flat ps (onto rows Nothing)) None 1 n h.reading) (flat ps items other)
+          rw (none, count) (one-then (rounds (flat ps (onto rows Nothing)) counter 1 n h.reading) (flat ps items other)
           (λ a. unless_ended a (behind rof rest))
           (λ a is.
-          let b = rounds-read n rows others items are-copies 1 h.reading other a going related is in
+          let b = rounds-read n rows others items 1 are-copies h.reading other a going related is in
           rw b.2 (both-unless a b.0 (behind rof rest) (flat ps others) b.1 (λ goes. behind-written a b.0 goes b.1))))
 
   -- trees that are alike are read to readings that are related
-  pub trees-read : (one other : Items) → TreesAlike one other → AreReadAlike one other
+  pub trees-read : (one other : Items) → TreesAlike H W one other → AreReadAlike one other
   unfolding TreesAlike
   trees-read Nothing other t st like on r = λ a is. let here : a ≡ st = cc in (like, ap (λ i. flat ps i like) t, rw here r)
   trees-read (Plain row rest) other t st like on r =

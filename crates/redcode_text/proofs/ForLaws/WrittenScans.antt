@@ -1,23 +1,19 @@
 -- One token after another of a text in a round of a loop, and of the text with the round written in place of the counter.
-use Rattle.std.proofs.Common.{◌≡◌, ◌∙◌, refl, ap, sym, subst, true≢false, ℕ, zero, suc, ◌+◌, ◌-◌, ◌^◌, ◌<◌, ◌≤◌, ◌==◌, ◌&&◌, ◌||◌, not, Bool, true, false, cond, nat_lt, List, [], ◌∷◌, ◌++◌, length, length-drop, take, drop, map, decimal, Option, Some, None, Result, Ok, Err, arith}
+use Rattle.std.proofs.Common.{◌≡◌, ◌∙◌, refl, ap, sym, subst, true≢false, ℕ, ◌+◌, ◌^◌, ◌<◌, ◌≤◌, ◌==◌, ◌&&◌, ◌||◌, not, Bool, true, false, List, [], ◌∷◌, ◌++◌, length, take, drop, decimal, Option, Some, None, Result, Ok, Err, arith}
 use Rattle.std.specs.Char.{is_ascii, is_ascii_digit}
 use Rattle.std.specs.List.{list_all}
 use Rattle.std.specs.Str.{bytes_eq}
-use Rattle.std.proofs.lemmas.Bool.{and_parts}
 use Rattle.std.proofs.lemmas.Bool.Decides.{nat_tests}
-use Rattle.std.proofs.lemmas.List.{append-nil, length-map, map-append}
-use Rattle.redcode_text.specs.Results.{◌>>=◌}
+use Rattle.std.proofs.lemmas.List.{append-nil}
 use Rattle.redcode_text.specs.declared.fault.TextProblem.{TextProblem}
-use Rattle.redcode_text.specs.declared.fault.TextProblem.TheVariants.{NotAscii, TooLong}
+use Rattle.redcode_text.specs.declared.fault.TextProblem.TheVariants.{NotAscii}
 use Rattle.redcode_text.specs.declared.token.Sign.{Sign}
-use Rattle.redcode_text.specs.declared.token.Token.{Token}
-use Rattle.redcode_text.specs.Expression.{kinds}
-use Rattle.redcode_text.specs.Laws.{CountersAreWrittenInPlace, are_its_joins, begins_and, has_its_joins, unplaced_scan, written_from, written_text, written_word}
-use Rattle.redcode_text.specs.Tokens.{Found, OpenLoop, Scanned, begins_name, begins_word, is_blank, is_letter, is_word_byte, look_up, one_byte_signs, parts_at_joins, round_of, scan_from, sign_found, sign_token, token_at, tokens, two_byte_signs, with_room, with_token, word_len, word_token}
-use Rattle.redcode_text.proofs.ForLaws.RenamedResults.{BothGive, both-cond, both-then}
-use Rattle.redcode_text.proofs.ForLaws.RenamedScans.{behind-token, lone-and, no-sign, some-none, word-ascii, word-shows}
+use Rattle.redcode_text.specs.Laws.{are_its_joins, begins_and, has_its_joins, written_word}
+use Rattle.redcode_text.specs.Tokens.{Found, OpenLoop, begins_name, begins_word, is_word_byte, look_up, one_byte_signs, parts_at_joins, round_of, sign_found, sign_token, token_at, two_byte_signs, word_len, word_token}
+use Rattle.redcode_text.proofs.ForLaws.RenamedResults.{BothGive, both-cond}
+use Rattle.redcode_text.proofs.ForLaws.RenamedScans.{lone-and, no-sign, some-none, word-ascii}
 use Rattle.redcode_text.proofs.ForLaws.RenamedWords.{raw-front, raw-long, raw-taken, raw_of, rest-dropped, rest-front, rest_of}
-use Rattle.redcode_text.proofs.ForLaws.WrittenTexts.{FirstByte, Its, T, and-bytes, either-ascii, either-word, first-byte, its-other, its-word, no-and, other-front, raw-none, rest-none, rest-shorter, word-front}
+use Rattle.redcode_text.proofs.ForLaws.WrittenTexts.{FirstByte, Its, T, and-bytes, either-ascii, first-byte, its-other, its-word, no-and, other-front, raw-none, rest-none, word-front}
 use Rattle.redcode_text.proofs.ForLaws.WrittenWords.{SameWord, word-same, written-all}
 
 module _ (counter : List ℕ) (round : ℕ) (small : round < 2 ^ 63) (word-counter : list_all is_word_byte counter ≡ true)

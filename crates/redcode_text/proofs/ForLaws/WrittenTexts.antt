@@ -1,27 +1,16 @@
 -- The tokens of a text in a round of a loop are those of the text with the round written in place of the counter.
-use Rattle.std.proofs.Common.{◌≡◌, ◌∙◌, refl, ap, sym, subst, true≢false, ℕ, zero, suc, ◌+◌, ◌-◌, ◌^◌, ◌<◌, ◌≤◌, ◌==◌, ◌&&◌, ◌||◌, not, Bool, true, false, cond, if◌then◌else◌, nat_lt, List, [], ◌∷◌, ◌++◌, length, length-append, length-drop, take, drop, map, decimal, Option, Some, None, Result, Ok, Err, arith, add-one}
+use Rattle.std.proofs.Common.{◌≡◌, ◌∙◌, refl, ap, sym, true≢false, ℕ, zero, suc, ◌+◌, ◌^◌, ◌<◌, ◌≤◌, ◌==◌, ◌&&◌, ◌||◌, Bool, true, false, List, [], ◌∷◌, ◌++◌, length, length-append, take, drop, arith}
 use Rattle.std.specs.Char.{is_ascii, is_ascii_digit}
-use Rattle.std.specs.List.{list_all, list_any, onto_first}
+use Rattle.std.specs.List.{list_all, onto_first}
 use Rattle.std.specs.Str.{bytes_eq}
 use Rattle.std.proofs.lemmas.Bool.{and_parts}
 use Rattle.std.proofs.lemmas.Bool.Decides.{nat_tests}
-use Rattle.std.proofs.lemmas.List.{append-nil, length-map, map-append}
 use Rattle.std.proofs.lemmas.Slice.Eq.{bytes_eq-Decides}
-use Rattle.redcode_text.specs.Results.{◌>>=◌}
-use Rattle.redcode_text.specs.declared.fault.TextProblem.{TextProblem}
-use Rattle.redcode_text.specs.declared.fault.TextProblem.TheVariants.{BadToken, NotAscii, TooLong}
-use Rattle.redcode_text.specs.declared.token.Sign.{Sign}
-use Rattle.redcode_text.specs.declared.token.Sign.TheVariants.{And}
-use Rattle.redcode_text.specs.declared.token.Token.{Token}
-use Rattle.redcode_text.specs.declared.token.TokenKind.TheVariants as token
-use Rattle.redcode_text.specs.Expression.{kinds}
-use Rattle.redcode_text.specs.Laws.{CountersAreWrittenInPlace, are_its_joins, begins_and, has_its_joins, unplaced_scan, written_from, written_joins, written_text, written_word}
-use Rattle.redcode_text.specs.Tokens.{Found, OpenLoop, Scanned, begins_name, begins_word, is_blank, is_letter, is_word_byte, look_up, one_byte_signs, parts_at_joins, round_of, scan_from, sign_found, sign_token, token_at, tokens, two_byte_signs, with_room, with_token, word_len, word_token}
-use Rattle.redcode_text.proofs.ForLaws.RenamedResults.{BothGive, both-cond, both-then}
-use Rattle.redcode_text.proofs.ForLaws.RenamedScans.{behind-token, no-sign, some-none, word-ascii, word-shows}
+use Rattle.redcode_text.specs.Laws.{are_its_joins, begins_and, has_its_joins, written_from, written_joins, written_word}
+use Rattle.redcode_text.specs.Tokens.{begins_word, is_blank, is_letter, is_word_byte, parts_at_joins, word_len}
 use Rattle.redcode_text.proofs.ForLaws.TokensRead.{decimal-is}
-use Rattle.redcode_text.proofs.ForLaws.RenamedWords.{raw-front, raw-long, raw-taken, raw_of, rest-dropped, rest-front, rest_of}
-use Rattle.redcode_text.proofs.ForLaws.WrittenWords.{SameWord, front-word, joins-digits, joins-end, one-part, word-same, written-all, written-counter, written-is}
+use Rattle.redcode_text.proofs.ForLaws.RenamedWords.{raw-taken, raw_of, rest-dropped, rest_of}
+use Rattle.redcode_text.proofs.ForLaws.WrittenWords.{front-word, joins-digits, joins-end, one-part, written-counter, written-is}
 
 pub either-word : (b : ℕ) (t : Bool) → (is_word_byte b || ((b == 38) && t)) ≡ true → is_blank b ≡ false
 either-word b t e = grind (arith, nat_tests, e)

@@ -12,185 +12,193 @@ use Rattle.redcode_text.proofs.ForLaws.BehindEnd.{any-rows}
 
 -- ---- trees
 
--- rows of the same bytes, one after another
-abbrev pub RowsAlike : List Row → List Row → Type 0
-RowsAlike [] [] = ⊤
-RowsAlike [] (like ∷ likes) = ⊥
-RowsAlike (row ∷ rows) [] = ⊥
-RowsAlike (row ∷ rows) (like ∷ likes) = (row.bytes ≡ like.bytes) × RowsAlike rows likes
-
 -- rows before other items
 abbrev pub onto : List Row → Items → Items
 onto [] rest = rest
 onto (row ∷ rows) rest = Plain row (onto rows rest)
 
--- the items are these rows n times, one after another, and then the rest
-abbrev pub AreCopies : ℕ → List Row → Items → Items → Type 0
-AreCopies zero rows rest items = items ≡ rest
-AreCopies (suc n) rows rest items =
-    (likes : List Row) × (others : Items) × RowsAlike rows likes × (items ≡ onto likes others) × AreCopies n rows rest others
+module _ (H : List ℕ → ℕ → Type 0) (W : ℕ → List ℕ → List ℕ → Type 0) where
+  -- rows that stand in place of others in a round, one after another
+  abbrev pub RowsWritten : ℕ → List Row → List Row → Type 0
+  RowsWritten round [] [] = ⊤
+  RowsWritten round [] (like ∷ likes) = ⊥
+  RowsWritten round (row ∷ rows) [] = ⊥
+  RowsWritten round (row ∷ rows) (like ∷ likes) = W round row.bytes like.bytes × RowsWritten round rows likes
 
--- a loop stands beside a loop
-pub record IsSameLoop (head rof : Row) (inside behind : Items → Type 0) (other : Items) : Type 0 where
-  pub like : Row
-  pub end : Row
-  pub body : Items
-  pub rest : Items
-  pub is : other ≡ Loop like body end rest
-  pub head_same : head.bytes ≡ like.bytes
-  pub rof_same : rof.bytes ≡ end.bytes
-  pub body_same : inside body
-  pub rest_same : behind rest
+  -- the items are these rows as they are written in n rounds, from one on, one after another, and then the rest
+  abbrev pub AreCopies : ℕ → ℕ → List Row → Items → Items → Type 0
+  AreCopies round zero rows rest items = items ≡ rest
+  AreCopies round (suc n) rows rest items =
+      (likes : List Row) × (others : Items) × RowsWritten round rows likes × (items ≡ onto likes others) × AreCopies (round + 1) n rows rest others
 
--- a loop of so many rounds, whose body is rows alone, stands beside as many copies of those rows
-pub record IsWrittenOut (head : Row) (body : Items) (behind : Items → Type 0) (other : Items) : Type 0 where
-  pub count : ℕ
-  pub rows : List Row
-  pub rest : Items
-  pub small : count < 2 ^ 63
-  pub head_is : head.bytes ≡ codes "FOR " ++ decimal count
-  pub body_is : body ≡ onto rows Nothing
-  pub are_copies : AreCopies count rows rest other
-  pub rest_same : behind rest
+  -- a loop stands beside a loop
+  pub record IsSameLoop (head rof : Row) (inside behind : Items → Type 0) (other : Items) : Type 0 where
+    pub like : Row
+    pub end : Row
+    pub body : Items
+    pub rest : Items
+    pub is : other ≡ Loop like body end rest
+    pub head_same : head.bytes ≡ like.bytes
+    pub rof_same : rof.bytes ≡ end.bytes
+    pub body_same : inside body
+    pub rest_same : behind rest
 
--- what stands behind a FOR or a ROF alone isn't read
-unfoldable pub TreesAlike : Items → Items → Type 0
-TreesAlike Nothing other = other ≡ Nothing
-TreesAlike (Plain row rest) other =
-    (like : Row) × (others : Items) × (other ≡ Plain like others) × (row.bytes ≡ like.bytes) × TreesAlike rest others
-TreesAlike (Loop head body rof rest) other =
-    IsSameLoop head rof (λ x. TreesAlike body x) (λ x. TreesAlike rest x) other ⊎ IsWrittenOut head body (λ x. TreesAlike rest x) other
-TreesAlike (source.UnclosedFor row rest) other = ⊤
-TreesAlike (LoneRof row rest) other = ⊤
+  -- a loop of so many rounds, whose body is rows alone, stands beside those rows as they are written in each round
+  pub record IsWrittenOut (head : Row) (body : Items) (behind : Items → Type 0) (other : Items) : Type 0 where
+    pub count : ℕ
+    pub rows : List Row
+    pub rest : Items
+    pub small : count < 2 ^ 63
+    pub head_is : H head.bytes count
+    pub body_is : body ≡ onto rows Nothing
+    pub are_copies : AreCopies 1 count rows rest other
+    pub rest_same : behind rest
 
-pub tree-itself : (items : Items) → TreesAlike items items
-unfolding TreesAlike
-tree-itself Nothing = refl
-tree-itself (Plain row rest) = (row, rest, refl, refl, tree-itself rest)
-tree-itself (Loop head body rof rest) =
-    inl (record {
-      like = head;
-      end = rof;
-      body = body;
-      rest = rest;
-      is = refl;
-      head_same = refl;
-      rof_same = refl;
-      body_same = tree-itself body;
-      rest_same = tree-itself rest;
-    })
-tree-itself (source.UnclosedFor row rest) = tt
-tree-itself (LoneRof row rest) = tt
+  -- what stands behind a FOR or a ROF alone isn't read
+  unfoldable pub TreesAlike : Items → Items → Type 0
+  TreesAlike Nothing other = other ≡ Nothing
+  TreesAlike (Plain row rest) other =
+      (like : Row) × (others : Items) × (other ≡ Plain like others) × (row.bytes ≡ like.bytes) × TreesAlike rest others
+  TreesAlike (Loop head body rof rest) other =
+      IsSameLoop head rof (λ x. TreesAlike body x) (λ x. TreesAlike rest x) other ⊎ IsWrittenOut head body (λ x. TreesAlike rest x) other
+  TreesAlike (source.UnclosedFor row rest) other = ⊤
+  TreesAlike (LoneRof row rest) other = ⊤
 
--- ---- a ROF that closes nothing
+  pub tree-itself : (items : Items) → TreesAlike items items
+  unfolding TreesAlike
+  tree-itself Nothing = refl
+  tree-itself (Plain row rest) = (row, rest, refl, refl, tree-itself rest)
+  tree-itself (Loop head body rof rest) =
+      inl (record {
+        like = head;
+        end = rof;
+        body = body;
+        rest = rest;
+        is = refl;
+        head_same = refl;
+        rof_same = refl;
+        body_same = tree-itself body;
+        rest_same = tree-itself rest;
+      })
+  tree-itself (source.UnclosedFor row rest) = tt
+  tree-itself (LoneRof row rest) = tt
 
-onto-lone : (rof : Row) (rows : List Row) (rest : Items) → then_lone rof (onto rows rest) ≡ onto rows (then_lone rof rest)
-onto-lone rof [] rest = refl
-onto-lone rof (row ∷ rows) rest = ap (Plain row) (onto-lone rof rows rest)
+  -- ---- a ROF that closes nothing
 
-copies-lone : (rof : Row) (n : ℕ) (rows : List Row) (rest items : Items) → AreCopies n rows rest items
-    → AreCopies n rows (then_lone rof rest) (then_lone rof items)
-copies-lone rof zero rows rest items c = ap (then_lone rof) c
-copies-lone rof (suc n) rows rest items c =
-    (c.0, then_lone rof c.1, c.2, ap (then_lone rof) c.3 ∙ onto-lone rof c.0 c.1, copies-lone rof n rows rest c.1 c.4)
+  onto-lone : (rof : Row) (rows : List Row) (rest : Items) → then_lone rof (onto rows rest) ≡ onto rows (then_lone rof rest)
+  onto-lone rof [] rest = refl
+  onto-lone rof (row ∷ rows) rest = ap (Plain row) (onto-lone rof rows rest)
 
-lone-alike : (rof other : Row) (one two : Items) → TreesAlike one two → TreesAlike (then_lone rof one) (then_lone other two)
-unfolding TreesAlike
-lone-alike rof other Nothing two t = tt
-lone-alike rof other (Plain row rest) two t = (t.0, then_lone other t.1, ap (then_lone other) t.2, t.3, lone-alike rof other rest t.1 t.4)
-lone-alike rof other (Loop head body end rest) two (inl s) =
-    inl (record {
-      like = s.like;
-      end = s.end;
-      body = s.body;
-      rest = then_lone other s.rest;
-      is = ap (then_lone other) s.is;
-      head_same = s.head_same;
-      rof_same = s.rof_same;
-      body_same = s.body_same;
-      rest_same = lone-alike rof other rest s.rest s.rest_same;
-    })
-lone-alike rof other (Loop head body end rest) two (inr w) =
-    inr (record {
-      count = w.count;
-      rows = w.rows;
-      rest = then_lone other w.rest;
-      small = w.small;
-      head_is = w.head_is;
-      body_is = w.body_is;
-      are_copies = copies-lone other w.count w.rows w.rest two w.are_copies;
-      rest_same = lone-alike rof other rest w.rest w.rest_same;
-    })
-lone-alike rof other (source.UnclosedFor row rest) two t = tt
-lone-alike rof other (LoneRof row rest) two t = tt
+  copies-lone : (rof : Row) (round n : ℕ) (rows : List Row) (rest items : Items) → AreCopies round n rows rest items
+      → AreCopies round n rows (then_lone rof rest) (then_lone rof items)
+  copies-lone rof round zero rows rest items c = ap (then_lone rof) c
+  copies-lone rof round (suc n) rows rest items c =
+      (c.0, then_lone rof c.1, c.2, ap (then_lone rof) c.3 ∙ onto-lone rof c.0 c.1, copies-lone rof (round + 1) n rows rest c.1 c.4)
 
--- ---- pairings
+  lone-alike : (rof other : Row) (one two : Items) → TreesAlike one two → TreesAlike (then_lone rof one) (then_lone other two)
+  unfolding TreesAlike
+  lone-alike rof other Nothing two t = tt
+  lone-alike rof other (Plain row rest) two t = (t.0, then_lone other t.1, ap (then_lone other) t.2, t.3, lone-alike rof other rest t.1 t.4)
+  lone-alike rof other (Loop head body end rest) two (inl s) =
+      inl (record {
+        like = s.like;
+        end = s.end;
+        body = s.body;
+        rest = then_lone other s.rest;
+        is = ap (then_lone other) s.is;
+        head_same = s.head_same;
+        rof_same = s.rof_same;
+        body_same = s.body_same;
+        rest_same = lone-alike rof other rest s.rest s.rest_same;
+      })
+  lone-alike rof other (Loop head body end rest) two (inr w) =
+      inr (record {
+        count = w.count;
+        rows = w.rows;
+        rest = then_lone other w.rest;
+        small = w.small;
+        head_is = w.head_is;
+        body_is = w.body_is;
+        are_copies = copies-lone other 1 w.count w.rows w.rest two w.are_copies;
+        rest_same = lone-alike rof other rest w.rest w.rest_same;
+      })
+  lone-alike rof other (source.UnclosedFor row rest) two t = tt
+  lone-alike rof other (LoneRof row rest) two t = tt
 
--- ROFs that wait, with what stands behind them
-abbrev WaitingAlike : List (Row × Items) → List (Row × Items) → Type 0
-WaitingAlike [] [] = ⊤
-WaitingAlike [] (v ∷ vs) = ⊥
-WaitingAlike (w ∷ ws) [] = ⊥
-WaitingAlike (w ∷ ws) (v ∷ vs) = (w.0.bytes ≡ v.0.bytes) × TreesAlike w.1 v.1 × WaitingAlike ws vs
+  -- ---- pairings
 
-abbrev PairsAlike : Pairing → Pairing → Type 0
-PairsAlike p q = TreesAlike p.here q.here × WaitingAlike p.waiting q.waiting
+  -- ROFs that wait, with what stands behind them
+  abbrev pub WaitingAlike : List (Row × Items) → List (Row × Items) → Type 0
+  WaitingAlike [] [] = ⊤
+  WaitingAlike [] (v ∷ vs) = ⊥
+  WaitingAlike (w ∷ ws) [] = ⊥
+  WaitingAlike (w ∷ ws) (v ∷ vs) = (w.0.bytes ≡ v.0.bytes) × TreesAlike w.1 v.1 × WaitingAlike ws vs
 
-opened-alike : (row like : Row) → row.bytes ≡ like.bytes → (here more : Items) (ws vs : List (Row × Items)) → TreesAlike here more
-    → WaitingAlike ws vs → PairsAlike (opened row here ws) (opened like more vs)
-unfolding TreesAlike
-opened-alike row like same here more [] [] t w = (tt, tt)
-opened-alike row like same here more [] (v ∷ vs) t w = absurd w
-opened-alike row like same here more (u ∷ ws) [] t w = absurd w
-opened-alike row like same here more (u ∷ ws) (v ∷ vs) t w =
-    let loop : IsSameLoop row u.0 (λ x. TreesAlike here x) (λ x. TreesAlike u.1 x) (Loop like more v.0 v.1) =
-    record { like = like; end = v.0; body = more; rest = v.1; is = refl; head_same = same; rof_same = w.0; body_same = t; rest_same = w.1 } in
-    (inl loop, w.2)
+  abbrev pub PairsAlike : Pairing → Pairing → Type 0
+  PairsAlike p q = TreesAlike p.here q.here × WaitingAlike p.waiting q.waiting
 
-row-alike : (kind : LineKind) (row like : Row) → row.bytes ≡ like.bytes → (p q : Pairing) → PairsAlike p q
-    → PairsAlike (paired_with kind row p) (paired_with kind like q)
-unfolding TreesAlike
-row-alike (ForLine at) row like same p q a = opened-alike row like same p.here q.here p.waiting q.waiting a.0 a.1
-row-alike RofLine row like same p q a = (refl, (same, a.0, a.1))
-row-alike (EquLine at) row like same p q a = ((like, q.here, refl, same, a.0), a.1)
-row-alike OtherLine row like same p q a = ((like, q.here, refl, same, a.0), a.1)
+  opened-alike : (row like : Row) → row.bytes ≡ like.bytes → (here more : Items) (ws vs : List (Row × Items)) → TreesAlike here more
+      → WaitingAlike ws vs → PairsAlike (opened row here ws) (opened like more vs)
+  unfolding TreesAlike
+  opened-alike row like same here more [] [] t w = (tt, tt)
+  opened-alike row like same here more [] (v ∷ vs) t w = absurd w
+  opened-alike row like same here more (u ∷ ws) [] t w = absurd w
+  opened-alike row like same here more (u ∷ ws) (v ∷ vs) t w =
+      let loop : IsSameLoop row u.0 (λ x. TreesAlike here x) (λ x. TreesAlike u.1 x) (Loop like more v.0 v.1) =
+      record { like = like; end = v.0; body = more; rest = v.1; is = refl; head_same = same; rof_same = w.0; body_same = t; rest_same = w.1 } in
+      (inl loop, w.2)
 
-pair-tree : (here more : Items) (ws vs : List (Row × Items)) → TreesAlike here more → WaitingAlike ws vs
-    → TreesAlike (with_lone here ws) (with_lone more vs)
-pair-tree here more [] [] t w = t
-pair-tree here more [] (v ∷ vs) t w = absurd w
-pair-tree here more (u ∷ ws) [] t w = absurd w
-pair-tree here more (u ∷ ws) (v ∷ vs) t w = lone-alike u.0 v.0 here more t
+  row-alike : (kind : LineKind) (row like : Row) → row.bytes ≡ like.bytes → (p q : Pairing) → PairsAlike p q
+      → PairsAlike (paired_with kind row p) (paired_with kind like q)
+  unfolding TreesAlike
+  row-alike (ForLine at) row like same p q a = opened-alike row like same p.here q.here p.waiting q.waiting a.0 a.1
+  row-alike RofLine row like same p q a = (refl, (same, a.0, a.1))
+  row-alike (EquLine at) row like same p q a = ((like, q.here, refl, same, a.0), a.1)
+  row-alike OtherLine row like same p q a = ((like, q.here, refl, same, a.0), a.1)
 
--- ---- lines
+  pair-tree : (here more : Items) (ws vs : List (Row × Items)) → TreesAlike here more → WaitingAlike ws vs
+      → TreesAlike (with_lone here ws) (with_lone more vs)
+  pair-tree here more [] [] t w = t
+  pair-tree here more [] (v ∷ vs) t w = absurd w
+  pair-tree here more (u ∷ ws) [] t w = absurd w
+  pair-tree here more (u ∷ ws) (v ∷ vs) t w = lone-alike u.0 v.0 here more t
 
--- wherever they stand, these lines and those are paired alike
-abbrev LinesAlike : List (List ℕ) → List (List ℕ) → Type 0
-LinesAlike lines others = (number at n a : ℕ) → PairsAlike (paired (rows_from number at lines)) (paired (rows_from n a others))
+  -- ---- lines
 
-front-alike : (before one two : List (List ℕ)) → LinesAlike one two → LinesAlike (before ++ one) (before ++ two)
-front-alike [] one two h number at n a = h number at n a
-front-alike (l ∷ before) one two h number at n a =
-    row-alike (line_kind l) (record { number = number; at = at; bytes = l }) (record { number = n; at = a; bytes = l }) refl
-    (paired (rows_from (number + 1) (at + length l + 1) (before ++ one))) (paired (rows_from (n + 1) (a + length l + 1) (before ++ two)))
-    (front-alike before one two h (number + 1) (at + length l + 1) (n + 1) (a + length l + 1))
+  -- wherever they stand, these lines and those are paired alike
+  abbrev pub LinesAlike : List (List ℕ) → List (List ℕ) → Type 0
+  LinesAlike lines others = (number at n a : ℕ) → PairsAlike (paired (rows_from number at lines)) (paired (rows_from n a others))
 
-lines-themselves : (lines : List (List ℕ)) → LinesAlike lines lines
-unfolding TreesAlike
-lines-themselves [] number at n a = (refl, tt)
-lines-themselves (l ∷ lines) number at n a =
-    row-alike (line_kind l) (record { number = number; at = at; bytes = l }) (record { number = n; at = a; bytes = l }) refl
-    (paired (rows_from (number + 1) (at + length l + 1) lines)) (paired (rows_from (n + 1) (a + length l + 1) lines))
-    (lines-themselves lines (number + 1) (at + length l + 1) (n + 1) (a + length l + 1))
+  pub front-alike : (before one two : List (List ℕ)) → LinesAlike one two → LinesAlike (before ++ one) (before ++ two)
+  front-alike [] one two h number at n a = h number at n a
+  front-alike (l ∷ before) one two h number at n a =
+      row-alike (line_kind l) (record { number = number; at = at; bytes = l }) (record { number = n; at = a; bytes = l }) refl
+      (paired (rows_from (number + 1) (at + length l + 1) (before ++ one))) (paired (rows_from (n + 1) (a + length l + 1) (before ++ two)))
+      (front-alike before one two h (number + 1) (at + length l + 1) (n + 1) (a + length l + 1))
 
-rows-themselves : (lines : List (List ℕ)) (number at n a : ℕ) → RowsAlike (rows_from number at lines) (rows_from n a lines)
-rows-themselves [] number at n a = tt
-rows-themselves (l ∷ lines) number at n a = (refl, rows-themselves lines (number + 1) (at + length l + 1) (n + 1) (a + length l + 1))
+  pub lines-themselves : (lines : List (List ℕ)) → LinesAlike lines lines
+  unfolding TreesAlike
+  lines-themselves [] number at n a = (refl, tt)
+  lines-themselves (l ∷ lines) number at n a =
+      row-alike (line_kind l) (record { number = number; at = at; bytes = l }) (record { number = n; at = a; bytes = l }) refl
+      (paired (rows_from (number + 1) (at + length l + 1) lines)) (paired (rows_from (n + 1) (a + length l + 1) lines))
+      (lines-themselves lines (number + 1) (at + length l + 1) (n + 1) (a + length l + 1))
+
+-- a loop without a counter, and its lines as they are
+abbrev pub IsPlainHead : List ℕ → ℕ → Type 0
+IsPlainHead bytes n = bytes ≡ codes "FOR " ++ decimal n
+
+abbrev pub IsCopy : ℕ → List ℕ → List ℕ → Type 0
+IsCopy round line other = line ≡ other
+
+rows-themselves : (lines : List (List ℕ)) (round number at n a : ℕ) → RowsWritten IsPlainHead IsCopy round (rows_from number at lines) (rows_from n a lines)
+rows-themselves [] round number at n a = tt
+rows-themselves (l ∷ lines) round number at n a = (refl, rows-themselves lines round (number + 1) (at + length l + 1) (n + 1) (a + length l + 1))
 
 -- ---- a loop and its copies
 
 -- a pairing behind some rows
-abbrev behind_rows : List Row → Pairing → Pairing
+abbrev pub behind_rows : List Row → Pairing → Pairing
 behind_rows rows p = record { here = onto rows p.here; waiting = p.waiting }
 
 plain-paired : (kind : LineKind) → is_loop_kind kind ≡ false → (row : Row) (p : Pairing) → paired_with kind row p ≡ behind_rows (row ∷ []) p
@@ -199,7 +207,7 @@ plain-paired (ForLine at) e row p = cc
 plain-paired (EquLine at) e row p = refl
 plain-paired OtherLine e row p = refl
 
-body-paired : (body rest : List (List ℕ)) → AllByRecursion IsBodyLine body → (number at : ℕ)
+pub body-paired : (body rest : List (List ℕ)) → AllByRecursion IsBodyLine body → (number at : ℕ)
     → (n : ℕ) × (a : ℕ)
     × (paired (rows_from number at (body ++ rest)) ≡ behind_rows (rows_from number at body) (paired (rows_from n a rest)))
 body-paired [] rest all number at = (number, at, refl)
@@ -210,19 +218,19 @@ body-paired (l ∷ body) rest all number at =
     (r.0, r.1, ap (paired_with (line_kind l) row) r.2 ∙ plain-paired (line_kind l) all.0.kind row p)
 
 module _ (body after : List (List ℕ)) (all : AllByRecursion IsBodyLine body) where
-  copies-paired : (n number at k b : ℕ)
+  copies-paired : (round n number at k b : ℕ)
       → (i : ℕ) × (j : ℕ)
-      × AreCopies n (rows_from k b body) (paired (rows_from i j after)).here (paired (rows_from number at (copies n body ++ after))).here
+      × AreCopies IsPlainHead IsCopy round n (rows_from k b body) (paired (rows_from i j after)).here (paired (rows_from number at (copies n body ++ after))).here
       × ((paired (rows_from number at (copies n body ++ after))).waiting ≡ (paired (rows_from i j after)).waiting)
-  copies-paired zero number at k b = (number, at, refl, refl)
-  copies-paired (suc n) number at k b =
+  copies-paired round zero number at k b = (number, at, refl, refl)
+  copies-paired round (suc n) number at k b =
       let rest = copies n body ++ after in
       let r = body-paired body rest all number at in
-      let more = copies-paired n r.0 r.1 k b in
+      let more = copies-paired (round + 1) n r.0 r.1 k b in
       let is = ap (λ l. paired (rows_from number at l)) (append_assoc body (copies n body) after) ∙ r.2 in
-      let one : AreCopies (suc n) (rows_from k b body) (paired (rows_from more.0 more.1 after)).here
+      let one : AreCopies IsPlainHead IsCopy round (suc n) (rows_from k b body) (paired (rows_from more.0 more.1 after)).here
       (paired (rows_from number at (copies (suc n) body ++ after))).here =
-      (rows_from number at body, (paired (rows_from r.0 r.1 rest)).here, rows-themselves body k b number at, ap (λ p. p.here) is, more.2) in
+      (rows_from number at body, (paired (rows_from r.0 r.1 rest)).here, rows-themselves body round k b number at, ap (λ p. p.here) is, more.2) in
       (more.0, more.1, one, ap (λ p. p.waiting) is ∙ more.3)
 
   for-kind : (digits : List ℕ) → line_kind (codes "FOR " ++ digits) ≡ ForLine 0
@@ -258,12 +266,12 @@ module _ (body after : List (List ℕ)) (all : AllByRecursion IsBodyLine body) w
             ∙ ap (λ kind. paired_with kind head here) (for-kind (decimal n)),
       )
 
-  loop-alike : (n : ℕ) → n < 2 ^ 63 → LinesAlike (loop_lines n body ++ after) (copies n body ++ after)
+  loop-alike : (n : ℕ) → n < 2 ^ 63 → LinesAlike IsPlainHead IsCopy (loop_lines n body ++ after) (copies n body ++ after)
   unfolding TreesAlike
   loop-alike n small number at m a =
       let l = loop-paired n number at in
-      let c = copies-paired n m a l.0 l.1 in
-      let same = lines-themselves after l.2 l.3 c.0 c.1 in
+      let c = copies-paired 1 n m a l.0 l.1 in
+      let same = lines-themselves IsPlainHead IsCopy after l.2 l.3 c.0 c.1 in
       let other = paired (rows_from m a (copies n body ++ after)) in
       let here = inr (record {
         count = n;
@@ -275,12 +283,12 @@ module _ (body after : List (List ℕ)) (all : AllByRecursion IsBodyLine body) w
         are_copies = c.2;
         rest_same = same.0;
       }) in
-      subst (λ p. PairsAlike p other) (sym l.5)
-      (here, subst (λ w. WaitingAlike (paired (rows_from l.2 l.3 after)).waiting w) (sym c.3) same.1)
+      subst (λ p. PairsAlike IsPlainHead IsCopy p other) (sym l.5)
+      (here, subst (λ w. WaitingAlike IsPlainHead IsCopy (paired (rows_from l.2 l.3 after)).waiting w) (sym c.3) same.1)
 
 -- ---- the first `;redcode`
 
-abbrev begins : List ℕ → Bool
+abbrev pub begins : List ℕ → Bool
 begins line = has_directive (codes "redcode") line
 
 -- the lines from the first `;redcode` on
@@ -345,7 +353,7 @@ front-some (l ∷ before) rest e = go (begins l) e (front-some before rest)
     go false e h = h e
 
 -- where they have none, the others are cut as they are alone
-front-none : (before rest : List (List ℕ)) → list_any begins before ≡ false
+pub front-none : (before rest : List (List ℕ)) → list_any begins before ≡ false
     → (list_any begins (before ++ rest) ≡ list_any begins rest) × (from_lines (before ++ rest) ≡ from_lines rest)
 front-none [] rest e = (refl, refl)
 front-none (l ∷ before) rest e = go (begins l) e (front-none before rest)
@@ -358,44 +366,45 @@ front-none (l ∷ before) rest e = go (begins l) e (front-none before rest)
     go true e h = absurd (true≢false e)
     go false e h = h e
 
--- lines between others, in which no `;redcode` stands
-cut-alike : (before one two after : List (List ℕ)) → list_any begins one ≡ false → list_any begins two ≡ false
-    → LinesAlike (one ++ after) (two ++ after)
-    → LinesAlike (read_lines (before ++ (one ++ after))) (read_lines (before ++ (two ++ after)))
-cut-alike before one two after first second alike = go (list_any begins before) (list_any begins after) refl refl
-  where
-    in-front : list_any begins before ≡ true → (rest : List (List ℕ)) → read_lines (before ++ rest) ≡ from_lines before ++ rest
-    in-front e rest = let f = front-some before rest e in read-some (before ++ rest) f.0 ∙ f.1
+module _ (H : List ℕ → ℕ → Type 0) (W : ℕ → List ℕ → List ℕ → Type 0) where
+  -- lines between others, in which no `;redcode` stands
+  pub cut-alike : (before one two after : List (List ℕ)) → list_any begins one ≡ false → list_any begins two ≡ false
+      → LinesAlike H W (one ++ after) (two ++ after)
+      → LinesAlike H W (read_lines (before ++ (one ++ after))) (read_lines (before ++ (two ++ after)))
+  cut-alike before one two after first second alike = go (list_any begins before) (list_any begins after) refl refl
+    where
+      in-front : list_any begins before ≡ true → (rest : List (List ℕ)) → read_lines (before ++ rest) ≡ from_lines before ++ rest
+      in-front e rest = let f = front-some before rest e in read-some (before ++ rest) f.0 ∙ f.1
 
-    behind : list_any begins before ≡ false → list_any begins after ≡ true → (middle : List (List ℕ)) → list_any begins middle ≡ false
-        → read_lines (before ++ (middle ++ after)) ≡ from_lines after
-    behind e some middle clean =
-        let f = front-none before (middle ++ after) e in
-        let g = front-none middle after clean in
-        read-some (before ++ (middle ++ after)) (f.0 ∙ g.0 ∙ some) ∙ f.1 ∙ g.1
+      behind : list_any begins before ≡ false → list_any begins after ≡ true → (middle : List (List ℕ)) → list_any begins middle ≡ false
+          → read_lines (before ++ (middle ++ after)) ≡ from_lines after
+      behind e some middle clean =
+          let f = front-none before (middle ++ after) e in
+          let g = front-none middle after clean in
+          read-some (before ++ (middle ++ after)) (f.0 ∙ g.0 ∙ some) ∙ f.1 ∙ g.1
 
-    nowhere : list_any begins before ≡ false → list_any begins after ≡ false → (middle : List (List ℕ)) → list_any begins middle ≡ false
-        → read_lines (before ++ (middle ++ after)) ≡ before ++ (middle ++ after)
-    nowhere e none middle clean =
-        read-none (before ++ (middle ++ after)) ((front-none before (middle ++ after) e).0 ∙ (front-none middle after clean).0 ∙ none)
+      nowhere : list_any begins before ≡ false → list_any begins after ≡ false → (middle : List (List ℕ)) → list_any begins middle ≡ false
+          → read_lines (before ++ (middle ++ after)) ≡ before ++ (middle ++ after)
+      nowhere e none middle clean =
+          read-none (before ++ (middle ++ after)) ((front-none before (middle ++ after) e).0 ∙ (front-none middle after clean).0 ∙ none)
 
-    go : (s t : Bool) → list_any begins before ≡ s → list_any begins after ≡ t
-        → LinesAlike (read_lines (before ++ (one ++ after))) (read_lines (before ++ (two ++ after)))
-    go true t e some =
-        rw (in-front e (one ++ after), in-front e (two ++ after)) (front-alike (from_lines before) (one ++ after) (two ++ after) alike)
-    go false true e some = rw (behind e some one first, behind e some two second) (lines-themselves (from_lines after))
-    go false false e some =
-        rw (nowhere e some one first, nowhere e some two second) (front-alike before (one ++ after) (two ++ after) alike)
+      go : (s t : Bool) → list_any begins before ≡ s → list_any begins after ≡ t
+          → LinesAlike H W (read_lines (before ++ (one ++ after))) (read_lines (before ++ (two ++ after)))
+      go true t e some =
+          rw (in-front e (one ++ after), in-front e (two ++ after)) (front-alike H W (from_lines before) (one ++ after) (two ++ after) alike)
+      go false true e some = rw (behind e some one first, behind e some two second) (lines-themselves H W (from_lines after))
+      go false false e some =
+          rw (nowhere e some one first, nowhere e some two second) (front-alike H W before (one ++ after) (two ++ after) alike)
 
-rows-tree : (one two : List (List ℕ)) → LinesAlike (read_lines one) (read_lines two)
-    → TreesAlike (tree_of_rows (read_rows (rows_from 1 0 one))) (tree_of_rows (read_rows (rows_from 1 0 two)))
-rows-tree one two alike =
-    let r = read-rows-from one 1 0 in
-    let s = read-rows-from two 1 0 in
-    let p = paired (rows_from r.0 r.1 (read_lines one)) in
-    let q = paired (rows_from s.0 s.1 (read_lines two)) in
-    let pairs = alike r.0 r.1 s.0 s.1 in
-    rw (r.2, s.2) (pair-tree p.here q.here p.waiting q.waiting pairs.0 pairs.1)
+  pub rows-tree : (one two : List (List ℕ)) → LinesAlike H W (read_lines one) (read_lines two)
+      → TreesAlike H W (tree_of_rows (read_rows (rows_from 1 0 one))) (tree_of_rows (read_rows (rows_from 1 0 two)))
+  rows-tree one two alike =
+      let r = read-rows-from one 1 0 in
+      let s = read-rows-from two 1 0 in
+      let p = paired (rows_from r.0 r.1 (read_lines one)) in
+      let q = paired (rows_from s.0 s.1 (read_lines two)) in
+      let pairs = alike r.0 r.1 s.0 s.1 in
+      rw (r.2, s.2) (pair-tree H W p.here q.here p.waiting q.waiting pairs.0 pairs.1)
 
 -- ---- texts
 
@@ -414,7 +423,7 @@ lines-read (l ∷ lines) all =
     ap lines_of (append_assoc l (10 ∷ []) (text_of_lines lines)) ∙ line-first l (text_of_lines lines) all.0
     ∙ ap (λ ls. l ∷ ls) (lines-read lines all.1)
 
-all-append : (P : List ℕ → Type 0) (xs ys : List (List ℕ)) → AllByRecursion P xs → AllByRecursion P ys → AllByRecursion P (xs ++ ys)
+pub all-append : (P : List ℕ → Type 0) (xs ys : List (List ℕ)) → AllByRecursion P xs → AllByRecursion P ys → AllByRecursion P (xs ++ ys)
 all-append P [] ys a b = b
 all-append P (x ∷ xs) ys a b = (a.0, all-append P xs ys a.1 b)
 
@@ -440,7 +449,7 @@ digits-line (suc k) n acc e = go (n / 10 == 0) (digits-line k (n / 10) more more
     go true h = more-line
     go false h = h
 
-decimal-line : (n : ℕ) → IsLine (decimal n)
+pub decimal-line : (n : ℕ) → IsLine (decimal n)
 unfolding digits
 decimal-line n = digits-line 64 n [] refl
 
@@ -450,7 +459,7 @@ none-redcode (l ∷ lines) all = ap (λ b. b || list_any begins lines) all.0.pla
 
 pub written-trees : (n : ℕ) (before body after : List (List ℕ)) → n < 2 ^ 63
     → AllByRecursion IsLine before → AllByRecursion IsLine body → AllByRecursion IsLine after → AllByRecursion IsBodyLine body
-    → TreesAlike (tree_of (text_of_lines (before ++ (loop_lines n body ++ after)))) (tree_of (text_of_lines (before ++ (copies n body ++ after))))
+    → TreesAlike IsPlainHead IsCopy (tree_of (text_of_lines (before ++ (loop_lines n body ++ after)))) (tree_of (text_of_lines (before ++ (copies n body ++ after))))
 written-trees n before body after small first inside last all =
     let loop-is : AllByRecursion IsLine (loop_lines n body) =
     (decimal-line n, all-append IsLine body (codes "ROF" ∷ []) inside (refl, tt)) in
@@ -463,5 +472,5 @@ written-trees n before body after small first inside last all =
     (all-append IsLine (copies n body) after (all-copies IsLine n body inside) last)) in
     let loop-clean : list_any begins (loop_lines n body) ≡ false = (front-none body (codes "ROF" ∷ []) (none-redcode body all)).0 in
     let copies-clean = none-redcode (copies n body) (all-copies IsBodyLine n body all) in
-    rw (lines-one, lines-two) (rows-tree one two
-    (cut-alike before (loop_lines n body) (copies n body) after loop-clean copies-clean (loop-alike body after all n small)))
+    rw (lines-one, lines-two) (rows-tree IsPlainHead IsCopy one two
+    (cut-alike IsPlainHead IsCopy before (loop_lines n body) (copies n body) after loop-clean copies-clean (loop-alike body after all n small)))

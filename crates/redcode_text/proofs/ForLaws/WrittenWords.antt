@@ -1,7 +1,7 @@
 -- A word of a loop's body, with the round written in place of the counter and of its joins.
-use Rattle.std.proofs.Common.{◌≡◌, ◌∙◌, refl, ap, sym, subst, true≢false, ℕ, ◌+◌, ◌^◌, ◌<◌, ◌≤◌, pos, ◌==◌, ◌&&◌, ◌||◌, Bool, true, false, cond, if◌then◌else◌, nat_lt, List, [], ◌∷◌, ◌++◌, length, take, decimal, Option, Some, None, Result, Ok, Err, append_assoc, arith}
+use Rattle.std.proofs.Common.{◌≡◌, ◌∙◌, refl, ap, sym, ℕ, ◌^◌, ◌<◌, pos, ◌==◌, ◌&&◌, ◌||◌, Bool, true, false, cond, if◌then◌else◌, nat_lt, List, [], ◌∷◌, ◌++◌, length, decimal, Option, Some, None, Ok, Err, append_assoc, arith}
 use Rattle.std.specs.Char.{is_ascii_digit}
-use Rattle.std.specs.List.{list_all, list_any, onto_first}
+use Rattle.std.specs.List.{list_all, onto_first}
 use Rattle.std.specs.Str.{bytes_eq}
 use Rattle.std.specs.Str.Parse.{digits_value}
 use Rattle.std.proofs.lemmas.Bool.{and_parts, lt-ltb}
@@ -11,14 +11,13 @@ use Rattle.std.proofs.lemmas.List.{append-nil}
 use Rattle.std.proofs.lemmas.List.Folds.{list_all-append}
 use Rattle.std.proofs.lemmas.Slice.Eq.{bytes_eq-Decides}
 use Rattle.redcode_text.specs.Results.{◌>>=◌}
-use Rattle.redcode_text.specs.declared.fault.TextProblem.{TextProblem}
 use Rattle.redcode_text.specs.declared.fault.TextProblem.TheVariants.{BadToken}
 use Rattle.redcode_text.specs.declared.token.TokenKind.TheVariants.{Number, Name}
 use Rattle.redcode_text.specs.Laws.{are_its_joins, written_joins, written_parts, written_word}
-use Rattle.redcode_text.specs.Tokens.{Found, OpenLoop, begins_name, begins_word, is_word_byte, join_counters, join_parts, joined, name_found, name_index, number_found, number_kind, parts_at_joins, plain_word_found, round_digits, round_of, round_or_bad, with_name, word_found, word_token}
+use Rattle.redcode_text.specs.Tokens.{Found, OpenLoop, begins_name, is_word_byte, join_counters, join_parts, name_found, name_index, number_found, number_kind, parts_at_joins, round_digits, round_of, round_or_bad, with_name, word_found, word_token}
 use Rattle.redcode_text.proofs.ForLaws.RenamedResults.{BothGive}
 use Rattle.redcode_text.proofs.ForLaws.RenamedTokens.{decimal-digits, round-digits}
-use Rattle.redcode_text.proofs.ForLaws.RenamedWords.{onto_front, parts-front, raw_of}
+use Rattle.redcode_text.proofs.ForLaws.RenamedWords.{parts-front, raw_of}
 use Rattle.redcode_text.proofs.ForLaws.TokensRead.{are_digits, decimal-is, digits-are-word}
 
 -- ---- digits

@@ -11,7 +11,7 @@ use Rattle.redcode_text.specs.declared.token.TokenKind.TheVariants.{Number, Name
 use Rattle.redcode_text.specs.Alike.{AreAlike, spelled_kind, spelled_line}
 use Rattle.redcode_text.specs.Expansion.{ProgramValue, expansion}
 use Rattle.redcode_text.specs.Expression.{tree_within, value_of}
-use Rattle.redcode_text.specs.Laws.{IsBodyLine, copies, has_its_joins, is_loop_kind, loop_lines, renamed, text_of_lines, written_text}
+use Rattle.redcode_text.specs.Laws.{HasItsJoins, IsBodyLine, IsCounterName, IsInstructionLine, copies, counter_lines, has_its_joins, is_loop_kind, loop_lines, renamed, text_of_lines, written_rounds, written_text}
 use Rattle.redcode_text.specs.Source.{line_kind}
 use Rattle.redcode_text.specs.Examples.Expansion.{predefined}
 
@@ -95,7 +95,7 @@ row_renamed = refl
 -- ---- counters written in place
 
 -- the counter is written as a number, its joins with two digits; `&&` is no join
-pub row_written : written_text (codes "i") 3 (codes "x&i&i DAT i, (i2 && i)+&i") ≡ codes "x0303 DAT 3, (i2 && 3)+03"
+pub row_written : written_text (codes "i") 3 (codes "x&i&i DAT i, (i2&&i)+&i") ≡ codes "x0303 DAT 3, (i2&&3)+03"
 unfolding digits
 row_written = refl
 
@@ -119,3 +119,31 @@ letter-ends (b ∷ c ∷ word) digit e = go (nat_eq 105 b)
     go : (t : Bool) → (t && false) ≡ false
     go true = refl
     go false = refl
+
+-- ---- a loop with a counter
+
+pub row_counter : IsCounterName (codes "i")
+row_counter = record { begins = refl; word = refl; free = refl; bare = letter-ends }
+
+pub row_counter_lines : counter_lines (codes "i") 2 (codes "NOP" ∷ []) ≡ codes "i FOR 2" ∷ codes "NOP" ∷ codes "ROF" ∷ []
+unfolding digits
+row_counter_lines = refl
+
+pub row_rounds : written_rounds (codes "i") 1 2 (codes "x&i DAT #i ; i" ∷ codes "NOP" ∷ []) ≡ codes "x01 DAT #1 " ∷ codes "NOP" ∷ codes "x02 DAT #2 " ∷ codes "NOP" ∷ []
+unfolding digits
+row_rounds = refl
+
+-- lines that a body may have, and what is written of them
+pub row_instructions : IsInstructionLine (codes "x&i DAT #i ; i") × IsInstructionLine (codes "x01 DAT #1 ") × IsInstructionLine (codes "") × HasItsJoins (codes "i") (codes "x&i DAT #i ; &j")
+row_instructions = (record { kind = refl; plain = refl }, record { kind = refl; plain = refl }, record { kind = refl; plain = refl }, refl)
+
+-- the same labels, in a loop and written out
+pub row_counter_out :
+    let after : List (List ℕ) = codes "JMP x02" ∷ [] in
+    let body : List (List ℕ) = codes "x&i DAT #i ; i" ∷ codes "NOP" ∷ [] in
+    let labels : List (List ℕ) → List (List (List ℕ)) =
+    λ lines. spelled_lines (expansion predefined (text_of_lines (lines ++ after))) in
+    (labels (counter_lines (codes "i") 2 body) ≡ labels (written_rounds (codes "i") 1 2 body))
+    × (labels (written_rounds (codes "i") 1 2 body) ≡ (codes "x01" ∷ []) ∷ [] ∷ (codes "x02" ∷ []) ∷ [] ∷ [] ∷ [])
+unfolding expansion value_of tree_within digits
+row_counter_out = (refl, refl)
