@@ -126,7 +126,6 @@ impl Tape for DeltaTape {
         self.last_turns = self.battle.turns();
     }
 
-    #[inline(always)]
     fn turn(&mut self) {
         let Ok(atom) = self.battle.turn() else {
             unreachable!()
