@@ -11,8 +11,8 @@ use Rattle.mars_c.specs.Asked.{AreTerms}
 use Rattle.mars_c.specs.Battles.{begun, placed_in}
 use Rattle.mars_c.specs.Contests.{AreLoads, Reads}
 use Rattle.mars_c.specs.Refusals.{Fails, RefusesEntry, fight_refusal}
-use Rattle.mars_c.specs.declared.faults.Refusal.{Refusal}
-use Rattle.mars_c.specs.declared.faults.Refusal.TheVariants.{OutOfMemory}
+use Rattle.mars_c.specs.declared.faults.CallRefusal.{CallRefusal}
+use Rattle.mars_c.specs.declared.faults.CallRefusal.TheVariants.{OutOfMemory}
 use Rattle.mars_c.specs.declared.settings.MarsSettings.{MarsSettings}
 use Rattle.mars_c.specs.declared.settings.Terms.{Terms}
 
@@ -45,13 +45,13 @@ too_many p bytes ns i ws rest all past left same =
     omega (arith, read, whole, some, same)
 
 -- want of memory in a fight refuses any call
-pub memory : (s : MarsSettings) (text : List ℕ) (count : ℕ) (loads lengths : List ℕ) (fault : MatchFault) (refusal : Refusal)
+pub memory : (s : MarsSettings) (text : List ℕ) (count : ℕ) (loads lengths : List ℕ) (fault : MatchFault) (refusal : CallRefusal)
     → refusal ≡ fight_refusal fault → fault ≡ fight.OutOfMemory → RefusesEntry s text count loads lengths refusal
 memory s text count loads lengths fault refusal is wants = subst (RefusesEntry s text count loads lengths) (sym (is ∙ ap fight_refusal wants)) tt
 
 -- a fault of what load files are to do, or want of memory
 pub fails : {X : Type 0} (s : MarsSettings) (text : List ℕ) (count : ℕ) (loads lengths : List ℕ) (fought : Terms → List WarriorValue → Result X MatchFault)
-    (t : Terms) (ws : List WarriorValue) (fault : MatchFault) (refusal : Refusal)
+    (t : Terms) (ws : List WarriorValue) (fault : MatchFault) (refusal : CallRefusal)
     → AreTerms s text t → AreLoads t.params loads lengths ws → (fight_refusal fault ≡ OutOfMemory) ⊎ (fought t ws ≡ Err fault) → refusal ≡ fight_refusal fault
     → RefusesEntry s text count loads lengths refusal ⊎ Fails s text loads lengths fought refusal
 fails s text count loads lengths fought t ws fault refusal terms read (inl memory) is = inl (subst (RefusesEntry s text count loads lengths) (sym (is ∙ memory)) tt)

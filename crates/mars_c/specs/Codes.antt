@@ -15,8 +15,8 @@ use Rattle.redcode_text.specs.declared.fault.ExprFault.TheVariants as expression
 use Rattle.redcode_text.specs.declared.fault.TextProblem.{TextProblem}
 use Rattle.redcode_text.specs.declared.fault.TextProblem.TheVariants as text
 use Rattle.mars_c.specs.declared.faults.MarsFault.{MarsFault}
-use Rattle.mars_c.specs.declared.faults.Refusal.{Refusal}
-use Rattle.mars_c.specs.declared.faults.Refusal.TheVariants.{OutOfMemory, Settings, Parameters, Formula, Assembly, Load, Placement, Battle, Score}
+use Rattle.mars_c.specs.declared.faults.CallRefusal.{CallRefusal}
+use Rattle.mars_c.specs.declared.faults.CallRefusal.TheVariants.{OutOfMemory, Settings, Parameters, Formula, Assembly, Load, Placement, Battle, Score}
 use Rattle.mars_c.specs.declared.ranges.SettingsFault.{SettingsFault}
 use Rattle.mars_c.specs.declared.ranges.SettingsFault.TheVariants as settings
 
@@ -111,7 +111,7 @@ abbrev pub numbered : ℕ → ℕ → MarsFault
 numbered code number = record { code = code; number = number; problem = 0; expression = 0; line = 0; warrior = 0 }
 
 -- what a caller is told of a refusal
-abbrev pub fault_of : Refusal → MarsFault
+abbrev pub fault_of : CallRefusal → MarsFault
 fault_of OutOfMemory = numbered 1 0
 fault_of (Settings fault) = numbered 2 (settings_number fault)
 fault_of (Parameters fault) = numbered 3 (parameter_number fault)

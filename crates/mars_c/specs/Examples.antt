@@ -43,7 +43,7 @@ use Rattle.mars_c.specs.Records.{AreRows, IsLeft, change_of, turn_row}
 use Rattle.mars_c.specs.Touches.{touched_row}
 use Rattle.mars_c.specs.Refusals.{IsOutside, fight_refusal}
 use Rattle.mars_c.specs.States.{counts_of, fits_in, plain_standing}
-use Rattle.mars_c.specs.declared.faults.Refusal.TheVariants.{Assembly, Battle, Load, OutOfMemory, Placement, Score}
+use Rattle.mars_c.specs.declared.faults.CallRefusal.TheVariants.{Assembly, Battle, Load, OutOfMemory, Placement, Score}
 use Rattle.mars_c.specs.declared.ranges.SettingsFault.TheVariants.{Lengths, Position, Rounds, Seed}
 use Rattle.mars_c.specs.declared.settings.MarsSettings.{MarsSettings}
 use Rattle.mars_c.specs.declared.settings.Terms.{Terms}

@@ -5,7 +5,7 @@ ghost use Rattle.mars_c.specs.Battles.{IsAsked, IsDebugged, IsHistory, IsLed, Is
 ghost use Rattle.mars_c.specs.Refusals.{AreWarriors, RefusesDebugging, RefusesRound, fight_refusal};
 ghost use Rattle.mars_core.specs.Limits.{most_warriors};
 
-use crate::faults::{Refusal, refused_fight};
+use crate::faults::{CallRefusal, refused_fight};
 use crate::loading::{Entry, enter};
 use crate::ranges::SettingsFault;
 use crate::settings::{MarsSettings, Terms, warriors_fault};
@@ -56,7 +56,7 @@ fn round_battle(
     requires few { vec_len warriors ≤ most_warriors }
     requires position { FitsTwo terms.now.params (vec_len warriors) terms.now.plan.fixed }
     ensures round { IfOk result (IsRound terms.now warriors.items round) }
-    ensures fault { IfErr result (λ fault. (fight_refusal fault ≡ Refusal.OutOfMemory) ⊎ (begun terms.now warriors.items round ≡ Err fault)) }
+    ensures fault { IfErr result (λ fault. (fight_refusal fault ≡ CallRefusal.OutOfMemory) ⊎ (begun terms.now warriors.items round ≡ Err fault)) }
 {
     let count = warriors.len();
     let mut starts = starts_in(alloc, terms, count as u32, round)?;
@@ -76,7 +76,7 @@ pub fn start_of(
     loads: &[u8],
     lengths: &[usize],
     round: u32,
-) -> Result<Battle, Refusal>
+) -> Result<Battle, CallRefusal>
     requires some { 1 ≤ length lengths.now }
     requires few { length lengths.now ≤ most_warriors }
     ensures start { IfOk result (IsStart settings.now loads.now lengths.now round) }
@@ -84,7 +84,7 @@ pub fn start_of(
 {
     let Entry { terms, warriors } = enter(alloc, settings, b"0", loads, lengths, lengths.len())?;
     if round >= terms.plan.rounds {
-        return Err(Refusal::Settings(SettingsFault::Round));
+        return Err(CallRefusal::Settings(SettingsFault::Round));
     }
     let battle = round_battle(alloc, &terms, warriors, round);
     drop(terms);
@@ -154,17 +154,17 @@ pub fn battle_of(
     round: u32,
     history: u32,
     lines: &[u8],
-) -> Result<Battle, Refusal>
+) -> Result<Battle, CallRefusal>
     ensures led { IfOk result (IsAsked settings.now loads.now lengths.now round history lines.now) }
     ensures refused { IfErr result (RefusesDebugging settings.now loads.now lengths.now round history) }
 {
     if let Some(fault) = asked_fault(lengths.len(), history) {
-        return Err(Refusal::Settings(fault));
+        return Err(CallRefusal::Settings(fault));
     }
     let battle = start_of(alloc, settings, loads, lengths, round)?;
     match led(alloc, battle, history, lines) {
         Some(battle) => Ok(battle),
-        None => Err(Refusal::OutOfMemory),
+        None => Err(CallRefusal::OutOfMemory),
     }
 }
 
@@ -178,7 +178,7 @@ pub fn state_of(
     history: u32,
     lines: &[u8],
     turns: u32,
-) -> Result<Battle, Refusal>
+) -> Result<Battle, CallRefusal>
     ensures played { IfOk result (IsPlayed settings.now loads.now lengths.now round history lines.now turns) }
     ensures refused { IfErr result (RefusesDebugging settings.now loads.now lengths.now round history) }
 {

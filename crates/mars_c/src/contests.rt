@@ -4,7 +4,7 @@ ghost use Rattle.mars_match.specs.Leagues.{most_of_league};
 ghost use Rattle.mars_c.specs.Contests.{HoldsLeague, HoldsMatch, IsLeague, IsMatch};
 ghost use Rattle.mars_c.specs.Refusals.{FailsLeague, FailsMatch, RefusesEntry, RefusesLeague, RefusesMatch};
 
-use crate::faults::{Refusal, refused_fight};
+use crate::faults::{CallRefusal, refused_fight};
 use crate::loading::enter;
 use crate::ranges::SettingsFault;
 use crate::rows::{MarsRow, give_rows};
@@ -22,7 +22,7 @@ fn match_table(
     formula: &[u8],
     loads: &[u8],
     lengths: &[usize],
-) -> Result<Table, Refusal>
+) -> Result<Table, CallRefusal>
     ensures table { IfOk result (λ table. IsMatch settings.now formula.now loads.now lengths.now table.rows.items) }
     ensures refused { IfErr result (λ refusal. RefusesEntry settings.now formula.now (length lengths.now) loads.now lengths.now refusal
         ⊎ FailsMatch settings.now formula.now loads.now lengths.now refusal) }
@@ -48,7 +48,7 @@ fn league_table(
     formula: &[u8],
     loads: &[u8],
     lengths: &[usize],
-) -> Result<Table, Refusal>
+) -> Result<Table, CallRefusal>
     requires { length lengths.now ≤ most_of_league }
     ensures table { IfOk result (λ table. IsLeague settings.now formula.now loads.now lengths.now table.rows.items) }
     ensures refused { IfErr result (λ refusal. RefusesEntry settings.now formula.now 0 loads.now lengths.now refusal
@@ -77,16 +77,16 @@ pub fn match_into(
     loads: &[u8],
     lengths: &[usize],
     place: &mut [MarsRow],
-) -> Result<(), Refusal>
+) -> Result<(), CallRefusal>
     ensures ok { OnOk result (HoldsMatch settings.now formula.now loads.now lengths.now place.new) }
     ensures err { OnErr result (place.new ≡ place.old) }
     ensures refused { IfErr result (RefusesMatch settings.now formula.now loads.now lengths.now (length place.old)) }
 {
     if let Some(fault) = warriors_fault(lengths.len()) {
-        return Err(Refusal::Settings(fault));
+        return Err(CallRefusal::Settings(fault));
     }
     if place.len() != lengths.len() {
-        return Err(Refusal::Settings(SettingsFault::Rows));
+        return Err(CallRefusal::Settings(SettingsFault::Rows));
     }
     let table = match_table(alloc, settings, formula, loads, lengths)?;
     match give_rows(alloc, &table.rows, place) {
@@ -103,16 +103,16 @@ pub fn league_into(
     loads: &[u8],
     lengths: &[usize],
     place: &mut [MarsRow],
-) -> Result<(), Refusal>
+) -> Result<(), CallRefusal>
     ensures ok { OnOk result (HoldsLeague settings.now formula.now loads.now lengths.now place.new) }
     ensures err { OnErr result (place.new ≡ place.old) }
     ensures refused { IfErr result (RefusesLeague settings.now formula.now loads.now lengths.now (length place.old)) }
 {
     if lengths.len() > MOST_OF_A_LEAGUE {
-        return Err(Refusal::Settings(SettingsFault::Warriors));
+        return Err(CallRefusal::Settings(SettingsFault::Warriors));
     }
     if place.len() != lengths.len() {
-        return Err(Refusal::Settings(SettingsFault::Rows));
+        return Err(CallRefusal::Settings(SettingsFault::Rows));
     }
     let table = league_table(alloc, settings, formula, loads, lengths)?;
     match give_rows(alloc, &table.rows, place) {

@@ -4,7 +4,7 @@ ghost use Rattle.mars_c.specs.Debugging.{Debugs};
 ghost use Rattle.mars_c.specs.Refusals.{RefusesDebugging};
 
 use crate::battles::{asked_fault, debugged, start_of};
-use crate::faults::Refusal;
+use crate::faults::CallRefusal;
 use crate::settings::MarsSettings;
 use std::alloc::Global;
 
@@ -16,18 +16,18 @@ pub fn transcript(
     lengths: &[usize],
     history: u32,
     lines: &[u8],
-) -> Result<Vec<u8>, Refusal>
+) -> Result<Vec<u8>, CallRefusal>
     ensures told { IfOk result (λ text. Debugs settings.now loads.now lengths.now history lines.now text.items) }
     ensures refused { IfErr result (RefusesDebugging settings.now loads.now lengths.now 0 history) }
 {
     if let Some(fault) = asked_fault(lengths.len(), history) {
-        return Err(Refusal::Settings(fault));
+        return Err(CallRefusal::Settings(fault));
     }
     let battle = start_of(alloc, settings, loads, lengths, 0)?;
     let mut transcript = Vec::new(alloc);
     match debugged(alloc, battle, history, lines, &mut transcript) {
         Some(session) => drop(session),
-        None => return Err(Refusal::OutOfMemory),
+        None => return Err(CallRefusal::OutOfMemory),
     }
     Ok(transcript)
 }

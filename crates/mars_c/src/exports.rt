@@ -11,7 +11,7 @@ use crate::battles::{battle_of, state_of};
 use crate::cells::MarsCell;
 use crate::contests::{league_into, match_into};
 use crate::debugging::transcript;
-use crate::faults::{MarsFault, Refusal, given, refused_source, told};
+use crate::faults::{CallRefusal, MarsFault, given, refused_source, told};
 use crate::playing::give_rows_of_turns;
 use crate::population::population_into;
 use crate::records::MarsRecord;
@@ -51,13 +51,13 @@ fn load_file(
     settings: &MarsSettings,
     warriors: u32,
     source: &[u8],
-) -> Result<Vec<u8>, Refusal>
+) -> Result<Vec<u8>, CallRefusal>
     ensures made { IfOk result (λ text. IsLoadFile settings.now warriors source.now text.items) }
     ensures refused { IfErr result (RefusesSource settings.now warriors source.now) }
 {
     let params = match parameters(settings) {
         Ok(params) => params,
-        Err(fault) => return Err(Refusal::Parameters(fault)),
+        Err(fault) => return Err(CallRefusal::Parameters(fault)),
     };
     match assemble_load(alloc, source, &params, settings.rounds, warriors) {
         Ok(text) => Ok(text),
@@ -71,13 +71,13 @@ fn lines(
     settings: &MarsSettings,
     warriors: u32,
     source: &[u8],
-) -> Result<Vec<u8>, Refusal>
+) -> Result<Vec<u8>, CallRefusal>
     ensures made { IfOk result (λ text. AreLines settings.now warriors source.now text.items) }
     ensures refused { IfErr result (RefusesSource settings.now warriors source.now) }
 {
     let params = match parameters(settings) {
         Ok(params) => params,
-        Err(fault) => return Err(Refusal::Parameters(fault)),
+        Err(fault) => return Err(CallRefusal::Parameters(fault)),
     };
     match source_lines(alloc, source, &params, settings.rounds, warriors) {
         Ok(text) => Ok(text),
@@ -334,7 +334,7 @@ pub extern "C" fn mars_state(
         Ok(battle) => {
             match give_state(alloc, &battle, cells, counts, processes, deaths, standing) {
                 Some(fits) => answer(fault, given(fits)),
-                None => answer(fault, told(Refusal::OutOfMemory)),
+                None => answer(fault, told(CallRefusal::OutOfMemory)),
             }
         }
         Err(refusal) => answer(fault, told(refusal)),

@@ -2,7 +2,7 @@
 ghost use Rattle.std.specs.Prelude.{◌≡◌, ◌≤◌, if◌then◌else◌};
 ghost use Rattle.mars_c.specs.Codes.{fault_of, numbered as spec_numbered};
 ghost use Rattle.mars_c.specs.Refusals.{fight_refusal, refusal_at};
-ghost use Rattle.mars_c.specs.declared.faults.Refusal.TheVariants as variant;
+ghost use Rattle.mars_c.specs.declared.faults.CallRefusal.TheVariants as variant;
 
 use crate::numbers::{
     assembly_number, battle_number, expression_number, load_line, load_number, parameter_number,
@@ -17,7 +17,7 @@ use redcode_text::ExprFault;
 
 /// Why a call wasn't done.
 #[derive(Clone, Copy)]
-pub enum Refusal {
+pub enum CallRefusal {
     OutOfMemory,
     Settings(SettingsFault),
     Parameters(ParamFault),
@@ -87,21 +87,21 @@ fn load(index: usize, fault: LoadFault) -> MarsFault
 }
 
 /// What a caller is told of a refusal.
-pub fn told(refusal: Refusal) -> MarsFault
+pub fn told(refusal: CallRefusal) -> MarsFault
     ensures fault { result ≡ fault_of refusal }
     ensures some { 1 ≤ result.code }
     ensures few { result.code ≤ 9 }
 {
     match refusal {
-        Refusal::OutOfMemory => numbered(1, 0),
-        Refusal::Settings(fault) => numbered(2, fault.number()),
-        Refusal::Parameters(fault) => numbered(3, parameter_number(fault)),
-        Refusal::Formula(fault) => numbered(4, expression_number(fault)),
-        Refusal::Assembly(fault) => assembly(fault),
-        Refusal::Load(index, fault) => load(index, fault),
-        Refusal::Placement(fault) => numbered(7, placement_number(fault)),
-        Refusal::Battle(fault) => numbered(8, battle_number(fault)),
-        Refusal::Score(fault) => numbered(9, expression_number(fault)),
+        CallRefusal::OutOfMemory => numbered(1, 0),
+        CallRefusal::Settings(fault) => numbered(2, fault.number()),
+        CallRefusal::Parameters(fault) => numbered(3, parameter_number(fault)),
+        CallRefusal::Formula(fault) => numbered(4, expression_number(fault)),
+        CallRefusal::Assembly(fault) => assembly(fault),
+        CallRefusal::Load(index, fault) => load(index, fault),
+        CallRefusal::Placement(fault) => numbered(7, placement_number(fault)),
+        CallRefusal::Battle(fault) => numbered(8, battle_number(fault)),
+        CallRefusal::Score(fault) => numbered(9, expression_number(fault)),
     }
 }
 
@@ -117,25 +117,25 @@ pub fn given(fits: bool) -> MarsFault
 }
 
 /// The refusal of a fight.
-pub fn refused_fight(fault: MatchFault) -> Refusal
+pub fn refused_fight(fault: MatchFault) -> CallRefusal
     ensures { result ≡ fight_refusal fault }
 {
     match fault {
-        MatchFault::OutOfMemory => Refusal::OutOfMemory,
-        MatchFault::Place(PlaceFault::OutOfMemory) => Refusal::OutOfMemory,
-        MatchFault::Battle(BattleFault::OutOfMemory) => Refusal::OutOfMemory,
-        MatchFault::Place(fault) => Refusal::Placement(fault),
-        MatchFault::Battle(fault) => Refusal::Battle(fault),
-        MatchFault::Score(fault) => Refusal::Score(fault),
+        MatchFault::OutOfMemory => CallRefusal::OutOfMemory,
+        MatchFault::Place(PlaceFault::OutOfMemory) => CallRefusal::OutOfMemory,
+        MatchFault::Battle(BattleFault::OutOfMemory) => CallRefusal::OutOfMemory,
+        MatchFault::Place(fault) => CallRefusal::Placement(fault),
+        MatchFault::Battle(fault) => CallRefusal::Battle(fault),
+        MatchFault::Score(fault) => CallRefusal::Score(fault),
     }
 }
 
 /// The refusal of a source.
-pub fn refused_source(fault: AsmFault) -> Refusal
+pub fn refused_source(fault: AsmFault) -> CallRefusal
     ensures { result ≡ refusal_at fault.problem fault }
 {
     match fault.problem {
-        AsmProblem::OutOfMemory => Refusal::OutOfMemory,
-        _ => Refusal::Assembly(fault),
+        AsmProblem::OutOfMemory => CallRefusal::OutOfMemory,
+        _ => CallRefusal::Assembly(fault),
     }
 }

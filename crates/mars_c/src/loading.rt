@@ -7,7 +7,7 @@ ghost use Rattle.mars_c.specs.Contests.{AreLoads};
 ghost use Rattle.mars_c.specs.Refusals.{RefusesEntry};
 ghost use Rattle.mars_c.specs.declared.settings.MarsSettings.{MarsSettings as SettingsValue};
 
-use crate::faults::Refusal;
+use crate::faults::CallRefusal;
 use crate::ranges::SettingsFault;
 use crate::settings::{MarsSettings, Terms, make_terms};
 use mars_cell::{LoadFault, Params, Warrior, read_load};
@@ -19,7 +19,7 @@ fn read_all(
     params: &Params,
     loads: &[u8],
     lengths: &[usize],
-) -> Result<Vec<Warrior>, Refusal>
+) -> Result<Vec<Warrior>, CallRefusal>
     ensures many { IfOk result (λ warriors. vec_len warriors ≡ length lengths.now) }
     ensures loads { IfOk result (λ warriors. AreLoads params.now loads.now lengths.now warriors.items) }
     ensures refused { (s : SettingsValue) (text : List ℕ) (count : ℕ) → checked_parameters (asked s) ≡ Ok params.now
@@ -29,20 +29,20 @@ fn read_all(
     let mut rest = loads;
     for i in 0..lengths.len() {
         let Some((load, others)) = rest.split_at_checked(lengths[i]) else {
-            return Err(Refusal::Settings(SettingsFault::Lengths));
+            return Err(CallRefusal::Settings(SettingsFault::Lengths));
         };
         let warrior = match read_load(alloc, load, params) {
             Ok(warrior) => warrior,
-            Err(LoadFault::OutOfMemory) => return Err(Refusal::OutOfMemory),
-            Err(fault) => return Err(Refusal::Load(i, fault)),
+            Err(LoadFault::OutOfMemory) => return Err(CallRefusal::OutOfMemory),
+            Err(fault) => return Err(CallRefusal::Load(i, fault)),
         };
         let Ok(()) = warriors.push(warrior) else {
-            return Err(Refusal::OutOfMemory);
+            return Err(CallRefusal::OutOfMemory);
         };
         rest = others;
     }
     if !rest.is_empty() {
-        return Err(Refusal::Settings(SettingsFault::Lengths));
+        return Err(CallRefusal::Settings(SettingsFault::Lengths));
     }
     Ok(warriors)
 }
@@ -62,7 +62,7 @@ pub fn enter(
     loads: &[u8],
     lengths: &[usize],
     warriors: usize,
-) -> Result<Entry, Refusal>
+) -> Result<Entry, CallRefusal>
     ensures terms { IfOk result (λ entry. AreTerms settings.now formula.now entry.terms) }
     ensures position { IfOk result (λ entry. FitsTwo entry.terms.params warriors entry.terms.plan.fixed) }
     ensures many { IfOk result (λ entry. vec_len entry.warriors ≡ length lengths.now) }

@@ -3,7 +3,7 @@ ghost use Rattle.std.specs.Prelude.{◌≡◌, IfErr, OnErr, OnOk, length};
 ghost use Rattle.mars_c.specs.Contests.{HoldsSums};
 ghost use Rattle.mars_c.specs.Refusals.{RefusesPopulation};
 
-use crate::faults::{Refusal, refused_fight};
+use crate::faults::{CallRefusal, refused_fight};
 use crate::loading::enter;
 use crate::ranges::SettingsFault;
 use crate::rows::{MarsRow, give_sums};
@@ -20,13 +20,13 @@ pub fn population_into(
     loads: &[u8],
     lengths: &[usize],
     place: &mut [MarsRow],
-) -> Result<(), Refusal>
+) -> Result<(), CallRefusal>
     ensures ok { OnOk result (HoldsSums settings.now formula.now loads.now lengths.now place.new) }
     ensures err { OnErr result (place.new ≡ place.old) }
     ensures refused { IfErr result (RefusesPopulation settings.now formula.now loads.now lengths.now (length place.old)) }
 {
     if place.len() > lengths.len() {
-        return Err(Refusal::Settings(SettingsFault::Rows));
+        return Err(CallRefusal::Settings(SettingsFault::Rows));
     }
     let entry = enter(alloc, settings, formula, loads, lengths, 2)?;
     let (candidates, opponents) = entry.warriors.split_at(place.len());

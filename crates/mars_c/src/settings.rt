@@ -6,7 +6,7 @@ ghost use Rattle.mars_match.specs.Placement.{FitsTwo};
 ghost use Rattle.mars_c.specs.Asked.{AreRounds, AreTerms, IsSeed, asked, limit_of, position_of};
 ghost use Rattle.mars_c.specs.Refusals.{AreWarriors, IsOutside, RefusesEntry};
 
-use crate::faults::Refusal;
+use crate::faults::CallRefusal;
 use crate::ranges::SettingsFault;
 use mars_cell::{ParamFault, Params};
 use mars_core::MOST_WARRIORS;
@@ -129,26 +129,26 @@ pub fn make_terms(
     settings: &MarsSettings,
     formula: &[u8],
     warriors: usize,
-) -> Result<Terms, Refusal>
+) -> Result<Terms, CallRefusal>
     ensures fits { IfOk result (λ t. FitsTwo t.params warriors t.plan.fixed) }
     ensures terms { IfOk result (λ t. AreTerms settings.now formula.now t) }
     ensures refused { (loads lengths : List ℕ) → IfErr result (RefusesEntry settings.now formula.now warriors loads lengths) }
 {
     let params = match parameters(settings) {
         Ok(params) => params,
-        Err(fault) => return Err(Refusal::Parameters(fault)),
+        Err(fault) => return Err(CallRefusal::Parameters(fault)),
     };
     if let Some(fault) = numbers_fault(settings) {
-        return Err(Refusal::Settings(fault));
+        return Err(CallRefusal::Settings(fault));
     }
     let fixed = match position(settings, &params, warriors) {
         Ok(fixed) => fixed,
-        Err(fault) => return Err(Refusal::Settings(fault)),
+        Err(fault) => return Err(CallRefusal::Settings(fault)),
     };
     let formula = match Formula::new(alloc, formula) {
         Ok(formula) => formula,
-        Err(FormulaFault::OutOfMemory) => return Err(Refusal::OutOfMemory),
-        Err(FormulaFault::Expression(fault)) => return Err(Refusal::Formula(fault)),
+        Err(FormulaFault::OutOfMemory) => return Err(CallRefusal::OutOfMemory),
+        Err(FormulaFault::Expression(fault)) => return Err(CallRefusal::Formula(fault)),
     };
     let (rounds, seed) = (settings.rounds, settings.seed);
     Ok(Terms {

@@ -38,7 +38,7 @@ pub struct MarsStanding {
 
 /// What there is of a battle, as numbers.
 #[derive(Drop)]
-pub struct Parts {
+pub struct StateParts {
     cells: Vec<MarsCell>,
     counts: Vec<usize>,
     processes: Vec<u32>,
@@ -123,13 +123,13 @@ fn plain_deaths(alloc: Global, deaths: &[Death]) -> Option<Vec<MarsDeath>>
 }
 
 /// What there is of a battle.
-fn parts_of(alloc: Global, battle: &Battle) -> Option<Parts>
+fn parts_of(alloc: Global, battle: &Battle) -> Option<StateParts>
     ensures cells { IfSome result (λ parts. parts.cells.items ≡ map plain_cell battle.now.core) }
     ensures counts { IfSome result (λ parts. parts.counts.items ≡ counts_of battle.now.queues) }
     ensures processes { IfSome result (λ parts. parts.processes.items ≡ concat battle.now.queues) }
     ensures deaths { IfSome result (λ parts. parts.deaths.items ≡ map plain_death battle.now.deaths) }
 {
-    Some(Parts {
+    Some(StateParts {
         cells: cells_of(alloc, battle)?,
         counts: process_counts(alloc, battle)?,
         processes: processes_of(alloc, battle)?,
@@ -161,7 +161,7 @@ fn put<T: Copy>(values: &[T], buffer: &mut [T])
 }
 
 /// Whether buffers of these lengths are long enough for what there is of a battle.
-fn fit(parts: &Parts, cells: usize, counts: usize, processes: usize, deaths: usize) -> bool
+fn fit(parts: &StateParts, cells: usize, counts: usize, processes: usize, deaths: usize) -> bool
     ensures { result ≡ (nat_le (vec_len parts.now.cells) cells && nat_le (vec_len parts.now.counts) counts
         && nat_le (vec_len parts.now.processes) processes && nat_le (vec_len parts.now.deaths) deaths) }
 {

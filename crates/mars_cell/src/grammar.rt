@@ -6,7 +6,7 @@ ghost use Rattle.mars_cell.specs.Grammar.{op_at, modifier_at, suffix_at, number_
 
 use crate::instruction::{Cell, Mode, Modifier, Op};
 use crate::numbers::{Sizes, by_value, read_number};
-use crate::parts::Parts;
+use crate::parts::LineParts;
 use crate::words::{read_mode, read_modifier, read_op};
 
 /// The modifier of an instruction that names none, by the defaults of the ICWS'94 draft; NOP has F.
@@ -28,7 +28,7 @@ pub fn default_modifier(op: Op, a_mode: Mode, b_mode: Mode) -> Modifier
 // Each of these takes its part from the front of a line, and gives what follows.
 
 #[tactic(auto, unfolding(crate::specs::Grammar::op_at))]
-fn take_op<'a>(line: Parts<'a>) -> Option<(Op, Parts<'a>)>
+fn take_op<'a>(line: LineParts<'a>) -> Option<(Op, LineParts<'a>)>
     ensures { option_map (λ r. (r.0, parts r.1.rest.now)) result ≡ op_at (parts line.entry.rest.now) }
 {
     let mut line = line;
@@ -37,7 +37,7 @@ fn take_op<'a>(line: Parts<'a>) -> Option<(Op, Parts<'a>)>
 }
 
 #[tactic(auto, unfolding(crate::specs::Grammar::modifier_at))]
-fn take_modifier<'a>(line: Parts<'a>) -> Option<(Modifier, Parts<'a>)>
+fn take_modifier<'a>(line: LineParts<'a>) -> Option<(Modifier, LineParts<'a>)>
     ensures { option_map (λ r. (r.0, parts r.1.rest.now)) result ≡ modifier_at (parts line.entry.rest.now) }
 {
     let mut line = line;
@@ -46,7 +46,7 @@ fn take_modifier<'a>(line: Parts<'a>) -> Option<(Modifier, Parts<'a>)>
 }
 
 #[tactic(auto, unfolding(crate::specs::Grammar::suffix_at))]
-fn take_suffix<'a>(line: Parts<'a>) -> Option<(Option<Modifier>, Parts<'a>)>
+fn take_suffix<'a>(line: LineParts<'a>) -> Option<(Option<Modifier>, LineParts<'a>)>
     ensures { option_map (λ r. (r.0, parts r.1.rest.now)) result ≡ suffix_at (parts line.entry.rest.now) }
 {
     let mut after = line;
@@ -60,7 +60,7 @@ fn take_suffix<'a>(line: Parts<'a>) -> Option<(Option<Modifier>, Parts<'a>)>
 }
 
 #[tactic(auto, unfolding(crate::specs::Grammar::number_at))]
-fn take_number<'a>(line: Parts<'a>) -> Option<(i64, Parts<'a>)>
+fn take_number<'a>(line: LineParts<'a>) -> Option<(i64, LineParts<'a>)>
     ensures { option_map (λ r. (r.0, parts r.1.rest.now)) result ≡ number_at (parts line.entry.rest.now) }
 {
     let mut line = line;
@@ -69,7 +69,7 @@ fn take_number<'a>(line: Parts<'a>) -> Option<(i64, Parts<'a>)>
 }
 
 #[tactic(auto, unfolding(crate::specs::Grammar::mode_at))]
-fn take_mode<'a>(line: Parts<'a>) -> (Mode, Parts<'a>)
+fn take_mode<'a>(line: LineParts<'a>) -> (Mode, LineParts<'a>)
     ensures { let r = result in mode_at (parts line.entry.rest.now) ≡ (r.0, parts r.1.rest.now) }
 {
     let mut after = line;
@@ -83,7 +83,7 @@ fn take_mode<'a>(line: Parts<'a>) -> (Mode, Parts<'a>)
 }
 
 #[tactic(auto, unfolding(crate::specs::Grammar::operand_at))]
-fn take_operand<'a>(line: Parts<'a>, sizes: Sizes) -> Option<(Mode, u32, Parts<'a>)>
+fn take_operand<'a>(line: LineParts<'a>, sizes: Sizes) -> Option<(Mode, u32, LineParts<'a>)>
     ensures value { option_map (λ r. (r.0, r.1, parts r.2.rest.now)) result
         ≡ operand_at sizes.written sizes.core_size (parts line.entry.rest.now) }
     ensures below { IfSome result (λ r. r.1 < sizes.core_size) }
@@ -94,7 +94,7 @@ fn take_operand<'a>(line: Parts<'a>, sizes: Sizes) -> Option<(Mode, u32, Parts<'
 }
 
 #[tactic(auto, unfolding(crate::specs::Grammar::comma_at))]
-fn take_comma<'a>(line: Parts<'a>) -> Option<Parts<'a>>
+fn take_comma<'a>(line: LineParts<'a>) -> Option<LineParts<'a>>
     ensures { option_map (λ r. parts r.rest.now) result ≡ comma_at (parts line.entry.rest.now) }
 {
     let mut line = line;
@@ -107,7 +107,7 @@ fn take_comma<'a>(line: Parts<'a>) -> Option<Parts<'a>>
 
 /// The cell that the whole line spells.
 #[tactic(auto, unfolding(crate::specs::Grammar::cell_of))]
-pub fn take_cell(line: Parts<'_>, sizes: Sizes) -> Option<Cell>
+pub fn take_cell(line: LineParts<'_>, sizes: Sizes) -> Option<Cell>
     ensures value { result ≡ cell_of sizes.written sizes.core_size (parts line.entry.rest.now) }
     ensures fits { IfSome result (FitsCore sizes.core_size) }
 {
@@ -140,5 +140,5 @@ pub fn read_cell(text: &[u8], core_size: u32) -> Option<Cell>
     ensures value { result ≡ read_cell core_size text.now }
     ensures fits { IfSome result (FitsCore core_size) }
 {
-    take_cell(Parts::new(text), Sizes::same(core_size))
+    take_cell(LineParts::new(text), Sizes::same(core_size))
 }

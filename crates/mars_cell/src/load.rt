@@ -16,7 +16,7 @@ use std::alloc::Global;
 
 /// What was read so far.
 #[derive(Drop)]
-struct Reading {
+struct ReadListing {
     cells: Vec<Cell>,
     origin: Option<i64>,
     end: Option<i64>,
@@ -24,12 +24,12 @@ struct Reading {
 
 /// Reads the lines up to END.
 #[tactic(auto, unfolding(crate::specs::Code::Listing::load_from))]
-fn read_listing(alloc: Global, lines: Lines<'_>, sizes: Sizes) -> Result<Reading, LoadFault>
+fn read_listing(alloc: Global, lines: Lines<'_>, sizes: Sizes) -> Result<ReadListing, LoadFault>
     ensures value { ReadsListing result (load_from sizes.written sizes.core_size lines.entry.number nothing_read
         (lines_of lines.entry.rest.now)) }
     ensures fits { IfOk result (λ reading. All (FitsCore sizes.core_size) reading.cells.items) }
 {
-    let mut reading = Reading {
+    let mut reading = ReadListing {
         cells: Vec::new(alloc),
         origin: None,
         end: None,
@@ -119,7 +119,7 @@ fn read_body(
     if !is_start(start, length) {
         return Err(LoadFault::BadOrigin);
     }
-    let Reading { cells, .. } = reading;
+    let ReadListing { cells, .. } = reading;
     named_warrior(alloc, header, cells, start as u32)
 }
 

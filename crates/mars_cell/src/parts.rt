@@ -5,16 +5,16 @@ ghost use Rattle.mars_cell.specs.Parts.{is_blank, joins, parts};
 
 /// What is left of a line.
 #[derive(Clone, Copy)]
-pub struct Parts<'a> {
+pub struct LineParts<'a> {
     rest: &'a [u8],
 }
 
-impl<'a> Parts<'a> {
+impl<'a> LineParts<'a> {
     /// The whole line.
-    pub fn new(text: &'a [u8]) -> Parts<'a>
+    pub fn new(text: &'a [u8]) -> LineParts<'a>
         ensures { result.rest.now ≡ text.entry.now }
     {
-        Parts { rest: text }
+        LineParts { rest: text }
     }
 
     /// Takes the first part.

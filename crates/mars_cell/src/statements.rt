@@ -7,7 +7,7 @@ ghost use Rattle.mars_cell.specs.Load.{line_statement, lone_number, end_of, stat
 use crate::grammar::take_cell;
 use crate::instruction::Cell;
 use crate::numbers::{Sizes, read_number};
-use crate::parts::Parts;
+use crate::parts::LineParts;
 use crate::words::is_word;
 
 /// What a line of a load file says.
@@ -25,7 +25,7 @@ pub enum Statement {
 
 /// A number, and no more.
 #[tactic(auto, unfolding(crate::specs::Load::lone_number))]
-fn read_lone_number(line: Parts<'_>) -> Option<i64>
+fn read_lone_number(line: LineParts<'_>) -> Option<i64>
     ensures { result ≡ lone_number (parts line.entry.rest.now) }
 {
     let mut line = line;
@@ -38,7 +38,7 @@ fn read_lone_number(line: Parts<'_>) -> Option<i64>
 
 /// What follows `END`.
 #[tactic(auto, unfolding(crate::specs::Load::end_of, crate::specs::Load::lone_number))]
-fn read_end(line: Parts<'_>) -> Option<Option<i64>>
+fn read_end(line: LineParts<'_>) -> Option<Option<i64>>
     ensures { result ≡ end_of (parts line.entry.rest.now) }
 {
     let mut after = line;
@@ -51,7 +51,7 @@ fn read_end(line: Parts<'_>) -> Option<Option<i64>>
 
 /// What the parts of a line say.
 #[tactic(auto, unfolding(crate::specs::Load::statement_of))]
-fn read_statement(line: Parts<'_>, sizes: Sizes) -> Option<Statement>
+fn read_statement(line: LineParts<'_>, sizes: Sizes) -> Option<Statement>
     ensures value { result ≡ statement_of sizes.written sizes.core_size (parts line.entry.rest.now) }
     ensures fits { IfSome result (StatementFits sizes.core_size) }
 {
@@ -77,7 +77,7 @@ pub fn read_line(line: &[u8], sizes: Sizes) -> Option<Statement>
     ensures fits { IfSome result (StatementFits sizes.core_size) }
 {
     let (text, _) = line.split_at(text_len(line));
-    read_statement(Parts::new(text), sizes)
+    read_statement(LineParts::new(text), sizes)
 }
 
 /// How many bytes come before the comment.

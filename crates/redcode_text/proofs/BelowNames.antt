@@ -18,7 +18,7 @@ use Rattle.redcode_text.specs.declared.token.TokenKind.TheVariants as token
 use Rattle.redcode_text.specs.Equates.{limit}
 use Rattle.redcode_text.specs.Expression.{kinds}
 use Rattle.redcode_text.specs.Lines.{Reading, WithTokens, before_comment, name_in_front, row_tokens, tokens_before}
-use Rattle.redcode_text.specs.Source.{Row}
+use Rattle.redcode_text.specs.Source.{SourceRow}
 use Rattle.redcode_text.specs.Tokens.{Found, OpenLoop, Scanned, begins_name, begins_word, is_blank, joined, look_up, name_found, name_index, number_found, one_byte_signs, round_of, scan_from, sign_found, sign_token, token_at, tokens, two_byte_signs, with_name, with_room, with_token, word_found, word_len, word_token}
 use Rattle.redcode_text.proofs.Named.{IsBelow}
 use Rattle.redcode_text.proofs.NamesMore.{with-front, with-inside}
@@ -143,7 +143,7 @@ module _ (loops : List OpenLoop) (line room : ℕ) where
 abbrev pub IsRowBelow : WithTokens → Type 0
 IsRowBelow r = TokensBelow (length r.1.names) r.0
 
-pub row-below : (row : Row) (at : ℕ) (st : Reading) → Holds IsRowBelow (row_tokens row at st)
+pub row-below : (row : SourceRow) (at : ℕ) (st : Reading) → Holds IsRowBelow (row_tokens row at st)
 row-below row at st =
     holds-then IsScannedBelow IsRowBelow (tokens st.loops row.number (row.at + at) (limit - st.tokens_read) st.names (before_comment (drop at row.bytes)))
     (λ s. Ok (s.tokens, record st { names = s.names; tokens_read = st.tokens_read + length s.tokens }))
@@ -184,7 +184,7 @@ front-there names (Name m ∷ token.Sign s ∷ k ∷ ks) h = go s
     go Colon = tt
     go _ = tt
 
-pub counter-there : (row : Row) (at : ℕ) (st next : Reading) (ts : List Token) (from : ℕ) (name : Option ℕ) → row_tokens row at st ≡ Ok (ts, next)
+pub counter-there : (row : SourceRow) (at : ℕ) (st next : Reading) (ts : List Token) (from : ℕ) (name : Option ℕ) → row_tokens row at st ≡ Ok (ts, next)
     → name_in_front (kinds (tokens_before from ts)) ≡ Ok name → IsThere next.names name
 counter-there row at st next ts from name read front =
     let below = below-before (length next.names) from ts (subst (Holds IsRowBelow) read (row-below row at st)) in

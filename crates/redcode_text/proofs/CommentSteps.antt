@@ -7,14 +7,14 @@ use Rattle.std.specs.Str.{str_to_ascii_lowercase}
 use Rattle.redcode_text.specs.declared.fault.TextProblem.{TextProblem}
 use Rattle.redcode_text.specs.Code.Comments.{Said, assert_at, assert_or_nothing, author_or, author_said, name_or, printed_value, said, said_line, text_found, with_author_text, with_name_text}
 use Rattle.redcode_text.specs.Lines.{Reading, assert_line, comment_line, directive_value, unless_empty}
-use Rattle.redcode_text.specs.Source.{Row, blank_len, directive_text, directive_text_at, ends_word, has_directive_word, without_blanks}
+use Rattle.redcode_text.specs.Source.{SourceRow, blank_len, directive_text, directive_text_at, ends_word, has_directive_word, without_blanks}
 
 -- a comment line that is neither `;name` nor `;author`
-abbrev no_author : Row → Reading → Result Reading TextProblem
+abbrev no_author : SourceRow → Reading → Result Reading TextProblem
 no_author row st = elim (has_directive_word (codes "assert") row.bytes) [ true ↦ assert_line row st | false ↦ Ok st ]
 
 -- a comment line that isn't `;name`
-abbrev no_name : Row → Reading → Result Reading TextProblem
+abbrev no_name : SourceRow → Reading → Result Reading TextProblem
 no_name row st =
     elim (has_directive_word (codes "author") row.bytes) [
       | true ↦ Ok (record st { author = unless_empty (directive_value (directive_text (codes "author") row.bytes)) st.author })
@@ -25,7 +25,7 @@ no_name row st =
 abbrev begins : List ℕ → List ℕ → ℕ → Bool
 begins word bytes at = starts_with nat_eq (str_to_ascii_lowercase (without_blanks bytes)) (59 ∷ word) && ends_word (drop at bytes)
 
-module _ (row : Row) (st : Reading) where
+module _ (row : SourceRow) (st : Reading) where
   abbrev name_else : ℕ → Bool → Result Reading TextProblem
   name_else at t = elim t as (λ _. Result Reading TextProblem) [ true ↦ Ok (record st { name = unless_empty (directive_value (drop at row.bytes)) st.name }) | false ↦ no_name row st ]
 
@@ -60,7 +60,7 @@ module _ (row : Row) (st : Reading) where
       ap (λ m. name_else m (begins (codes "name") row.bytes m)) name_place ∙ by-name (blank_len row.bytes + 5) (begins (codes "name") row.bytes (blank_len row.bytes + 5)) _ author_is
 
 -- the same with what is kept of it
-pub as-said : (what : Said) (row : Row) (st : Reading) → what ≡ said row.bytes → comment_line row st ≡ said_line what row st
+pub as-said : (what : Said) (row : SourceRow) (st : Reading) → what ≡ said row.bytes → comment_line row st ≡ said_line what row st
 as-said what row st e = comment-said row st ∙ ap (λ s. said_line s row st) (sym e)
 
 given : (l old : List ℕ) (n : ℕ) → n ≡ length l → (n == 0) ≡ false → unless_empty l old ≡ l

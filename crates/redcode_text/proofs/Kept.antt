@@ -9,7 +9,7 @@ use Rattle.redcode_text.specs.Expansion.{Head, head_line, rof_line, counter_name
 use Rattle.redcode_text.specs.Expression.{kinds}
 use Rattle.redcode_text.specs.Lines.{Reading, Step, Parts, Predefined, WithTokens, each_line, equated, line_read, name_in_front, ordinary_line, ordinary_with, parts_of, parts_read, plain_line, comment_line, assert_line, row_tokens, tokens_before, tokens_after, tokens_counted, tokens_line, unless_ended, before_first, behind_last, before_comment, operation_lines, unless_empty, directive_value, is_equate, is_label, is_predefined, with_line}
 use Rattle.redcode_text.specs.Equates.{limit}
-use Rattle.redcode_text.specs.Source.{Row, LineKind, RofLine, ForLine, EquLine, OtherLine, line_kind, is_comment, directive_text, directive_text_at, has_directive_word}
+use Rattle.redcode_text.specs.Source.{SourceRow, LineKind, RofLine, ForLine, EquLine, OtherLine, line_kind, is_comment, directive_text, directive_text_at, has_directive_word}
 use Rattle.redcode_text.specs.Tokens.{OpenLoop, Scanned, tokens}
 use Rattle.std.specs.Prelude.{⊤, codes, ◌||◌}
 
@@ -31,7 +31,7 @@ kept-bind f x (Ok a) g h = h a
 kept-bind f x (Err e) g h = tt
 
 -- the tokens of a row, and what follows
-kept-row : {X : Type 0} (f : Reading → X) (st : Reading) (row : Row) (at : ℕ) (g : WithTokens → Result Reading TextProblem)
+kept-row : {X : Type 0} (f : Reading → X) (st : Reading) (row : SourceRow) (at : ℕ) (g : WithTokens → Result Reading TextProblem)
     → ((names : List (List ℕ)) (n : ℕ) → f (record st { names = names; tokens_read = n }) ≡ f st) → ((r : WithTokens) → Kept f (f r.1) (g r))
     → Kept f (f st) (row_tokens row at st >>= g)
 kept-row f st row at g same h = go (tokens st.loops row.number (row.at + at) (limit - st.tokens_read) st.names (before_comment (drop at row.bytes)))
@@ -99,7 +99,7 @@ equated-kept ps ts (Some n) st = go (is_equate st n || is_label st n || is_prede
     go true = tt
     go false = refl
 
-tokens-kept : (ps : Predefined) (kind : LineKind) (row : Row) (ts : List Token) (st : Reading) → Kept loops_of st.loops (tokens_line ps kind row ts st)
+tokens-kept : (ps : Predefined) (kind : LineKind) (row : SourceRow) (ts : List Token) (st : Reading) → Kept loops_of st.loops (tokens_line ps kind row ts st)
 tokens-kept ps kind row [] st = refl
 tokens-kept ps (EquLine at) row (t ∷ ts) st =
     kept-bind loops_of st.loops (name_in_front (kinds (tokens_before (row.at + at) (t ∷ ts)))) (λ name. equated ps (tokens_after (row.at + at) (t ∷ ts)) name st) (λ name. equated-kept ps (tokens_after (row.at + at) (t ∷ ts)) name st)
@@ -107,7 +107,7 @@ tokens-kept ps RofLine row (t ∷ ts) st = ordinary-kept ps row.number 32 (t ∷
 tokens-kept ps (ForLine at) row (t ∷ ts) st = ordinary-kept ps row.number 32 (t ∷ ts) st
 tokens-kept ps OtherLine row (t ∷ ts) st = ordinary-kept ps row.number 32 (t ∷ ts) st
 
-comment-kept : (row : Row) (st : Reading) → Kept loops_of st.loops (comment_line row st)
+comment-kept : (row : SourceRow) (st : Reading) → Kept loops_of st.loops (comment_line row st)
 comment-kept row st = go (has_directive_word (codes "name") row.bytes) (has_directive_word (codes "author") row.bytes) (has_directive_word (codes "assert") row.bytes)
   where
     go : (a b c : Bool) → Kept loops_of st.loops (elim a as (λ _. Result Reading TextProblem) [
@@ -122,7 +122,7 @@ comment-kept row st = go (has_directive_word (codes "name") row.bytes) (has_dire
     go false false true = kept-row loops_of st row (directive_text_at (codes "assert") row.bytes) (λ r. Ok (record (r.1) { asserts = r.1.asserts ++ record { number = row.number; current_line = r.1.instructions; tokens = r.0 } ∷ [] })) (λ names n. refl) (λ r. refl)
     go false false false = refl
 
-pub plain-kept : (ps : Predefined) (row : Row) (st : Reading) → Kept loops_of st.loops (plain_line ps row st)
+pub plain-kept : (ps : Predefined) (row : SourceRow) (st : Reading) → Kept loops_of st.loops (plain_line ps row st)
 plain-kept ps row st = kept-then loops_of st.loops (line_read st) (λ a. elim (is_comment row.bytes) as (λ _. Result Reading TextProblem) [ true ↦ comment_line row a | false ↦ row_tokens row 0 a >>= λ r. tokens_line ps (line_kind row.bytes) row r.0 r.1 ])
     (line-kept loops_of st refl) (go (is_comment row.bytes))
   where
@@ -131,17 +131,17 @@ plain-kept ps row st = kept-then loops_of st.loops (line_read st) (λ a. elim (i
     go false a = kept-row loops_of a row 0 (λ r. tokens_line ps (line_kind row.bytes) row r.0 r.1) (λ names n. refl) (λ r. tokens-kept ps (line_kind row.bytes) row r.0 r.1)
 
 pub rof-kept : {X : Type 0} (f : Reading → X) → ((st : Reading) (names : List (List ℕ)) (n : ℕ) → f (record st { names = names; tokens_read = n }) ≡ f st) → ((st : Reading) → f (record st { equate_grows = false }) ≡ f st)
-    → ((st : Reading) → f (record st { lines_read = st.lines_read + 1 }) ≡ f st) → (row : Row) (st : Reading) → Kept f (f st) (rof_line row st)
+    → ((st : Reading) → f (record st { lines_read = st.lines_read + 1 }) ≡ f st) → (row : SourceRow) (st : Reading) → Kept f (f st) (rof_line row st)
 rof-kept f names grows lines row st = go (line_read st) (line-kept f st (lines st))
   where
     go : (r : Result Reading TextProblem) → Kept f (f st) r → Kept f (f st) (r >>= row_tokens row 0 >>= λ r. Ok (record (r.1) { equate_grows = false }))
     go (Ok a) k = kept-at f (f st) (f a) _ k (kept-row f a row 0 (λ r. Ok (record (r.1) { equate_grows = false })) (names a) (λ r. grows r.1))
     go (Err e) k = tt
 
-pub rof-loops : (row : Row) (st : Reading) → Kept loops_of st.loops (rof_line row st)
+pub rof-loops : (row : SourceRow) (st : Reading) → Kept loops_of st.loops (rof_line row st)
 rof-loops row st = rof-kept loops_of (λ st names n. refl) (λ st. refl) (λ st. refl) row st
 
-pub rof-ended : (row : Row) (st : Reading) → Kept (λ st. st.ended) st.ended (rof_line row st)
+pub rof-ended : (row : SourceRow) (st : Reading) → Kept (λ st. st.ended) st.ended (rof_line row st)
 rof-ended row st = rof-kept (λ st. st.ended) (λ st names n. refl) (λ st. refl) (λ st. refl) row st
 
 -- a head keeps the open loops, of which there are fewer than 32
@@ -163,7 +163,7 @@ room-kept l st g e h = go (nat_le 32 (length st.loops)) refl
     go true is = tt
     go false is = h (let few = below (length st.loops) false is refl in omega (arith, few, ap length e)) st
 
-pub head-kept : (ps : Predefined) (row : Row) (st : Reading) → HeadKept st.loops (head_line ps row st)
+pub head-kept : (ps : Predefined) (row : SourceRow) (st : Reading) → HeadKept st.loops (head_line ps row st)
 head-kept ps row st = go (line_read st) (line-kept loops_of st refl)
   where
     rest : WithTokens → Result Head TextProblem

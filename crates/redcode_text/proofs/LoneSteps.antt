@@ -4,20 +4,20 @@ use Rattle.redcode_text.specs.Results.{◌>>=◌}
 use Rattle.redcode_text.specs.declared.fault.TextFault.{TextFault}
 use Rattle.redcode_text.specs.declared.fault.TextProblem.{TextProblem}
 use Rattle.redcode_text.specs.declared.fault.TextProblem.TheVariants.{UnclosedFor, RofAlone}
-use Rattle.redcode_text.specs.declared.source.row.Row as code
+use Rattle.redcode_text.specs.declared.source.row.SourceRow as code
 use Rattle.redcode_text.specs.Expansion.{flat, unpaired_line}
 use Rattle.redcode_text.specs.Lines.{Predefined, Reading, line_read, plain_line, unless_ended}
 use Rattle.redcode_text.specs.Code.Loops.{one_loop}
 use Rattle.redcode_text.specs.Outcomes.{FailsAt}
 use Rattle.redcode_text.specs.Code.Rows.{row_of}
 use Rattle.redcode_text.specs.Code.Pairs.{here_from, EndsAt}
-use Rattle.redcode_text.specs.Source.{Items, Nothing, Plain, Loop, LoneRof, Row, paired, then_lone, tree_of_rows, with_lone}
+use Rattle.redcode_text.specs.Source.{Items, Nothing, Plain, Loop, LoneRof, SourceRow, paired, then_lone, tree_of_rows, with_lone}
 use Rattle.redcode_text.specs.Source as source
 use Rattle.redcode_text.specs.Tokens.{at_line}
 use Rattle.redcode_text.proofs.LoopSteps.{flat-loop, goes-on, stops, then-fails}
 use Rattle.redcode_text.proofs.PairSteps.{rof-at}
 
-abbrev lone : Row → Reading → Result Reading TextFault
+abbrev lone : SourceRow → Reading → Result Reading TextFault
 lone rof st = at_line rof.number (unpaired_line RofAlone st)
 
 -- a step, and what follows it up to a lone ROF
@@ -37,7 +37,7 @@ unpaired-fails p n st h = go (line_read st)
     go (Ok a) = refl
     go (Err e) = refl
 
-pub flat-lone : (ps : Predefined) (rof : Row) (items : Items) (st : Reading) → st.ended ≡ false → flat ps (then_lone rof items) st ≡ (flat ps items st >>= λ a. unless_ended a (lone rof))
+pub flat-lone : (ps : Predefined) (rof : SourceRow) (items : Items) (st : Reading) → st.ended ≡ false → flat ps (then_lone rof items) st ≡ (flat ps items st >>= λ a. unless_ended a (lone rof))
 flat-lone ps rof Nothing st e = sym (goes-on st (lone rof) e)
 flat-lone ps rof (Plain row rest) st e = step-lone (at_line row.number (plain_line ps row st)) (flat ps rest) (flat ps (then_lone rof rest)) (lone rof) (flat-lone ps rof rest)
 flat-lone ps rof (Loop head body end rest) st e =
@@ -47,16 +47,16 @@ flat-lone ps rof (Loop head body end rest) st e =
 flat-lone ps rof (source.UnclosedFor row rest) st e = unpaired-fails UnclosedFor row.number st (lone rof)
 flat-lone ps rof (LoneRof row rest) st e = unpaired-fails RofAlone row.number st (lone rof)
 
-pub lone-fails : (ps : Predefined) (items : Items) (waiting : List (Row × Items)) (st : Reading) (fault : TextFault) → st.ended ≡ false → FailsAt fault.problem fault (flat ps items st) → FailsAt fault.problem fault (flat ps (with_lone items waiting) st)
+pub lone-fails : (ps : Predefined) (items : Items) (waiting : List (SourceRow × Items)) (st : Reading) (fault : TextFault) → st.ended ≡ false → FailsAt fault.problem fault (flat ps items st) → FailsAt fault.problem fault (flat ps (with_lone items waiting) st)
 lone-fails ps items [] st fault e h = h
 lone-fails ps items (rof ∷ waiting) st fault e h = subst (FailsAt fault.problem fault) (sym (flat-lone ps rof.0 items st e)) (then-fails fault (flat ps items st) (λ a. unless_ended a (lone rof.0)) h)
 
-pub lone-ended : (ps : Predefined) (items : Items) (waiting : List (Row × Items)) (st a : Reading) → st.ended ≡ false → flat ps items st ≡ Ok a → a.ended ≡ true → flat ps (with_lone items waiting) st ≡ Ok a
+pub lone-ended : (ps : Predefined) (items : Items) (waiting : List (SourceRow × Items)) (st a : Reading) → st.ended ≡ false → flat ps items st ≡ Ok a → a.ended ≡ true → flat ps (with_lone items waiting) st ≡ Ok a
 lone-ended ps items [] st a e h ended = h
 lone-ended ps items (rof ∷ waiting) st a e h ended = flat-lone ps rof.0 items st e ∙ ap (λ r. r >>= λ a. unless_ended a (lone rof.0)) h ∙ stops a (lone rof.0) ended
 
 -- the items of all rows end at a ROF
-pub lone-at : (ps : Predefined) (rows : List code.Row) (j : ℕ) (s : code.Row) (st a : Reading) → st.ended ≡ false → flat ps (here_from rows 0) st ≡ Ok a → a.ended ≡ false → EndsAt rows 0 j → j < length rows → s ≡ get_or rows j s
+pub lone-at : (ps : Predefined) (rows : List code.SourceRow) (j : ℕ) (s : code.SourceRow) (st a : Reading) → st.ended ≡ false → flat ps (here_from rows 0) st ≡ Ok a → a.ended ≡ false → EndsAt rows 0 j → j < length rows → s ≡ get_or rows j s
     → flat ps (tree_of_rows (map row_of rows)) st ≡ at_line (row_of s).number (unpaired_line RofAlone a)
 lone-at ps rows j s st a e h going ends inside si =
     let rof = row_of (get_or rows j s) in

@@ -2,7 +2,7 @@
 use Rattle.std.proofs.Common.{◌≡◌, ◌∙◌, ℕ, zero, suc, ◌+◌, ◌-◌, ◌<◌, ◌≤◌, List, ◌∷◌, length, Bool, true, false, Option, Result, Ok, Err, ap, refl, subst, sym, arith, get_or}
 use Rattle.std.proofs.lemmas.List.{get_or_default}
 use Rattle.redcode_text.specs.Results.{◌>>=◌}
-use Rattle.redcode_text.specs.declared.source.row.Row as code
+use Rattle.redcode_text.specs.declared.source.row.SourceRow as code
 use Rattle.redcode_text.specs.Code.Pairs.{here_from, EndsAt}
 use Rattle.redcode_text.proofs.PairSteps.{for-at, paired-drop}
 use Rattle.redcode_text.specs.declared.source.row.LineKind as code_kind
@@ -16,7 +16,7 @@ use Rattle.redcode_text.specs.Code.Loops.{IsFor, IsPlain, one_loop}
 use Rattle.redcode_text.specs.Outcomes.{FailsAt}
 use Rattle.redcode_text.specs.Code.Kinds.{kind_of}
 use Rattle.redcode_text.specs.Code.Rows.{row_of}
-use Rattle.redcode_text.specs.Source.{Items, Nothing, Plain, Loop, Row, EquLine, OtherLine, line_kind}
+use Rattle.redcode_text.specs.Source.{Items, Nothing, Plain, Loop, SourceRow, EquLine, OtherLine, line_kind}
 use Rattle.redcode_text.specs.Tokens.{OpenLoop, at_line}
 use Rattle.redcode_text.proofs.Kept.{Kept, rof-ended}
 
@@ -51,7 +51,7 @@ stops st f e = ap (λ (c : Bool). elim c as (λ _. Result Reading TextFault) [ t
 
 -- ---- a loop and what follows
 
-after-rof : (ps : Predefined) (rof : Row) (rest : Items) (a : Reading) (c : Bool) → a.ended ≡ c
+after-rof : (ps : Predefined) (rof : SourceRow) (rest : Items) (a : Reading) (c : Bool) → a.ended ≡ c
     → elim c as (λ _. Result Reading TextFault) [ true ↦ Ok a | false ↦ at_line rof.number (rof_line rof a) >>= flat ps rest ]
     ≡ (elim c as (λ _. Result Reading TextFault) [ true ↦ Ok a | false ↦ at_line rof.number (rof_line rof a) ] >>= λ b. unless_ended b (flat ps rest))
 after-rof ps rof rest a true e = sym (stops a (flat ps rest) e)
@@ -61,7 +61,7 @@ after-rof ps rof rest a false e = go (rof_line rof a) (rof-ended rof a)
     go (Ok b) k = sym (goes-on b (flat ps rest) (k ∙ e))
     go (Err p) k = refl
 
-pub flat-loop : (ps : Predefined) (head : Row) (body : Items) (rof : Row) (rest : Items) (st : Reading)
+pub flat-loop : (ps : Predefined) (head : SourceRow) (body : Items) (rof : SourceRow) (rest : Items) (st : Reading)
     → flat ps (Loop head body rof rest) st ≡ (one_loop ps head body rof st >>= λ a. unless_ended a (flat ps rest))
 flat-loop ps head body rof rest st = go (at_line head.number (head_line ps head st))
   where
@@ -130,7 +130,7 @@ module _ (body : Reading → Result Reading TextFault) (counter : Option (List �
 
 -- ---- a loop at a place
 
-pub loop-at : (ps : Predefined) (rows : List code.Row) (i j at : ℕ) (dh dr : code.Row) (st : Reading) → i < length rows → j < length rows → IsFor rows i at → EndsAt rows (i + 1) j
+pub loop-at : (ps : Predefined) (rows : List code.SourceRow) (i j at : ℕ) (dh dr : code.SourceRow) (st : Reading) → i < length rows → j < length rows → IsFor rows i at → EndsAt rows (i + 1) j
     → flat ps (here_from rows i) st ≡ (one_loop ps (row_of (get_or rows i dh)) (here_from rows (i + 1)) (row_of (get_or rows j dr)) st >>= λ a. unless_ended a (flat ps (here_from rows (j + 1))))
 loop-at ps rows i j at dh dr st hi hj is ends =
     ap (λ p. flat ps p.here st) (for-at rows i j at dr hi hj (is dr).0 ends)
@@ -138,80 +138,80 @@ loop-at ps rows i j at dh dr st hi hj is ends =
     ∙ ap (λ row. one_loop ps (row_of row) (here_from rows (i + 1)) (row_of (get_or rows j dr)) st >>= λ a. unless_ended a (flat ps (here_from rows (j + 1)))) (get_or_default rows i dr dh hi)
 
 -- a loop whose head, rounds or ROF fail, and what follows
-pub head-fails : (ps : Predefined) (head : Row) (body : Items) (rof : Row) (st : Reading) (f : Reading → Result Reading TextFault) (fault : TextFault) (whole : Result Reading TextFault)
+pub head-fails : (ps : Predefined) (head : SourceRow) (body : Items) (rof : SourceRow) (st : Reading) (f : Reading → Result Reading TextFault) (fault : TextFault) (whole : Result Reading TextFault)
     → whole ≡ (one_loop ps head body rof st >>= f) → FailsAt fault.problem fault (at_line head.number (head_line ps head st)) → FailsAt fault.problem fault whole
 head-fails ps head body rof st f fault whole is h =
     subst (FailsAt fault.problem fault) (sym is) (then-fails fault (one_loop ps head body rof st) f (then-fails fault (at_line head.number (head_line ps head st)) (λ h. rounds (flat ps body) h.counter 1 h.count h.reading >>= λ a. unless_ended a (λ b. at_line rof.number (rof_line rof b))) h))
 
-pub rounds_then : (ps : Predefined) (head : Row) (body : Items) (rof : Row) (st : Reading) (h : Head) → at_line head.number (head_line ps head st) ≡ Ok h
+pub rounds_then : (ps : Predefined) (head : SourceRow) (body : Items) (rof : SourceRow) (st : Reading) (h : Head) → at_line head.number (head_line ps head st) ≡ Ok h
     → one_loop ps head body rof st ≡ (rounds (flat ps body) h.counter 1 h.count h.reading >>= λ a. unless_ended a (λ b. at_line rof.number (rof_line rof b)))
 rounds_then ps head body rof st h is = then-ok (at_line head.number (head_line ps head st)) h (λ h. rounds (flat ps body) h.counter 1 h.count h.reading >>= λ a. unless_ended a (λ b. at_line rof.number (rof_line rof b))) is
 
-pub rounds-fail : (ps : Predefined) (head : Row) (body : Items) (rof : Row) (st : Reading) (h : Head) (f : Reading → Result Reading TextFault) (fault : TextFault) (whole : Result Reading TextFault)
+pub rounds-fail : (ps : Predefined) (head : SourceRow) (body : Items) (rof : SourceRow) (st : Reading) (h : Head) (f : Reading → Result Reading TextFault) (fault : TextFault) (whole : Result Reading TextFault)
     → whole ≡ (one_loop ps head body rof st >>= f) → at_line head.number (head_line ps head st) ≡ Ok h → FailsAt fault.problem fault (rounds (flat ps body) h.counter 1 h.count h.reading) → FailsAt fault.problem fault whole
 rounds-fail ps head body rof st h f fault whole is first t =
     subst (FailsAt fault.problem fault) (sym (is ∙ ap (λ r. r >>= f) (rounds_then ps head body rof st h first)))
     (then-fails fault (rounds (flat ps body) h.counter 1 h.count h.reading >>= λ a. unless_ended a (λ b. at_line rof.number (rof_line rof b))) f
     (then-fails fault (rounds (flat ps body) h.counter 1 h.count h.reading) (λ a. unless_ended a (λ b. at_line rof.number (rof_line rof b))) t))
 
-pub behind-rounds : (ps : Predefined) (head : Row) (body : Items) (rof : Row) (st : Reading) (h : Head) (a : Reading) → at_line head.number (head_line ps head st) ≡ Ok h → rounds (flat ps body) h.counter 1 h.count h.reading ≡ Ok a
+pub behind-rounds : (ps : Predefined) (head : SourceRow) (body : Items) (rof : SourceRow) (st : Reading) (h : Head) (a : Reading) → at_line head.number (head_line ps head st) ≡ Ok h → rounds (flat ps body) h.counter 1 h.count h.reading ≡ Ok a
     → one_loop ps head body rof st ≡ unless_ended a (λ b. at_line rof.number (rof_line rof b))
 behind-rounds ps head body rof st h a first t = rounds_then ps head body rof st h first ∙ then-ok (rounds (flat ps body) h.counter 1 h.count h.reading) a (λ a. unless_ended a (λ b. at_line rof.number (rof_line rof b))) t
 
-pub loop-ended : (ps : Predefined) (head : Row) (body : Items) (rof : Row) (st : Reading) (h : Head) (a : Reading) (f : Reading → Result Reading TextFault) (whole : Result Reading TextFault)
+pub loop-ended : (ps : Predefined) (head : SourceRow) (body : Items) (rof : SourceRow) (st : Reading) (h : Head) (a : Reading) (f : Reading → Result Reading TextFault) (whole : Result Reading TextFault)
     → whole ≡ (one_loop ps head body rof st >>= λ a. unless_ended a f) → at_line head.number (head_line ps head st) ≡ Ok h → rounds (flat ps body) h.counter 1 h.count h.reading ≡ Ok a → a.ended ≡ true → whole ≡ unless_ended a f
 loop-ended ps head body rof st h a f whole is first t e = is ∙ ap (λ r. r >>= λ a. unless_ended a f) (behind-rounds ps head body rof st h a first t ∙ stops a (λ b. at_line rof.number (rof_line rof b)) e)
 
-pub rof-fails : (ps : Predefined) (head : Row) (body : Items) (rof : Row) (st : Reading) (h : Head) (a : Reading) (f : Reading → Result Reading TextFault) (fault : TextFault) (whole : Result Reading TextFault)
+pub rof-fails : (ps : Predefined) (head : SourceRow) (body : Items) (rof : SourceRow) (st : Reading) (h : Head) (a : Reading) (f : Reading → Result Reading TextFault) (fault : TextFault) (whole : Result Reading TextFault)
     → whole ≡ (one_loop ps head body rof st >>= f) → at_line head.number (head_line ps head st) ≡ Ok h → rounds (flat ps body) h.counter 1 h.count h.reading ≡ Ok a → a.ended ≡ false
     → FailsAt fault.problem fault (at_line rof.number (rof_line rof a)) → FailsAt fault.problem fault whole
 rof-fails ps head body rof st h a f fault whole is first t e r =
     subst (FailsAt fault.problem fault) (sym (is ∙ ap (λ r. r >>= f) (behind-rounds ps head body rof st h a first t ∙ goes-on a (λ b. at_line rof.number (rof_line rof b)) e)))
     (then-fails fault (at_line rof.number (rof_line rof a)) f r)
 
-pub loop-done : (ps : Predefined) (head : Row) (body : Items) (rof : Row) (st : Reading) (h : Head) (a b : Reading) (f : Reading → Result Reading TextFault) (whole : Result Reading TextFault)
+pub loop-done : (ps : Predefined) (head : SourceRow) (body : Items) (rof : SourceRow) (st : Reading) (h : Head) (a b : Reading) (f : Reading → Result Reading TextFault) (whole : Result Reading TextFault)
     → whole ≡ (one_loop ps head body rof st >>= f) → at_line head.number (head_line ps head st) ≡ Ok h → rounds (flat ps body) h.counter 1 h.count h.reading ≡ Ok a → a.ended ≡ false
     → at_line rof.number (rof_line rof a) ≡ Ok b → whole ≡ f b
 loop-done ps head body rof st h a b f whole is first t e r =
     is ∙ ap (λ r. r >>= f) (behind-rounds ps head body rof st h a first t ∙ goes-on a (λ b. at_line rof.number (rof_line rof b)) e ∙ r)
 
 -- the same by the rows themselves
-loop-of : (ps : Predefined) (rows : List code.Row) (i j at : ℕ) (r s : code.Row) (st : Reading) → i < length rows → j < length rows → IsFor rows i at → EndsAt rows (i + 1) j → r ≡ get_or rows i r → s ≡ get_or rows j s
+loop-of : (ps : Predefined) (rows : List code.SourceRow) (i j at : ℕ) (r s : code.SourceRow) (st : Reading) → i < length rows → j < length rows → IsFor rows i at → EndsAt rows (i + 1) j → r ≡ get_or rows i r → s ≡ get_or rows j s
     → flat ps (here_from rows i) st ≡ (one_loop ps (row_of r) (here_from rows (i + 1)) (row_of s) st >>= λ a. unless_ended a (flat ps (here_from rows (j + 1))))
 loop-of ps rows i j at r s st hi hj is ends ri si =
     loop-at ps rows i j at r s st hi hj is ends
     ∙ ap (λ row. one_loop ps (row_of row) (here_from rows (i + 1)) (row_of (get_or rows j s)) st >>= λ a. unless_ended a (flat ps (here_from rows (j + 1)))) (sym ri)
     ∙ ap (λ row. one_loop ps (row_of r) (here_from rows (i + 1)) (row_of row) st >>= λ a. unless_ended a (flat ps (here_from rows (j + 1)))) (sym si)
 
-pub head-fails-at : (ps : Predefined) (rows : List code.Row) (i j at : ℕ) (r : code.Row) (st : Reading) (fault : TextFault) → i < length rows → j < length rows → IsFor rows i at → EndsAt rows (i + 1) j → r ≡ get_or rows i r → FailsAt fault.problem fault (at_line (row_of r).number (head_line ps (row_of r) st)) → FailsAt fault.problem fault (flat ps (here_from rows i) st)
+pub head-fails-at : (ps : Predefined) (rows : List code.SourceRow) (i j at : ℕ) (r : code.SourceRow) (st : Reading) (fault : TextFault) → i < length rows → j < length rows → IsFor rows i at → EndsAt rows (i + 1) j → r ≡ get_or rows i r → FailsAt fault.problem fault (at_line (row_of r).number (head_line ps (row_of r) st)) → FailsAt fault.problem fault (flat ps (here_from rows i) st)
 head-fails-at ps rows i j at r st fault hi hj is ends ri e = head-fails ps (row_of r) (here_from rows (i + 1)) (row_of (get_or rows j r)) st (λ a. unless_ended a (flat ps (here_from rows (j + 1)))) fault (flat ps (here_from rows i) st) (loop-of ps rows i j at r (get_or rows j r) st hi hj is ends ri (get_or_default rows j r (get_or rows j r) hj)) e
 
-pub rounds-fail-at : (ps : Predefined) (rows : List code.Row) (i j at : ℕ) (r : code.Row) (st : Reading) (h : Head) (fault : TextFault) → i < length rows → j < length rows → IsFor rows i at → EndsAt rows (i + 1) j → r ≡ get_or rows i r → at_line (row_of r).number (head_line ps (row_of r) st) ≡ Ok h → FailsAt fault.problem fault (rounds (flat ps (here_from rows (i + 1))) h.counter 1 h.count h.reading) → FailsAt fault.problem fault (flat ps (here_from rows i) st)
+pub rounds-fail-at : (ps : Predefined) (rows : List code.SourceRow) (i j at : ℕ) (r : code.SourceRow) (st : Reading) (h : Head) (fault : TextFault) → i < length rows → j < length rows → IsFor rows i at → EndsAt rows (i + 1) j → r ≡ get_or rows i r → at_line (row_of r).number (head_line ps (row_of r) st) ≡ Ok h → FailsAt fault.problem fault (rounds (flat ps (here_from rows (i + 1))) h.counter 1 h.count h.reading) → FailsAt fault.problem fault (flat ps (here_from rows i) st)
 rounds-fail-at ps rows i j at r st h fault hi hj is ends ri e t = rounds-fail ps (row_of r) (here_from rows (i + 1)) (row_of (get_or rows j r)) st h (λ a. unless_ended a (flat ps (here_from rows (j + 1)))) fault (flat ps (here_from rows i) st) (loop-of ps rows i j at r (get_or rows j r) st hi hj is ends ri (get_or_default rows j r (get_or rows j r) hj)) e t
 
-pub loop-ended-at : (ps : Predefined) (rows : List code.Row) (i j at : ℕ) (r : code.Row) (st : Reading) (h : Head) (a : Reading) → i < length rows → j < length rows → IsFor rows i at → EndsAt rows (i + 1) j → r ≡ get_or rows i r → at_line (row_of r).number (head_line ps (row_of r) st) ≡ Ok h → rounds (flat ps (here_from rows (i + 1))) h.counter 1 h.count h.reading ≡ Ok a → a.ended ≡ true → flat ps (here_from rows i) st ≡ unless_ended a (flat ps (here_from rows (j + 1)))
+pub loop-ended-at : (ps : Predefined) (rows : List code.SourceRow) (i j at : ℕ) (r : code.SourceRow) (st : Reading) (h : Head) (a : Reading) → i < length rows → j < length rows → IsFor rows i at → EndsAt rows (i + 1) j → r ≡ get_or rows i r → at_line (row_of r).number (head_line ps (row_of r) st) ≡ Ok h → rounds (flat ps (here_from rows (i + 1))) h.counter 1 h.count h.reading ≡ Ok a → a.ended ≡ true → flat ps (here_from rows i) st ≡ unless_ended a (flat ps (here_from rows (j + 1)))
 loop-ended-at ps rows i j at r st h a hi hj is ends ri e t n = loop-ended ps (row_of r) (here_from rows (i + 1)) (row_of (get_or rows j r)) st h a (flat ps (here_from rows (j + 1))) (flat ps (here_from rows i) st) (loop-of ps rows i j at r (get_or rows j r) st hi hj is ends ri (get_or_default rows j r (get_or rows j r) hj)) e t n
 
-pub rof-fails-at : (ps : Predefined) (rows : List code.Row) (i j at : ℕ) (r s : code.Row) (st : Reading) (h : Head) (a : Reading) (fault : TextFault) → i < length rows → j < length rows → IsFor rows i at → EndsAt rows (i + 1) j → r ≡ get_or rows i r → s ≡ get_or rows j s → at_line (row_of r).number (head_line ps (row_of r) st) ≡ Ok h → rounds (flat ps (here_from rows (i + 1))) h.counter 1 h.count h.reading ≡ Ok a → a.ended ≡ false → FailsAt fault.problem fault (at_line (row_of s).number (rof_line (row_of s) a)) → FailsAt fault.problem fault (flat ps (here_from rows i) st)
+pub rof-fails-at : (ps : Predefined) (rows : List code.SourceRow) (i j at : ℕ) (r s : code.SourceRow) (st : Reading) (h : Head) (a : Reading) (fault : TextFault) → i < length rows → j < length rows → IsFor rows i at → EndsAt rows (i + 1) j → r ≡ get_or rows i r → s ≡ get_or rows j s → at_line (row_of r).number (head_line ps (row_of r) st) ≡ Ok h → rounds (flat ps (here_from rows (i + 1))) h.counter 1 h.count h.reading ≡ Ok a → a.ended ≡ false → FailsAt fault.problem fault (at_line (row_of s).number (rof_line (row_of s) a)) → FailsAt fault.problem fault (flat ps (here_from rows i) st)
 rof-fails-at ps rows i j at r s st h a fault hi hj is ends ri si e t n w = rof-fails ps (row_of r) (here_from rows (i + 1)) (row_of s) st h a (λ a. unless_ended a (flat ps (here_from rows (j + 1)))) fault (flat ps (here_from rows i) st) (loop-of ps rows i j at r s st hi hj is ends ri si) e t n w
 
-pub loop-done-at : (ps : Predefined) (rows : List code.Row) (i j at : ℕ) (r s : code.Row) (st : Reading) (h : Head) (a b : Reading) → i < length rows → j < length rows → IsFor rows i at → EndsAt rows (i + 1) j → r ≡ get_or rows i r → s ≡ get_or rows j s → at_line (row_of r).number (head_line ps (row_of r) st) ≡ Ok h → rounds (flat ps (here_from rows (i + 1))) h.counter 1 h.count h.reading ≡ Ok a → a.ended ≡ false → at_line (row_of s).number (rof_line (row_of s) a) ≡ Ok b → flat ps (here_from rows i) st ≡ unless_ended b (flat ps (here_from rows (j + 1)))
+pub loop-done-at : (ps : Predefined) (rows : List code.SourceRow) (i j at : ℕ) (r s : code.SourceRow) (st : Reading) (h : Head) (a b : Reading) → i < length rows → j < length rows → IsFor rows i at → EndsAt rows (i + 1) j → r ≡ get_or rows i r → s ≡ get_or rows j s → at_line (row_of r).number (head_line ps (row_of r) st) ≡ Ok h → rounds (flat ps (here_from rows (i + 1))) h.counter 1 h.count h.reading ≡ Ok a → a.ended ≡ false → at_line (row_of s).number (rof_line (row_of s) a) ≡ Ok b → flat ps (here_from rows i) st ≡ unless_ended b (flat ps (here_from rows (j + 1)))
 loop-done-at ps rows i j at r s st h a b hi hj is ends ri si e t n w = loop-done ps (row_of r) (here_from rows (i + 1)) (row_of s) st h a b (λ a. unless_ended a (flat ps (here_from rows (j + 1)))) (flat ps (here_from rows i) st) (loop-of ps rows i j at r s st hi hj is ends ri si) e t n w
 
 -- ---- a plain row at a place
 
-pub plain-at : (rows : List code.Row) (i : ℕ) (d : code.Row) (kind : code_kind.LineKind) → i < length rows → kind_of kind ≡ line_kind (row_of (get_or rows i d)).bytes
+pub plain-at : (rows : List code.SourceRow) (i : ℕ) (d : code.SourceRow) (kind : code_kind.LineKind) → i < length rows → kind_of kind ≡ line_kind (row_of (get_or rows i d)).bytes
     → ((at : ℕ) → kind ≡ line.For at → ⊥) → (kind ≡ line.Rof → ⊥) → IsPlain rows i
 plain-at rows i d line.Rof h is no-for no-rof = absurd (no-rof refl)
 plain-at rows i d (line.For at) h is no-for no-rof = absurd (no-for at refl)
 plain-at rows i d (line.Equ at) h is no-for no-rof = λ e. ap (λ p. p.here) (paired-drop rows i d (EquLine at) h is) ∙ ap (λ row. Plain (row_of row) (here_from rows (i + 1))) (get_or_default rows i d e h)
 plain-at rows i d line.Other h is no-for no-rof = λ e. ap (λ p. p.here) (paired-drop rows i d OtherLine h is) ∙ ap (λ row. Plain (row_of row) (here_from rows (i + 1))) (get_or_default rows i d e h)
 
-pub row-done : (ps : Predefined) (rows : List code.Row) (i : ℕ) (d : code.Row) (st a : Reading) → IsPlain rows i → at_line (row_of (get_or rows i d)).number (plain_line ps (row_of (get_or rows i d)) st) ≡ Ok a
+pub row-done : (ps : Predefined) (rows : List code.SourceRow) (i : ℕ) (d : code.SourceRow) (st a : Reading) → IsPlain rows i → at_line (row_of (get_or rows i d)).number (plain_line ps (row_of (get_or rows i d)) st) ≡ Ok a
     → flat ps (here_from rows i) st ≡ unless_ended a (flat ps (here_from rows (i + 1)))
 row-done ps rows i d st a is h = ap (λ items. flat ps items st) (is d) ∙ ap (λ r. r >>= λ a. unless_ended a (flat ps (here_from rows (i + 1)))) h
 
-pub row-fails : (ps : Predefined) (rows : List code.Row) (i : ℕ) (d : code.Row) (st : Reading) (fault : TextFault) → IsPlain rows i → FailsAt fault.problem fault (at_line (row_of (get_or rows i d)).number (plain_line ps (row_of (get_or rows i d)) st))
+pub row-fails : (ps : Predefined) (rows : List code.SourceRow) (i : ℕ) (d : code.SourceRow) (st : Reading) (fault : TextFault) → IsPlain rows i → FailsAt fault.problem fault (at_line (row_of (get_or rows i d)).number (plain_line ps (row_of (get_or rows i d)) st))
     → FailsAt fault.problem fault (flat ps (here_from rows i) st)
 row-fails ps rows i d st fault is h =
     subst (FailsAt fault.problem fault) (sym (ap (λ items. flat ps items st) (is d))) (then-fails fault (at_line (row_of (get_or rows i d)).number (plain_line ps (row_of (get_or rows i d)) st)) (λ a. unless_ended a (flat ps (here_from rows (i + 1)))) h)

@@ -5,9 +5,9 @@ use Rattle.redcode_text.specs.declared.source.row.LineKind.TheVariants as line
 use Rattle.redcode_text.specs.declared.token.Token.{Token}
 use Rattle.redcode_text.specs.Lines.{Predefined, Reading, ordinary_line, tokens_line}
 use Rattle.redcode_text.specs.Code.Kinds.{kind_of}
-use Rattle.redcode_text.specs.Source.{Row}
+use Rattle.redcode_text.specs.Source.{SourceRow}
 
-pub plain-ordinary : (ps : Predefined) (kind : code.LineKind) (row : Row) (ts : List Token) (st : Reading) → ((at : ℕ) → kind ≡ line.Equ at → ⊥) → 0 < length ts
+pub plain-ordinary : (ps : Predefined) (kind : code.LineKind) (row : SourceRow) (ts : List Token) (st : Reading) → ((at : ℕ) → kind ≡ line.Equ at → ⊥) → 0 < length ts
     → tokens_line ps (kind_of kind) row ts st ≡ ordinary_line ps row.number 32 ts st
 plain-ordinary ps kind row [] st other some = absurd (omega arith)
 plain-ordinary ps line.Rof row (t ∷ ts) st other some = refl

@@ -7,7 +7,7 @@ use Rattle.redcode_text.specs.declared.token.Token.{Token}
 use Rattle.redcode_text.specs.Equates.{limit}
 use Rattle.redcode_text.specs.Lines.{Reading, WithTokens, before_comment, row_tokens}
 use Rattle.redcode_text.specs.Code.Problems.{Fails}
-use Rattle.redcode_text.specs.Source.{Row}
+use Rattle.redcode_text.specs.Source.{SourceRow}
 use Rattle.redcode_text.specs.Tokens.{Scanned, scan_from, tokens}
 use Rattle.redcode_text.proofs.Failing.{fails-bind}
 
@@ -24,7 +24,7 @@ comment-first (b ∷ bs) = go (b == 59) (comment-first bs)
     go true h = refl
     go false h = let e : 1 + prefix_len no_comment bs ≡ suc (prefix_len no_comment bs) = omega arith in rw e (ap (λ l. b ∷ l) h)
 
-module _ (st : Reading) (row : Row) (at : ℕ) (code : List ℕ) (before : List Token) (is : code ≡ before_comment (drop at row.bytes)) (none : before ≡ []) where
+module _ (st : Reading) (row : SourceRow) (at : ℕ) (code : List ℕ) (before : List Token) (is : code ≡ before_comment (drop at row.bytes)) (none : before ≡ []) where
   abbrev read : Result Scanned TextProblem
   read = scan_from st.loops row.number (limit - st.tokens_read) (row.at + at) 0 code (record { tokens = before; names = st.names })
 

@@ -7,28 +7,28 @@ use Rattle.redcode_text.specs.declared.token.TokenKind.TheVariants.{Number, Name
 use Rattle.redcode_text.specs.declared.token.TokenKind.TheVariants as token
 use Rattle.redcode_text.specs.declared.token.Sign.{Sign}
 use Rattle.redcode_text.specs.declared.token.Sign.TheVariants.{Plus, OpenParen, CloseParen}
-use Rattle.redcode_text.specs.Expression.{precedence, Tree, Numeral, Named, Parens, Unary, Binary, Missing, Parts, operator_at, depth_after, ends_operand, later_or, last_operator, without_last, primary, parted, at_level, tree_within}
+use Rattle.redcode_text.specs.Expression.{precedence, Tree, Numeral, Named, Parens, Unary, Binary, Missing, OperatorSplit, operator_at, depth_after, ends_operand, later_or, last_operator, without_last, primary, parted, at_level, tree_within}
 use Rattle.redcode_text.specs.Trees.{spelling, rank, is_prefix, IsLevelled}
 use Rattle.redcode_text.proofs.Trees.{rank-≤5}
 
 -- with these tokens before it
-abbrev prepended : List TokenKind → Option Parts → Option Parts
+abbrev prepended : List TokenKind → Option OperatorSplit → Option OperatorSplit
 prepended xs (Some p) = Some (record { before = xs ++ p.before; sign = p.sign; after = p.after })
 prepended xs None = None
 
-later-none : (o : Option Parts) (x : TokenKind) (xs : List TokenKind) → later_or o x None xs ≡ prepended (x ∷ []) o
+later-none : (o : Option OperatorSplit) (x : TokenKind) (xs : List TokenKind) → later_or o x None xs ≡ prepended (x ∷ []) o
 later-none (Some p) x xs = refl
 later-none None x xs = refl
 
-later-some : (o : Option Parts) (x : TokenKind) (here : Option Sign) (xs : List TokenKind) → is_some o ≡ true → later_or o x here xs ≡ prepended (x ∷ []) o
+later-some : (o : Option OperatorSplit) (x : TokenKind) (here : Option Sign) (xs : List TokenKind) → is_some o ≡ true → later_or o x here xs ≡ prepended (x ∷ []) o
 later-some (Some p) x here xs h = refl
 later-some None x here xs h = absurd (false≢true h)
 
-prepended-twice : (xs ys : List TokenKind) (o : Option Parts) → prepended xs (prepended ys o) ≡ prepended (xs ++ ys) o
+prepended-twice : (xs ys : List TokenKind) (o : Option OperatorSplit) → prepended xs (prepended ys o) ≡ prepended (xs ++ ys) o
 prepended-twice xs ys (Some p) = ap (λ l. Some (record { before = l; sign = p.sign; after = p.after })) (sym (append_assoc xs ys p.before))
 prepended-twice xs ys None = refl
 
-is_some-prepended : (xs : List TokenKind) (o : Option Parts) → is_some (prepended xs o) ≡ is_some o
+is_some-prepended : (xs : List TokenKind) (o : Option OperatorSplit) → is_some (prepended xs o) ≡ is_some o
 is_some-prepended xs (Some p) = refl
 is_some-prepended xs None = refl
 
@@ -67,7 +67,7 @@ operator-here : (k : ℕ) (s : Sign) → precedence s ≡ k → operator_at k 0 
 operator-here k s e = ap (λ b. cond b (Some s) None) (eq-eqb (precedence s) k e)
 
 -- no operator of the tree counts: a later one does, or it is inside parentheses, or tighter
-abbrev Passes : ℕ → ℕ → Tree → Option Parts → Type 0
+abbrev Passes : ℕ → ℕ → Tree → Option OperatorSplit → Type 0
 Passes k d t o = (is_some o ≡ true) ⊎ (d ≡ 0 → rank t < k)
 
 spelled-last : (k d : ℕ) (t : Tree) (rest : List TokenKind) → IsLevelled t → Passes k d t (last_operator k d true rest) → last_operator k d false (spelling t ++ rest) ≡ prepended (spelling t) (last_operator k d true rest)

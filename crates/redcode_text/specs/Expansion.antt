@@ -10,7 +10,7 @@ use Rattle.redcode_text.specs.declared.fault.TextProblem.{TextProblem}
 use Rattle.redcode_text.specs.declared.fault.TextProblem.TheVariants.{UnclosedFor, RofAlone, BadCount, LabelInCount, TooLong, Expression}
 use Rattle.redcode_text.specs.Expression.{kinds, value_of}
 use Rattle.redcode_text.specs.Tokens.{at_line, without_line}
-use Rattle.redcode_text.specs.Source.{Row, Items, Plain, Loop, tree_of}
+use Rattle.redcode_text.specs.Source.{SourceRow, Items, Plain, Loop, tree_of}
 use Rattle.redcode_text.specs.Source as source
 use Rattle.redcode_text.specs.Equates.{Equate, substitution}
 use Rattle.redcode_text.specs.Lines.{Reading, Line, Assert, Predefined, predefined_value, with_current_line, name_at, is_predefined, line_read, row_tokens, tokens_before, tokens_after, name_in_front, plain_line, unless_ended}
@@ -58,10 +58,10 @@ abbrev pub room_for_loop : Reading → Result Reading TextProblem
 room_for_loop st = elim (nat_le loop_limit (length st.loops)) [ true ↦ Err TooLong | false ↦ Ok st ]
 
 -- where the word FOR of a row begins in the source
-abbrev pub for_word_at : Row → ℕ
+abbrev pub for_word_at : SourceRow → ℕ
 for_word_at row = elim (source.line_kind row.bytes) [ source.ForLine at ↦ row.at + at | _ ↦ row.at ]
 
-abbrev pub head_line : Predefined → Row → Reading → Result Head TextProblem
+abbrev pub head_line : Predefined → SourceRow → Reading → Result Head TextProblem
 head_line ps row st =
     line_read st >>= row_tokens row 0 >>= λ r.
     name_in_front (kinds (tokens_before (for_word_at row) r.0)) >>= λ counter.
@@ -70,7 +70,7 @@ head_line ps row st =
     Ok (record { counter = counter_name r.1 counter; count = count; reading = record (r.1) { equate_grows = false } })
 
 -- the tokens of a ROF line mean nothing
-abbrev pub rof_line : Row → Reading → Result Reading TextProblem
+abbrev pub rof_line : SourceRow → Reading → Result Reading TextProblem
 rof_line row st = line_read st >>= row_tokens row 0 >>= λ r. Ok (record (r.1) { equate_grows = false })
 
 -- a FOR without its ROF, or a ROF without its FOR

@@ -121,7 +121,7 @@ pub data Tree : Type 0 where
   Missing : Tree
 
 -- what stands before an operator, the operator, and what stands after it
-pub record Parts : Type 0 where
+pub record OperatorSplit : Type 0 where
   pub before : List TokenKind
   pub sign : Sign
   pub after : List TokenKind
@@ -143,13 +143,13 @@ ends_operand (token.Sign _) = false
 ends_operand _ = true
 
 -- a later operator, or this one
-abbrev pub later_or : Option Parts → TokenKind → Option Sign → List TokenKind → Option Parts
+abbrev pub later_or : Option OperatorSplit → TokenKind → Option Sign → List TokenKind → Option OperatorSplit
 later_or (Some p) x here xs = Some (record { before = x ∷ p.before; sign = p.sign; after = p.after })
 later_or None x (Some s) xs = Some (record { before = []; sign = s; after = xs })
 later_or None x None xs = None
 
 -- the last operator of this precedence outside parentheses
-abbrev pub last_operator : ℕ → ℕ → Bool → List TokenKind → Option Parts
+abbrev pub last_operator : ℕ → ℕ → Bool → List TokenKind → Option OperatorSplit
 last_operator k depth after [] = None
 last_operator k depth after (x ∷ xs) = later_or (last_operator k (depth_after depth x) (ends_operand x) xs) x (operator_at k depth after x) xs
 
@@ -166,7 +166,7 @@ primary tree (Name n ∷ xs) = Named n
 primary tree (token.Sign OpenParen ∷ xs) = Parens (tree 5 (without_last xs))
 primary tree (token.Sign s ∷ xs) = Unary s (tree 0 xs)
 
-abbrev pub parted : (ℕ → List TokenKind → Tree) → ℕ → Option Parts → Tree → Tree
+abbrev pub parted : (ℕ → List TokenKind → Tree) → ℕ → Option OperatorSplit → Tree → Tree
 parted tree k (Some p) tighter = Binary (tree (suc k) p.before) p.sign (tree k p.after)
 parted tree k None tighter = tighter
 

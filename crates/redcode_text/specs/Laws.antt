@@ -17,7 +17,7 @@ use Rattle.redcode_text.specs.Alike.{AreAlike}
 use Rattle.redcode_text.specs.Bytes.{ampersand, line_feed}
 use Rattle.redcode_text.specs.Expression.{Tree, kinds, shape, start, tree_within}
 use Rattle.redcode_text.specs.Trees.{IsLevelled, IsWithin, spelling}
-use Rattle.redcode_text.specs.Source.{Row, Items, Loop, LineKind, RofLine, ForLine, OtherLine, begins_redcode, directive_text_at, has_directive, has_directive_word, is_comment, line_kind, lines_of, read_rows, tree_of, tree_of_rows}
+use Rattle.redcode_text.specs.Source.{SourceRow, Items, Loop, LineKind, RofLine, ForLine, OtherLine, begins_redcode, directive_text_at, has_directive, has_directive_word, is_comment, line_kind, lines_of, read_rows, tree_of, tree_of_rows}
 use Rattle.redcode_text.specs.Tokens.{OpenLoop, Scanned, begins_name, begins_word, is_word_byte, parts_at_joins, round_digits, round_of, tokens, word_len}
 use Rattle.redcode_text.specs.Equates.{equate_lines}
 use Rattle.redcode_text.specs.Lines.{Reading, Predefined, Parts, before_comment, line_read, tokens_counted, operations, parts_of, ordinary_line, predefined_value, unless_ended, with_current_line}
@@ -25,7 +25,7 @@ use Rattle.redcode_text.specs.Expansion.{Head, ProgramValue, expansion, flat, he
 
 -- lines before the first `;redcode` have no effect
 abbrev pub LinesBeforeRedcodeAreUnread : Type 0
-LinesBeforeRedcodeAreUnread = (before rows : List Row) → list_any begins_redcode before ≡ false → list_any begins_redcode rows ≡ true
+LinesBeforeRedcodeAreUnread = (before rows : List SourceRow) → list_any begins_redcode before ≡ false → list_any begins_redcode rows ≡ true
     → tree_of_rows (read_rows (before ++ rows)) ≡ tree_of_rows (read_rows rows)
 
 -- What stands behind a source that reads to an END has no effect, whatever it is, but for a line that begins `;redcode`: what stood before it
@@ -38,7 +38,7 @@ LinesBehindEndAreUnread = (ps : Predefined) (source behind : List ℕ) (read : R
 -- The body of a loop that goes round no time has no effect: two trees that differ in it alone are read the same. A FOR in it without its ROF,
 -- or a ROF without its FOR, would change which lines are the body.
 abbrev pub LinesInNoRoundAreUnread : Type 0
-LinesInNoRoundAreUnread = (ps : Predefined) (head rof : Row) (body other rest : Items) (st : Reading)
+LinesInNoRoundAreUnread = (ps : Predefined) (head rof : SourceRow) (body other rest : Items) (st : Reading)
     → IfOk (head_line ps head st) (λ (h : Head). h.count ≡ 0)
     → flat ps (Loop head body rof rest) st ≡ flat ps (Loop head other rof rest) st
 

@@ -13,7 +13,7 @@ use Rattle.redcode_text.specs.declared.fault.TextProblem.TheVariants.{BadToken, 
 use Rattle.redcode_text.specs.Bytes.{first_printed, last_printed, question_mark, semicolon}
 use Rattle.redcode_text.specs.Expression.{kinds}
 use Rattle.redcode_text.specs.Tokens.{OpenLoop, tokens}
-use Rattle.redcode_text.specs.Source.{Row, LineKind, EquLine, line_kind, is_comment, has_directive_word, directive_text, directive_text_at, without_blanks}
+use Rattle.redcode_text.specs.Source.{SourceRow, LineKind, EquLine, line_kind, is_comment, has_directive_word, directive_text, directive_text_at, without_blanks}
 use Rattle.redcode_text.specs.Equates.{Equate, depth_limit, equate_lines, limit}
 
 -- ---- all that has been read
@@ -93,7 +93,7 @@ abbrev pub WithTokens : Type 0
 WithTokens = List Token × Reading
 
 -- the tokens of a row from a place on up to a comment, of which there may be as many as the limit leaves
-abbrev pub row_tokens : Row → ℕ → Reading → Result WithTokens TextProblem
+abbrev pub row_tokens : SourceRow → ℕ → Reading → Result WithTokens TextProblem
 row_tokens row at st =
     tokens st.loops row.number (row.at + at) (limit - st.tokens_read) st.names (before_comment (drop at row.bytes)) >>= λ s.
     Ok (s.tokens, record st { names = s.names; tokens_read = st.tokens_read + length s.tokens })
@@ -263,12 +263,12 @@ abbrev pub unless_empty : List ℕ → List ℕ → List ℕ
 unless_empty [] old = old
 unless_empty (b ∷ bs) old = b ∷ bs
 
-abbrev pub assert_line : Row → Step
+abbrev pub assert_line : SourceRow → Step
 assert_line row st =
     row_tokens row (directive_text_at (codes "assert") row.bytes) st >>= λ r.
     Ok (record (r.1) { asserts = r.1.asserts ++ record { number = row.number; current_line = r.1.instructions; tokens = r.0 } ∷ [] })
 
-abbrev pub comment_line : Row → Step
+abbrev pub comment_line : SourceRow → Step
 comment_line row st =
     elim (has_directive_word (codes "name") row.bytes) [
       | true ↦ Ok (record st { name = unless_empty (directive_value (directive_text (codes "name") row.bytes)) st.name })
@@ -280,12 +280,12 @@ comment_line row st =
 
 -- ---- a line that is neither FOR nor ROF
 
-abbrev pub tokens_line : Predefined → LineKind → Row → List Token → Step
+abbrev pub tokens_line : Predefined → LineKind → SourceRow → List Token → Step
 tokens_line ps kind row [] st = Ok st
 tokens_line ps (EquLine at) row (t ∷ ts) st = equ_line ps (row.at + at) (t ∷ ts) st
 tokens_line ps kind row (t ∷ ts) st = ordinary_line ps row.number depth_limit (t ∷ ts) st
 
-abbrev pub plain_line : Predefined → Row → Step
+abbrev pub plain_line : Predefined → SourceRow → Step
 plain_line ps row st =
     line_read st >>= λ a. elim (is_comment row.bytes) [
       | true ↦ comment_line row a

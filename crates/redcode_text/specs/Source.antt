@@ -8,7 +8,7 @@ use Rattle.redcode_text.specs.Tokens.{is_blank, word_len}
 -- ---- lines
 
 -- a line of the source: its number from 1, the place of its first byte in the source, and its bytes
-pub record Row : Type 0 where
+pub record SourceRow : Type 0 where
   pub number : ℕ
   pub at : ℕ
   pub bytes : List ℕ
@@ -18,11 +18,11 @@ abbrev pub lines_of : List ℕ → List (List ℕ)
 lines_of [] = []
 lines_of (b ∷ bs) = elim (b == line_feed) [ true ↦ [] ∷ lines_of bs | false ↦ onto_first b (lines_of bs) ]
 
-abbrev pub rows_from : ℕ → ℕ → List (List ℕ) → List Row
+abbrev pub rows_from : ℕ → ℕ → List (List ℕ) → List SourceRow
 rows_from number at [] = []
 rows_from number at (bytes ∷ rest) = record { number = number; at = at; bytes = bytes } ∷ rows_from (number + 1) (at + length bytes + 1) rest
 
-abbrev pub rows_of : List ℕ → List Row
+abbrev pub rows_of : List ℕ → List SourceRow
 rows_of source = rows_from 1 0 (lines_of source)
 
 -- ---- words of a line
@@ -117,16 +117,16 @@ ends_word (b ∷ bs) = is_blank b
 abbrev pub has_directive_word : List ℕ → List ℕ → Bool
 has_directive_word word bytes = has_directive word bytes && ends_word (directive_text word bytes)
 
-abbrev pub begins_redcode : Row → Bool
+abbrev pub begins_redcode : SourceRow → Bool
 begins_redcode row = has_directive (codes "redcode") row.bytes
 
 -- the rows from the first `;redcode` on
-abbrev pub from_redcode : List Row → List Row
+abbrev pub from_redcode : List SourceRow → List SourceRow
 from_redcode [] = []
 from_redcode (row ∷ rows) = elim (begins_redcode row) [ true ↦ row ∷ rows | false ↦ from_redcode rows ]
 
 -- the rows that are read: all of them where no `;redcode` is there
-abbrev pub read_rows : List Row → List Row
+abbrev pub read_rows : List SourceRow → List SourceRow
 read_rows rows = elim (list_any begins_redcode rows) [ true ↦ from_redcode rows | false ↦ rows ]
 
 -- ---- the tree
@@ -134,44 +134,44 @@ read_rows rows = elim (list_any begins_redcode rows) [ true ↦ from_redcode row
 -- the items of a source or of a loop's body, in order
 pub data Items : Type 0 where
   Nothing : Items
-  Plain : Row → Items → Items
-  Loop : Row → Items → Row → Items → Items
-  UnclosedFor : Row → Items → Items
-  LoneRof : Row → Items → Items
+  Plain : SourceRow → Items → Items
+  Loop : SourceRow → Items → SourceRow → Items → Items
+  UnclosedFor : SourceRow → Items → Items
+  LoneRof : SourceRow → Items → Items
 
 -- what was read from the end so far: the items here, and for each ROF that waits for its FOR its row and the items behind it
 pub record Pairing : Type 0 where
   pub here : Items
-  pub waiting : List (Row × Items)
+  pub waiting : List (SourceRow × Items)
 
 -- a FOR takes the items here as its body, up to the nearest ROF that waits
-abbrev pub opened : Row → Items → List (Row × Items) → Pairing
+abbrev pub opened : SourceRow → Items → List (SourceRow × Items) → Pairing
 opened head here [] = record { here = UnclosedFor head here; waiting = [] }
 opened head here (rof ∷ waiting) = record { here = Loop head here rof.0 rof.1; waiting = waiting }
 
-abbrev pub paired_with : LineKind → Row → Pairing → Pairing
+abbrev pub paired_with : LineKind → SourceRow → Pairing → Pairing
 paired_with (ForLine at) row p = opened row p.here p.waiting
 paired_with RofLine row p = record { here = Nothing; waiting = (row, p.here) ∷ p.waiting }
 paired_with (EquLine at) row p = record { here = Plain row p.here; waiting = p.waiting }
 paired_with OtherLine row p = record { here = Plain row p.here; waiting = p.waiting }
 
-abbrev pub paired : List Row → Pairing
+abbrev pub paired : List SourceRow → Pairing
 paired [] = record { here = Nothing; waiting = [] }
 paired (row ∷ rows) = paired_with (line_kind row.bytes) row (paired rows)
 
 -- the items, then a ROF that closes nothing: reading ends at it
-abbrev pub then_lone : Row → Items → Items
+abbrev pub then_lone : SourceRow → Items → Items
 then_lone rof Nothing = LoneRof rof Nothing
 then_lone rof (Plain row rest) = Plain row (then_lone rof rest)
 then_lone rof (Loop head body end rest) = Loop head body end (then_lone rof rest)
 then_lone rof (UnclosedFor head rest) = UnclosedFor head (then_lone rof rest)
 then_lone rof (LoneRof row rest) = LoneRof row (then_lone rof rest)
 
-abbrev pub with_lone : Items → List (Row × Items) → Items
+abbrev pub with_lone : Items → List (SourceRow × Items) → Items
 with_lone here [] = here
 with_lone here (rof ∷ waiting) = then_lone rof.0 here
 
-abbrev pub tree_of_rows : List Row → Items
+abbrev pub tree_of_rows : List SourceRow → Items
 tree_of_rows rows = with_lone (paired rows).here (paired rows).waiting
 
 -- the tree of a source

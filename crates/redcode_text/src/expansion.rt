@@ -13,7 +13,7 @@ use crate::names::predefined::PredefinedNames;
 use crate::program::Program;
 use crate::reader::Reading;
 use crate::reader::repeat::read_all;
-use crate::source::row::Row;
+use crate::source::row::SourceRow;
 use crate::source::{read_rows, rows_of};
 use std::alloc::Global;
 
@@ -46,7 +46,7 @@ fn program_of(reading: Reading) -> Program
 /// Reads rows of a source, up to END.
 fn read_from_rows(
     alloc: Global,
-    rows: &[Row<'_>],
+    rows: &[SourceRow<'_>],
     names: &PredefinedNames,
 ) -> Result<Reading, TextFault>
     requires fits { RowsFit rows.now }

@@ -7,7 +7,7 @@ mod evaluation;
 pub mod operators;
 pub mod shape;
 
-use crate::expression::evaluation::Evaluation;
+use crate::expression::evaluation::Evaluator;
 use crate::expression::shape::check_shape;
 use crate::fault::ExprFault;
 use crate::limits::{FEW_WAITING, MAX_WAITING};
@@ -32,7 +32,7 @@ fn evaluate<E: Env, const N: usize>(tokens: &[Token], env: &E) -> Result<i64, Ex
     requires room { (MAX_WAITING ≤ N) ⊎ (length tokens.now ≤ N) }
     ensures { result ≡ value_of (E.value_of env.now) (kinds tokens.now) }
 {
-    let mut evaluation = Evaluation::<N>::new();
+    let mut evaluation = Evaluator::<N>::new();
     for at in 0..tokens.len() {
         evaluation.advance(tokens, at, env)?;
     }

@@ -23,7 +23,7 @@ use crate::limits::{MAX_LINES, MAX_TOKENS};
 use crate::names::predefined::PredefinedNames;
 use crate::names::set::NameSet;
 use crate::program::{Assert, Line};
-use crate::source::row::{Row, before_comment};
+use crate::source::row::{SourceRow, before_comment};
 use crate::token::{Sign, Token, TokenKind};
 use std::alloc::{AllocError, Global};
 
@@ -138,7 +138,7 @@ impl Reading {
     pub fn row_tokens(
         &mut self,
         alloc: Global,
-        row: Row<'_>,
+        row: SourceRow<'_>,
         at: usize,
     ) -> Result<Vec<Token>, TextProblem>
         requires within { at ≤ length row.bytes.now }

@@ -10,7 +10,7 @@ pub mod directives;
 pub mod row;
 
 use crate::source::directives::has_directive;
-use crate::source::row::{LineKind, Row};
+use crate::source::row::{LineKind, SourceRow};
 use std::alloc::{AllocError, Global};
 
 /// How many bytes the first line has.
@@ -22,7 +22,7 @@ fn line_len(bytes: &[u8]) -> usize
 }
 
 /// The lines of a source.
-pub fn rows_of<'a>(alloc: Global, source: &'a [u8]) -> Result<Vec<Row<'a>>, AllocError>
+pub fn rows_of<'a>(alloc: Global, source: &'a [u8]) -> Result<Vec<SourceRow<'a>>, AllocError>
     ensures { IfOk result (λ rows. map row_of rows.items ≡ rows_of source.now) }
 {
     let mut rows = Vec::new(alloc);
@@ -30,7 +30,7 @@ pub fn rows_of<'a>(alloc: Global, source: &'a [u8]) -> Result<Vec<Row<'a>>, Allo
     let mut at = 0;
     while at < source.len() {
         let end = at + line_len(&source[at..]);
-        let row = Row::new(number, at, &source[at..end]);
+        let row = SourceRow::new(number, at, &source[at..end]);
         let Ok(()) = rows.push(row) else {
             return Err(AllocError);
         };
@@ -41,7 +41,7 @@ pub fn rows_of<'a>(alloc: Global, source: &'a [u8]) -> Result<Vec<Row<'a>>, Allo
 }
 
 /// The rows from the first `;redcode` on, or all where there is none.
-pub fn read_rows<'r, 'a>(rows: &'r [Row<'a>]) -> &'r [Row<'a>]
+pub fn read_rows<'r, 'a>(rows: &'r [SourceRow<'a>]) -> &'r [SourceRow<'a>]
     ensures { map row_of result.now ≡ read_rows (map row_of rows.now) }
 {
     for at in 0..rows.len() {
@@ -53,7 +53,7 @@ pub fn read_rows<'r, 'a>(rows: &'r [Row<'a>]) -> &'r [Row<'a>]
 }
 
 /// Where the items that begin at a place end, where that is known for each later place.
-pub fn end_from(rows: &[Row<'_>], ends: &[usize], first: usize) -> usize
+pub fn end_from(rows: &[SourceRow<'_>], ends: &[usize], first: usize) -> usize
     requires within { first ≤ length rows.now }
     requires same_length { length ends.now ≡ length rows.now }
     requires known { (i : ℕ) → first ≤ i → i < length rows.now → EndsAt rows.now (i + 1) (slice_index ends.now i) }
@@ -77,7 +77,7 @@ pub fn end_from(rows: &[Row<'_>], ends: &[usize], first: usize) -> usize
 }
 
 /// For each row the place where the items behind it end: that of a ROF, or the number of the rows.
-pub fn ends_of(alloc: Global, rows: &[Row<'_>]) -> Result<Vec<usize>, AllocError>
+pub fn ends_of(alloc: Global, rows: &[SourceRow<'_>]) -> Result<Vec<usize>, AllocError>
     ensures ends { IfOk result (λ ends. AreEnds rows.now ends.items) }
     ensures len { IfOk result (λ ends. vec_len ends ≡ length rows.now) }
 {

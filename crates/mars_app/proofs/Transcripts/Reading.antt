@@ -17,7 +17,7 @@ use Rattle.mars_cell.specs.Output.{CutShort}
 use Rattle.mars_app.specs.Debugger.Transcript.{Transcript, GoesOn, Completes, WriteFails, answer, until_quit}
 use Rattle.mars_app.specs.Debugger.Transcript.EndsIn.{at_newline, at_end}
 use Rattle.mars_app.specs.Debugger.Transcript.Transcript.{none, line}
-use Rattle.mars_app.specs.Code.Steps.{GoesThrough, Quits, Breaks, Reading, Quitting, Finishes, BreaksAtEnd}
+use Rattle.mars_app.specs.Code.Steps.{GoesThrough, Quits, Breaks, ReadsOn, Quitting, Finishes, BreaksAtEnd}
 use Rattle.mars_app.proofs.Transcripts.LinesOf.{executed_lines, last_of, lines_of-line, lines_of-lines, until_quit-lines, until_quit-one, until_quit-quit}
 
 -- ---- the core's size under another name
@@ -314,7 +314,7 @@ module _ (core : ℕ) where
   -- What the reads so far brought was taken: `input` and `left` are what the reader had and has left, v and w what
   -- the writer held and holds.
   abbrev pub SoFar : Option (List ℕ) → Option (List ℕ) → SessionState → Option (List ℕ) → LineBuffer → SessionState → Option (List ℕ) → Type 0
-  SoFar input left t v a u w = (bytes : List ℕ) × (text : List ℕ) × Consumes input left bytes × Appends v w text × Reading core t bytes a u text
+  SoFar input left t v a u w = (bytes : List ℕ) × (text : List ℕ) × Consumes input left bytes × Appends v w text × ReadsOn core t bytes a u text
 
   pub reads_none : (input : Option (List ℕ)) (t : SessionState) (v : Option (List ℕ)) (a : LineBuffer) → Holds a [] → SoFar input input t v a t v
   reads_none input t v a h = (

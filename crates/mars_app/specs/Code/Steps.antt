@@ -12,7 +12,7 @@ use Rattle.mars_app.specs.Debugger.Transcript.{Transcript, BrokenAt, GoesOn, unt
 
 -- The bytes were read from the session s on. The whole lines among them were executed, which left the session t
 -- and gave the text; none of them is quit; and the buffer holds the unfinished line.
-pub record Reading (core_size : ℕ) (s : SessionState) (bytes : List ℕ) (buffer : LineBuffer) (t : SessionState) (text : List ℕ) : Type 0 where
+pub record ReadsOn (core_size : ℕ) (s : SessionState) (bytes : List ℕ) (buffer : LineBuffer) (t : SessionState) (text : List ℕ) : Type 0 where
   pub lines : List (List ℕ)
   pub rest : List ℕ
   pub splits : Splits bytes lines rest
@@ -43,26 +43,26 @@ pub record Breaking (core_size : ℕ) (s : SessionState) (bytes : List ℕ) (t :
 
 -- Whatever was read and written before: where the bytes are taken, the reading goes on.
 abbrev pub GoesThrough : ℕ → List ℕ → LineBuffer → SessionState → Option (List ℕ) → LineBuffer → SessionState → Option (List ℕ) → Type 0
-GoesThrough core_size taken a t v b u w = (s : SessionState) (bytes text : List ℕ) → Reading core_size s bytes a t text
-    → (added : List ℕ) × Appends v w added × Reading core_size s (bytes ++ taken) b u (text ++ added)
+GoesThrough core_size taken a t v b u w = (s : SessionState) (bytes text : List ℕ) → ReadsOn core_size s bytes a t text
+    → (added : List ℕ) × Appends v w added × ReadsOn core_size s (bytes ++ taken) b u (text ++ added)
 
 -- the same, where quit is met
 abbrev pub Quits : ℕ → List ℕ → LineBuffer → SessionState → Option (List ℕ) → SessionState → Option (List ℕ) → Type 0
-Quits core_size taken a t v u w = (s : SessionState) (bytes text : List ℕ) → Reading core_size s bytes a t text
+Quits core_size taken a t v u w = (s : SessionState) (bytes text : List ℕ) → ReadsOn core_size s bytes a t text
     → (added : List ℕ) × Appends v w added × Quitting core_size s (bytes ++ taken) u (text ++ added)
 
 -- the same, where a write fails
 abbrev pub Breaks : ℕ → List ℕ → LineBuffer → SessionState → Option (List ℕ) → SessionState → Option (List ℕ) → Type 0
-Breaks core_size taken a t v u w = (s : SessionState) (bytes text : List ℕ) → Reading core_size s bytes a t text
+Breaks core_size taken a t v u w = (s : SessionState) (bytes text : List ℕ) → ReadsOn core_size s bytes a t text
     → (added : List ℕ) × Appends v w added × Breaking core_size s (bytes ++ taken) u (text ++ added)
 
 -- at the end of the input the unfinished line, where there is one, is executed as a line
 abbrev pub Finishes : ℕ → LineBuffer → SessionState → Option (List ℕ) → SessionState → Option (List ℕ) → Type 0
-Finishes core_size a t v u w = (s : SessionState) (bytes text : List ℕ) → Reading core_size s bytes a t text
+Finishes core_size a t v u w = (s : SessionState) (bytes text : List ℕ) → ReadsOn core_size s bytes a t text
     → (added : List ℕ) × Appends v w added × Transcript core_size s (until_quit core_size (lines_of bytes)) u (text ++ added)
 
 -- the same, where a write fails
 abbrev pub BreaksAtEnd : ℕ → LineBuffer → SessionState → Option (List ℕ) → SessionState → Option (List ℕ) → Type 0
-BreaksAtEnd core_size a t v u w = (s : SessionState) (bytes text : List ℕ) → Reading core_size s bytes a t text
+BreaksAtEnd core_size a t v u w = (s : SessionState) (bytes text : List ℕ) → ReadsOn core_size s bytes a t text
     → (added : List ℕ) × (lines : List (List ℕ)) × (last : List ℕ) × Appends v w added
     × (bytes ≡ flat_map ended lines ++ last) × AllByRecursion IsLine (lines ++ last ∷ []) × AllByRecursion (GoesOn core_size) lines × BrokenAt core_size s lines last u (text ++ added)

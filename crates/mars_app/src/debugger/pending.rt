@@ -14,11 +14,11 @@ const ROOM: usize = 4096;
 
 /// Text that waits to be written, so that many short lines go out in few writes.
 #[derive(Drop)]
-pub struct Pending {
+pub struct PendingText {
     text: ArrayString<ROOM>,
 }
 
-impl Model for Pending {
+impl Model for PendingText {
     ghost use Rattle.std.specs.Prelude.{List, ℕ};
 
     ghost Value = { List ℕ };
@@ -26,12 +26,12 @@ impl Model for Pending {
     ghost view = { λ p. p.text.bytes };
 }
 
-impl Pending {
+impl PendingText {
     /// Nothing waits.
     pub fn new() -> Self
         ensures { result ≡ [] }
     {
-        Pending {
+        PendingText {
             text: ArrayString::new(),
         }
     }
@@ -42,7 +42,7 @@ impl Pending {
     {
         let mut text = ArrayString::new();
         text.push_str(line.as_str());
-        Pending { text }
+        PendingText { text }
     }
 
     /// Writes all that waits.

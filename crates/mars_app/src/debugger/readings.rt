@@ -8,7 +8,7 @@ ghost use Rattle.arrayvec.specs.ArrayString.{array_string_len};
 ghost use Rattle.mars_app.specs.Debugger.Replies.{refusal_text};
 ghost use Rattle.mars_app.specs.Debugger.Readings.{cell_line, line_at, list_text, most_listed, texts, queue_text, queue_head, process_text, warrior_text, life_text, death_of, show_text, end_text};
 
-use crate::debugger::pending::Pending;
+use crate::debugger::pending::PendingText;
 use crate::debugger::replies::{fixed, refusal_line, standing_line};
 use mars_cell::{Line, WriteFault, numbered, push_number, write_text};
 use mars_core::{Battle, Death};
@@ -49,7 +49,7 @@ fn write_cells<W: Write>(
     ensures err { OnErr result (CutShort (W.contents writer.old) (W.contents writer.new) (texts (line_at battle.now address) count)) }
 {
     let core_size = u64::from(battle.params().core_size());
-    let mut pending = Pending::new();
+    let mut pending = PendingText::new();
     for i in 0..count {
         let there = (address + i) % core_size;
         match pending.push(writer, &cell_line(battle, there as u32)) {
@@ -101,7 +101,7 @@ fn write_processes<W: Write>(
     ensures err { OnErr result (CutShort (W.contents writer.old) (W.contents writer.new)
         (queue_head warrior ++ (flat_map process_text (queue_of battle.now.queues warrior) ++ codes "\n"))) }
 {
-    let mut pending = Pending::of(&numbered("queue ", warrior as u64, ":"));
+    let mut pending = PendingText::of(&numbered("queue ", warrior as u64, ":"));
     for place in 0..battle.queue_len(warrior) {
         let address = battle.process(warrior, place).unwrap();
         match pending.push(writer, &process_part(address)) {
@@ -188,7 +188,7 @@ pub fn write_show<W: Write>(
     ensures ok { OnOk result (Appends (W.contents writer.old) (W.contents writer.new) (show_text standing battle.now)) }
     ensures err { OnErr result (CutShort (W.contents writer.old) (W.contents writer.new) (show_text standing battle.now)) }
 {
-    let mut pending = Pending::of(&standing_line(standing));
+    let mut pending = PendingText::of(&standing_line(standing));
     for warrior in 0..battle.warriors() {
         match pending.push(writer, &warrior_line(battle, warrior)) {
             Ok(()) => {}

@@ -4,7 +4,7 @@ use Rattle.mars_cell.specs.declared.header.Header.{Header}
 use Rattle.mars_cell.specs.declared.instruction.Cell.{Cell}
 use Rattle.mars_cell.specs.declared.statements.Statement.{Statement}
 use Rattle.mars_cell.specs.declared.statements.Statement.TheVariants as statement
-use Rattle.mars_cell.specs.declared.load.Reading.{Reading}
+use Rattle.mars_cell.specs.declared.load.ReadListing.{ReadListing}
 use Rattle.mars_cell.specs.declared.fault.LoadFault.{LoadFault}
 use Rattle.mars_cell.specs.declared.fault.LoadFault.TheVariants as fault
 use Rattle.mars_cell.specs.Cells.{FitsCore}
@@ -31,7 +31,7 @@ pub record Listing : Type 0 where
 abbrev pub nothing_read : Listing
 nothing_read = record { cells = []; origin = None; end = None }
 
-abbrev pub listing : Reading → Listing
+abbrev pub listing : ReadListing → Listing
 listing r = record { cells = r.cells.items; origin = r.origin; end = r.end }
 
 -- reading on from line number k, up to END: what is read in all, or the number of the first bad line
@@ -48,7 +48,7 @@ load_from written m k s (l ∷ ls) = elim (line_statement written m l) [
 ]
 
 -- the listing that was read is the defined one, and a bad line is the defined one, unless memory ran out
-abbrev pub ReadsListing : Result Reading LoadFault → Result Listing ℕ → Type 0
+abbrev pub ReadsListing : Result ReadListing LoadFault → Result Listing ℕ → Type 0
 ReadsListing (Ok r) read = read ≡ Ok (listing r)
 ReadsListing (Err fault.OutOfMemory) read = ⊤
 ReadsListing (Err (fault.Syntax k)) read = read ≡ Err k

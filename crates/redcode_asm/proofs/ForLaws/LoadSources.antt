@@ -15,12 +15,12 @@ use Rattle.redcode_text.specs.Equates.{limit}
 use Rattle.redcode_text.specs.Expansion.{ProgramValue, expansion, flat, nothing_read, program_of}
 use Rattle.redcode_text.specs.Expression.{kinds}
 use Rattle.redcode_text.specs.Lines.{Line, Predefined, Reading, directive_value, is_end, name_at, plain_line}
-use Rattle.redcode_text.specs.Source.{Items, Plain, Row, rows_from}
+use Rattle.redcode_text.specs.Source.{Items, Plain, SourceRow, rows_from}
 use Rattle.redcode_text.proofs.CallerLemmas.{IsPlain, KeepNames, all-read, author-read, each_row, line_more, load-read, name-read, operation_more, plain-tree, row-read}
 use Rattle.redcode_asm.proofs.ForLaws.PrintedLines.{IsSpelled, cell-plain, cell-read, keep-spelled, line_of, start-plain, start-read}
 
 -- a line is read, and then what follows it
-read-on : (ps : Predefined) (row : Row) (rest : Items) (st next end : Reading) → plain_line ps row st ≡ Ok next → next.ended ≡ false → flat ps rest next ≡ Ok end → flat ps (Plain row rest) st ≡ Ok end
+read-on : (ps : Predefined) (row : SourceRow) (rest : Items) (st next end : Reading) → plain_line ps row st ≡ Ok next → next.ended ≡ false → flat ps rest next ≡ Ok end → flat ps (Plain row rest) st ≡ Ok end
 read-on ps row rest st next end is goes_on behind = row-read ps row rest st next is goes_on ∙ behind
 
 -- ---- the cells
@@ -54,7 +54,7 @@ cells-read : (ps : Predefined) (m number at : ℕ) (cells : List Cell) (st : Rea
 cells-read ps m number at [] st small fits outside none lines tokens =
     record { end = st; is = refl; more = []; lines = sym (append-nil st.lines); spelled = tt; kept = λ n b bs e. e; equates = none; asserts = refl; name = refl; author = refl }
 cells-read ps m number at (c ∷ cells) st small fits outside none lines tokens =
-    let row : Row = record { number = number; at = at; bytes = cell_text m c } in
+    let row : SourceRow = record { number = number; at = at; bytes = cell_text m c } in
     let behind = at + length (cell_text m c) + 1 in
     let r = cell-read ps m c number at st small fits.0 outside none (omega (arith, lines)) (omega (arith, tokens)) in
     let next = operation_more number st r.scanned r.opcode r.rest in
@@ -111,13 +111,13 @@ pub load-expanded : (ps : Predefined) (m : ℕ) (w : WarriorValue) → m ≤ lar
     → w.name ≢ [] → directive_value w.name ≡ w.name → w.author ≢ [] → directive_value w.author ≡ w.author → IsExpanded ps m w (load_text m w)
 load-expanded ps m w most is fits few named name-is authored author-is =
     let inside = is.start in
-    let one : Row = record { number = 1; at = 0; bytes = codes ";load 2 " ++ decimal m } in
+    let one : SourceRow = record { number = 1; at = 0; bytes = codes ";load 2 " ++ decimal m } in
     let place = 0 + length (codes ";load 2 " ++ decimal m) + 1 in
-    let two : Row = record { number = 2; at = place; bytes = codes ";name " ++ w.name } in
+    let two : SourceRow = record { number = 2; at = place; bytes = codes ";name " ++ w.name } in
     let place-on = place + length (codes ";name " ++ w.name) + 1 in
-    let three : Row = record { number = 3; at = place-on; bytes = codes ";author " ++ w.author } in
+    let three : SourceRow = record { number = 3; at = place-on; bytes = codes ";author " ++ w.author } in
     let place-then = place-on + length (codes ";author " ++ w.author) + 1 in
-    let four : Row = record { number = 4; at = place-then; bytes = codes "ORG " ++ decimal w.start } in
+    let four : SourceRow = record { number = 4; at = place-then; bytes = codes "ORG " ++ decimal w.start } in
     let place-last = place-then + length (codes "ORG " ++ decimal w.start) + 1 in
     let after = rows_from 5 place-last (map (cell_text m) w.cells) in
     let a : Reading = line_more nothing_read in

@@ -21,7 +21,7 @@ use Rattle.redcode_text.specs.Equates.{limit}
 use Rattle.redcode_text.specs.Expression.{kinds}
 use Rattle.redcode_text.specs.Lines.{Line, Predefined, Reading, is_end, name_at, operations}
 use Rattle.redcode_text.specs.Lines as line
-use Rattle.redcode_text.specs.Source.{Row, OtherLine, has_directive, is_comment, line_kind}
+use Rattle.redcode_text.specs.Source.{SourceRow, OtherLine, has_directive, is_comment, line_kind}
 use Rattle.redcode_text.specs.Tokens.{Scanned, name_index, tokens, with_name}
 use Rattle.redcode_text.proofs.CallerLemmas.{IsPlain, KeepNames, Leads, blank-leads, code-whole, decimal-is, end-leads, named-with, number-leads, operation-read, operation_more, start-kind, with-keeps}
 use Rattle.redcode_asm.specs.Laws.{cell_kinds, operand_kinds}
@@ -98,7 +98,7 @@ abbrev pub line_of : ℕ → ℕ → List Token → Line
 line_of number n rest = record { number = number; labels = []; operation = Some n; rest = rest }
 
 -- the line of a cell is one line more, which spells it
-pub record CellRead (ps : Predefined) (row : Row) (st : Reading) (m : ℕ) (c : Cell) : Type 0 where
+pub record CellRead (ps : Predefined) (row : SourceRow) (st : Reading) (m : ℕ) (c : Cell) : Type 0 where
   pub scanned : Scanned
   pub opcode : ℕ
   pub rest : List Token
@@ -111,7 +111,7 @@ pub record CellRead (ps : Predefined) (row : Row) (st : Reading) (m : ℕ) (c : 
 pub cell-read : (ps : Predefined) (m : ℕ) (c : Cell) (number at : ℕ) (st : Reading) → m < 2 ^ 32 → FitsCore m c → st.loops ≡ [] → st.equates ≡ [] → st.lines_read < limit → st.tokens_read + 10 ≤ limit
     → CellRead ps (record { number = number; at = at; bytes = cell_text m c }) st m c
 cell-read ps m c number at st small fits outside none lines few =
-    let row : Row = record { number = number; at = at; bytes = cell_text m c } in
+    let row : SourceRow = record { number = number; at = at; bytes = cell_text m c } in
     let names = st.names in
     let word = op_name c.op in
     let suffix = modifier_name c.modifier in
@@ -175,7 +175,7 @@ start-plain start small =
     }
 
 -- the line of the start is one line more, of ORG and a number
-pub record StartRead (ps : Predefined) (row : Row) (st : Reading) (start : ℕ) : Type 0 where
+pub record StartRead (ps : Predefined) (row : SourceRow) (st : Reading) (start : ℕ) : Type 0 where
   pub scanned : Scanned
   pub operation : ℕ
   pub rest : List Token
@@ -188,7 +188,7 @@ pub start-read : (ps : Predefined) (start number at : ℕ) (st : Reading) → st
     → StartRead ps (record { number = number; at = at; bytes = codes "ORG " ++ decimal start }) st start
 start-read ps start number at st small outside none lines few =
     let bytes = codes "ORG " ++ decimal start in
-    let row : Row = record { number = number; at = at; bytes = bytes } in
+    let row : SourceRow = record { number = number; at = at; bytes = bytes } in
     let names = st.names in
     let word = codes "ORG" in
     let operation = name_index names word in

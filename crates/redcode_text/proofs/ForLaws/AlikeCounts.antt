@@ -13,7 +13,7 @@ use Rattle.redcode_text.specs.Equates.{substitution}
 use Rattle.redcode_text.specs.Expansion.{Head, as_count, count_of, counter_name, for_word_at, has_label, head_line, loop_limit, rof_line, room_for_loop}
 use Rattle.redcode_text.specs.Expression.{kinds, value_of}
 use Rattle.redcode_text.specs.Lines.{Predefined, Reading, WithTokens, line_read, name_at, name_in_front, predefined_value, row_tokens, tokens_after, tokens_before, with_current_line}
-use Rattle.redcode_text.specs.Source.{Row, LineKind, RofLine, ForLine, EquLine, OtherLine, line_kind}
+use Rattle.redcode_text.specs.Source.{SourceRow, LineKind, RofLine, ForLine, EquLine, OtherLine, line_kind}
 use Rattle.redcode_text.specs.Tokens.{without_line}
 use Rattle.redcode_text.proofs.ForLaws.AlikeLines.{after-alike, before-alike, front-alike, kinds-alike}
 use Rattle.redcode_text.proofs.ForLaws.SameNames.{SameKind, SameName, SameTokens}
@@ -147,7 +147,7 @@ module _ (ps : Predefined) where
       (λ n m e. let k = counter-alike v.1 w.1 s.read o p c in
       record { counter = k.0; count = e; named = k.1; read = grows-no-more v.1 w.1 s.read false })))
 
-  pub head-alike : (row : Row) (number place : ℕ) (st other : Reading) → ReadAlike st other
+  pub head-alike : (row : SourceRow) (number place : ℕ) (st other : Reading) → ReadAlike st other
       → Together SameHead (head_line ps row st) (head_line ps (like_row row number place) other)
   head-alike row number place st other r =
       together-then (SameRow row.at place) SameHead (line_read st >>= row_tokens row 0)
@@ -158,7 +158,7 @@ module _ (ps : Predefined) where
       (λ v w s. headed-alike row.at place (for_word_at row) (for_word_at (like_row row number place))
       (word-place row.at place (line_kind row.bytes)) v w s)
 
-pub rof-alike : (row : Row) (number place : ℕ) (st other : Reading) → ReadAlike st other
+pub rof-alike : (row : SourceRow) (number place : ℕ) (st other : Reading) → ReadAlike st other
     → Together ReadAlike (rof_line row st) (rof_line (like_row row number place) other)
 rof-alike row number place st other r =
     together-then (SameRow row.at place) ReadAlike (line_read st >>= row_tokens row 0)

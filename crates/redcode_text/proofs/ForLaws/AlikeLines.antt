@@ -14,7 +14,7 @@ use Rattle.redcode_text.specs.declared.token.TokenKind.TheVariants as token
 use Rattle.redcode_text.specs.Equates.{Equate, depth_limit}
 use Rattle.redcode_text.specs.Expression.{kinds}
 use Rattle.redcode_text.specs.Lines.{Parts, Predefined, Reading, Step, assert_line, before_first, behind_last, comment_line, directive_value, each_line, equ_line, equated, is_equate, is_label, is_predefined, line_added, line_read, name_in_front, on_line, operation_lines, ordinary_line, ordinary_with, parts_of, parts_read, plain_line, row_tokens, token_on_line, tokens_after, tokens_before, tokens_counted, tokens_line, unless_empty, unless_ended, with_line}
-use Rattle.redcode_text.specs.Source.{Row, LineKind, RofLine, ForLine, EquLine, OtherLine, directive_text, directive_text_at, has_directive_word, is_comment, line_kind}
+use Rattle.redcode_text.specs.Source.{SourceRow, LineKind, RofLine, ForLine, EquLine, OtherLine, directive_text, directive_text_at, has_directive_word, is_comment, line_kind}
 use Rattle.redcode_text.proofs.ForLaws.SameNames.{SameAssert, SameEquate, SameKind, SameLine, SameName, SameToken, SameTokens}
 use Rattle.redcode_text.proofs.ForLaws.AlikeParts.{SameParts, end-test, equate-test, instruction-test, label-test, operation-lines-alike, parts-alike, predefined-test, used-alike}
 use Rattle.redcode_text.proofs.ForLaws.AlikeReadings.{ReadAlike, ReadOn, SameLines, SameRow, counted-alike, like_row, line-read-alike, row-alike}
@@ -328,11 +328,11 @@ assert-added st other r number like ts us h =
     }
 
 -- the text of a directive, unless there is none
-abbrev given_text : List ℕ → Row → List ℕ → List ℕ
+abbrev given_text : List ℕ → SourceRow → List ℕ → List ℕ
 given_text word row old = unless_empty (directive_value (directive_text word row.bytes)) old
 
 -- a comment, by the tests for its words
-abbrev commented : Row → Reading → Bool → Bool → Bool → Result Reading TextProblem
+abbrev commented : SourceRow → Reading → Bool → Bool → Bool → Result Reading TextProblem
 commented row st a b c =
     elim a as (λ _. Result Reading TextProblem) [
       | true ↦ Ok (record st { name = given_text (codes "name") row st.name })
@@ -342,8 +342,8 @@ commented row st a b c =
       ]
     ]
 
-module _ (row : Row) (number place : ℕ) (st other : Reading) (r : ReadAlike st other) where
-  abbrev like : Row
+module _ (row : SourceRow) (number place : ℕ) (st other : Reading) (r : ReadAlike st other) where
+  abbrev like : SourceRow
   like = like_row row number place
 
   assert-alike : Together ReadAlike (assert_line row st) (assert_line like other)
@@ -369,7 +369,7 @@ module _ (row : Row) (number place : ℕ) (st other : Reading) (r : ReadAlike st
   comment-alike =
       let has : List ℕ → Bool = λ word. has_directive_word word row.bytes in commented-alike (has (codes "name")) (has (codes "author")) (has (codes "assert"))
 
-module _ (ps : Predefined) (row : Row) (number place : ℕ) where
+module _ (ps : Predefined) (row : SourceRow) (number place : ℕ) where
   ordinary-line-alike : (st other : Reading) → ReadAlike st other → (ts us : List Token) → SameTokens st.names other.names ts us
       → Together ReadAlike (ordinary_line ps row.number depth_limit ts st) (ordinary_line ps number depth_limit us other)
   ordinary-line-alike st other r ts us h =
@@ -392,7 +392,7 @@ module _ (ps : Predefined) (row : Row) (number place : ℕ) where
       ordinary-line-alike st other r (t ∷ ts) (u ∷ us) (unplaced-tokens st.names other.names row.at place (t ∷ ts) (u ∷ us) h)
 
   -- what follows where a line was counted, by whether it is a comment
-  abbrev line_of : Row → Bool → Step
+  abbrev line_of : SourceRow → Bool → Step
   line_of row c a =
       elim c as (λ _. Result Reading TextProblem) [
         | true ↦ comment_line row a

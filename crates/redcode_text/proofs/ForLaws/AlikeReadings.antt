@@ -10,7 +10,7 @@ use Rattle.redcode_text.specs.Alike.{AreAlike, spelled, spelled_assert, spelled_
 use Rattle.redcode_text.specs.Equates.{Equate, limit}
 use Rattle.redcode_text.specs.Expansion.{nothing_read, program_of}
 use Rattle.redcode_text.specs.Lines.{Assert, Line, Reading, WithTokens, before_comment, line_read, name_at, row_tokens, tokens_counted}
-use Rattle.redcode_text.specs.Source.{Row}
+use Rattle.redcode_text.specs.Source.{SourceRow}
 use Rattle.redcode_text.specs.Tokens.{OpenLoop, is_counter, round_of, tokens}
 use Rattle.redcode_text.proofs.ForLaws.Agreement.{AgreeOption, Pairwise, pairwise-length}
 use Rattle.redcode_text.proofs.ForLaws.AlikeNames.{AreNames, Grown, grown-itself, same-grown, tokens-grown}
@@ -203,10 +203,10 @@ pub record SameRow (here there : ℕ) (x y : WithTokens) : Type 0 where
   pub tokens : Pairwise (PlacedToken x.1.names y.1.names here there) x.0 y.0
 
 -- a row of the same bytes
-abbrev pub like_row : Row → ℕ → ℕ → Row
+abbrev pub like_row : SourceRow → ℕ → ℕ → SourceRow
 like_row row number place = record { number = number; at = place; bytes = row.bytes }
 
-pub row-alike : (row : Row) (number place at : ℕ) (st other : Reading) → ReadAlike st other
+pub row-alike : (row : SourceRow) (number place at : ℕ) (st other : Reading) → ReadAlike st other
     → Together (SameRow row.at place) (row_tokens row at st) (row_tokens (like_row row number place) at other)
 row-alike row number place at st other r =
     let text = before_comment (drop at row.bytes) in

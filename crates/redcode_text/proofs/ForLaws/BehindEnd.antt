@@ -9,7 +9,7 @@ use Rattle.redcode_text.specs.declared.fault.TextProblem.TheVariants.{UnclosedFo
 use Rattle.redcode_text.specs.Expansion.{expansion, flat, head_line, nothing_read, program_of, rof_line, rounds, unpaired_line}
 use Rattle.redcode_text.specs.Lines.{Reading, Predefined, line_read, plain_line, unless_ended}
 use Rattle.redcode_text.specs.Source as source
-use Rattle.redcode_text.specs.Source.{Row, Items, Nothing, Plain, Loop, LoneRof, LineKind, RofLine, ForLine, EquLine, OtherLine, Pairing, begins_redcode, from_redcode, has_directive, line_kind, lines_of, opened, paired, paired_with, read_rows, rows_from, rows_of, then_lone, tree_of, tree_of_rows, with_lone}
+use Rattle.redcode_text.specs.Source.{SourceRow, Items, Nothing, Plain, Loop, LoneRof, LineKind, RofLine, ForLine, EquLine, OtherLine, Pairing, begins_redcode, from_redcode, has_directive, line_kind, lines_of, opened, paired, paired_with, read_rows, rows_from, rows_of, then_lone, tree_of, tree_of_rows, with_lone}
 use Rattle.redcode_text.specs.Tokens.{at_line}
 use Rattle.redcode_text.proofs.Kept.{Kept, rof-ended}
 
@@ -43,32 +43,32 @@ any-rows number at (l ∷ lines) = ap (λ b. has_directive (codes "redcode") l |
 
 -- rows, and those of further lines
 rows-append : (number at : ℕ) (before after : List (List ℕ)) →
-    (rest : List Row) × (rows_from number at (before ++ after) ≡ rows_from number at before ++ rest) × (list_any begins_redcode rest ≡ list_any (has_directive (codes "redcode")) after)
+    (rest : List SourceRow) × (rows_from number at (before ++ after) ≡ rows_from number at before ++ rest) × (list_any begins_redcode rest ≡ list_any (has_directive (codes "redcode")) after)
 rows-append number at [] after = (rows_from number at after, refl, any-rows number at after)
 rows-append number at (l ∷ before) after =
     let r = rows-append (number + 1) (at + length l + 1) before after in
     (r.0, ap (λ rows. record { number = number; at = at; bytes = l } ∷ rows) r.1, r.2)
 
-module _ (rest : List Row) (none : list_any begins_redcode rest ≡ false) where
-  any-append : (rows : List Row) → list_any begins_redcode (rows ++ rest) ≡ list_any begins_redcode rows
+module _ (rest : List SourceRow) (none : list_any begins_redcode rest ≡ false) where
+  any-append : (rows : List SourceRow) → list_any begins_redcode (rows ++ rest) ≡ list_any begins_redcode rows
   any-append [] = none
   any-append (row ∷ rows) = ap (λ b. begins_redcode row || b) (any-append rows)
 
-  from-append : (rows : List Row) → list_any begins_redcode rows ≡ true → from_redcode (rows ++ rest) ≡ from_redcode rows ++ rest
+  from-append : (rows : List SourceRow) → list_any begins_redcode rows ≡ true → from_redcode (rows ++ rest) ≡ from_redcode rows ++ rest
   from-append [] some = cc
   from-append (row ∷ rows) some = go (begins_redcode row) some (from-append rows)
     where
       go : (t : Bool) → (t || list_any begins_redcode rows) ≡ true → (list_any begins_redcode rows ≡ true → from_redcode (rows ++ rest) ≡ from_redcode rows ++ rest)
-          → (elim t as (λ _. List Row) [ true ↦ row ∷ (rows ++ rest) | false ↦ from_redcode (rows ++ rest) ]) ≡ (elim t as (λ _. List Row) [ true ↦ row ∷ rows | false ↦ from_redcode rows ]) ++ rest
+          → (elim t as (λ _. List SourceRow) [ true ↦ row ∷ (rows ++ rest) | false ↦ from_redcode (rows ++ rest) ]) ≡ (elim t as (λ _. List SourceRow) [ true ↦ row ∷ rows | false ↦ from_redcode rows ]) ++ rest
       go true e h = refl
       go false e h = h e
 
-  read-append : (rows : List Row) → read_rows (rows ++ rest) ≡ read_rows rows ++ rest
+  read-append : (rows : List SourceRow) → read_rows (rows ++ rest) ≡ read_rows rows ++ rest
   read-append rows =
-      ap (λ t. elim t as (λ _. List Row) [ true ↦ from_redcode (rows ++ rest) | false ↦ rows ++ rest ]) (any-append rows) ∙ go (list_any begins_redcode rows) refl
+      ap (λ t. elim t as (λ _. List SourceRow) [ true ↦ from_redcode (rows ++ rest) | false ↦ rows ++ rest ]) (any-append rows) ∙ go (list_any begins_redcode rows) refl
     where
       go : (t : Bool) → list_any begins_redcode rows ≡ t
-          → (elim t as (λ _. List Row) [ true ↦ from_redcode (rows ++ rest) | false ↦ rows ++ rest ]) ≡ (elim t as (λ _. List Row) [ true ↦ from_redcode rows | false ↦ rows ]) ++ rest
+          → (elim t as (λ _. List SourceRow) [ true ↦ from_redcode (rows ++ rest) | false ↦ rows ++ rest ]) ≡ (elim t as (λ _. List SourceRow) [ true ↦ from_redcode rows | false ↦ rows ]) ++ rest
       go true some = from-append rows some
       go false some = refl
 
@@ -90,7 +90,7 @@ begins-itself (Loop head body rof rest) = (rest, refl, begins-itself rest)
 begins-itself (source.UnclosedFor row rest) = tt
 begins-itself (LoneRof row rest) = tt
 
-begins-lone : (rof : Row) (items more : Items) → Begins items more → Begins items (then_lone rof more)
+begins-lone : (rof : SourceRow) (items more : Items) → Begins items more → Begins items (then_lone rof more)
 unfolding Begins
 begins-lone rof Nothing more b = tt
 begins-lone rof (Plain row rest) more b = (then_lone rof b.0, ap (then_lone rof) b.1, begins-lone rof rest b.0 b.2)
@@ -99,16 +99,16 @@ begins-lone rof (source.UnclosedFor row rest) more b = tt
 begins-lone rof (LoneRof row rest) more b = tt
 
 -- rows and more rows, paired: what stands before a ROF that waits is the same, and what stands behind the last begins the other
-Extends : Items → List (Row × Items) → Items → List (Row × Items) → Type 0
+Extends : Items → List (SourceRow × Items) → Items → List (SourceRow × Items) → Type 0
 Extends here [] more others = Begins here more
-Extends here (w ∷ waiting) more others = (here ≡ more) × (behind : Items) × (rest : List (Row × Items)) × (others ≡ (w.0, behind) ∷ rest) × Extends w.1 waiting behind rest
+Extends here (w ∷ waiting) more others = (here ≡ more) × (behind : Items) × (rest : List (SourceRow × Items)) × (others ≡ (w.0, behind) ∷ rest) × Extends w.1 waiting behind rest
 
-extends-plain : (row : Row) (here more : Items) (waiting others : List (Row × Items)) → Extends here waiting more others → Extends (Plain row here) waiting (Plain row more) others
+extends-plain : (row : SourceRow) (here more : Items) (waiting others : List (SourceRow × Items)) → Extends here waiting more others → Extends (Plain row here) waiting (Plain row more) others
 unfolding Begins Extends
 extends-plain row here more [] others e = (more, refl, e)
 extends-plain row here more (w ∷ waiting) others e = (ap (Plain row) e.0, e.1, e.2, e.3, e.4)
 
-extends-loop : (head rof : Row) (body here more : Items) (waiting others : List (Row × Items)) → Extends here waiting more others → Extends (Loop head body rof here) waiting (Loop head body rof more) others
+extends-loop : (head rof : SourceRow) (body here more : Items) (waiting others : List (SourceRow × Items)) → Extends here waiting more others → Extends (Loop head body rof here) waiting (Loop head body rof more) others
 unfolding Begins Extends
 extends-loop head rof body here more [] others e = (more, refl, e)
 extends-loop head rof body here more (w ∷ waiting) others e = (ap (Loop head body rof) e.0, e.1, e.2, e.3, e.4)
@@ -116,25 +116,25 @@ extends-loop head rof body here more (w ∷ waiting) others e = (ap (Loop head b
 ExtendsPair : Pairing → Pairing → Type 0
 ExtendsPair p q = Extends p.here p.waiting q.here q.waiting
 
-extends-opened : (row : Row) (here more : Items) (waiting others : List (Row × Items)) → Extends here waiting more others → ExtendsPair (opened row here waiting) (opened row more others)
+extends-opened : (row : SourceRow) (here more : Items) (waiting others : List (SourceRow × Items)) → Extends here waiting more others → ExtendsPair (opened row here waiting) (opened row more others)
 unfolding Begins Extends ExtendsPair
 extends-opened row here more [] others e = tt
 extends-opened row here more (w ∷ waiting) others e =
     rw (e.3, ← e.0) (extends-loop row w.0 here w.1 e.1 waiting e.2 e.4)
 
-extends-row : (kind : LineKind) (row : Row) (p q : Pairing) → ExtendsPair p q → ExtendsPair (paired_with kind row p) (paired_with kind row q)
+extends-row : (kind : LineKind) (row : SourceRow) (p q : Pairing) → ExtendsPair p q → ExtendsPair (paired_with kind row p) (paired_with kind row q)
 unfolding Begins Extends ExtendsPair
 extends-row (ForLine at) row p q e = extends-opened row p.here q.here p.waiting q.waiting e
 extends-row RofLine row p q e = (refl, q.here, q.waiting, refl, e)
 extends-row (EquLine at) row p q e = extends-plain row p.here q.here p.waiting q.waiting e
 extends-row OtherLine row p q e = extends-plain row p.here q.here p.waiting q.waiting e
 
-extends-paired : (rows rest : List Row) → ExtendsPair (paired rows) (paired (rows ++ rest))
+extends-paired : (rows rest : List SourceRow) → ExtendsPair (paired rows) (paired (rows ++ rest))
 unfolding Begins Extends ExtendsPair
 extends-paired [] rest = tt
 extends-paired (row ∷ rows) rest = extends-row (line_kind row.bytes) row (paired rows) (paired (rows ++ rest)) (extends-paired rows rest)
 
-begins-tree : (here more : Items) (waiting others : List (Row × Items)) → Extends here waiting more others → Begins (with_lone here waiting) (with_lone more others)
+begins-tree : (here more : Items) (waiting others : List (SourceRow × Items)) → Extends here waiting more others → Begins (with_lone here waiting) (with_lone more others)
 unfolding Extends
 begins-tree here more [] [] e = e
 begins-tree here more [] (o ∷ others) e = begins-lone o.0 here more e
@@ -165,7 +165,7 @@ module _ (read : Reading) (ends : read.ended ≡ true) where
       go true t e = e
       go false t e = h t e
 
-  rof-goes-on : (rof : Row) (a b : Reading) → a.ended ≡ false → at_line rof.number (rof_line rof a) ≡ Ok b → b.ended ≡ false
+  rof-goes-on : (rof : SourceRow) (a b : Reading) → a.ended ≡ false → at_line rof.number (rof_line rof a) ≡ Ok b → b.ended ≡ false
   rof-goes-on rof a b going = go (rof_line rof a) (rof-ended rof a)
     where
       go : (r : Result Reading TextProblem) → Kept (λ st. st.ended) a.ended r → at_line rof.number r ≡ Ok b → b.ended ≡ false

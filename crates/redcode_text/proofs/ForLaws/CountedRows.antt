@@ -13,7 +13,7 @@ use Rattle.redcode_text.specs.Equates.{depth_limit, limit}
 use Rattle.redcode_text.specs.Expression.{kinds}
 use Rattle.redcode_text.specs.Laws.{HasItsJoins, IsCounterName, IsInstructionLine, begins_and, has_its_joins, written_line, written_text, written_word}
 use Rattle.redcode_text.specs.Lines.{Predefined, Reading, WithTokens, before_comment, comment_line, line_read, ordinary_line, plain_line, row_tokens, tokens_line}
-use Rattle.redcode_text.specs.Source.{Row, LineKind, OtherLine}
+use Rattle.redcode_text.specs.Source.{SourceRow, LineKind, OtherLine}
 use Rattle.redcode_text.specs.Tokens.{OpenLoop, begins_name, begins_word, is_word_byte, round_of, tokens}
 use Rattle.redcode_text.proofs.ForLaws.AlikeLines.{ordinary-alike}
 use Rattle.redcode_text.proofs.ForLaws.AlikeReadings.{ReadAlike, ReadOn, SameRow, like_row, line-read-alike, row-alike}
@@ -115,7 +115,7 @@ pub record IsInside (counter : List ℕ) (round : ℕ) (st other : Reading) : Ty
   pub loops : st.loops ≡ record { counter = Some counter; round = round } ∷ behind
   pub read : ReadAlike (record st { loops = behind }) other
 
-module _ (ps : Predefined) (counter : List ℕ) (name : IsCounterName counter) (round : ℕ) (row like : Row) (w : IsWritten counter round row.bytes like.bytes) where
+module _ (ps : Predefined) (counter : List ℕ) (name : IsCounterName counter) (round : ℕ) (row like : SourceRow) (w : IsWritten counter round row.bytes like.bytes) where
   code-is : before_comment like.bytes ≡ written_text counter round (before_comment row.bytes)
   code-is =
       ap before_comment w.is
@@ -172,10 +172,10 @@ module _ (ps : Predefined) (counter : List ℕ) (name : IsCounterName counter) (
 
   -- ---- the line
 
-  abbrev line_of : Row → Bool → LineKind → Reading → Result Reading TextProblem
+  abbrev line_of : SourceRow → Bool → LineKind → Reading → Result Reading TextProblem
   line_of row c kind a = elim c as (λ _. Result Reading TextProblem) [ true ↦ comment_line row a | false ↦ row_tokens row 0 a >>= λ x. tokens_line ps kind row x.0 x.1 ]
 
-  as-line : (row : Row) → IsInstructionLine row.bytes → (st : Reading) → plain_line ps row st ≡ (line_read st >>= λ a. row_tokens row 0 a >>= λ x. tokens_line ps OtherLine row x.0 x.1)
+  as-line : (row : SourceRow) → IsInstructionLine row.bytes → (st : Reading) → plain_line ps row st ≡ (line_read st >>= λ a. row_tokens row 0 a >>= λ x. tokens_line ps OtherLine row x.0 x.1)
   as-line row h st = λ i. line_read st >>= line_of row (h.plain i) (h.kind i)
 
   after-read : (st other : Reading) (behind : List OpenLoop) → st.loops ≡ record { counter = Some counter; round = round } ∷ behind → ReadAlike (record st { loops = behind }) other

@@ -17,7 +17,7 @@ use Rattle.redcode_text.specs.Expansion.{Head, count_limit, count_of, counter_na
 use Rattle.redcode_text.specs.Expression.{kinds}
 use Rattle.redcode_text.specs.Laws.{IsCounterName}
 use Rattle.redcode_text.specs.Lines.{Predefined, Reading, WithTokens, before_comment, line_read, name_at, name_in_front, row_tokens, tokens_after, tokens_before}
-use Rattle.redcode_text.specs.Source.{ForLine, Row, line_kind}
+use Rattle.redcode_text.specs.Source.{ForLine, SourceRow, line_kind}
 use Rattle.redcode_text.specs.Tokens.{Scanned, tokens}
 use Rattle.redcode_text.proofs.ForLaws.AlikeCounts.{grows-no-more, headed}
 use Rattle.redcode_text.proofs.ForLaws.AlikeNames.{Grown, grown-itself}
@@ -80,7 +80,7 @@ module _ (ps : Predefined) (counter : List ℕ) (name : IsCounterName counter) w
             (λ a _. subst (λ r. Alone (Gives n other) (r >>= made (Some i.0))) (sym (ap (count_of ps x.1) after-one ∙ number-count ps x.1 n line q.third q.last)) (counted i.0 i.2 (nat_le n count_limit))))
 
   -- the tokens of a row, and the names with them
-  row-alone : (st other : Reading) → ReadAlike st other → (row : Row) (Q : List Token → List (List ℕ) → Type 0)
+  row-alone : (st other : Reading) → ReadAlike st other → (row : SourceRow) (Q : List Token → List (List ℕ) → Type 0)
       → Alone (λ (s : Scanned). Q s.tokens s.names) (tokens st.loops row.number (row.at + 0) (limit - st.tokens_read) st.names (before_comment row.bytes))
       → Alone (λ (x : WithTokens). ReadAlike x.1 other × Q x.0 x.1.names) (row_tokens row 0 st)
   row-alone st other r row Q h =
@@ -94,7 +94,7 @@ module _ (ps : Predefined) (counter : List ℕ) (name : IsCounterName counter) w
       )
       go (Err e) g q = tt
 
-  counter-head : (row : Row) (n : ℕ) (st other : Reading) → n < 2 ^ 63 → IsCounterHead counter row.bytes n → ReadAlike st other → Alone (Gives n other) (head_line ps row st)
+  counter-head : (row : SourceRow) (n : ℕ) (st other : Reading) → n < 2 ^ 63 → IsCounterHead counter row.bytes n → ReadAlike st other → Alone (Gives n other) (head_line ps row st)
   counter-head row n st other small e r =
       let d = decimal-is n small in
       let ds = d.first ∷ d.others in

@@ -5,7 +5,7 @@ use Rattle.std.specs.List.{AllByRecursion, list_any, starts_with}
 use Rattle.std.proofs.lemmas.Bool.Decides.{nat_tests}
 use Rattle.redcode_text.specs.Laws.{HasItsJoins, IsBodyLine, IsCounterName, IsInstructionLine, IsLine, counter_lines, is_loop_kind, text_of_lines, written_line, written_rounds}
 use Rattle.redcode_text.specs.Lines.{before_comment}
-use Rattle.redcode_text.specs.Source.{Loop, Nothing, Pairing, Row, has_directive, line_kind, paired, paired_with, rows_from, tree_of}
+use Rattle.redcode_text.specs.Source.{Loop, Nothing, Pairing, SourceRow, has_directive, line_kind, paired, paired_with, rows_from, tree_of}
 use Rattle.redcode_text.specs.Tokens.{is_word_byte}
 use Rattle.redcode_text.proofs.ForLaws.CountedHeads.{IsCounterHead, head-kind, l, no-blank, whole}
 use Rattle.redcode_text.proofs.ForLaws.CountedRows.{IsWritten, none-written}
@@ -85,17 +85,17 @@ module _ (counter : List ℕ) (name : IsCounterName counter) where
     abbrev head_bytes : ℕ → List ℕ
     head_bytes n = counter ++ (codes " FOR " ++ decimal n)
 
-    loop-paired : (n number at : ℕ) → (k : ℕ) × (b : ℕ) × (i : ℕ) × (j : ℕ) × (rof : Row) ×
+    loop-paired : (n number at : ℕ) → (k : ℕ) × (b : ℕ) × (i : ℕ) × (j : ℕ) × (rof : SourceRow) ×
         (paired (rows_from number at (counter_lines counter n body ++ after)) ≡ record {
           here = Loop (record { number = number; at = at; bytes = counter ++ (codes " FOR " ++ decimal n) }) (onto (rows_from k b body) Nothing) rof (paired (rows_from i j after)).here;
           waiting = (paired (rows_from i j after)).waiting;
         })
     loop-paired n number at =
-        let head : Row = record { number = number; at = at; bytes = counter ++ (codes " FOR " ++ decimal n) } in
+        let head : SourceRow = record { number = number; at = at; bytes = counter ++ (codes " FOR " ++ decimal n) } in
         let k = number + 1 in
         let b = at + length (counter ++ (codes " FOR " ++ decimal n)) + 1 in
         let r = body-paired body (codes "ROF" ∷ after) (all-body body all) k b in
-        let rof : Row = record { number = r.0; at = r.1; bytes = codes "ROF" } in
+        let rof : SourceRow = record { number = r.0; at = r.1; bytes = codes "ROF" } in
         let i = r.0 + 1 in
         let j = r.1 + length (codes "ROF") + 1 in
         let behind = paired (rows_from i j after) in

@@ -13,7 +13,7 @@ use Rattle.redcode_text.specs.declared.token.TokenKind.TheVariants as token
 use Rattle.redcode_text.specs.Equates.{equate_lines, limit}
 use Rattle.redcode_text.specs.Expression.{kinds}
 use Rattle.redcode_text.specs.Lines.{Reading, Parts, Predefined, WithTokens, before_comment, comment_line, is_operation, line_added, line_read, may_label, name_at, on_line, operation_lines, operations, ordinary_line, parts_of, parts_read, parts_within, plain_line, row_tokens, split_colon, tokens_line, token_on_line}
-use Rattle.redcode_text.specs.Source.{Row, OtherLine, is_comment, line_kind}
+use Rattle.redcode_text.specs.Source.{SourceRow, OtherLine, is_comment, line_kind}
 use Rattle.redcode_text.specs.Tokens.{Scanned, tokens}
 use Rattle.redcode_text.proofs.ForLaws.Moved.{kinds-moved}
 
@@ -26,7 +26,7 @@ line-read st few =
     let e : nat_le limit st.lines_read ≡ false = grind (arith, nat_tests, few) in
     ap (λ t. elim t as (λ _. Result Reading TextProblem) [ true ↦ Err TooLong | false ↦ Ok (line_more st) ]) e
 
-pub comment-read : (ps : Predefined) (row : Row) (st : Reading) → st.lines_read < limit → is_comment row.bytes ≡ true → plain_line ps row st ≡ comment_line row (line_more st)
+pub comment-read : (ps : Predefined) (row : SourceRow) (st : Reading) → st.lines_read < limit → is_comment row.bytes ≡ true → plain_line ps row st ≡ comment_line row (line_more st)
 comment-read ps row st few is =
     let line : Bool → Reading → Result Reading TextProblem = λ t a. elim t as (λ _. Result Reading TextProblem) [ true ↦ comment_line row a | false ↦ row_tokens row 0 a >>= λ r. tokens_line ps (line_kind row.bytes) row r.0 r.1 ] in
     ap (λ r. r >>= line (is_comment row.bytes)) (line-read st few) ∙ ap (λ t. line t (line_more st)) is
@@ -59,7 +59,7 @@ module _ (ps : Predefined) (number : ℕ) (st : Reading) (n : ℕ) (none : st.eq
 abbrev pub operation_more : ℕ → Reading → Scanned → ℕ → List Token → Reading
 operation_more number st s n rest = line_added number (operation_parts n rest) (tokens_more st s)
 
-module _ (ps : Predefined) (row : Row) (st : Reading) (s : Scanned) (n : ℕ) (ks : List TokenKind) (none : st.equates ≡ []) (known : list_any (str_eq_ignore_ascii_case (name_at s.names n)) operations ≡ true) where
+module _ (ps : Predefined) (row : SourceRow) (st : Reading) (s : Scanned) (n : ℕ) (ks : List TokenKind) (none : st.equates ≡ []) (known : list_any (str_eq_ignore_ascii_case (name_at s.names n)) operations ≡ true) where
   tokens-read : (ts : List Token) → kinds ts ≡ Name n ∷ ks → (rest : List Token) × (kinds rest ≡ ks) × (tokens_line ps OtherLine row ts (tokens_more st s) ≡ Ok (operation_more row.number st s n rest))
   tokens-read [] e = absurd (cc)
   tokens-read (t ∷ ts) e =

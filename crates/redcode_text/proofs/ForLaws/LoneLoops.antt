@@ -20,7 +20,7 @@ use Rattle.redcode_text.specs.Equates.{limit}
 use Rattle.redcode_text.specs.Expansion.{Head, as_count, count_limit, count_of, counter_name, for_word_at, head_line, rof_line, room_for_loop, loop_limit}
 use Rattle.redcode_text.specs.Expression.{kinds, tree_within, value_of}
 use Rattle.redcode_text.specs.Lines.{Predefined, Reading, WithTokens, before_comment, line_read, name_in_front, row_tokens, tokens_after, tokens_before}
-use Rattle.redcode_text.specs.Source.{Row, ForLine, line_kind}
+use Rattle.redcode_text.specs.Source.{SourceRow, ForLine, line_kind}
 use Rattle.redcode_text.specs.Tokens.{Found, OpenLoop, Scanned, begins_name, begins_word, is_counter, is_letter, is_word_byte, name_found, number_found, number_kind, round_of, scan_from, sign_token, token_at, tokens, with_room, with_token, word_found, word_len, word_token}
 use Rattle.redcode_text.proofs.ForLaws.AlikeCounts.{grows-no-more, headed}
 use Rattle.redcode_text.proofs.ForLaws.AlikeNames.{Grown, grown-itself}
@@ -82,7 +82,7 @@ module _ (st other : Reading) (r : ReadAlike st other) where
       go (Ok s) h = h.first
       go (Err e) h = tt
 
-  row-alone : (row : Row) (at : ℕ) (Q : List Token → Type 0)
+  row-alone : (row : SourceRow) (at : ℕ) (Q : List Token → Type 0)
       → Alone (λ (s : Scanned). Q s.tokens) (tokens st.loops row.number (row.at + at) (limit - st.tokens_read) st.names
       (before_comment (drop at row.bytes)))
       → Alone (λ (x : WithTokens). ReadAlike x.1 other × Q x.0) (row_tokens row at st)
@@ -105,7 +105,7 @@ pub no-matter : (x : Result Scanned TextProblem) → Alone (λ (s : Scanned). �
 no-matter (Ok s) = tt
 no-matter (Err e) = tt
 
-pub lone-rof : (row : Row) (st other : Reading) → ReadAlike st other → Alone (λ (a : Reading). ReadAlike a other) (rof_line row st)
+pub lone-rof : (row : SourceRow) (st other : Reading) → ReadAlike st other → Alone (λ (a : Reading). ReadAlike a other) (rof_line row st)
 lone-rof row st other r =
     alone-then (λ (x : WithTokens). ReadAlike x.1 other × ⊤) (λ (a : Reading). ReadAlike a other) (line_read st >>= row_tokens row 0)
     (λ r. Ok (record (r.1) { equate_grows = false }))
@@ -307,7 +307,7 @@ headed-alone ps line at n other x r q =
     go true = (refl, refl, grows-no-more x.1 other r other.equate_grows)
     go false = tt
 
-pub lone-head : (ps : Predefined) (row : Row) (n : ℕ) (st other : Reading) → n < 2 ^ 63 → row.bytes ≡ codes "FOR " ++ decimal n
+pub lone-head : (ps : Predefined) (row : SourceRow) (n : ℕ) (st other : Reading) → n < 2 ^ 63 → row.bytes ≡ codes "FOR " ++ decimal n
     → ReadAlike st other → Alone (IsLoneHead n other) (head_line ps row st)
 lone-head ps row n st other small e r =
     let d = decimal-is n small in

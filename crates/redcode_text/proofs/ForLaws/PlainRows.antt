@@ -7,7 +7,7 @@ use Rattle.redcode_text.specs.Results.{◌>>=◌}
 use Rattle.redcode_text.specs.declared.fault.TextFault.{TextFault}
 use Rattle.redcode_text.specs.Expansion.{expansion, flat, nothing_read, program_of}
 use Rattle.redcode_text.specs.Lines.{Reading, Predefined, plain_line, unless_ended}
-use Rattle.redcode_text.specs.Source.{Row, Items, Nothing, Plain, OtherLine, begins_redcode, from_redcode, has_directive, line_kind, lines_of, paired, paired_with, read_rows, rows_from, tree_of, tree_of_rows, with_lone}
+use Rattle.redcode_text.specs.Source.{SourceRow, Items, Nothing, Plain, OtherLine, begins_redcode, from_redcode, has_directive, line_kind, lines_of, paired, paired_with, read_rows, rows_from, tree_of, tree_of_rows, with_lone}
 use Rattle.redcode_text.specs.Tokens.{at_line}
 use Rattle.redcode_text.proofs.SourceLines.{goes_on}
 
@@ -43,14 +43,14 @@ none-redcode number at [] all = refl
 none-redcode number at (l ∷ lines) all = ap (λ b. b || list_any begins_redcode (rows_from (number + 1) (at + length l + 1) lines)) all.0.plain ∙ none-redcode (number + 1) (at + length l + 1) lines all.1
 
 -- rows without loops
-abbrev pub each_row : List Row → Items
+abbrev pub each_row : List SourceRow → Items
 each_row [] = Nothing
 each_row (row ∷ rows) = Plain row (each_row rows)
 
 rows-paired : (number at : ℕ) (lines : List (List ℕ)) → AllByRecursion IsPlain lines → paired (rows_from number at lines) ≡ record { here = each_row (rows_from number at lines); waiting = [] }
 rows-paired number at [] all = refl
 rows-paired number at (l ∷ lines) all =
-    let row : Row = record { number = number; at = at; bytes = l } in
+    let row : SourceRow = record { number = number; at = at; bytes = l } in
     let rest = rows_from (number + 1) (at + length l + 1) lines in
     ap (λ k. paired_with k row (paired rest)) all.0.kind ∙ ap (paired_with OtherLine row) (rows-paired (number + 1) (at + length l + 1) lines all.1)
 
@@ -58,11 +58,11 @@ pub plain-tree : (lines : List (List ℕ)) → AllByRecursion IsPlain lines → 
 plain-tree lines all =
     let rows = rows_from 1 0 lines in
     ap (λ l. tree_of_rows (read_rows (rows_from 1 0 l))) (lines-parted lines all)
-    ∙ ap (λ t. tree_of_rows (elim t as (λ _. List Row) [ true ↦ from_redcode rows | false ↦ rows ])) (none-redcode 1 0 lines all)
+    ∙ ap (λ t. tree_of_rows (elim t as (λ _. List SourceRow) [ true ↦ from_redcode rows | false ↦ rows ])) (none-redcode 1 0 lines all)
     ∙ ap (λ p. with_lone p.here p.waiting) (rows-paired 1 0 lines all)
 
 -- a line that is read, and doesn't end the source
-pub row-read : (ps : Predefined) (row : Row) (rest : Items) (st next : Reading) → plain_line ps row st ≡ Ok next → next.ended ≡ false → flat ps (Plain row rest) st ≡ flat ps rest next
+pub row-read : (ps : Predefined) (row : SourceRow) (rest : Items) (st next : Reading) → plain_line ps row st ≡ Ok next → next.ended ≡ false → flat ps (Plain row rest) st ≡ flat ps rest next
 row-read ps row rest st next is on =
     ap (λ r. at_line row.number r >>= λ a. unless_ended a (flat ps rest)) is ∙ ap (λ t. elim t as (λ _. Result Reading TextFault) [ true ↦ Ok next | false ↦ flat ps rest next ]) on
 

@@ -14,7 +14,7 @@ use Rattle.redcode_text.specs.Lines.{Reading, Step, Parts, Predefined, WithToken
 use Rattle.redcode_text.specs.Equates.{limit}
 use Rattle.redcode_text.specs.Programs.{IsPrinted}
 use Rattle.redcode_text.specs.Source as source
-use Rattle.redcode_text.specs.Source.{Row, Items, Plain, Loop, LineKind, RofLine, ForLine, EquLine, OtherLine, directive_text, directive_text_at, has_directive_word, is_comment, line_kind, tree_of, without_blanks}
+use Rattle.redcode_text.specs.Source.{SourceRow, Items, Plain, Loop, LineKind, RofLine, ForLine, EquLine, OtherLine, directive_text, directive_text_at, has_directive_word, is_comment, line_kind, tree_of, without_blanks}
 use Rattle.redcode_text.specs.Tokens.{Scanned, at_line, tokens}
 use Rattle.redcode_text.proofs.Printing.{all-printed, is-printed}
 
@@ -46,7 +46,7 @@ keeps-bind : {A : Type 0} (r : Result A TextProblem) (g : A → Result Reading T
 keeps-bind (Ok a) g h = h a
 keeps-bind (Err e) g h = tt
 
-keeps-row : (st : Reading) (row : Row) (at : ℕ) (g : WithTokens → Result Reading TextProblem) → ArePrinted st → ((r : WithTokens) → ArePrinted r.1 → Keeps (g r)) → Keeps (row_tokens row at st >>= g)
+keeps-row : (st : Reading) (row : SourceRow) (at : ℕ) (g : WithTokens → Result Reading TextProblem) → ArePrinted st → ((r : WithTokens) → ArePrinted r.1 → Keeps (g r)) → Keeps (row_tokens row at st >>= g)
 keeps-row st row at g p h = go (tokens st.loops row.number (row.at + at) (limit - st.tokens_read) st.names (before_comment (drop at row.bytes)))
   where
     go : (r : Result Scanned TextProblem) → Keeps ((r >>= λ s. Ok (s.tokens, record st { names = s.names; tokens_read = st.tokens_read + length s.tokens })) >>= g)
@@ -113,7 +113,7 @@ equated-keeps ps ts (Some n) st p = go (is_equate st n || is_label st n || is_pr
     go true = tt
     go false = p
 
-tokens-keep : (ps : Predefined) (kind : LineKind) (row : Row) (ts : List Token) → Steady (tokens_line ps kind row ts)
+tokens-keep : (ps : Predefined) (kind : LineKind) (row : SourceRow) (ts : List Token) → Steady (tokens_line ps kind row ts)
 tokens-keep ps kind row [] st p = p
 tokens-keep ps (EquLine at) row (t ∷ ts) st p =
     keeps-bind (name_in_front (kinds (tokens_before (row.at + at) (t ∷ ts)))) (λ name. equated ps (tokens_after (row.at + at) (t ∷ ts)) name st) (λ name. equated-keeps ps (tokens_after (row.at + at) (t ∷ ts)) name st p)
@@ -126,7 +126,7 @@ given-printed : (text old : List ℕ) → IsPrinted text → IsPrinted old → I
 given-printed [] old t o = o
 given-printed (b ∷ bs) old t o = t
 
-comment-keeps : (row : Row) → Steady (comment_line row)
+comment-keeps : (row : SourceRow) → Steady (comment_line row)
 comment-keeps row st p = go (has_directive_word (codes "name") row.bytes) (has_directive_word (codes "author") row.bytes) (has_directive_word (codes "assert") row.bytes)
   where
     go : (a b c : Bool) → Keeps (elim a as (λ _. Result Reading TextProblem) [
@@ -141,7 +141,7 @@ comment-keeps row st p = go (has_directive_word (codes "name") row.bytes) (has_d
     go false false true = keeps-row st row (directive_text_at (codes "assert") row.bytes) (λ r. Ok (record (r.1) { asserts = r.1.asserts ++ record { number = row.number; current_line = r.1.instructions; tokens = r.0 } ∷ [] })) p (λ r q. q)
     go false false false = p
 
-plain-keeps : (ps : Predefined) (row : Row) → Steady (plain_line ps row)
+plain-keeps : (ps : Predefined) (row : SourceRow) → Steady (plain_line ps row)
 plain-keeps ps row st p = keeps-then (line_read st) (λ a. elim (is_comment row.bytes) as (λ _. Result Reading TextProblem) [ true ↦ comment_line row a | false ↦ row_tokens row 0 a >>= λ r. tokens_line ps (line_kind row.bytes) row r.0 r.1 ])
     (line-keeps st p) (go (is_comment row.bytes))
   where
@@ -149,7 +149,7 @@ plain-keeps ps row st p = keeps-then (line_read st) (λ a. elim (is_comment row.
     go true a q = comment-keeps row a q
     go false a q = keeps-row a row 0 (λ r. tokens_line ps (line_kind row.bytes) row r.0 r.1) q (λ r s. tokens-keep ps (line_kind row.bytes) row r.0 r.1 s)
 
-rof-keeps : (row : Row) → Steady (rof_line row)
+rof-keeps : (row : SourceRow) → Steady (rof_line row)
 rof-keeps row st p = go (line_read st) (line-keeps st p)
   where
     go : (r : Result Reading TextProblem) → Keeps r → Keeps (r >>= row_tokens row 0 >>= λ r. Ok (record (r.1) { equate_grows = false }))
@@ -166,7 +166,7 @@ head-bind : {A : Type 0} (r : Result A TextProblem) (g : A → Result Head TextP
 head-bind (Ok a) g h = h a
 head-bind (Err e) g h = tt
 
-head-keeps : (ps : Predefined) (row : Row) (st : Reading) → ArePrinted st → HeadKeeps (head_line ps row st)
+head-keeps : (ps : Predefined) (row : SourceRow) (st : Reading) → ArePrinted st → HeadKeeps (head_line ps row st)
 head-keeps ps row st p = go (line_read st) (line-keeps st p)
   where
     rest : WithTokens → Result Head TextProblem

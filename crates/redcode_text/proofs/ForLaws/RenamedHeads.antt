@@ -14,7 +14,7 @@ use Rattle.redcode_text.specs.Expansion.{Head, as_count, count_of, counter_name,
 use Rattle.redcode_text.specs.Expression.{kinds, value_of}
 use Rattle.redcode_text.specs.Laws.{IsRenaming, JoinsAreRenamed, renamed_comment, renamed_line, renamed_text}
 use Rattle.redcode_text.specs.Lines.{Predefined, Reading, WithTokens, assert_line, before_comment, comment_line, directive_value, line_read, name_at, name_in_front, ordinary_line, plain_line, predefined_value, row_tokens, tokens_after, tokens_before, tokens_line, unless_empty, with_current_line}
-use Rattle.redcode_text.specs.Source.{Row, LineKind, RofLine, ForLine, EquLine, OtherLine, directive_text, directive_text_at, has_directive_word, is_comment, line_kind}
+use Rattle.redcode_text.specs.Source.{SourceRow, LineKind, RofLine, ForLine, EquLine, OtherLine, directive_text, directive_text_at, has_directive_word, is_comment, line_kind}
 use Rattle.redcode_text.specs.Tokens.{without_line}
 use Rattle.redcode_text.proofs.ForLaws.Agreement.{pairwise-append}
 use Rattle.redcode_text.proofs.ForLaws.RenamedComments.{IsSameAssert, SameComment, comments-same}
@@ -36,12 +36,12 @@ module _ (ps : Predefined) (rename : List ℕ → List ℕ) (r : IsRenaming ps r
   Both x y = BothGive (Related ps rename r) x y
 
   -- a row, and the row renamed
-  pub record SameRow (row like : Row) : Type 0 where
+  pub record SameRow (row like : SourceRow) : Type 0 where
     pub number : row.number ≡ like.number
     pub bytes : like.bytes ≡ renamed_line rename row.bytes
     pub joins : JoinsAreRenamed rename row.bytes
 
-  pub code-row : (row like : Row) → SameRow row like → is_comment row.bytes ≡ false → SameCode ps rename r row like
+  pub code-row : (row like : SourceRow) → SameRow row like → is_comment row.bytes ≡ false → SameCode ps rename r row like
   code-row row like s plain =
       record {
         number = s.number;
@@ -52,7 +52,7 @@ module _ (ps : Predefined) (rename : List ℕ → List ℕ) (r : IsRenaming ps r
 
   -- ---- comments
 
-  module _ (row like : Row) (s : SameRow row like) (comment : is_comment row.bytes ≡ true) where
+  module _ (row like : SourceRow) (s : SameRow row like) (comment : is_comment row.bytes ≡ true) where
     comment-is : SameComment ps rename r row.bytes like.bytes
     comment-is = subst (λ l. SameComment ps rename r row.bytes l) (sym s.bytes) (comments-same ps rename r row.bytes comment)
 
@@ -75,7 +75,7 @@ module _ (ps : Predefined) (rename : List ℕ → List ℕ) (r : IsRenaming ps r
         (record { number = s.number; current_line = k.read.instructions; tokens = same-read ps rename r AnyPlace x y k }, tt)))
 
     -- what a comment line adds, by the directive that it is
-    abbrev said : Row → Bool → Bool → Bool → Reading → Result Reading TextProblem
+    abbrev said : SourceRow → Bool → Bool → Bool → Reading → Result Reading TextProblem
     said row name author assert st =
         elim name as (λ _. Result Reading TextProblem) [
           | true ↦ Ok (record st { name = unless_empty (directive_value (directive_text (codes "name") row.bytes)) st.name })
@@ -112,7 +112,7 @@ module _ (ps : Predefined) (rename : List ℕ → List ℕ) (r : IsRenaming ps r
 
   -- ---- lines
 
-  module _ (row like : Row) (c : SameCode ps rename r row like) where
+  module _ (row like : SourceRow) (c : SameCode ps rename r row like) where
     kinds-are : SameKind ps rename r row.bytes (line_kind row.bytes) (line_kind like.bytes)
     kinds-are = subst (λ l. SameKind ps rename r row.bytes (line_kind row.bytes) (line_kind l)) (sym c.bytes) (kind-same ps rename r row.bytes)
 
@@ -170,14 +170,14 @@ module _ (ps : Predefined) (rename : List ℕ → List ℕ) (r : IsRenaming ps r
     pub comment-not : is_comment like.bytes ≡ false
     comment-not = ap is_comment c.bytes ∙ comment-same ps rename r row.bytes ∙ c.plain
 
-  pub plain-line-same : (row like : Row) → SameRow row like → (st other : Reading) → Related ps rename r st other → Both (plain_line ps row st) (plain_line ps like other)
+  pub plain-line-same : (row like : SourceRow) → SameRow row like → (st other : Reading) → Related ps rename r st other → Both (plain_line ps row st) (plain_line ps like other)
   plain-line-same row like s st other q =
       both-then (Related ps rename r) (Related ps rename r) (line_read st) (line_read other)
       (λ a. elim (is_comment row.bytes) as (λ _. Result Reading TextProblem) [ true ↦ comment_line row a | false ↦ row_tokens row 0 a >>= λ x. tokens_line ps (line_kind row.bytes) row x.0 x.1 ])
       (λ a. elim (is_comment like.bytes) as (λ _. Result Reading TextProblem) [ true ↦ comment_line like a | false ↦ row_tokens like 0 a >>= λ x. tokens_line ps (line_kind like.bytes) like x.0 x.1 ])
       (line-read-same ps rename r st other q) (λ x y h. go (is_comment row.bytes) refl x y h)
     where
-      line : Row → Bool → Reading → Result Reading TextProblem
+      line : SourceRow → Bool → Reading → Result Reading TextProblem
       line row t a = elim t as (λ _. Result Reading TextProblem) [ true ↦ comment_line row a | false ↦ row_tokens row 0 a >>= λ x. tokens_line ps (line_kind row.bytes) row x.0 x.1 ]
 
       go : (t : Bool) → is_comment row.bytes ≡ t → (x y : Reading) → Related ps rename r x y → Both (line row (is_comment row.bytes) x) (line like (is_comment like.bytes) y)
@@ -191,7 +191,7 @@ module _ (ps : Predefined) (rename : List ℕ → List ℕ) (r : IsRenaming ps r
 
   -- ---- ROF
 
-  pub rof-same : (row like : Row) → SameCode ps rename r row like → (st other : Reading) → Related ps rename r st other → Both (rof_line row st) (rof_line like other)
+  pub rof-same : (row like : SourceRow) → SameCode ps rename r row like → (st other : Reading) → Related ps rename r st other → Both (rof_line row st) (rof_line like other)
   rof-same row like c st other q =
       both-then (SameRead ps rename r AnyPlace) (Related ps rename r) (line_read st >>= row_tokens row 0) (line_read other >>= row_tokens like 0)
       (λ x. Ok (record (x.1) { equate_grows = false })) (λ x. Ok (record (x.1) { equate_grows = false }))
@@ -243,10 +243,10 @@ module _ (ps : Predefined) (rename : List ℕ → List ℕ) (r : IsRenaming ps r
       (ap (nat_le loop_limit) (sym (ap length q.loops ∙ length-map st.loops (renamed_loop ps rename r)))) refl q
 
   -- the place of FOR
-  for-at : (row : Row) (at : ℕ) → line_kind row.bytes ≡ ForLine at → for_word_at row ≡ row.at + at
+  for-at : (row : SourceRow) (at : ℕ) → line_kind row.bytes ≡ ForLine at → for_word_at row ≡ row.at + at
   for-at row at e = ap (λ k. elim k as (λ _. ℕ) [ ForLine n ↦ row.at + n | _ ↦ row.at ]) e
 
-  head-behind : (row like : Row) (p q : ℕ) → for_word_at row ≡ p → for_word_at like ≡ q → (x y : WithTokens) → SameRead ps rename r (Sides p q) x y
+  head-behind : (row like : SourceRow) (p q : ℕ) → for_word_at row ≡ p → for_word_at like ≡ q → (x y : WithTokens) → SameRead ps rename r (Sides p q) x y
       → BothGive SameHead
       (name_in_front (kinds (tokens_before (for_word_at row) x.0)) >>= λ counter. room_for_loop x.1 >>= λ _. count_of ps x.1 (tokens_after (for_word_at row) x.0) >>= λ count.
       Ok (record { counter = counter_name x.1 counter; count = count; reading = record (x.1) { equate_grows = false } }))
@@ -279,7 +279,7 @@ module _ (ps : Predefined) (rename : List ℕ → List ℕ) (r : IsRenaming ps r
       rest : ℕ → WithTokens → Result Head TextProblem
       rest p x = name_in_front (kinds (tokens_before p x.0)) >>= λ counter. behind p x counter
 
-  pub head-same : (row like : Row) → SameCode ps rename r row like → IsFor (line_kind row.bytes) → (st other : Reading) → Related ps rename r st other → BothGive SameHead (head_line ps row st) (head_line ps like other)
+  pub head-same : (row like : SourceRow) → SameCode ps rename r row like → IsFor (line_kind row.bytes) → (st other : Reading) → Related ps rename r st other → BothGive SameHead (head_line ps row st) (head_line ps like other)
   head-same row like c for st other q = go (line_kind row.bytes) refl (line_kind like.bytes) refl for (kinds-are row like c)
     where
       go : (k : LineKind) → line_kind row.bytes ≡ k → (l : LineKind) → line_kind like.bytes ≡ l → IsFor k → SameKind ps rename r row.bytes k l → BothGive SameHead (head_line ps row st) (head_line ps like other)

@@ -9,7 +9,7 @@ use Rattle.redcode_text.specs.Expansion.{ProgramValue, expansion, flat, head_lin
 use Rattle.redcode_text.specs.Laws.{IsRenaming, JoinsAreRenamed, renamed}
 use Rattle.redcode_text.specs.Lines.{Predefined, Reading, line_read, plain_line, unless_ended}
 use Rattle.redcode_text.specs.Source as source
-use Rattle.redcode_text.specs.Source.{Row, Items, Nothing, Plain, Loop, LoneRof, tree_of}
+use Rattle.redcode_text.specs.Source.{SourceRow, Items, Nothing, Plain, Loop, LoneRof, tree_of}
 use Rattle.redcode_text.specs.Tokens.{at_line}
 use Rattle.redcode_text.proofs.ForLaws.Agreement.{Pairwise}
 use Rattle.redcode_text.proofs.ForLaws.RenamedHeads.{SameHead, head-same, plain-line-same, rof-same}
@@ -81,7 +81,7 @@ module _ (ps : Predefined) (rename : List ℕ → List ℕ) (r : IsRenaming ps r
       (at-line-same (Related ps rename r) rof.number t.2.number t.8.number (rof_line rof a) (rof_line t.2 b) (rof-same ps rename r rof t.2 t.8 a b g))
       (λ x y i. flat-same rest t.3 t.9 x y i)))))
     where
-      behind : Row → Items → Reading → Result Reading TextFault
+      behind : SourceRow → Items → Reading → Result Reading TextFault
       behind rof rest b = at_line rof.number (rof_line rof b) >>= flat ps rest
   flat-same (source.UnclosedFor row rest) two t st other q =
       subst (λ i. Both (flat ps (source.UnclosedFor row rest) st) (flat ps i other)) (sym t.2) (unpaired-same UnclosedFor row.number t.0.number t.3 st other q)

@@ -11,7 +11,7 @@ use Rattle.redcode_text.specs.Equates.{Equate, limit, substitution}
 use Rattle.redcode_text.specs.Expression.{kinds}
 use Rattle.redcode_text.specs.Laws.{IsRenaming, JoinsAreRenamed, renamed_from, renamed_text}
 use Rattle.redcode_text.specs.Lines.{Predefined, Reading, WithTokens, before_comment, equ_line, equated, name_in_front, row_tokens, tokens_after, tokens_before}
-use Rattle.redcode_text.specs.Source.{Row, blank_len, is_comment}
+use Rattle.redcode_text.specs.Source.{SourceRow, blank_len, is_comment}
 use Rattle.redcode_text.specs.Tokens.{is_word_byte, scan_from, tokens, without_line}
 use Rattle.redcode_text.proofs.ForLaws.Agreement.{Pairwise, pairwise-filter, pairwise-length}
 use Rattle.redcode_text.proofs.ForLaws.AlikeResults.{pairwise-map, pairwise-weaker}
@@ -125,7 +125,7 @@ module _ (ps : Predefined) (rename : List ℕ → List ℕ) (r : IsRenaming ps r
   pub same-read : (Q : ℕ → ℕ → Type 0) (x y : WithTokens) → SameRead Q x y → SameKinds x.0 y.0
   same-read Q x y h = pairwise-weaker (λ (t u : Token). (t.kind ≡ u.kind) × Q t.from u.from) (λ (t u : Token). t.kind ≡ u.kind) (λ t u k. k.0) x.0 y.0 h.tokens
 
-  pub read-same : (Q : ℕ → ℕ → Type 0) (st other : Reading) → Related ps rename r st other → (row like : Row) (at to : ℕ) (text : List ℕ) → row.number ≡ like.number
+  pub read-same : (Q : ℕ → ℕ → Type 0) (st other : Reading) → Related ps rename r st other → (row like : SourceRow) (at to : ℕ) (text : List ℕ) → row.number ≡ like.number
       → before_comment (drop at row.bytes) ≡ text → before_comment (drop to like.bytes) ≡ renamed_text rename text
       → BothGive (SameScan ps rename r Q st.loops row.number (limit - st.tokens_read))
       (scan_from st.loops row.number (limit - st.tokens_read) (row.at + at) 0 text (record { tokens = []; names = st.names }))
@@ -150,13 +150,13 @@ module _ (ps : Predefined) (rename : List ℕ → List ℕ) (r : IsRenaming ps r
       })
 
   -- a row that is no comment, and the row renamed
-  pub record SameCode (row like : Row) : Type 0 where
+  pub record SameCode (row like : SourceRow) : Type 0 where
     pub number : row.number ≡ like.number
     pub plain : is_comment row.bytes ≡ false
     pub bytes : like.bytes ≡ renamed_text rename row.bytes
     pub joins : JoinsAreRenamed rename row.bytes
 
-  module _ (st other : Reading) (q : Related ps rename r st other) (row like : Row) (c : SameCode row like) where
+  module _ (st other : Reading) (q : Related ps rename r st other) (row like : SourceRow) (c : SameCode row like) where
     behind : before_comment like.bytes ≡ renamed_text rename (before_comment row.bytes)
     behind = ap before_comment c.bytes ∙ comment-behind [] row.bytes refl
 

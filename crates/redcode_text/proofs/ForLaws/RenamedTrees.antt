@@ -9,7 +9,7 @@ use Rattle.std.proofs.lemmas.Bool.Decides.{nat_tests}
 use Rattle.redcode_text.specs.Laws.{IsLine, IsRenaming, JoinsAreRenamed, renamed, renamed_comment, renamed_from, renamed_line, renamed_text}
 use Rattle.redcode_text.specs.Lines.{Predefined}
 use Rattle.redcode_text.specs.Source as source
-use Rattle.redcode_text.specs.Source.{Row, Items, Nothing, Plain, Loop, LoneRof, LineKind, RofLine, ForLine, EquLine, OtherLine, Pairing, begins_redcode, directive_text_at, from_redcode, has_directive, has_directive_word, is_comment, line_kind, lines_of, opened, paired, paired_with, read_rows, rows_from, then_lone, tree_of, tree_of_rows, with_lone, without_blanks}
+use Rattle.redcode_text.specs.Source.{SourceRow, Items, Nothing, Plain, Loop, LoneRof, LineKind, RofLine, ForLine, EquLine, OtherLine, Pairing, begins_redcode, directive_text_at, from_redcode, has_directive, has_directive_word, is_comment, line_kind, lines_of, opened, paired, paired_with, read_rows, rows_from, then_lone, tree_of, tree_of_rows, with_lone, without_blanks}
 use Rattle.redcode_text.specs.Tokens.{is_word_byte}
 use Rattle.redcode_text.proofs.ForLaws.Agreement.{Pairwise}
 use Rattle.redcode_text.proofs.ForLaws.AlikeResults.{pairwise-any}
@@ -136,7 +136,7 @@ module _ (ps : Predefined) (rename : List ℕ → List ℕ) (r : IsRenaming ps r
 
   -- ---- rows
 
-  abbrev SameRows : List Row → List Row → Type 0
+  abbrev SameRows : List SourceRow → List SourceRow → Type 0
   SameRows rows likes = Pairwise (SameRow ps rename r) rows likes
 
   rows-renamed : (ls : List (List ℕ)) (number at to : ℕ) → AllByRecursion (JoinsAreRenamed rename) ls → SameRows (rows_from number at ls) (rows_from number to (map (renamed_line rename) ls))
@@ -144,7 +144,7 @@ module _ (ps : Predefined) (rename : List ℕ → List ℕ) (r : IsRenaming ps r
   rows-renamed (l ∷ ls) number at to all =
       (record { number = refl; bytes = refl; joins = all.0 }, rows-renamed ls (number + 1) (at + length l + 1) (to + length (renamed_line rename l) + 1) all.1)
 
-  redcode-same : (row like : Row) → SameRow ps rename r row like → begins_redcode row ≡ begins_redcode like
+  redcode-same : (row like : SourceRow) → SameRow ps rename r row like → begins_redcode row ≡ begins_redcode like
   redcode-same row like s = sym (ap (has_directive (codes "redcode")) s.bytes ∙ go (is_comment row.bytes) refl)
     where
       go : (t : Bool) → is_comment row.bytes ≡ t → has_directive (codes "redcode") (renamed_line rename row.bytes) ≡ has_directive (codes "redcode") row.bytes
@@ -153,24 +153,24 @@ module _ (ps : Predefined) (rename : List ℕ → List ℕ) (r : IsRenaming ps r
           ap (λ t. has_directive (codes "redcode") (elim t as (λ _. List ℕ) [ true ↦ renamed_comment rename row.bytes | false ↦ renamed_text rename row.bytes ])) e
           ∙ no-directive (codes "redcode") (renamed_text rename row.bytes) (comment-same ps rename r row.bytes ∙ e) ∙ sym (no-directive (codes "redcode") row.bytes e)
 
-  from-same : (rows likes : List Row) → SameRows rows likes → SameRows (from_redcode rows) (from_redcode likes)
+  from-same : (rows likes : List SourceRow) → SameRows rows likes → SameRows (from_redcode rows) (from_redcode likes)
   from-same [] [] h = tt
   from-same [] (like ∷ likes) h = absurd h
   from-same (row ∷ rows) [] h = absurd h
   from-same (row ∷ rows) (like ∷ likes) h =
-      subst (λ t. SameRows (from_redcode (row ∷ rows)) (elim t as (λ _. List Row) [ true ↦ like ∷ likes | false ↦ from_redcode likes ])) (redcode-same row like h.0) (go (begins_redcode row) (from-same rows likes h.1))
+      subst (λ t. SameRows (from_redcode (row ∷ rows)) (elim t as (λ _. List SourceRow) [ true ↦ like ∷ likes | false ↦ from_redcode likes ])) (redcode-same row like h.0) (go (begins_redcode row) (from-same rows likes h.1))
     where
       go : (t : Bool) → SameRows (from_redcode rows) (from_redcode likes)
-          → SameRows (elim t as (λ _. List Row) [ true ↦ row ∷ rows | false ↦ from_redcode rows ]) (elim t as (λ _. List Row) [ true ↦ like ∷ likes | false ↦ from_redcode likes ])
+          → SameRows (elim t as (λ _. List SourceRow) [ true ↦ row ∷ rows | false ↦ from_redcode rows ]) (elim t as (λ _. List SourceRow) [ true ↦ like ∷ likes | false ↦ from_redcode likes ])
       go true k = h
       go false k = k
 
-  read-same : (rows likes : List Row) → SameRows rows likes → SameRows (read_rows rows) (read_rows likes)
+  read-same : (rows likes : List SourceRow) → SameRows rows likes → SameRows (read_rows rows) (read_rows likes)
   read-same rows likes h =
-      subst (λ t. SameRows (read_rows rows) (elim t as (λ _. List Row) [ true ↦ from_redcode likes | false ↦ likes ])) (pairwise-any (SameRow ps rename r) begins_redcode begins_redcode redcode-same rows likes h)
+      subst (λ t. SameRows (read_rows rows) (elim t as (λ _. List SourceRow) [ true ↦ from_redcode likes | false ↦ likes ])) (pairwise-any (SameRow ps rename r) begins_redcode begins_redcode redcode-same rows likes h)
       (go (list_any begins_redcode rows))
     where
-      go : (t : Bool) → SameRows (elim t as (λ _. List Row) [ true ↦ from_redcode rows | false ↦ rows ]) (elim t as (λ _. List Row) [ true ↦ from_redcode likes | false ↦ likes ])
+      go : (t : Bool) → SameRows (elim t as (λ _. List SourceRow) [ true ↦ from_redcode rows | false ↦ rows ]) (elim t as (λ _. List SourceRow) [ true ↦ from_redcode likes | false ↦ likes ])
       go true = from-same rows likes h
       go false = h
 
@@ -179,14 +179,14 @@ module _ (ps : Predefined) (rename : List ℕ → List ℕ) (r : IsRenaming ps r
   -- the same loops and lines
   unfoldable pub SameTree : Items → Items → Type 0
   SameTree Nothing other = other ≡ Nothing
-  SameTree (Plain row rest) other = (like : Row) × (others : Items) × (other ≡ Plain like others) × SameRow ps rename r row like × SameTree rest others
+  SameTree (Plain row rest) other = (like : SourceRow) × (others : Items) × (other ≡ Plain like others) × SameRow ps rename r row like × SameTree rest others
   SameTree (Loop head body rof rest) other =
-      (like : Row) × (inside : Items) × (end : Row) × (others : Items) × (other ≡ Loop like inside end others)
+      (like : SourceRow) × (inside : Items) × (end : SourceRow) × (others : Items) × (other ≡ Loop like inside end others)
       × SameCode ps rename r head like × IsFor (line_kind head.bytes) × SameTree body inside × SameCode ps rename r rof end × SameTree rest others
-  SameTree (source.UnclosedFor row rest) other = (like : Row) × (others : Items) × (other ≡ source.UnclosedFor like others) × (row.number ≡ like.number)
-  SameTree (LoneRof row rest) other = (like : Row) × (others : Items) × (other ≡ LoneRof like others) × (row.number ≡ like.number)
+  SameTree (source.UnclosedFor row rest) other = (like : SourceRow) × (others : Items) × (other ≡ source.UnclosedFor like others) × (row.number ≡ like.number)
+  SameTree (LoneRof row rest) other = (like : SourceRow) × (others : Items) × (other ≡ LoneRof like others) × (row.number ≡ like.number)
 
-  lone-same : (rof like : Row) → rof.number ≡ like.number → (one two : Items) → SameTree one two → SameTree (then_lone rof one) (then_lone like two)
+  lone-same : (rof like : SourceRow) → rof.number ≡ like.number → (one two : Items) → SameTree one two → SameTree (then_lone rof one) (then_lone like two)
   unfolding SameTree
   lone-same rof like e Nothing two t = (like, Nothing, ap (then_lone like) t, e)
   lone-same rof like e (Plain row rest) two t = (t.0, then_lone like t.1, ap (then_lone like) t.2, t.3, lone-same rof like e rest t.1 t.4)
@@ -195,14 +195,14 @@ module _ (ps : Predefined) (rename : List ℕ → List ℕ) (r : IsRenaming ps r
   lone-same rof like e (source.UnclosedFor row rest) two t = (t.0, then_lone like t.1, ap (then_lone like) t.2, t.3)
   lone-same rof like e (LoneRof row rest) two t = (t.0, then_lone like t.1, ap (then_lone like) t.2, t.3)
 
-  abbrev SameWaiting : List (Row × Items) → List (Row × Items) → Type 0
-  SameWaiting ws vs = Pairwise (λ (w v : Row × Items). SameCode ps rename r w.0 v.0 × SameTree w.1 v.1) ws vs
+  abbrev SameWaiting : List (SourceRow × Items) → List (SourceRow × Items) → Type 0
+  SameWaiting ws vs = Pairwise (λ (w v : SourceRow × Items). SameCode ps rename r w.0 v.0 × SameTree w.1 v.1) ws vs
 
   record SamePairing (p q : Pairing) : Type 0 where
     pub here : SameTree p.here q.here
     pub waiting : SameWaiting p.waiting q.waiting
 
-  opened-same : (head like : Row) → SameCode ps rename r head like → IsFor (line_kind head.bytes) → (here there : Items) → SameTree here there → (ws vs : List (Row × Items)) → SameWaiting ws vs
+  opened-same : (head like : SourceRow) → SameCode ps rename r head like → IsFor (line_kind head.bytes) → (here there : Items) → SameTree here there → (ws vs : List (SourceRow × Items)) → SameWaiting ws vs
       → SamePairing (opened head here ws) (opened like there vs)
   unfolding SameTree
   opened-same head like c for here there t [] [] h = record { here = (like, there, refl, c.number); waiting = tt }
@@ -210,7 +210,7 @@ module _ (ps : Predefined) (rename : List ℕ → List ℕ) (r : IsRenaming ps r
   opened-same head like c for here there t (w ∷ ws) [] h = absurd h
   opened-same head like c for here there t (w ∷ ws) (v ∷ vs) h = record { here = (like, there, v.0, v.1, refl, c, for, t, h.0.0, h.0.1); waiting = h.1 }
 
-  with-row : (row like : Row) → SameRow ps rename r row like → (p q : Pairing) → SamePairing p q → SamePairing (paired_with (line_kind row.bytes) row p) (paired_with (line_kind like.bytes) like q)
+  with-row : (row like : SourceRow) → SameRow ps rename r row like → (p q : Pairing) → SamePairing p q → SamePairing (paired_with (line_kind row.bytes) row p) (paired_with (line_kind like.bytes) like q)
   unfolding SameTree
   with-row row like s p q h = go (is_comment row.bytes) refl
     where
@@ -244,20 +244,20 @@ module _ (ps : Predefined) (rename : List ℕ → List ℕ) (r : IsRenaming ps r
           let c = code-row ps rename r row like s e in
           by c (line_kind row.bytes) (line_kind like.bytes) refl (subst (λ l. SameKind ps rename r row.bytes (line_kind row.bytes) (line_kind l)) (sym c.bytes) (kind-same ps rename r row.bytes))
 
-  paired-same : (rows likes : List Row) → SameRows rows likes → SamePairing (paired rows) (paired likes)
+  paired-same : (rows likes : List SourceRow) → SameRows rows likes → SamePairing (paired rows) (paired likes)
   unfolding SameTree
   paired-same [] [] h = record { here = refl; waiting = tt }
   paired-same [] (like ∷ likes) h = absurd h
   paired-same (row ∷ rows) [] h = absurd h
   paired-same (row ∷ rows) (like ∷ likes) h = with-row row like h.0 (paired rows) (paired likes) (paired-same rows likes h.1)
 
-  tree-same : (here there : Items) → SameTree here there → (ws vs : List (Row × Items)) → SameWaiting ws vs → SameTree (with_lone here ws) (with_lone there vs)
+  tree-same : (here there : Items) → SameTree here there → (ws vs : List (SourceRow × Items)) → SameWaiting ws vs → SameTree (with_lone here ws) (with_lone there vs)
   tree-same here there t [] [] h = t
   tree-same here there t [] (v ∷ vs) h = absurd h
   tree-same here there t (w ∷ ws) [] h = absurd h
   tree-same here there t (w ∷ ws) (v ∷ vs) h = lone-same w.0 v.0 h.0.0.number here there t
 
-  rows-tree : (rows likes : List Row) → SameRows rows likes → SameTree (tree_of_rows rows) (tree_of_rows likes)
+  rows-tree : (rows likes : List SourceRow) → SameRows rows likes → SameTree (tree_of_rows rows) (tree_of_rows likes)
   rows-tree rows likes h = let p = paired-same rows likes h in tree-same (paired rows).here (paired likes).here p.here (paired rows).waiting (paired likes).waiting p.waiting
 
   pub sources-tree : (source : List ℕ) → JoinsAreRenamed rename source → SameTree (tree_of source) (tree_of (renamed rename source))

@@ -5,7 +5,7 @@ use Rattle.redcode_text.specs.Results.{◌>>=◌}
 use Rattle.redcode_text.specs.declared.fault.TextFault.{TextFault}
 use Rattle.redcode_text.specs.declared.fault.TextProblem.{TextProblem}
 use Rattle.redcode_text.specs.Tokens.{at_line}
-use Rattle.redcode_text.specs.Source.{Row, Items, Loop, begins_redcode, from_redcode, read_rows}
+use Rattle.redcode_text.specs.Source.{SourceRow, Items, Loop, begins_redcode, from_redcode, read_rows}
 use Rattle.redcode_text.specs.Lines.{Reading, Predefined, unless_ended}
 use Rattle.redcode_text.specs.Expansion.{Head, flat, head_line, rounds, in_round}
 
@@ -15,24 +15,24 @@ any-behind-by : (b c d : Bool) → (d ≡ true → c ≡ true) → d ≡ true �
 any-behind-by true c d h e = refl
 any-behind-by false c d h e = h e
 
-any-behind : (before rows : List Row) → list_any begins_redcode rows ≡ true → list_any begins_redcode (before ++ rows) ≡ true
+any-behind : (before rows : List SourceRow) → list_any begins_redcode rows ≡ true → list_any begins_redcode (before ++ rows) ≡ true
 any-behind [] rows e = e
 any-behind (row ∷ before) rows e = any-behind-by (begins_redcode row) (list_any begins_redcode (before ++ rows)) (list_any begins_redcode rows) (any-behind before rows) e
 
-from-behind-by : (b c : Bool) (found left right : List Row) → (b || c) ≡ false → (c ≡ false → left ≡ right) → (elim b [ true ↦ found | false ↦ left ]) ≡ right
+from-behind-by : (b c : Bool) (found left right : List SourceRow) → (b || c) ≡ false → (c ≡ false → left ≡ right) → (elim b [ true ↦ found | false ↦ left ]) ≡ right
 from-behind-by true c found left right none h = cc
 from-behind-by false c found left right none h = h none
 
-from-behind : (before rows : List Row) → list_any begins_redcode before ≡ false → from_redcode (before ++ rows) ≡ from_redcode rows
+from-behind : (before rows : List SourceRow) → list_any begins_redcode before ≡ false → from_redcode (before ++ rows) ≡ from_redcode rows
 from-behind [] rows none = refl
 from-behind (row ∷ before) rows none =
     from-behind-by (begins_redcode row) (list_any begins_redcode before) (row ∷ (before ++ rows)) (from_redcode (before ++ rows)) (from_redcode rows) none (from-behind before rows)
 
-read-by : (b : Bool) (from all : List Row) → b ≡ true → (elim b [ true ↦ from | false ↦ all ]) ≡ from
+read-by : (b : Bool) (from all : List SourceRow) → b ≡ true → (elim b [ true ↦ from | false ↦ all ]) ≡ from
 read-by true from all e = refl
 read-by false from all e = cc
 
-pub read-behind : (before rows : List Row) → list_any begins_redcode before ≡ false → list_any begins_redcode rows ≡ true → read_rows (before ++ rows) ≡ read_rows rows
+pub read-behind : (before rows : List SourceRow) → list_any begins_redcode before ≡ false → list_any begins_redcode rows ≡ true → read_rows (before ++ rows) ≡ read_rows rows
 read-behind before rows none some =
     read-by (list_any begins_redcode (before ++ rows)) (from_redcode (before ++ rows)) (before ++ rows) (any-behind before rows some)
     ∙ from-behind before rows none
@@ -51,7 +51,7 @@ in-no-round-by : (number : ℕ) (r : Result Head TextProblem) (f g next : Readin
 in-no-round-by number (Ok h) f g next e = ap (λ r. r >>= λ a. unless_ended a next) (no-rounds-by h.counter h.count f g h.reading e)
 in-no-round-by number (Err problem) f g next e = refl
 
-pub in-no-round : (ps : Predefined) (head rof : Row) (body other rest : Items) (st : Reading)
+pub in-no-round : (ps : Predefined) (head rof : SourceRow) (body other rest : Items) (st : Reading)
     → IfOk (head_line ps head st) (λ (h : Head). h.count ≡ 0)
     → flat ps (Loop head body rof rest) st ≡ flat ps (Loop head other rof rest) st
 in-no-round ps head rof body other rest st e = in-no-round-by head.number (head_line ps head st) (flat ps body) (flat ps other) _ e

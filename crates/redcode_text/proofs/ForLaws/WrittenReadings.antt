@@ -10,7 +10,7 @@ use Rattle.redcode_text.specs.Expansion.{Head, count_of, counter_name, flat, for
 use Rattle.redcode_text.specs.Expression.{kinds}
 use Rattle.redcode_text.specs.Lines.{Reading, Predefined, WithTokens, before_comment, line_read, name_in_front, plain_line, row_tokens, tokens_after, tokens_before, unless_ended}
 use Rattle.redcode_text.specs.Source as source
-use Rattle.redcode_text.specs.Source.{Row, Items, Nothing, Plain, Loop, LoneRof}
+use Rattle.redcode_text.specs.Source.{SourceRow, Items, Nothing, Plain, Loop, LoneRof}
 use Rattle.redcode_text.specs.Tokens.{Scanned, at_line, tokens}
 use Rattle.redcode_text.proofs.ForLaws.BehindEnd.{unpaired-refused}
 use Rattle.redcode_text.proofs.Kept.{Kept, line-kept, loops_of, plain-kept, rof-ended}
@@ -28,7 +28,7 @@ on-bind : {A : Type 0} (t : Bool) (r : Result A TextProblem) (g : A → Result H
 on-bind t (Ok a) g h = h a
 on-bind t (Err e) g h = tt
 
-head-goes-on : (ps : Predefined) (row : Row) (st : Reading) → HeadGoesOn st.ended (head_line ps row st)
+head-goes-on : (ps : Predefined) (row : SourceRow) (st : Reading) → HeadGoesOn st.ended (head_line ps row st)
 head-goes-on ps row st = go (line_read st) (line-kept (λ a. a.ended) st refl)
   where
     rest : WithTokens → Result Head TextProblem
@@ -53,7 +53,7 @@ head-goes-on ps row st = go (line_read st) (line-kept (λ a. a.ended) st refl)
     go (Ok a) k = in-row a k (tokens a.loops row.number (row.at + 0) (limit - a.tokens_read) a.names (before_comment (drop 0 row.bytes)))
     go (Err e) k = tt
 
-head-ended : (ps : Predefined) (row : Row) (st : Reading) (h : Head) → head_line ps row st ≡ Ok h → h.reading.ended ≡ st.ended
+head-ended : (ps : Predefined) (row : SourceRow) (st : Reading) (h : Head) → head_line ps row st ≡ Ok h → h.reading.ended ≡ st.ended
 head-ended ps row st h is = go (head_line ps row st) (head-goes-on ps row st) is
   where
     go : (r : Result Head TextProblem) → HeadGoesOn st.ended r → r ≡ Ok h → h.reading.ended ≡ st.ended
@@ -121,7 +121,7 @@ module _ (ps : Predefined) (R : Reading → Reading → Type 0) (H : List ℕ �
   Beside S a other items rest = (b : Reading) × S a b × ReadTo items other rest b × (b.loops ≡ other.loops)
 
   -- one row of a round, before others
-  module _ (round : ℕ) (row like : Row) (rows : List Row) (others rest : Items) (same : W round row.bytes like.bytes)
+  module _ (round : ℕ) (row like : SourceRow) (rows : List SourceRow) (others rest : Items) (same : W round row.bytes like.bytes)
       (behind : (st other a : Reading) → st.ended ≡ false → Inside round st other → flat ps (onto rows Nothing) st ≡ Ok a
       → Beside (Inside round) a other others rest) where
     row-beside : (a other x y : Reading) → plain_line ps like other ≡ Ok y → Inside round x y → y.loops ≡ other.loops → (t : Bool) → x.ended ≡ t
@@ -158,7 +158,7 @@ module _ (ps : Predefined) (R : Reading → Reading → Type 0) (H : List ℕ �
             row-beside a other x y.0 y.1 y.2 kept x.ended refl (sim.one_ended x y.0 round y.2) is
         go (Err p) e is = cc
 
-  rows-read : (round : ℕ) (rows likes : List Row) (rest : Items) → RowsWritten H W round rows likes → (st other a : Reading) → st.ended ≡ false → Inside round st other
+  rows-read : (round : ℕ) (rows likes : List SourceRow) (rest : Items) → RowsWritten H W round rows likes → (st other a : Reading) → st.ended ≡ false → Inside round st other
       → flat ps (onto rows Nothing) st ≡ Ok a
       → Beside (Inside round) a other (onto likes rest) rest
   rows-read round [] [] rest same st other a on r is =
@@ -172,7 +172,7 @@ module _ (ps : Predefined) (R : Reading → Reading → Type 0) (H : List ℕ �
   -- ---- rounds
 
   -- one round, before others: the copy that was read for it, and what follows
-  module _ (now : ℕ) (rows likes : List Row) (others rest : Items) (same : RowsWritten H W now rows likes) (n : ℕ)
+  module _ (now : ℕ) (rows likes : List SourceRow) (others rest : Items) (same : RowsWritten H W now rows likes) (n : ℕ)
       (behind : (st other a : Reading) → st.ended ≡ false → R st other
       → rounds (flat ps (onto rows Nothing)) counter (now + 1) n st ≡ Ok a → Beside R a other others rest) where
     round-beside : (a other x y : Reading) → R x y → ReadTo (onto likes others) other others y → y.loops ≡ other.loops
@@ -201,7 +201,7 @@ module _ (ps : Predefined) (R : Reading → Reading → Type 0) (H : List ℕ �
             round-beside a other x-behind b.0 related b.2 b.3 x.ended refl (sim.ended x-behind b.0 related) is
         go (Err p) e is = cc
 
-  rounds-read : (n : ℕ) (rows : List Row) (rest items : Items) (round : ℕ) → AreCopies H W round n rows rest items → (st other a : Reading)
+  rounds-read : (n : ℕ) (rows : List SourceRow) (rest items : Items) (round : ℕ) → AreCopies H W round n rows rest items → (st other a : Reading)
       → st.ended ≡ false → R st other
       → rounds (flat ps (onto rows Nothing)) counter round n st ≡ Ok a → Beside R a other items rest
   rounds-read zero rows rest items round c st other a on r is =
@@ -232,17 +232,17 @@ module _ (ps : Predefined) (R : Reading → Reading → Type 0) (H : List ℕ �
   -- ---- trees
 
   -- what stands behind a loop, from its ROF on
-  abbrev behind : Row → Items → Reading → Result Reading TextFault
+  abbrev behind : SourceRow → Items → Reading → Result Reading TextFault
   behind rof rest a = at_line rof.number (rof_line rof a) >>= flat ps rest
 
-  rof-goes-on : (rof : Row) (a b : Reading) → a.ended ≡ false → rof_line rof a ≡ Ok b → b.ended ≡ false
+  rof-goes-on : (rof : SourceRow) (a b : Reading) → a.ended ≡ false → rof_line rof a ≡ Ok b → b.ended ≡ false
   rof-goes-on rof a b going is = kept-of (λ st. st.ended) a.ended (rof_line rof a) b (rof-ended rof a) is ∙ going
 
   -- the items behind a loop or a row are read alike
   abbrev AreReadAlike : Items → Items → Type 0
   AreReadAlike one other = (st like : Reading) → st.ended ≡ false → R st like → Follows (flat ps one st) (flat ps other like)
 
-  plain-both : (row like : Row) (rest others : Items) → row.bytes ≡ like.bytes → AreReadAlike rest others
+  plain-both : (row like : SourceRow) (rest others : Items) → row.bytes ≡ like.bytes → AreReadAlike rest others
       → AreReadAlike (Plain row rest) (Plain like others)
   plain-both row like rest others same h st other on r =
       both-then R (at_line row.number (plain_line ps row st)) (at_line like.number (plain_line ps like other))
@@ -255,7 +255,7 @@ module _ (ps : Predefined) (R : Reading → Reading → Type 0) (H : List ℕ �
   abbrev HeadsAlike : Head → Head → Type 0
   HeadsAlike h k = (h.counter ≡ k.counter) × (h.count ≡ k.count) × IsCounter h.counter × R h.reading k.reading
 
-  loop-both : (head rof like end : Row) (body inside rest others : Items) → head.bytes ≡ like.bytes → rof.bytes ≡ end.bytes
+  loop-both : (head rof like end : SourceRow) (body inside rest others : Items) → head.bytes ≡ like.bytes → rof.bytes ≡ end.bytes
       → AreReadAlike body inside → AreReadAlike rest others
       → AreReadAlike (Loop head body rof rest) (Loop like inside end others)
   loop-both head rof like end body inside rest others head-same rof-same body-same rest-same st other on r =
@@ -286,7 +286,7 @@ module _ (ps : Predefined) (R : Reading → Reading → Type 0) (H : List ℕ �
           (rounds-both (flat ps body) (flat ps inside) body-same h.counter heads.2 h.count 1 h.reading k.reading going heads.3)
           (λ a b is related. both-unless a b (behind rof rest) (behind end others) related (λ goes. behind-both a b goes related)))
 
-  loop-written : (head rof : Row) (rows : List Row) (n : ℕ) (rest others items : Items) → n < 2 ^ 63
+  loop-written : (head rof : SourceRow) (rows : List SourceRow) (n : ℕ) (rest others items : Items) → n < 2 ^ 63
       → H head.bytes n → AreCopies H W 1 n rows others items → AreReadAlike rest others
       → AreReadAlike (Loop head (onto rows Nothing) rof rest) items
   loop-written head rof rows n rest others items small head-is are-copies rest-same st other on r =

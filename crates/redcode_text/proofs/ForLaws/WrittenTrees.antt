@@ -7,34 +7,34 @@ use Rattle.std.specs.List.{AllByRecursion, list_any, onto_first}
 use Rattle.std.specs.Prelude.{⊤, cond, codes, ◌/◌, ◌%◌}
 use Rattle.redcode_text.specs.Laws.{IsBodyLine, IsLine, copies, is_loop_kind, loop_lines, text_of_lines}
 use Rattle.redcode_text.specs.Source as source
-use Rattle.redcode_text.specs.Source.{Row, Items, Nothing, Plain, Loop, LoneRof, LineKind, RofLine, ForLine, EquLine, OtherLine, Pairing, begins_redcode, from_redcode, has_directive, line_kind, lines_of, opened, paired, paired_with, read_rows, rows_from, then_lone, tree_of, tree_of_rows, with_lone}
+use Rattle.redcode_text.specs.Source.{SourceRow, Items, Nothing, Plain, Loop, LoneRof, LineKind, RofLine, ForLine, EquLine, OtherLine, Pairing, begins_redcode, from_redcode, has_directive, line_kind, lines_of, opened, paired, paired_with, read_rows, rows_from, then_lone, tree_of, tree_of_rows, with_lone}
 use Rattle.redcode_text.proofs.ForLaws.BehindEnd.{any-rows}
 
 -- ---- trees
 
 -- rows before other items
-abbrev pub onto : List Row → Items → Items
+abbrev pub onto : List SourceRow → Items → Items
 onto [] rest = rest
 onto (row ∷ rows) rest = Plain row (onto rows rest)
 
 module _ (H : List ℕ → ℕ → Type 0) (W : ℕ → List ℕ → List ℕ → Type 0) where
   -- rows that stand in place of others in a round, one after another
-  abbrev pub RowsWritten : ℕ → List Row → List Row → Type 0
+  abbrev pub RowsWritten : ℕ → List SourceRow → List SourceRow → Type 0
   RowsWritten round [] [] = ⊤
   RowsWritten round [] (like ∷ likes) = ⊥
   RowsWritten round (row ∷ rows) [] = ⊥
   RowsWritten round (row ∷ rows) (like ∷ likes) = W round row.bytes like.bytes × RowsWritten round rows likes
 
   -- the items are these rows as they are written in n rounds, from one on, one after another, and then the rest
-  abbrev pub AreCopies : ℕ → ℕ → List Row → Items → Items → Type 0
+  abbrev pub AreCopies : ℕ → ℕ → List SourceRow → Items → Items → Type 0
   AreCopies round zero rows rest items = items ≡ rest
   AreCopies round (suc n) rows rest items =
-      (likes : List Row) × (others : Items) × RowsWritten round rows likes × (items ≡ onto likes others) × AreCopies (round + 1) n rows rest others
+      (likes : List SourceRow) × (others : Items) × RowsWritten round rows likes × (items ≡ onto likes others) × AreCopies (round + 1) n rows rest others
 
   -- a loop stands beside a loop
-  pub record IsSameLoop (head rof : Row) (inside behind : Items → Type 0) (other : Items) : Type 0 where
-    pub like : Row
-    pub end : Row
+  pub record IsSameLoop (head rof : SourceRow) (inside behind : Items → Type 0) (other : Items) : Type 0 where
+    pub like : SourceRow
+    pub end : SourceRow
     pub body : Items
     pub rest : Items
     pub is : other ≡ Loop like body end rest
@@ -44,9 +44,9 @@ module _ (H : List ℕ → ℕ → Type 0) (W : ℕ → List ℕ → List ℕ �
     pub rest_same : behind rest
 
   -- a loop of so many rounds, whose body is rows alone, stands beside those rows as they are written in each round
-  pub record IsWrittenOut (head : Row) (body : Items) (behind : Items → Type 0) (other : Items) : Type 0 where
+  pub record IsWrittenOut (head : SourceRow) (body : Items) (behind : Items → Type 0) (other : Items) : Type 0 where
     pub count : ℕ
-    pub rows : List Row
+    pub rows : List SourceRow
     pub rest : Items
     pub small : count < 2 ^ 63
     pub head_is : H head.bytes count
@@ -58,7 +58,7 @@ module _ (H : List ℕ → ℕ → Type 0) (W : ℕ → List ℕ → List ℕ �
   unfoldable pub TreesAlike : Items → Items → Type 0
   TreesAlike Nothing other = other ≡ Nothing
   TreesAlike (Plain row rest) other =
-      (like : Row) × (others : Items) × (other ≡ Plain like others) × (row.bytes ≡ like.bytes) × TreesAlike rest others
+      (like : SourceRow) × (others : Items) × (other ≡ Plain like others) × (row.bytes ≡ like.bytes) × TreesAlike rest others
   TreesAlike (Loop head body rof rest) other =
       IsSameLoop head rof (λ x. TreesAlike body x) (λ x. TreesAlike rest x) other ⊎ IsWrittenOut head body (λ x. TreesAlike rest x) other
   TreesAlike (source.UnclosedFor row rest) other = ⊤
@@ -85,17 +85,17 @@ module _ (H : List ℕ → ℕ → Type 0) (W : ℕ → List ℕ → List ℕ �
 
   -- ---- a ROF that closes nothing
 
-  onto-lone : (rof : Row) (rows : List Row) (rest : Items) → then_lone rof (onto rows rest) ≡ onto rows (then_lone rof rest)
+  onto-lone : (rof : SourceRow) (rows : List SourceRow) (rest : Items) → then_lone rof (onto rows rest) ≡ onto rows (then_lone rof rest)
   onto-lone rof [] rest = refl
   onto-lone rof (row ∷ rows) rest = ap (Plain row) (onto-lone rof rows rest)
 
-  copies-lone : (rof : Row) (round n : ℕ) (rows : List Row) (rest items : Items) → AreCopies round n rows rest items
+  copies-lone : (rof : SourceRow) (round n : ℕ) (rows : List SourceRow) (rest items : Items) → AreCopies round n rows rest items
       → AreCopies round n rows (then_lone rof rest) (then_lone rof items)
   copies-lone rof round zero rows rest items c = ap (then_lone rof) c
   copies-lone rof round (suc n) rows rest items c =
       (c.0, then_lone rof c.1, c.2, ap (then_lone rof) c.3 ∙ onto-lone rof c.0 c.1, copies-lone rof (round + 1) n rows rest c.1 c.4)
 
-  lone-alike : (rof other : Row) (one two : Items) → TreesAlike one two → TreesAlike (then_lone rof one) (then_lone other two)
+  lone-alike : (rof other : SourceRow) (one two : Items) → TreesAlike one two → TreesAlike (then_lone rof one) (then_lone other two)
   unfolding TreesAlike
   lone-alike rof other Nothing two t = tt
   lone-alike rof other (Plain row rest) two t = (t.0, then_lone other t.1, ap (then_lone other) t.2, t.3, lone-alike rof other rest t.1 t.4)
@@ -128,7 +128,7 @@ module _ (H : List ℕ → ℕ → Type 0) (W : ℕ → List ℕ → List ℕ �
   -- ---- pairings
 
   -- ROFs that wait, with what stands behind them
-  abbrev pub WaitingAlike : List (Row × Items) → List (Row × Items) → Type 0
+  abbrev pub WaitingAlike : List (SourceRow × Items) → List (SourceRow × Items) → Type 0
   WaitingAlike [] [] = ⊤
   WaitingAlike [] (v ∷ vs) = ⊥
   WaitingAlike (w ∷ ws) [] = ⊥
@@ -137,7 +137,7 @@ module _ (H : List ℕ → ℕ → Type 0) (W : ℕ → List ℕ → List ℕ �
   abbrev pub PairsAlike : Pairing → Pairing → Type 0
   PairsAlike p q = TreesAlike p.here q.here × WaitingAlike p.waiting q.waiting
 
-  opened-alike : (row like : Row) → row.bytes ≡ like.bytes → (here more : Items) (ws vs : List (Row × Items)) → TreesAlike here more
+  opened-alike : (row like : SourceRow) → row.bytes ≡ like.bytes → (here more : Items) (ws vs : List (SourceRow × Items)) → TreesAlike here more
       → WaitingAlike ws vs → PairsAlike (opened row here ws) (opened like more vs)
   unfolding TreesAlike
   opened-alike row like same here more [] [] t w = (tt, tt)
@@ -148,7 +148,7 @@ module _ (H : List ℕ → ℕ → Type 0) (W : ℕ → List ℕ → List ℕ �
       record { like = like; end = v.0; body = more; rest = v.1; is = refl; head_same = same; rof_same = w.0; body_same = t; rest_same = w.1 } in
       (inl loop, w.2)
 
-  row-alike : (kind : LineKind) (row like : Row) → row.bytes ≡ like.bytes → (p q : Pairing) → PairsAlike p q
+  row-alike : (kind : LineKind) (row like : SourceRow) → row.bytes ≡ like.bytes → (p q : Pairing) → PairsAlike p q
       → PairsAlike (paired_with kind row p) (paired_with kind like q)
   unfolding TreesAlike
   row-alike (ForLine at) row like same p q a = opened-alike row like same p.here q.here p.waiting q.waiting a.0 a.1
@@ -156,7 +156,7 @@ module _ (H : List ℕ → ℕ → Type 0) (W : ℕ → List ℕ → List ℕ �
   row-alike (EquLine at) row like same p q a = ((like, q.here, refl, same, a.0), a.1)
   row-alike OtherLine row like same p q a = ((like, q.here, refl, same, a.0), a.1)
 
-  pair-tree : (here more : Items) (ws vs : List (Row × Items)) → TreesAlike here more → WaitingAlike ws vs
+  pair-tree : (here more : Items) (ws vs : List (SourceRow × Items)) → TreesAlike here more → WaitingAlike ws vs
       → TreesAlike (with_lone here ws) (with_lone more vs)
   pair-tree here more [] [] t w = t
   pair-tree here more [] (v ∷ vs) t w = absurd w
@@ -198,10 +198,10 @@ rows-themselves (l ∷ lines) round number at n a = (refl, rows-themselves lines
 -- ---- a loop and its copies
 
 -- a pairing behind some rows
-abbrev pub behind_rows : List Row → Pairing → Pairing
+abbrev pub behind_rows : List SourceRow → Pairing → Pairing
 behind_rows rows p = record { here = onto rows p.here; waiting = p.waiting }
 
-plain-paired : (kind : LineKind) → is_loop_kind kind ≡ false → (row : Row) (p : Pairing) → paired_with kind row p ≡ behind_rows (row ∷ []) p
+plain-paired : (kind : LineKind) → is_loop_kind kind ≡ false → (row : SourceRow) (p : Pairing) → paired_with kind row p ≡ behind_rows (row ∷ []) p
 plain-paired RofLine e row p = cc
 plain-paired (ForLine at) e row p = cc
 plain-paired (EquLine at) e row p = refl
@@ -212,7 +212,7 @@ pub body-paired : (body rest : List (List ℕ)) → AllByRecursion IsBodyLine bo
     × (paired (rows_from number at (body ++ rest)) ≡ behind_rows (rows_from number at body) (paired (rows_from n a rest)))
 body-paired [] rest all number at = (number, at, refl)
 body-paired (l ∷ body) rest all number at =
-    let row : Row = record { number = number; at = at; bytes = l } in
+    let row : SourceRow = record { number = number; at = at; bytes = l } in
     let r = body-paired body rest all.1 (number + 1) (at + length l + 1) in
     let p = behind_rows (rows_from (number + 1) (at + length l + 1) body) (paired (rows_from r.0 r.1 rest)) in
     (r.0, r.1, ap (paired_with (line_kind l) row) r.2 ∙ plain-paired (line_kind l) all.0.kind row p)
@@ -236,11 +236,11 @@ module _ (body after : List (List ℕ)) (all : AllByRecursion IsBodyLine body) w
   for-kind : (digits : List ℕ) → line_kind (codes "FOR " ++ digits) ≡ ForLine 0
   for-kind digits = refl
 
-  abbrev head_row : ℕ → ℕ → ℕ → Row
+  abbrev head_row : ℕ → ℕ → ℕ → SourceRow
   head_row n number at = record { number = number; at = at; bytes = codes "FOR " ++ decimal n }
 
   -- the loop's lines, paired
-  loop-paired : (n number at : ℕ) → (k : ℕ) × (b : ℕ) × (i : ℕ) × (j : ℕ) × (rof : Row) ×
+  loop-paired : (n number at : ℕ) → (k : ℕ) × (b : ℕ) × (i : ℕ) × (j : ℕ) × (rof : SourceRow) ×
       (paired (rows_from number at (loop_lines n body ++ after)) ≡ record {
         here = Loop (head_row n number at) (onto (rows_from k b body) Nothing) rof (paired (rows_from i j after)).here;
         waiting = (paired (rows_from i j after)).waiting;
@@ -250,7 +250,7 @@ module _ (body after : List (List ℕ)) (all : AllByRecursion IsBodyLine body) w
       let k = number + 1 in
       let b = at + length (codes "FOR " ++ decimal n) + 1 in
       let r = body-paired body (codes "ROF" ∷ after) all k b in
-      let rof : Row = record { number = r.0; at = r.1; bytes = codes "ROF" } in
+      let rof : SourceRow = record { number = r.0; at = r.1; bytes = codes "ROF" } in
       let i = r.0 + 1 in
       let j = r.1 + length (codes "ROF") + 1 in
       let behind = paired (rows_from i j after) in
@@ -305,15 +305,15 @@ from-rows : (lines : List (List ℕ)) (number at : ℕ)
 from-rows [] number at = (number, at, refl)
 from-rows (l ∷ lines) number at = go (begins l) (from-rows lines (number + 1) (at + length l + 1))
   where
-    rows : List Row
+    rows : List SourceRow
     rows = rows_from (number + 1) (at + length l + 1) lines
 
-    row : Row
+    row : SourceRow
     row = record { number = number; at = at; bytes = l }
 
     go : (t : Bool) → ((n : ℕ) × (a : ℕ) × (from_redcode rows ≡ rows_from n a (from_lines lines)))
         → (n : ℕ) × (a : ℕ)
-        × ((elim t as (λ _. List Row) [ true ↦ row ∷ rows | false ↦ from_redcode rows ]) ≡ rows_from n a (elim t as (λ _. List (List ℕ)) [ true ↦ l ∷ lines | false ↦ from_lines lines ]))
+        × ((elim t as (λ _. List SourceRow) [ true ↦ row ∷ rows | false ↦ from_redcode rows ]) ≡ rows_from n a (elim t as (λ _. List (List ℕ)) [ true ↦ l ∷ lines | false ↦ from_lines lines ]))
     go true r = (number, at, refl)
     go false r = r
 
@@ -321,14 +321,14 @@ read-rows-from : (lines : List (List ℕ)) (number at : ℕ)
     → (n : ℕ) × (a : ℕ) × (read_rows (rows_from number at lines) ≡ rows_from n a (read_lines lines))
 read-rows-from lines number at =
     let r = go (list_any begins lines) in
-    (r.0, r.1, ap (λ t. elim t as (λ _. List Row) [ true ↦ from_redcode rows | false ↦ rows ]) (any-rows number at lines) ∙ r.2)
+    (r.0, r.1, ap (λ t. elim t as (λ _. List SourceRow) [ true ↦ from_redcode rows | false ↦ rows ]) (any-rows number at lines) ∙ r.2)
   where
-    rows : List Row
+    rows : List SourceRow
     rows = rows_from number at lines
 
     go : (t : Bool)
         → (n : ℕ) × (a : ℕ)
-        × ((elim t as (λ _. List Row) [ true ↦ from_redcode rows | false ↦ rows ]) ≡ rows_from n a (elim t as (λ _. List (List ℕ)) [ true ↦ from_lines lines | false ↦ lines ]))
+        × ((elim t as (λ _. List SourceRow) [ true ↦ from_redcode rows | false ↦ rows ]) ≡ rows_from n a (elim t as (λ _. List (List ℕ)) [ true ↦ from_lines lines | false ↦ lines ]))
     go true = from-rows lines number at
     go false = (number, at, refl)
 

@@ -8,7 +8,7 @@ use Rattle.redcode_text.specs.declared.fault.TextProblem.{TextProblem}
 use Rattle.redcode_text.specs.declared.source.directives.Comment.{Comment}
 use Rattle.redcode_text.specs.declared.source.directives.Comment.TheVariants.{Name, Author, Assert, Other}
 use Rattle.redcode_text.specs.Lines.{Reading, longest_name, printable, row_tokens, unless_empty}
-use Rattle.redcode_text.specs.Source.{Row, blank_len, ends_word, without_blanks}
+use Rattle.redcode_text.specs.Source.{SourceRow, blank_len, ends_word, without_blanks}
 
 -- a text without the blanks at both ends
 abbrev pub trimmed : List ℕ → List ℕ
@@ -25,7 +25,7 @@ abbrev pub with_author_text : List ℕ → Reading → Reading
 with_author_text text st = record st { author = unless_empty (printed_value text) st.author }
 
 -- an assert whose expression begins at this place of its row
-abbrev pub assert_at : Row → ℕ → Reading → Result Reading TextProblem
+abbrev pub assert_at : SourceRow → ℕ → Reading → Result Reading TextProblem
 assert_at row at st =
     row_tokens row at st >>= λ r.
     Ok (record (r.1) { asserts = r.1.asserts ++ record { number = row.number; current_line = r.1.instructions; tokens = r.0 } ∷ [] })
@@ -73,7 +73,7 @@ author_said bytes = author_or bytes (assert_or_nothing (text_found (semicolon �
 abbrev pub said : List ℕ → Said
 said bytes = name_or bytes (author_said bytes) (text_found (semicolon ∷ codes "name") bytes)
 
-abbrev pub said_line : Said → Row → Reading → Result Reading TextProblem
+abbrev pub said_line : Said → SourceRow → Reading → Result Reading TextProblem
 said_line (NameSaid text) row st = Ok (with_name_text text st)
 said_line (AuthorSaid text) row st = Ok (with_author_text text st)
 said_line (AssertSaid at) row st = assert_at row at st

@@ -103,7 +103,7 @@ fn apply_signs(run: &[Token], value: i64) -> Result<i64, ExprFault>
 
 /// The reading of an expression from the left, in which at most `N` values and parentheses wait.
 #[derive(Drop)]
-pub struct Evaluation<const N: usize> {
+pub struct Evaluator<const N: usize> {
     stack: Stack<N>,
     /// Where the unary signs directly before begin among the tokens.
     first_sign: usize,
@@ -112,7 +112,7 @@ pub struct Evaluation<const N: usize> {
     after_operand: bool,
 }
 
-impl<const N: usize> Model for Evaluation<N> {
+impl<const N: usize> Model for Evaluator<N> {
     ghost use Rattle.redcode_text.specs.Code.Progress.{Progress};
 
     ghost Value = { Progress };
@@ -125,7 +125,7 @@ impl<const N: usize> Model for Evaluation<N> {
     } };
 }
 
-impl<const N: usize> Evaluation<N> {
+impl<const N: usize> Evaluator<N> {
     ghost use Rattle.redcode_text.specs.Code.Positions.{GivesState, operated, closed_on, taken, opened_on, advance, finished};
 
     pub fn new() -> Self
@@ -133,7 +133,7 @@ impl<const N: usize> Evaluation<N> {
         ensures first { result.first_sign ≡ 0 }
         ensures after { result.after_operand ≡ false }
     {
-        Evaluation {
+        Evaluator {
             stack: Stack::new(),
             first_sign: 0,
             value: 0,

@@ -10,12 +10,12 @@ use crate::fault::TextProblem;
 use crate::program::Assert;
 use crate::reader::Reading;
 use crate::source::directives::{Comment, comment_of, directive_value};
-use crate::source::row::Row;
+use crate::source::row::SourceRow;
 use std::alloc::Global;
 
 impl Reading {
     /// Reads a comment line: `;name`, `;author`, `;assert`, or nothing.
-    pub fn read_comment(&mut self, alloc: Global, row: Row<'_>) -> Result<(), TextProblem>
+    pub fn read_comment(&mut self, alloc: Global, row: SourceRow<'_>) -> Result<(), TextProblem>
         requires fits { row.at + length row.bytes.now < 2 ^ 64 }
         ensures value { Gives (λ _. reading_of self.new) result (comment_line (row_of row.entry) (reading_of self.old)) }
     {
@@ -50,7 +50,12 @@ impl Reading {
     }
 
     /// Reads the expression of an assert, which begins at a place of a row.
-    fn read_assert(&mut self, alloc: Global, row: Row<'_>, at: usize) -> Result<(), TextProblem>
+    fn read_assert(
+        &mut self,
+        alloc: Global,
+        row: SourceRow<'_>,
+        at: usize,
+    ) -> Result<(), TextProblem>
         requires within { at ≤ length row.bytes.now }
         requires fits { row.at + length row.bytes.now < 2 ^ 64 }
         ensures value { Gives (λ _. reading_of self.new) result (assert_at (row_of row.entry) at (reading_of self.old)) }

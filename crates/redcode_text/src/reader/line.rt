@@ -11,7 +11,7 @@ use crate::fault::TextProblem;
 use crate::limits::MAX_NESTING;
 use crate::names::predefined::PredefinedNames;
 use crate::reader::{Reading, keep_after, name_in_front};
-use crate::source::row::{LineKind, Row};
+use crate::source::row::{LineKind, SourceRow};
 use crate::token::Token;
 use std::alloc::Global;
 
@@ -48,7 +48,7 @@ impl Reading {
         alloc: Global,
         names: &PredefinedNames,
         kind: LineKind,
-        row: Row<'_>,
+        row: SourceRow<'_>,
         tokens: Vec<Token>,
     ) -> Result<(), TextProblem>
         requires room { vec_len self.old.lines < self.old.lines_read }
@@ -71,7 +71,7 @@ impl Reading {
         &mut self,
         alloc: Global,
         names: &PredefinedNames,
-        row: Row<'_>,
+        row: SourceRow<'_>,
     ) -> Result<(), TextProblem>
         requires fits { row.at + length row.bytes.now < 2 ^ 64 }
         ensures value { Gives (λ _. reading_of self.new) result

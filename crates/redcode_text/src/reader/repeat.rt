@@ -22,13 +22,13 @@ use crate::fault::{TextFault, TextProblem};
 use crate::names::predefined::PredefinedNames;
 use crate::reader::Reading;
 use crate::reader::repeat::head::Head;
-use crate::source::row::{LineKind, Row};
+use crate::source::row::{LineKind, SourceRow};
 use crate::source::{end_from, ends_of};
 use std::alloc::Global;
 
 impl Reading {
     /// Reads the line of a ROF, whose tokens mean nothing.
-    pub fn read_rof(&mut self, alloc: Global, row: Row<'_>) -> Result<(), TextProblem>
+    pub fn read_rof(&mut self, alloc: Global, row: SourceRow<'_>) -> Result<(), TextProblem>
         requires fits { row.at + length row.bytes.now < 2 ^ 64 }
         ensures value { Gives (λ _. reading_of self.new) result (rof_line (row_of row.entry) (reading_of self.old)) }
     {
@@ -47,7 +47,7 @@ impl Reading {
 fn read_row(
     alloc: Global,
     names: &PredefinedNames,
-    rows: &[Row<'_>],
+    rows: &[SourceRow<'_>],
     at: usize,
     reading: &mut Reading,
 ) -> Result<usize, TextFault>
@@ -68,7 +68,7 @@ fn read_row(
 fn read_for_row(
     alloc: Global,
     names: &PredefinedNames,
-    row: Row<'_>,
+    row: SourceRow<'_>,
     word_at: usize,
     reading: &mut Reading,
 ) -> Result<Head, TextFault>
@@ -88,7 +88,7 @@ fn read_for_row(
 }
 
 /// Reads the row of a ROF.
-fn read_rof_row(alloc: Global, row: Row<'_>, reading: &mut Reading) -> Result<(), TextFault>
+fn read_rof_row(alloc: Global, row: SourceRow<'_>, reading: &mut Reading) -> Result<(), TextFault>
     requires fits { row.at + length row.bytes.now < 2 ^ 64 }
     ensures loops { OnOk result (loops_of reading.new.names ≡ loops_of reading.old.names) }
     ensures gives { Answers (λ _. reading_of reading.new) result
@@ -102,7 +102,7 @@ fn read_rof_row(alloc: Global, row: Row<'_>, reading: &mut Reading) -> Result<()
 
 /// Refuses a FOR without its ROF, or a ROF without its FOR, which is this problem.
 fn refuse_unpaired(
-    row: Row<'_>,
+    row: SourceRow<'_>,
     problem: TextProblem,
     reading: &mut Reading,
 ) -> Result<(), TextFault>
@@ -118,7 +118,7 @@ fn refuse_unpaired(
 /// The rows of a source, and where the loop of each FOR ends.
 #[derive(Clone, Copy)]
 struct PairedRows<'a> {
-    rows: &'a [Row<'a>],
+    rows: &'a [SourceRow<'a>],
     /// The index of the row that ends the items behind each row: their ROF, or the length where none ends them.
     ends: &'a [usize],
     ghost same_length: { length ends.now ≡ length rows.now },
@@ -230,7 +230,7 @@ fn read_rounds(
 pub fn read_all(
     alloc: Global,
     names: &PredefinedNames,
-    rows: &[Row<'_>],
+    rows: &[SourceRow<'_>],
     reading: &mut Reading,
 ) -> Result<(), TextFault>
     requires fits { RowsFit rows.now }

@@ -120,7 +120,7 @@ pub fn before_comment(bytes: &[u8]) -> &[u8]
 
 /// A line of a source, without its LF.
 #[derive(Clone, Copy)]
-pub struct Row<'a> {
+pub struct SourceRow<'a> {
     /// The number of the line, from 1.
     pub number: usize,
     /// The index of its first byte in the source.
@@ -131,14 +131,14 @@ pub struct Row<'a> {
     ghost kind_is: { IsKind kind bytes.now },
 }
 
-impl<'a> Row<'a> {
+impl<'a> SourceRow<'a> {
     ghost use Rattle.redcode_text.specs.Code.Rows.{row_of};
 
     /// The line of this number, whose first byte has this index in the source.
     pub fn new(number: usize, at: usize, bytes: &'a [u8]) -> Self
         ensures { row_of result ≡ record { number = number; at = at; bytes = bytes.now } }
     {
-        Row {
+        SourceRow {
             number,
             at,
             bytes,

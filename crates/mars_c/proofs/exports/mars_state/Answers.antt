@@ -1,5 +1,5 @@
 use Rattle.std.proofs.Common.{◌∙◌, inl, inr}
-use Rattle.mars_c.specs.declared.faults.Refusal.TheVariants.{OutOfMemory}
+use Rattle.mars_c.specs.declared.faults.CallRefusal.TheVariants.{OutOfMemory}
 use Rattle.mars_c.proofs.exports.mars_state.Goals as goal
 
 pub returns-in-Ok-clause-refused : goal.returns-in-Ok-clause-refused

@@ -18,7 +18,7 @@ use crate::limits::{MAX_COUNT, MAX_LOOPS};
 use crate::names::NameTable;
 use crate::names::predefined::PredefinedNames;
 use crate::reader::{Reading, keep_after, name_in_front};
-use crate::source::row::Row;
+use crate::source::row::SourceRow;
 use crate::token::{Token, TokenKind};
 use std::alloc::Global;
 
@@ -130,7 +130,7 @@ impl Reading {
         &mut self,
         alloc: Global,
         names: &PredefinedNames,
-        row: Row<'_>,
+        row: SourceRow<'_>,
         word_at: usize,
     ) -> Result<Head, TextProblem>
         requires fits { row.at + length row.bytes.now < 2 ^ 64 }

@@ -1,7 +1,7 @@
 use Rattle.std.proofs.Common.{◌≡◌, ◌∷◌, ◌∙◌, ℕ, List, ap, arith, drop, option_map, slice_index_or}
 use Rattle.std.proofs.lemmas.Result.{err_from_is_err_and}
 use Rattle.redcode_text.specs.Expansion.{flat, rounds}
-use Rattle.redcode_text.specs.declared.source.row.Row as code
+use Rattle.redcode_text.specs.declared.source.row.SourceRow as code
 use Rattle.redcode_text.specs.Source.{RofLine, line_kind}
 use Rattle.redcode_text.specs.Code.Counters.{innermost_counter}
 use Rattle.redcode_text.specs.Code.Heads.{head_of}
@@ -107,5 +107,5 @@ read_rounds-returns-in-Rof-clause-gives t c =
     let ps = predefined_of c.args.names.now in
     let counter = option_map (name_at c.args.reading.now.names.table) c.args.head.counter in
     let st = reading_of c.args.reading.now in
-    ap (λ items. rounds (flat ps items) counter 1 c.args.head.count st) (ends-rof c.args.source.rows.now c.args.first row c.requires.within (kind ∙ ap (λ (w : code.Row). line_kind w.bytes.now) c.index-rows-first.is)).at_end
+    ap (λ items. rounds (flat ps items) counter 1 c.args.head.count st) (ends-rof c.args.source.rows.now c.args.first row c.requires.within (kind ∙ ap (λ (w : code.SourceRow). line_kind w.bytes.now) c.index-rows-first.is)).at_end
     ∙ empty-rounds ps counter c.args.head.count 1 st

@@ -1,6 +1,6 @@
 use Rattle.std.proofs.lemmas.Result.{on_err_weaker, on_ok_weaker}
 use Rattle.mars_cell.proofs.CallerLemmas.{CutShort-front}
-use Rattle.mars_app.proofs.debugger.pending.Pending.finish.Goals as goal
+use Rattle.mars_app.proofs.debugger.pending.PendingText.finish.Goals as goal
 
 pub returns-in-Ok-clause-ok : goal.returns-in-Ok-clause-ok
 returns-in-Ok-clause-ok g c = on_ok_weaker c.write.result (λ out old text waits. out old _ (c.in-Ok.ensures.ok old text waits)) c.write.ensures.ok

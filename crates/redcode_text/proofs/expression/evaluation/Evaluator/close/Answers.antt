@@ -2,9 +2,9 @@ use Rattle.std.proofs.Common.{arith, rules, ◌≤◌, subst, sym}
 use Rattle.redcode_text.specs.Code.Climbing.{AreInside}
 use Rattle.redcode_text.specs.Code.Progress.{Progress}
 use Rattle.redcode_text.proofs.Reducing.{inside-open}
-use Rattle.redcode_text.proofs.expression.evaluation.Evaluation.close.Goals as goal
-use Rattle.redcode_text.proofs.expression.evaluation.Evaluation.close.Given.{Over}
-use Rattle.redcode_text.proofs.expression.evaluation.Evaluation.close.Goals.{In-Some}
+use Rattle.redcode_text.proofs.expression.evaluation.Evaluator.close.Goals as goal
+use Rattle.redcode_text.proofs.expression.evaluation.Evaluator.close.Given.{Over}
+use Rattle.redcode_text.proofs.expression.evaluation.Evaluator.close.Goals.{In-Some}
 
 -- the signs lie before the parenthesis
 inside : (g : Over) (c : In-Some g) → (c.in-Some.from ≤ c.in-Some.to) × (c.in-Some.to ≤ c.args.at)

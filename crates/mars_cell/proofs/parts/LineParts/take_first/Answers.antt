@@ -1,7 +1,7 @@
 use Rattle.std.proofs.Common.{◌≡◌, ◌∷◌, ◌∙◌, sym}
 use Rattle.mars_cell.proofs.PartsOf.{parts-end, part_joined, part_single}
-use Rattle.mars_cell.proofs.parts.Parts.take_first.Goals as goal
-use Rattle.mars_cell.proofs.parts.Parts.take_first.Goals.{then-is_joining, else-is_joining}
+use Rattle.mars_cell.proofs.parts.LineParts.take_first.Goals as goal
+use Rattle.mars_cell.proofs.parts.LineParts.take_first.Goals.{then-is_joining, else-is_joining}
 
 pub returns-in_default : goal.returns-in_default
 returns-in_default c = parts-end c.args.self.now.rest.now c.split_at.result.1.now (rw c.blank_len-blanks.ensures at c.split_at.ensures.back) c.in_default.ensures.cases

@@ -1,6 +1,6 @@
 use Rattle.std.proofs.Common.{◌≡◌}
 use Rattle.mars_app.proofs.Transcripts.Waits.{sent_part}
-use Rattle.mars_app.proofs.debugger.pending.Pending.write.Goals as goal
+use Rattle.mars_app.proofs.debugger.pending.PendingText.write.Goals as goal
 
 pub returns-in-Err-clause-err : goal.returns-in-Err-clause-err
 returns-in-Err-clause-err g c = λ old text waits.
