@@ -5,7 +5,7 @@ ghost use Rattle.std.specs.Prelude.{◌≡◌, ◌≤◌, IfOk, None, length};
 use super::{BY_DEFAULT, DEAD, STAY, fought, sizes};
 use mars_cell::{Params, Warrior, read_cell};
 use mars_core::BattleFault;
-use mars_match::{MatchFault, PlaceFault, Plan, Table, league, place, rounds};
+use mars_match::{MatchFault, PlaceFault, Plan, Sum, Table, league, place, population, rounds};
 use redcode_asm::Formula;
 use std::alloc::Global;
 use std::process::Abort;
@@ -193,6 +193,61 @@ fn check_league(rt: &impl Abort, alloc: Global, warriors: &[Warrior]) -> Result<
 fn a_league_is_fought(rt: HostRuntime) -> Result<(), Fail> {
     let warriors = warriors_of(rt.alloc(), &[IMP, STAY, DEAD])?;
     let checked = check_league(&rt, rt.alloc(), warriors.as_slice());
+    drop(warriors);
+    checked
+}
+
+/// What the first two of some warriors get against the others, with a second try.
+fn sums_of_two(
+    rt: &impl Abort,
+    alloc: Global,
+    params: &Params,
+    warriors: &[Warrior],
+    plan: &Plan,
+) -> Result<Vec<Sum>, MatchFault>
+    requires { plan.now.fixed ≡ None }
+{
+    let (candidates, opponents) = warriors.split_at(warriors.len().min(2));
+    match population(alloc, params, candidates, opponents, plan) {
+        Err(fault) => {
+            assert!(rt; is_of_memory(fault));
+            population(alloc, params, candidates, opponents, plan)
+        }
+        Ok(sums) => Ok(sums),
+    }
+}
+
+/// A tie and a win, and two losses.
+const OF_TWO: [Sum; 2] = [
+    Sum {
+        points: 4,
+        wins: 1,
+        ties: 1,
+        losses: 0,
+    },
+    Sum {
+        points: 0,
+        wins: 0,
+        ties: 0,
+        losses: 2,
+    },
+];
+
+fn check_population(rt: &impl Abort, alloc: Global, warriors: &[Warrior]) -> Result<(), Fail> {
+    let params = sizes(8000, 100)?;
+    let plan = plan(alloc, 1)?;
+    match sums_of_two(rt, alloc, &params, warriors, &plan) {
+        Ok(sums) => assert_eq!(rt; sums.as_slice(), OF_TWO.as_slice()),
+        Err(fault) => assert!(rt; false, "{fault}"),
+    }
+    drop(plan);
+    Ok(())
+}
+
+#[test]
+fn a_population_is_fought(rt: HostRuntime) -> Result<(), Fail> {
+    let warriors = warriors_of(rt.alloc(), &[STAY, DEAD, STAY, DEAD])?;
+    let checked = check_population(&rt, rt.alloc(), warriors.as_slice());
     drop(warriors);
     checked
 }
