@@ -21,6 +21,19 @@ pub enum Op {
     Nop,
 }
 
+impl Op {
+    ghost use Rattle.std.specs.Prelude.{◌≡◌};
+    ghost use Rattle.mars_cell.specs.Cells.{op_index};
+
+    /// The opcode's place among all, from 0.
+    #[inline(always)]
+    pub const fn index(self) -> u8
+        ensures { result ≡ op_index self }
+    {
+        self as u8
+    }
+}
+
 /// Which fields of its two cells an instruction uses, as in the ICWS'94 draft.
 #[derive(Clone, Copy, Debug, PartialEq, Eq)]
 pub enum Modifier {
@@ -31,6 +44,19 @@ pub enum Modifier {
     F,
     X,
     I,
+}
+
+impl Modifier {
+    ghost use Rattle.std.specs.Prelude.{◌≡◌};
+    ghost use Rattle.mars_cell.specs.Cells.{modifier_index};
+
+    /// The modifier's place among all, from 0.
+    #[inline(always)]
+    pub const fn index(self) -> u8
+        ensures { result ≡ modifier_index self }
+    {
+        self as u8
+    }
 }
 
 /// How a number leads to a cell: `#`, `$`, `*`, `@`, `{`, `<`, `}` and `>` in this order.
@@ -44,6 +70,19 @@ pub enum Mode {
     BPredecrement,
     APostincrement,
     BPostincrement,
+}
+
+impl Mode {
+    ghost use Rattle.std.specs.Prelude.{◌≡◌};
+    ghost use Rattle.mars_cell.specs.Cells.{mode_index};
+
+    /// The mode's place among all, from 0.
+    #[inline(always)]
+    pub const fn index(self) -> u8
+        ensures { result ≡ mode_index self }
+    {
+        self as u8
+    }
 }
 
 /// One of the two numbers of a cell.

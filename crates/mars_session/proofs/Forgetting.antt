@@ -10,7 +10,7 @@ use Rattle.mars_core.specs.Leads.{Leads}
 use Rattle.mars_core.specs.declared.record.Atom.{Atom}
 use Rattle.mars_session.specs.Limits.{longest_history}
 use Rattle.mars_session.specs.History.{Place, History, position_of, marked, append}
-use Rattle.mars_session.specs.Retention.{Retention, kept, noted}
+use Rattle.mars_session.specs.Retention.{Retention, retained, noted}
 use Rattle.mars_session.specs.Code.Journals.{entry_at, journal_history, IsJournal, IsRing}
 use Rattle.mars_session.proofs.Appending.{take_all}
 use Rattle.mars_session.proofs.Stepping.{journal_position, journal_marked, marked_kept, journal_append, append_kept, cut_kept, history_is, dropped_before, dropped_mark, dropped_here}
@@ -48,7 +48,7 @@ cut_ring es most at s d = record {
 
 -- the first place is forgotten
 dropped_history : (first : Bool) (e : Atom × Bool) (es : List (Atom × Bool)) (at : ℕ) (t : State) → length es ≡ at
-    → journal_history e.1 es at t ≡ kept (Some at) (journal_history first (e ∷ es) (at + 1) t)
+    → journal_history e.1 es at t ≡ retained (Some at) (journal_history first (e ∷ es) (at + 1) t)
 dropped_history first e es at t l =
     let none : length es - at ≡ 0 = omega arith in
     let none_after : length (e ∷ es) - (at + 1) ≡ 0 = omega (arith, l) in
@@ -65,32 +65,32 @@ dropped_ring e es most at t l m some few d =
     }
 
 -- one place more, where all are kept
-kept_all : (most : ℕ) (h : History) → position_of h ≤ most → kept (Some most) h ≡ h
+kept_all : (most : ℕ) (h : History) → position_of h ≤ most → retained (Some most) h ≡ h
 kept_all most h l = ap (λ (b : List Place). record h { before = b }) (take_all most h.before l)
 
 room_pushed : (first : Bool) (es : List (Atom × Bool)) (most at : ℕ) (s t : State) (a : Atom) → length es ≡ at → at < most → Leads s a t
-    → journal_history first (keep_last most (es ++ (a, false) ∷ [])) (at + 1) t ≡ kept (Some most) (append (journal_history first es at s) t)
+    → journal_history first (keep_last most (es ++ (a, false) ∷ [])) (at + 1) t ≡ retained (Some most) (append (journal_history first es at s) t)
 room_pushed first es most at s t a e l leads =
     let none : length (es ++ (a, false) ∷ []) - most ≡ 0 = omega (arith, length_push es (a, false)) in
     let here : position_of (append (journal_history first es at s) t) ≤ most = omega (arith, journal_position first es at s) in
     rw none (journal_append first es at s t a e leads ∙ sym (kept_all most (append (journal_history first es at s) t) here))
 
 full_pushed : (first : Bool) (es : List (Atom × Bool)) (most at : ℕ) (s t : State) (a : Atom) → length es ≡ at → at ≡ most → 1 ≤ most → Leads s a t
-    → journal_history (entry_at es 0).1 (keep_last most (es ++ (a, false) ∷ [])) at t ≡ kept (Some most) (append (journal_history first es at s) t)
+    → journal_history (entry_at es 0).1 (keep_last most (es ++ (a, false) ∷ [])) at t ≡ retained (Some most) (append (journal_history first es at s) t)
 full_pushed first [] most at s t a e m some leads = absurd (omega (arith, e))
 full_pushed first (x ∷ es) most at s t a e m some leads =
     let one : length ((x ∷ es) ++ (a, false) ∷ []) - most ≡ 1 = omega (arith, e, length_push (x ∷ es) (a, false)) in
     let len : length (es ++ (a, false) ∷ []) ≡ at = omega (arith, e, length_push es (a, false)) in
     rw one (dropped_history first x (es ++ (a, false) ∷ []) at t len
-    ∙ rw m (ap (λ (h : History). kept (Some most) h) (rw m at (journal_append first (x ∷ es) at s t a e leads))))
+    ∙ rw m (ap (λ (h : History). retained (Some most) h) (rw m at (journal_append first (x ∷ es) at s t a e leads))))
 
 pub ring_pushed : (first : Bool) (es : List (Atom × Bool)) (most at : ℕ) (s t : State) (a : Atom) → IsRing es most at s → length es ≡ at → Leads s a t
     → journal_history (if nat_lt at most then first else (entry_at es 0).1) (keep_last most (es ++ (a, false) ∷ [])) (if nat_lt at most then at + 1 else at) t
-    ≡ kept (Some most) (append (journal_history first es at s) t)
+    ≡ retained (Some most) (append (journal_history first es at s) t)
 ring_pushed first es most at s t a d e leads = by_room (nat_lt at most) refl
   where
     by_room : (b : Bool) → nat_lt at most ≡ b
-        → journal_history (if b then first else (entry_at es 0).1) (keep_last most (es ++ (a, false) ∷ [])) (if b then at + 1 else at) t ≡ kept (Some most) (append (journal_history first es at s) t)
+        → journal_history (if b then first else (entry_at es 0).1) (keep_last most (es ++ (a, false) ∷ [])) (if b then at + 1 else at) t ≡ retained (Some most) (append (journal_history first es at s) t)
     by_room true f = room_pushed first es most at s t a e (ltb-true at most f) leads
     by_room false f = full_pushed first es most at s t a e (omega (arith, ltb-false at most f, d.within)) d.some leads
 

@@ -5,7 +5,7 @@ use Rattle.std.proofs.lemmas.Bool.{eqb-true, eqb-false}
 use Rattle.std.proofs.lemmas.List.{reverse-append, append_assoc, length-reverse, length-append}
 use Rattle.std.proofs.Math.Seq.{take-append_seam}
 use Rattle.mars_core.specs.State.{State}
-use Rattle.mars_session.specs.History.{Place, History, places, position_of, append, append_all, cut, marked, accepted, marked_before, undo, marked_after, redo, rewound_from, rewound, first_at_turn_from, goto}
+use Rattle.mars_session.specs.History.{Place, History, places, position_of, append, append_all, cut, marked, after_command, marked_before, undo, marked_after, redo, rewound_from, rewound, first_at_turn_from, goto}
 use Rattle.mars_session.specs.Laws.{passes_at, IsGreatestBelow, IsLeastBetween, MovesKeepPlaces, UndoFindsNearest, RedoFindsNearest, GotoFindsFirst, command_places, CommandsAppend}
 use Rattle.mars_session.proofs.Walking.{rewound_again, position_rewound}
 use Rattle.mars_session.proofs.Undoing.{after_append_all}
@@ -151,7 +151,7 @@ appended_places before s (t ∷ ss) =
 pub commands_append : CommandsAppend
 commands_append h s ss =
     let here : Place = record { state = h.present.state; mark = true } in
-    let end : History = accepted h s ss in
+    let end : History = after_command h s ss in
     let front : take (length h.before) (reverse h.before ++ h.present ∷ h.after) ≡ reverse h.before =
     ap (λ (n : ℕ). take n (reverse h.before ++ h.present ∷ h.after)) (sym (length-reverse h.before)) ∙ take-append_seam (reverse h.before) (h.present ∷ h.after) in
     let nothing : length end.after ≡ 0 = ap length (after_append_all (append (cut (marked h)) s) ss refl) in (

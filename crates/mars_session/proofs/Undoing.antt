@@ -2,12 +2,12 @@
 use Rattle.std.proofs.Common.{◌≡◌, ℕ, zero, suc, ◌+◌, Bool, true, false, List, [], ◌∷◌, ◌++◌, length, Option, Some, None, refl, ap, sym, ◌∙◌, arith, ◌⊎◌, inl, inr, if◌then◌else◌}
 use Rattle.std.specs.Prelude.{option_and_then, IsOk, IsTrue, Result, Ok, Err}
 use Rattle.mars_core.specs.State.{State}
-use Rattle.mars_session.specs.History.{Place, History, position_of, append, append_all, accepted, cut, marked, marked_before, undo, marked_after, redo}
+use Rattle.mars_session.specs.History.{Place, History, position_of, append, append_all, after_command, cut, marked, marked_before, undo, marked_after, redo}
 use Rattle.mars_session.specs.declared.calls.Call.{Call}
 use Rattle.mars_session.specs.declared.calls.Refusal.{Refusal}
 use Rattle.mars_session.specs.Commands.{States}
-use Rattle.mars_session.specs.Retention.{Retention, never, kept, noted}
-use Rattle.mars_session.specs.Script.{CallKind, Command, Move, kind_of, outcome_of, outcome, commanded, appended, moved, no_room, first, rest, script}
+use Rattle.mars_session.specs.Retention.{Retention, never, retained, noted}
+use Rattle.mars_session.specs.Script.{CallKind, Command, Move, kind_of, outcome_of, outcome, command_outcome, appended, move_outcome, no_room, first, rest, script}
 use Rattle.mars_session.specs.Laws.{command_places, times, is_command, count_of, appended_by, AllAccepted, UndosGiveBack, RedosGiveAgain, RedoAfterUndo}
 
 -- the present place is marked, and these places follow
@@ -22,7 +22,7 @@ undo_appended b p s [] x = refl
 undo_appended b p s (t ∷ ss) x = undo_appended (p ∷ b) (record { state = s; mark = false }) t ss x
 
 -- undo of an accepted command stands at the place before it
-pub undo_accepted : (h : History) (s : State) (ss : List State) (x : List Place) → undo (base (accepted h s ss) x) ≡ Some (base h (command_places s ss ++ x))
+pub undo_accepted : (h : History) (s : State) (ss : List State) (x : List Place) → undo (base (after_command h s ss) x) ≡ Some (base h (command_places s ss ++ x))
 undo_accepted h s ss x = undo_appended h.before (record { state = h.present.state; mark = true }) s ss x
 
 -- redo finds the last of appended places
@@ -31,7 +31,7 @@ redo_appended : (b : List Place) (p : Place) (s : State) (ss : List State) (x : 
 redo_appended b p s [] x = refl
 redo_appended b p s (t ∷ ss) x = redo_appended (p ∷ b) (record { state = s; mark = false }) t ss x
 
-pub redo_accepted : (h : History) (s : State) (ss : List State) (x : List Place) → redo (base h (command_places s ss ++ x)) ≡ Some (base (accepted h s ss) x)
+pub redo_accepted : (h : History) (s : State) (ss : List State) (x : List Place) → redo (base h (command_places s ss ++ x)) ≡ Some (base (after_command h s ss) x)
 redo_accepted h s ss x = redo_appended h.before (record { state = h.present.state; mark = true }) s ss x
 
 -- appending moves on by as many places, and stands last
@@ -44,9 +44,9 @@ after_append_all h [] e = e
 after_append_all h (s ∷ ss) e = after_append_all (append h s) ss refl
 
 -- an accepted command stands at a marked last place
-pub base_accepted : (h : History) (s : State) (ss : List State) → base (accepted h s ss) [] ≡ accepted h s ss
+pub base_accepted : (h : History) (s : State) (ss : List State) → base (after_command h s ss) [] ≡ after_command h s ss
 base_accepted h s ss =
-    let end : History = accepted h s ss in
+    let end : History = after_command h s ss in
     ap (λ (a : List Place). record { before = end.before; present = end.present; after = a }) (sym (after_append_all (append (cut (marked h)) s) ss refl))
 
 -- one time more, at the end
@@ -84,13 +84,13 @@ pub record Accepted (m : Retention) (n : ℕ) (h new : History) : Type 0 where
   pub first : State
   pub others : List State
   pub count : n ≡ suc (length others)
-  pub is : new ≡ kept m.most (accepted h first others)
+  pub is : new ≡ retained m.most (after_command h first others)
 
 accepted_room : (m : Retention) (h : History) (states : States) (o : Option Refusal) → IsOk (appended m h states o).reply → Accepted m (suc (length states.1)) h (appended m h states o).history
 accepted_room m h states (Some r) ok = absurd (let e : false ≡ true = ok in cc)
 accepted_room m h states None ok = record { first = states.0; others = states.1; count = refl; is = refl }
 
-accepted_command : (m : Retention) (limit bound : ℕ) (poor : Bool) (h : History) (x : Result States Refusal) → IsOk (commanded m limit bound poor h x).reply → Accepted m (count_of x) h (commanded m limit bound poor h x).history
+accepted_command : (m : Retention) (limit bound : ℕ) (poor : Bool) (h : History) (x : Result States Refusal) → IsOk (command_outcome m limit bound poor h x).reply → Accepted m (count_of x) h (command_outcome m limit bound poor h x).history
 accepted_command m limit bound poor h (Err r) ok = absurd (let e : false ≡ true = ok in cc)
 accepted_command m limit bound poor h (Ok states) ok = accepted_room m h states (no_room m limit bound poor h) ok
 
@@ -109,13 +109,13 @@ Remembers m n = (n ≡ m) ⊎ ((x : History) × (n ≡ noted m x))
 
 remembers_room : (m : Retention) (h : History) (states : States) (o : Option Refusal) → Remembers m (appended m h states o).retention
 remembers_room m h states (Some r) = inl refl
-remembers_room m h states None = inr (accepted h states.0 states.1, refl)
+remembers_room m h states None = inr (after_command h states.0 states.1, refl)
 
-remembers_command : (m : Retention) (limit bound : ℕ) (poor : Bool) (h : History) (x : Result States Refusal) → Remembers m (commanded m limit bound poor h x).retention
+remembers_command : (m : Retention) (limit bound : ℕ) (poor : Bool) (h : History) (x : Result States Refusal) → Remembers m (command_outcome m limit bound poor h x).retention
 remembers_command m limit bound poor h (Err r) = inl refl
 remembers_command m limit bound poor h (Ok states) = remembers_room m h states (no_room m limit bound poor h)
 
-remembers_move : (m : Retention) (h : History) (r : Refusal) (x : Option History) → Remembers m (moved m h r x).retention
+remembers_move : (m : Retention) (h : History) (r : Refusal) (x : Option History) → Remembers m (move_outcome m h r x).retention
 remembers_move m h r None = inl refl
 remembers_move m h r (Some to) = inl refl
 
@@ -148,27 +148,27 @@ pub record Undone (n : ℕ) (h end : History) : Type 0 where
   pub back : times n undo end ≡ Some (base h follow)
   pub again : times n redo (base h follow) ≡ Some end
 
-pub one_undone : (n : ℕ) (h end : History) (s : State) (ss : List State) → Undone n (accepted h s ss) end → Undone (suc n) h end
+pub one_undone : (n : ℕ) (h end : History) (s : State) (ss : List State) → Undone n (after_command h s ss) end → Undone (suc n) h end
 one_undone n h end s ss u = record {
   follow = command_places s ss ++ u.follow;
   back = times_more n undo end ∙ ap (option_and_then undo) u.back ∙ undo_accepted h s ss u.follow;
   again = ap (option_and_then (times n redo)) (redo_accepted h s ss u.follow) ∙ u.again;
 }
 
-all_undone : (limit : ℕ) (calls : List Call) (poor : List Bool) (h : History) (s : State) (ss : List State) → AllAccepted limit calls poor (accepted h s ss)
-    → Undone (length calls) (accepted h s ss) (script never limit calls poor (accepted h s ss)).history
+all_undone : (limit : ℕ) (calls : List Call) (poor : List Bool) (h : History) (s : State) (ss : List State) → AllAccepted limit calls poor (after_command h s ss)
+    → Undone (length calls) (after_command h s ss) (script never limit calls poor (after_command h s ss)).history
 all_undone limit [] poor h s ss a = record { follow = []; back = ap (λ (k : History). Some k) (sym (base_accepted h s ss)); again = ap (λ (k : History). Some k) (base_accepted h s ss) }
 all_undone limit (call ∷ calls) poor h s ss a =
-    let k : History = accepted h s ss in
+    let k : History = after_command h s ss in
     let one = accepted_call never limit call (first poor) k a.0 a.1 in
-    let more : AllAccepted limit calls (rest poor) (accepted k one.first one.others) = rw one.is at a.2 in
+    let more : AllAccepted limit calls (rest poor) (after_command k one.first one.others) = rw one.is at a.2 in
     rw (stays_never limit call (first poor) k) (one_undone (length calls) k _ one.first one.others (rw one.is (all_undone limit calls (rest poor) k one.first one.others more)))
 
 -- as many undos, from wherever the commands began
 some_undone : (limit : ℕ) (call : Call) (calls : List Call) (poor : List Bool) (h : History) → AllAccepted limit (call ∷ calls) poor h → Undone (suc (length calls)) h (script never limit (call ∷ calls) poor h).history
 some_undone limit call calls poor h a =
     let one = accepted_call never limit call (first poor) h a.0 a.1 in
-    let more : AllAccepted limit calls (rest poor) (accepted h one.first one.others) = rw one.is at a.2 in
+    let more : AllAccepted limit calls (rest poor) (after_command h one.first one.others) = rw one.is at a.2 in
     rw (stays_never limit call (first poor) h) (one_undone (length calls) h _ one.first one.others (rw one.is (all_undone limit calls (rest poor) h one.first one.others more)))
 
 pub undos_give_back : UndosGiveBack

@@ -51,8 +51,8 @@ append_all h [] = h
 append_all h (s ∷ ss) = append_all (append h s) ss
 
 -- an accepted command: the present place is marked, what follows is dropped, the states are appended, the last is marked
-abbrev pub accepted : History → State → List State → History
-accepted h s ss = marked (append_all (append (cut (marked h)) s) ss)
+abbrev pub after_command : History → State → List State → History
+after_command h s ss = marked (append_all (append (cut (marked h)) s) ss)
 
 -- one place back, where there is one
 abbrev pub step_back : List Place → Place → List Place → History

@@ -8,7 +8,7 @@ use Rattle.mars_session.specs.declared.calls.Call.TheVariants.{Undo, Redo}
 use Rattle.mars_session.specs.declared.calls.Standing.{Standing}
 use Rattle.mars_session.specs.declared.calls.Refusal.{Refusal}
 use Rattle.mars_session.specs.declared.calls.Refusal.TheVariants.{JournalFull, OutOfMemory}
-use Rattle.mars_session.specs.History.{Place, History, beginning, places, position_of, last_of, accepted, undo, redo, goto, first_turns, last_turns}
+use Rattle.mars_session.specs.History.{Place, History, beginning, places, position_of, last_of, after_command, undo, redo, goto, first_turns, last_turns}
 use Rattle.mars_session.specs.Retention.{Retention, never}
 use Rattle.mars_session.specs.Commands.{States, in_cycle, until_states}
 use Rattle.mars_session.specs.Tapes.{Steps, IsTape, IsTapeOf, RisesFrom}
@@ -191,8 +191,8 @@ command_places s (t ∷ ss) = record { state = s; mark = false } ∷ command_pla
 -- an accepted command keeps the places before the present one, marks that, and appends its own, where the last is the present one
 abbrev pub CommandsAppend : Type 0
 CommandsAppend = (h : History) (s : State) (ss : List State)
-    → (places (accepted h s ss) ≡ take (position_of h) (places h) ++ record { state = h.present.state; mark = true } ∷ command_places s ss)
-    × (position_of (accepted h s ss) + 1 ≡ length (places (accepted h s ss)))
+    → (places (after_command h s ss) ≡ take (position_of h) (places h) ++ record { state = h.present.state; mark = true } ∷ command_places s ss)
+    × (position_of (after_command h s ss) + 1 ≡ length (places (after_command h s ss)))
 
 -- the last state of a command
 abbrev pub last_state : State → List State → State

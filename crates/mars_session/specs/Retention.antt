@@ -18,8 +18,8 @@ abbrev pub left : Option ℕ → List Place → List Place
 left None before = before
 left (Some k) before = take k before
 
-abbrev pub kept : Option ℕ → History → History
-kept most h = record h { before = left most h.before }
+abbrev pub retained : Option ℕ → History → History
+retained most h = record h { before = left most h.before }
 
 -- so many places before the present one are too many
 abbrev pub too_many : Option ℕ → ℕ → Bool

@@ -7,8 +7,8 @@ use Rattle.mars_session.specs.declared.calls.Call.TheVariants.{Step, Run, Until,
 use Rattle.mars_session.specs.declared.calls.Standing.{Standing}
 use Rattle.mars_session.specs.declared.calls.Refusal.{Refusal}
 use Rattle.mars_session.specs.declared.calls.Refusal.TheVariants.{NothingToUndo, NothingToRedo, NotInHistory, JournalFull, OutOfMemory, Forgotten}
-use Rattle.mars_session.specs.History.{History, position_of, last_of, following, accepted, undo, redo, goto, first_turns, last_turns}
-use Rattle.mars_session.specs.Retention.{Retention, kept, noted}
+use Rattle.mars_session.specs.History.{History, position_of, last_of, following, after_command, undo, redo, goto, first_turns, last_turns}
+use Rattle.mars_session.specs.Retention.{Retention, retained, noted}
 use Rattle.mars_session.specs.Commands.{States, step_states, run_states, until_bound, until_states, edit_states, cells_between, fill_states}
 
 -- a session: its history, the most places after the first one where none is forgotten, and what it keeps
@@ -49,12 +49,12 @@ done m h = record { history = h; retention = m; reply = Ok (standing_of h) }
 
 -- an accepted command too, once the oldest places that are too many are forgotten
 abbrev pub remembered : Retention → History → Outcome
-remembered m h = done (noted m h) (kept m.most h)
+remembered m h = done (noted m h) (retained m.most h)
 
 -- a move leads to a place, or is refused
-abbrev pub moved : Retention → History → Refusal → Option History → Outcome
-moved m h r None = refused m h r
-moved m h r (Some to) = done m to
+abbrev pub move_outcome : Retention → History → Refusal → Option History → Outcome
+move_outcome m h r None = refused m h r
+move_outcome m h r (Some to) = done m to
 
 -- why there is no marked place before
 abbrev pub no_undo : Retention → Refusal
@@ -72,12 +72,12 @@ no_room m limit bound poor h =
 -- a command that has room, or has none
 abbrev pub appended : Retention → History → States → Option Refusal → Outcome
 appended m h states (Some r) = refused m h r
-appended m h states None = remembered m (accepted h states.0 states.1)
+appended m h states None = remembered m (after_command h states.0 states.1)
 
 -- a command that is refused, or reaches states, at most as many as the bound
-abbrev pub commanded : Retention → ℕ → ℕ → Bool → History → Result States Refusal → Outcome
-commanded m limit bound poor h (Err r) = refused m h r
-commanded m limit bound poor h (Ok states) = appended m h states (no_room m limit bound poor h)
+abbrev pub command_outcome : Retention → ℕ → ℕ → Bool → History → Result States Refusal → Outcome
+command_outcome m limit bound poor h (Err r) = refused m h r
+command_outcome m limit bound poor h (Ok states) = appended m h states (no_room m limit bound poor h)
 
 -- a call is a command, by how many places it may append and the states that it reaches, or a move, by why it is refused and where it leads
 pub data CallKind : Type 0 where
@@ -105,8 +105,8 @@ bound_of (Move refusal move) s = 0
 
 -- a command or a move; poor says whether memory was wanting
 abbrev pub outcome_of : Retention → ℕ → CallKind → Bool → History → Outcome
-outcome_of m limit (Command bound states) poor h = commanded m limit (bound h.present.state) poor h (states h.present.state)
-outcome_of m limit (Move refusal move) poor h = moved m h (refusal m h) (move h)
+outcome_of m limit (Command bound states) poor h = command_outcome m limit (bound h.present.state) poor h (states h.present.state)
+outcome_of m limit (Move refusal move) poor h = move_outcome m h (refusal m h) (move h)
 
 -- one call
 abbrev pub outcome : Retention → ℕ → Call → Bool → History → Outcome

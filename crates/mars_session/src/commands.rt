@@ -1,12 +1,12 @@
 //! The commands, over any tape.
 ghost use Rattle.std.specs.Prelude.{◌≡◌, ◌+◌, ◌≤◌, ◌<◌, [], Some, None, false, IfErr, OnOk, OnErr, MatchOption, ◌*◌, ◌-◌};
-ghost use Rattle.mars_session.specs.History.{marked, cut, accepted};
+ghost use Rattle.mars_session.specs.History.{marked, cut, after_command};
 ghost use Rattle.mars_session.specs.Commands.{command_limit, turns_until, stops_at, until_bound, cells_between, fills, refusal_of, edit_states};
 ghost use Rattle.mars_core.specs.State.{is_over_of};
 ghost use Rattle.mars_core.specs.Turn.{turn_of};
 ghost use Rattle.mars_core.specs.Edit.{edit_fault};
 ghost use Rattle.mars_session.specs.Code.Appending.{go_on_all};
-ghost use Rattle.mars_session.specs.Script.{standing_of, no_room, is_out_of_memory, is_poor, commanded, IsAnswer};
+ghost use Rattle.mars_session.specs.Script.{standing_of, no_room, is_out_of_memory, is_poor, command_outcome, IsAnswer};
 
 use crate::calls::{Call, Refusal, Standing};
 use crate::tapes::Tape;
@@ -97,7 +97,7 @@ fn make_turns<T: Tape>(
 ) -> Result<Standing, Refusal>
     requires some { 1 ≤ count }
     requires runs { is_over_of (T.history tape.old).present.state ≡ false }
-    ensures answer { let next = turn_of (T.history tape.old).present.state in commanded (T.retention tape.old) limit count
+    ensures answer { let next = turn_of (T.history tape.old).present.state in command_outcome (T.retention tape.old) limit count
         (is_poor result) (T.history tape.old) (Ok (next, turns_until (stops_at cycle) (count - 1) next))
         ≡ record { history = T.history tape.new; retention = T.retention tape.new; reply = result } }
     ensures memory { result ≡ Err Refusal.OutOfMemory → T.room tape.old < count }
@@ -177,7 +177,7 @@ fn refusal(fault: EditFault) -> Refusal
 
 /// One edit.
 pub fn edit<T: Tape>(tape: &mut T, limit: u64, edit: Edit) -> Result<Standing, Refusal>
-    ensures answer { commanded (T.retention tape.old) limit 1 (is_poor result) (T.history tape.old)
+    ensures answer { command_outcome (T.retention tape.old) limit 1 (is_poor result) (T.history tape.old)
         (edit_states edit (T.history tape.old).present.state)
         ≡ record { history = T.history tape.new; retention = T.retention tape.new; reply = result } }
     ensures memory { result ≡ Err Refusal.OutOfMemory → T.room tape.old < 1 }

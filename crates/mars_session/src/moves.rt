@@ -1,7 +1,7 @@
 //! The moves to places that are in the history, over any tape.
 ghost use Rattle.std.specs.Prelude.{◌≡◌, ◌≢◌, Err, ◌<◌, ◌≤◌, true, false, Some, IsSome, is_some};
 ghost use Rattle.mars_session.specs.History.{position_of, last_of, rewound, undo, redo, goto, first_at_turn, first_turns as turns_of_first, last_turns};
-ghost use Rattle.mars_session.specs.Script.{moved, no_undo};
+ghost use Rattle.mars_session.specs.Script.{move_outcome, no_undo};
 
 use crate::calls::{Refusal, Standing};
 use crate::commands::standing;
@@ -46,7 +46,7 @@ fn no_marked_place<T: Tape>(tape: &T) -> Refusal
 
 /// To the nearest marked place before.
 pub fn undo<T: Tape>(tape: &mut T) -> Result<Standing, Refusal>
-    ensures answer { moved (T.retention tape.old) (T.history tape.old) (no_undo (T.retention tape.old)) (undo (T.history tape.old))
+    ensures answer { move_outcome (T.retention tape.old) (T.history tape.old) (no_undo (T.retention tape.old)) (undo (T.history tape.old))
         ≡ record { history = T.history tape.new; retention = T.retention tape.new; reply = result } }
     ensures never { result ≢ Err Refusal.OutOfMemory }
 {
@@ -63,7 +63,7 @@ pub fn undo<T: Tape>(tape: &mut T) -> Result<Standing, Refusal>
 
 /// To the nearest marked place after.
 pub fn redo<T: Tape>(tape: &mut T) -> Result<Standing, Refusal>
-    ensures answer { moved (T.retention tape.old) (T.history tape.old) Refusal.NothingToRedo (redo (T.history tape.old))
+    ensures answer { move_outcome (T.retention tape.old) (T.history tape.old) Refusal.NothingToRedo (redo (T.history tape.old))
         ≡ record { history = T.history tape.new; retention = T.retention tape.new; reply = result } }
     ensures never { result ≢ Err Refusal.OutOfMemory }
 {
@@ -127,7 +127,7 @@ fn is_met<T: Tape>(tape: &T, turns: u64) -> bool
 
 /// To the first place after so many turns: back as far as it may lie, and then on.
 pub fn goto<T: Tape>(tape: &mut T, turns: u64) -> Result<Standing, Refusal>
-    ensures answer { moved (T.retention tape.old) (T.history tape.old)
+    ensures answer { move_outcome (T.retention tape.old) (T.history tape.old)
         (Refusal.NotInHistory (turns_of_first (T.history tape.old)) (last_turns (T.history tape.old)))
         (goto turns (T.history tape.old)) ≡ record { history = T.history tape.new; retention = T.retention tape.new; reply = result } }
     ensures never { result ≢ Err Refusal.OutOfMemory }

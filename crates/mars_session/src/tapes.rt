@@ -4,7 +4,7 @@ ghost use Rattle.mars_core.specs.State.{is_over_of};
 ghost use Rattle.mars_core.specs.Turn.{turn_of};
 ghost use Rattle.mars_core.specs.Edit.{edit_fault, edited};
 ghost use Rattle.mars_session.specs.History.{History, position_of, last_of, following, marked, cut, append, back, forward, first_turns, last_turns};
-ghost use Rattle.mars_session.specs.Retention.{Retention, kept, noted};
+ghost use Rattle.mars_session.specs.Retention.{Retention, retained, noted};
 ghost use Rattle.mars_session.specs.Tapes.{TurnsRise};
 
 use mars_core::{Battle, Edit};
@@ -85,7 +85,7 @@ pub trait Tape {
         requires last { (history self.old).after ≡ [] }
         requires room { 1 ≤ room self.old }
         requires runs { is_over_of (history self.old).present.state ≡ false }
-        ensures places { history self.new ≡ kept (retention self.old).most
+        ensures places { history self.new ≡ retained (retention self.old).most
             (append (history self.old) (turn_of (history self.old).present.state)) }
         ensures retention { retention self.new ≡ noted (retention self.old) (append (history self.old) (turn_of (history self.old).present.state)) }
         ensures room { room self.old ≤ room self.new + 1 };
@@ -95,7 +95,7 @@ pub trait Tape {
         requires last { (history self.old).after ≡ [] }
         requires room { 1 ≤ room self.old }
         requires accepted { edit_fault (history self.old).present.state edit ≡ None }
-        ensures places { history self.new ≡ kept (retention self.old).most
+        ensures places { history self.new ≡ retained (retention self.old).most
             (append (history self.old) (edited (history self.old).present.state edit)) }
         ensures retention { retention self.new ≡ noted (retention self.old)
             (append (history self.old) (edited (history self.old).present.state edit)) }

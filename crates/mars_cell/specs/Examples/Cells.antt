@@ -8,6 +8,7 @@ use Rattle.mars_cell.specs.declared.instruction.Modifier.{Modifier}
 use Rattle.mars_cell.specs.declared.instruction.Modifier.TheVariants as modifier
 use Rattle.mars_cell.specs.declared.instruction.Mode.{Mode}
 use Rattle.mars_cell.specs.declared.instruction.Mode.TheVariants.{Immediate, Direct, AIndirect, BIndirect, APredecrement, BPredecrement, APostincrement, BPostincrement}
+use Rattle.mars_cell.specs.Cells.{op_index, modifier_index, mode_index}
 use Rattle.mars_cell.specs.Grammar.{cell_of, comma_at, default_modifier, mode_at, modifier_at, number_at, op_at, operand_at, read_cell, suffix_at}
 use Rattle.mars_cell.specs.Numbers.{by_value, nearest, parse_digits, parse_number, split_sign}
 use Rattle.mars_cell.specs.Parts.{begins_word, joins, parts}
@@ -20,6 +21,15 @@ cell op modifier a_mode a b_mode b = record { op = op; modifier = modifier; a_mo
 
 abbrev pub nop : Cell
 nop = cell op.Nop modifier.F Direct 0 Direct 0
+
+-- the places of tags, as other programs know them
+pub tags_have_places :
+    (op_index op.Djn ≡ 10)
+    × (op_index op.Seq ≡ 11)
+    × (op_index op.Sne ≡ 12)
+    × (modifier_index modifier.Ba ≡ 3)
+    × (mode_index BPostincrement ≡ 7)
+tags_have_places = (refl, refl, refl, refl, refl)
 
 -- a number up to half the core size is printed as it is, the half too
 pub numbers_are_written :

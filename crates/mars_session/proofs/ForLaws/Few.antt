@@ -9,8 +9,8 @@ use Rattle.mars_session.specs.declared.calls.Call.TheVariants.{Undo, Redo}
 use Rattle.mars_session.specs.declared.calls.Standing.{Standing}
 use Rattle.mars_session.specs.declared.calls.Refusal.{Refusal}
 use Rattle.mars_session.specs.declared.calls.Refusal.TheVariants.{NothingToRedo}
-use Rattle.mars_session.specs.History.{Place, History, position_of, marked, cut, append, append_all, accepted, marked_before, undo, marked_after, redo}
-use Rattle.mars_session.specs.Retention.{Retention, kept}
+use Rattle.mars_session.specs.History.{Place, History, position_of, marked, cut, append, append_all, after_command, marked_before, undo, marked_after, redo}
+use Rattle.mars_session.specs.Retention.{Retention, retained}
 use Rattle.mars_session.specs.Script.{kind_of, Outcome, outcome, no_undo, script, first, rest}
 use Rattle.mars_session.specs.Laws.{times, is_command, accepted_count, GoesBackAndOn, appended_by, appended_together, FewCommandsAreUndone}
 use Rattle.mars_session.proofs.Appending.{take_fewer}
@@ -26,7 +26,7 @@ if_no m x y e = rw e refl
 -- what undo finds among all places, among the nearest
 record Undoes (j : ℕ) (before : List Place) (p : Place) (after : List Place) (to : History) : Type 0 where
   fewer : length to.before ≤ length before
-  found : marked_before (take (j + (length before - length to.before)) before) p after ≡ Some (kept (Some j) to)
+  found : marked_before (take (j + (length before - length to.before)) before) p after ≡ Some (retained (Some j) to)
 
 undoes : (j : ℕ) (before : List Place) (p : Place) (after : List Place) (to : History) → marked_before before p after ≡ Some to → Undoes j before p after to
 undoes j [] p after to e = absurd (cc)
@@ -50,7 +50,7 @@ undoes j (b ∷ before) p after to e =
 -- and so for redo
 record Redoes (j : ℕ) (before : List Place) (p : Place) (after : List Place) (to : History) : Type 0 where
   more : length before ≤ length to.before
-  found : marked_after (take j before) p after ≡ Some (kept (Some (j + (length to.before - length before))) to)
+  found : marked_after (take j before) p after ≡ Some (retained (Some (j + (length to.before - length before))) to)
 
 redoes : (j : ℕ) (before : List Place) (p : Place) (after : List Place) (to : History) → marked_after before p after ≡ Some to → Redoes j before p after to
 redoes j before p [] to e = absurd (cc)
@@ -73,7 +73,7 @@ redoes j before p (a ∷ after) to e =
 -- many undos
 record ManyUndone (n j : ℕ) (h to : History) : Type 0 where
   fewer : position_of to ≤ position_of h
-  found : times n undo (kept (Some (j + (position_of h - position_of to))) h) ≡ Some (kept (Some j) to)
+  found : times n undo (retained (Some (j + (position_of h - position_of to))) h) ≡ Some (retained (Some j) to)
 
 many_undone : (n j : ℕ) (h to : History) → times n undo h ≡ Some to → ManyUndone n j h to
 many_undone zero j h to e =
@@ -88,13 +88,13 @@ many_undone (suc n) j h to e = by_first (undo h) refl e (λ k f. many_undone n j
         let next = more k f in
         let one = undoes (j + (position_of k - position_of to)) h.before h.present h.after k u in
         let sum : j + (position_of k - position_of to) + (position_of h - position_of k) ≡ j + (position_of h - position_of to) = omega (arith, next.fewer, one.fewer) in
-        let step : undo (kept (Some (j + (position_of h - position_of to))) h) ≡ Some (kept (Some (j + (position_of k - position_of to))) k) = rw sum at one.found in
+        let step : undo (retained (Some (j + (position_of h - position_of to))) h) ≡ Some (retained (Some (j + (position_of k - position_of to))) k) = rw sum at one.found in
         record { fewer = omega (arith, next.fewer, one.fewer); found = ap (option_and_then (times n undo)) step ∙ next.found }
 
 -- many redos
 record ManyRedone (n j : ℕ) (h to : History) : Type 0 where
   more : position_of h ≤ position_of to
-  found : times n redo (kept (Some j) h) ≡ Some (kept (Some (j + (position_of to - position_of h))) to)
+  found : times n redo (retained (Some j) h) ≡ Some (retained (Some (j + (position_of to - position_of h))) to)
 
 many_redone : (n j : ℕ) (h to : History) → times n redo h ≡ Some to → ManyRedone n j h to
 many_redone zero j h to e =
@@ -121,12 +121,12 @@ same_fewer zero p x y e = refl
 same_fewer (suc k) p x y e = ap (λ (ps : List Place). p ∷ ps) (sym (take_fewer k x) ∙ ap (take k) e ∙ take_fewer k y)
 
 same_append_all : (k : ℕ) (p : Place) (x y : List Place) (ss : List State) → take k x ≡ take k y
-    → kept (Some k) (append_all (record { before = x; present = p; after = [] }) ss) ≡ kept (Some k) (append_all (record { before = y; present = p; after = [] }) ss)
+    → retained (Some k) (append_all (record { before = x; present = p; after = [] }) ss) ≡ retained (Some k) (append_all (record { before = y; present = p; after = [] }) ss)
 same_append_all k p x y [] e = ap (λ (b : List Place). record { before = b; present = p; after = [] }) e
 same_append_all k p x y (s ∷ ss) e = same_append_all k (record { state = s; mark = false }) (p ∷ x) (p ∷ y) ss (same_fewer k p x y e)
 
 -- an accepted command leads to the same places that are kept
-same_accepted : (k : ℕ) (h whole : History) (s : State) (ss : List State) → Same k h whole → kept (Some k) (accepted h s ss) ≡ kept (Some k) (accepted whole s ss)
+same_accepted : (k : ℕ) (h whole : History) (s : State) (ss : List State) → Same k h whole → retained (Some k) (after_command h s ss) ≡ retained (Some k) (after_command whole s ss)
 same_accepted k h whole s ss same =
     rw same.state (ap marked (same_append_all k (record { state = whole.present.state; mark = true }) h.before whole.before (s ∷ ss) same.before))
 
@@ -140,24 +140,24 @@ record ReachedWhole (k count total : ℕ) (start end : History) : Type 0 where
   whole : History
   undone : Undone count start whole
   within : position_of whole ≤ position_of start + total
-  is : end ≡ kept (Some k) whole
+  is : end ≡ retained (Some k) whole
 
 abbrev FewReached : ℕ → ℕ → ℕ → History → History → History → Type 0
 FewReached k count total h start end = ((count ≡ 0) × (end ≡ h)) ⊎ ReachedWhole k count total start end
 
 -- a call is accepted, and the others follow
-one_whole : (k n count total : ℕ) (start new end : History) (s : State) (ss : List State) → n ≡ suc (length ss) → new ≡ kept (Some k) (accepted start s ss)
-    → FewReached k count total new (accepted start s ss) end → ReachedWhole k (suc count) (n + total) start end
+one_whole : (k n count total : ℕ) (start new end : History) (s : State) (ss : List State) → n ≡ suc (length ss) → new ≡ retained (Some k) (after_command start s ss)
+    → FewReached k count total new (after_command start s ss) end → ReachedWhole k (suc count) (n + total) start end
 one_whole k n count total start new end s ss c e (inl none) =
-    let last : position_of (accepted start s ss) ≡ position_of start + 1 + length ss = position_append_all (append (cut (marked start)) s) ss ∙ omega arith in
+    let last : position_of (after_command start s ss) ≡ position_of start + 1 + length ss = position_append_all (append (cut (marked start)) s) ss ∙ omega arith in
     record {
-      whole = accepted start s ss;
-      undone = one_undone count start (accepted start s ss) s ss (none_after count start (accepted start s ss) s ss none.0 refl);
+      whole = after_command start s ss;
+      undone = one_undone count start (after_command start s ss) s ss (none_after count start (after_command start s ss) s ss none.0 refl);
       within = omega (arith, last, c);
       is = none.1 ∙ e;
     }
 one_whole k n count total start new end s ss c e (inr r) =
-    let last : position_of (accepted start s ss) ≡ position_of start + 1 + length ss = position_append_all (append (cut (marked start)) s) ss ∙ omega arith in
+    let last : position_of (after_command start s ss) ≡ position_of start + 1 + length ss = position_append_all (append (cut (marked start)) s) ss ∙ omega arith in
     record {
       whole = r.whole;
       undone = one_undone count start r.whole s ss r.undone;
@@ -177,9 +177,9 @@ module _ (k limit : ℕ) where
       → ((next : History) → Same k new next → FewReached k (accepted_count others) total new next end) → FewReached k (accepted_count (r ∷ others)) (n + total) h start end
   one_few m n total (Ok standing) others h start new end e same accepts keeps later =
       let one : Accepted m n h new = accepts refl in
-      let made : new ≡ kept (Some k) (accepted h one.first one.others) = rw e at one.is in
-      let next : History = accepted start one.first one.others in
-      let is : new ≡ kept (Some k) next = made ∙ same_accepted k h start one.first one.others same in
+      let made : new ≡ retained (Some k) (after_command h one.first one.others) = rw e at one.is in
+      let next : History = after_command start one.first one.others in
+      let is : new ≡ retained (Some k) next = made ∙ same_accepted k h start one.first one.others same in
       let alike : Same k new next = rw is (record { state = refl; before = take_twice k next.before }) in
       inr (one_whole k n (accepted_count others) total start new end one.first one.others one.count is (later next alike))
   one_few m n total (Err r) others h start new end e same accepts keeps later =
@@ -206,10 +206,10 @@ module _ (k limit : ℕ) where
       let start : History = base h r.undone.follow in
       let j : ℕ = k - (position_of r.whole - position_of h) in
       let all : j + (position_of r.whole - position_of h) ≡ k = omega (arith, r.within, l) in
-      let back : times n undo (kept (Some k) r.whole) ≡ Some (kept (Some j) start) = rw all at (many_undone n j r.whole start r.undone.back).found in
-      let on : times n redo (kept (Some j) start) ≡ Some (kept (Some k) r.whole) = rw all at (many_redone n j start r.whole r.undone.again).found in
-      let undos = all_moved m limit n Undo (no_undo m) undo up end (kept (Some j) start) (λ b x. refl) (rw r.is back) in
-      let redos = all_moved m limit n Redo NothingToRedo redo rp (kept (Some j) start) end (λ b x. refl) (rw r.is on) in
+      let back : times n undo (retained (Some k) r.whole) ≡ Some (retained (Some j) start) = rw all at (many_undone n j r.whole start r.undone.back).found in
+      let on : times n redo (retained (Some j) start) ≡ Some (retained (Some k) r.whole) = rw all at (many_redone n j start r.whole r.undone.again).found in
+      let undos = all_moved m limit n Undo (no_undo m) undo up end (retained (Some j) start) (λ b x. refl) (rw r.is back) in
+      let redos = all_moved m limit n Redo NothingToRedo redo rp (retained (Some j) start) end (λ b x. refl) (rw r.is on) in
       record {
         undone = undos.accepted;
         retention = undos.retention;

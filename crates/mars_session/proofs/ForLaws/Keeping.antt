@@ -12,11 +12,11 @@ use Rattle.mars_core.specs.declared.battle.edit.EditFault.{EditFault}
 use Rattle.mars_session.specs.declared.calls.Call.TheVariants.{Step, Run, Until, SetCell, Fill, MoveProcess, Kill, Spawn, Undo, Redo, Goto}
 use Rattle.mars_session.specs.declared.calls.Refusal.{Refusal}
 use Rattle.mars_session.specs.declared.calls.Refusal.TheVariants.{Count, Address, Over, CyclePassed, NothingToRedo, NotInHistory}
-use Rattle.mars_session.specs.History.{Place, History, beginning, append, append_all, cut, marked, accepted, marked_before, undo, marked_after, redo, rewound_from, rewound, first_at_turn_from, goto, first_turns, last_turns}
+use Rattle.mars_session.specs.History.{Place, History, beginning, append, append_all, cut, marked, after_command, marked_before, undo, marked_after, redo, rewound_from, rewound, first_at_turn_from, goto, first_turns, last_turns}
 use Rattle.mars_session.specs.Commands.{command_limit, States, turns_until, stops_at, step_states, run_states, until_bound, until_states, unless_fault, edit_states, fills, cells_between, fill_states}
-use Rattle.mars_session.specs.Retention.{Retention, never, kept}
+use Rattle.mars_session.specs.Retention.{Retention, never, retained}
 use Rattle.mars_session.specs.declared.calls.Call.{Call}
-use Rattle.mars_session.specs.Script.{moved, no_undo, no_room, appended, commanded, outcome, first, rest, Outcome, script}
+use Rattle.mars_session.specs.Script.{move_outcome, no_undo, no_room, appended, command_outcome, outcome, first, rest, Outcome, script}
 use Rattle.mars_session.specs.Tapes.{Follows, FollowsAll, Steps, IsTape, IsTapeOf}
 use Rattle.mars_session.specs.Laws.{BeginningIsTape, CallsKeepTapes, ScriptsKeepTapes, ScriptsForgetTapes}
 use Rattle.mars_session.proofs.Turns.{fault_kept, fault_below}
@@ -147,7 +147,7 @@ begun_tape h b none m = record {
   last = rw none m;
 }
 
-accepted_tape : (h : History) (s : State) (ss : List State) → IsTape h → Follows h.present.state s → Chain s ss → IsTape (accepted h s ss)
+accepted_tape : (h : History) (s : State) (ss : List State) → IsTape h → Follows h.present.state s → Chain s ss → IsTape (after_command h s ss)
 accepted_tape h s ss t f c =
     let start : Begun (cut (marked h)) = (let b = begun_marked h (tape_begun h t) in record { before = b.before; first = b.first }) in
     let k : History = append_all (append (cut (marked h)) s) ss in
@@ -174,7 +174,7 @@ few_kept zero before = omega arith
 few_kept (suc k) [] = omega arith
 few_kept (suc k) (b ∷ before) = omega (arith, few_kept k before)
 
-accepted_few : (k : ℕ) (h : History) (s : State) (ss : List State) → IsTapeOf k h → Follows h.present.state s → Chain s ss → IsTapeOf k (kept (Some k) (accepted h s ss))
+accepted_few : (k : ℕ) (h : History) (s : State) (ss : List State) → IsTapeOf k h → Follows h.present.state s → Chain s ss → IsTapeOf k (retained (Some k) (after_command h s ss))
 accepted_few k h s ss t f c =
     let start : History = append (cut (marked h)) s in
     let end : History = append_all start ss in
@@ -187,7 +187,7 @@ accepted_few k h s ss t f c =
 
 -- what accepted commands and moves keep
 record Keeps (m : Retention) (P : History → Type 0) : Type 0 where
-  accepts : (h : History) (s : State) (ss : List State) → P h → Follows h.present.state s → Chain s ss → P (kept m.most (accepted h s ss))
+  accepts : (h : History) (s : State) (ss : List State) → P h → Follows h.present.state s → Chain s ss → P (retained m.most (after_command h s ss))
   back : (b : Place) (before : List Place) (p : Place) (after : List Place) → P (record { before = b ∷ before; present = p; after = after }) → P (record { before = before; present = b; after = p ∷ after })
   on : (before : List Place) (p a : Place) (after : List Place) → P (record { before = before; present = p; after = a ∷ after }) → P (record { before = p ∷ before; present = a; after = after })
 
@@ -205,11 +205,11 @@ module _ (m : Retention) (P : History → Type 0) (keeps : Keeps m P) where
   appended_keeps h states (Some r) t c = t
   appended_keeps h states None t c = keeps.accepts h states.0 states.1 t c.0 c.1
 
-  commanded_keeps : (limit bound : ℕ) (poor : Bool) (h : History) (x : Result States Refusal) → P h → Reached h.present.state x → P (commanded m limit bound poor h x).history
+  commanded_keeps : (limit bound : ℕ) (poor : Bool) (h : History) (x : Result States Refusal) → P h → Reached h.present.state x → P (command_outcome m limit bound poor h x).history
   commanded_keeps limit bound poor h (Err r) t c = t
   commanded_keeps limit bound poor h (Ok states) t c = appended_keeps h states (no_room m limit bound poor h) t c
 
-  edit_keeps : (limit : ℕ) (poor : Bool) (h : History) (e : Edit) → P h → P (commanded m limit 1 poor h (edit_states e h.present.state)).history
+  edit_keeps : (limit : ℕ) (poor : Bool) (h : History) (e : Edit) → P h → P (command_outcome m limit 1 poor h (edit_states e h.present.state)).history
   edit_keeps limit poor h e t = commanded_keeps limit 1 poor h (edit_states e h.present.state) t (edit_reached e h.present.state)
 
   undo_found : (before : List Place) (p : Place) (after : List Place) → P (record { before = before; present = p; after = after }) → Found P (marked_before before p after)
@@ -234,7 +234,7 @@ module _ (m : Retention) (P : History → Type 0) (keeps : Keeps m P) where
       found_if P (nat_eq p.state.turns turns) (Some (record { before = before; present = p; after = a ∷ after })) (first_at_turn_from turns (p ∷ before) a after)
       t (goto_found turns (p ∷ before) a after (keeps.on before p a after t))
 
-  moved_keeps : (h : History) (r : Refusal) (o : Option History) → P h → Found P o → P (moved m h r o).history
+  moved_keeps : (h : History) (r : Refusal) (o : Option History) → P h → Found P o → P (move_outcome m h r o).history
   moved_keeps h r None t f = t
   moved_keeps h r (Some to) t f = f
 

@@ -14,10 +14,10 @@ use Rattle.mars_core.specs.declared.battle.edit.EditFault.{EditFault}
 use Rattle.mars_session.specs.declared.calls.Call.TheVariants.{Step, Run, Until, SetCell, Fill, MoveProcess, Kill, Spawn, Undo, Redo, Goto}
 use Rattle.mars_session.specs.declared.calls.Refusal.{Refusal}
 use Rattle.mars_session.specs.declared.calls.Refusal.TheVariants.{Count, Address, Over, CyclePassed, NothingToUndo, NothingToRedo, NotInHistory, JournalFull, OutOfMemory}
-use Rattle.mars_session.specs.History.{Place, History, position_of, last_of, following, append, cut, marked, accepted, undo, redo, rewound, goto, first_turns, last_turns}
+use Rattle.mars_session.specs.History.{Place, History, position_of, last_of, following, append, cut, marked, after_command, undo, redo, rewound, goto, first_turns, last_turns}
 use Rattle.mars_session.specs.Commands.{command_limit, States, turns_until, stops_at, step_states, run_states, until_bound, until_states, unless_fault, edit_states, fills, cells_between, fill_states}
 use Rattle.mars_session.specs.Retention.{never}
-use Rattle.mars_session.specs.Script.{moved, no_room, appended, commanded}
+use Rattle.mars_session.specs.Script.{move_outcome, no_room, appended, command_outcome}
 use Rattle.mars_session.specs.Tapes.{Follows, FollowsAll}
 use Rattle.mars_session.specs.Laws.{CallsKeepLimit}
 use Rattle.mars_session.proofs.Undoing.{after_append_all, position_append_all}
@@ -87,10 +87,10 @@ fill_within from to cell s =
     (λ g. let l : from ≤ to = ltb-false to from g in
     within_unless n (edit_fault s (edits.SetCell to cell)) states (omega (arith, count, l))))
 
-last_accepted : (h : History) (s : State) (ss : List State) → last_of (accepted h s ss) ≡ position_of h + 1 + length ss
+last_accepted : (h : History) (s : State) (ss : List State) → last_of (after_command h s ss) ≡ position_of h + 1 + length ss
 last_accepted h s ss =
     let k : History = append (cut (marked h)) s in
-    let none : length (accepted h s ss).after ≡ 0 = ap length (after_append_all k ss refl) in
+    let none : length (after_command h s ss).after ≡ 0 = ap length (after_append_all k ss refl) in
     omega (arith, none, position_append_all k ss)
 
 no_fault : (b : Bool) (x : Refusal) (y : Option Refusal) → (if b then Some x else y) ≡ None → b ≡ false
@@ -105,16 +105,16 @@ appended_limit limit bound poor h states None e few l =
     ltb-false limit (position_of h + bound) (no_fault (nat_lt limit (position_of h + bound)) (JournalFull (limit - position_of h)) (if poor && nat_lt (following h) bound then Some OutOfMemory else None) e) in
     omega (arith, fits, few, last_accepted h states.0 states.1)
 
-commanded_limit : (limit bound : ℕ) (poor : Bool) (h : History) (x : Result States Refusal) → Within bound x → last_of h ≤ limit → last_of (commanded never limit bound poor h x).history ≤ limit
+commanded_limit : (limit bound : ℕ) (poor : Bool) (h : History) (x : Result States Refusal) → Within bound x → last_of h ≤ limit → last_of (command_outcome never limit bound poor h x).history ≤ limit
 commanded_limit limit bound poor h (Err r) few l = l
 commanded_limit limit bound poor h (Ok states) few l = appended_limit limit bound poor h states (no_room never limit bound poor h) refl few l
 
-edit_limit : (limit : ℕ) (poor : Bool) (h : History) (e : Edit) → last_of h ≤ limit → last_of (commanded never limit 1 poor h (edit_states e h.present.state)).history ≤ limit
+edit_limit : (limit : ℕ) (poor : Bool) (h : History) (e : Edit) → last_of h ≤ limit → last_of (command_outcome never limit 1 poor h (edit_states e h.present.state)).history ≤ limit
 edit_limit limit poor h e l =
     let s = h.present.state in
     commanded_limit limit 1 poor h (edit_states e s) (within_unless 1 (edit_fault s e) (edited s e, []) (omega arith)) l
 
-moved_limit : (limit : ℕ) (h : History) (r : Refusal) (o : Option History) → SameStart (rewound h) o → last_of h ≤ limit → last_of (moved never h r o).history ≤ limit
+moved_limit : (limit : ℕ) (h : History) (r : Refusal) (o : Option History) → SameStart (rewound h) o → last_of h ≤ limit → last_of (move_outcome never h r o).history ≤ limit
 moved_limit limit h r None same l = l
 moved_limit limit h r (Some to) same l = omega (arith, same_last to h same, l)
 

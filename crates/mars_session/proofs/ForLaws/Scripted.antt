@@ -11,10 +11,10 @@ use Rattle.mars_session.specs.declared.calls.Standing.{Standing}
 use Rattle.mars_session.specs.declared.calls.Refusal.{Refusal}
 use Rattle.mars_session.specs.declared.calls.Refusal.TheVariants.{NothingToUndo, NothingToRedo}
 use Rattle.mars_core.specs.State.{State}
-use Rattle.mars_session.specs.History.{History, position_of, accepted, undo, redo}
+use Rattle.mars_session.specs.History.{History, position_of, after_command, undo, redo}
 use Rattle.mars_session.specs.Commands.{States}
 use Rattle.mars_session.specs.Retention.{Retention, never}
-use Rattle.mars_session.specs.Script.{CallKind, Command, Move, kind_of, Outcome, outcome_of, outcome, commanded, appended, moved, no_room, script, first, rest}
+use Rattle.mars_session.specs.Script.{CallKind, Command, Move, kind_of, Outcome, outcome_of, outcome, command_outcome, appended, move_outcome, no_room, script, first, rest}
 use Rattle.mars_session.specs.Laws.{CallsAreScripts, times, is_command, accepted_count, appended_by, RefusalsChangeNothing, GoesBackAndOn, CommandsAreUndone}
 use Rattle.mars_session.proofs.Undoing.{base, base_accepted, Accepted, accepted_call, stays_never, Undone, one_undone}
 
@@ -35,11 +35,11 @@ appended_stays : (m : Retention) (h : History) (states : States) (o : Option Ref
 appended_stays m h states (Some r) e = (refl, refl)
 appended_stays m h states None e = absurd (cc)
 
-commanded_stays : (m : Retention) (limit bound : ℕ) (poor : Bool) (h : History) (x : Result States Refusal) → Stays m h (commanded m limit bound poor h x)
+commanded_stays : (m : Retention) (limit bound : ℕ) (poor : Bool) (h : History) (x : Result States Refusal) → Stays m h (command_outcome m limit bound poor h x)
 commanded_stays m limit bound poor h (Err r) e = (refl, refl)
 commanded_stays m limit bound poor h (Ok states) e = appended_stays m h states (no_room m limit bound poor h) e
 
-moved_stays : (m : Retention) (h : History) (r : Refusal) (x : Option History) → Stays m h (moved m h r x)
+moved_stays : (m : Retention) (h : History) (r : Refusal) (x : Option History) → Stays m h (move_outcome m h r x)
 moved_stays m h r None e = (refl, refl)
 moved_stays m h r (Some to) e = absurd (cc)
 
@@ -55,13 +55,13 @@ abbrev Reached : ℕ → History → History → Type 0
 Reached count h end = ((count ≡ 0) × (end ≡ h)) ⊎ Undone count h end
 
 -- where none of the calls after an accepted command was accepted, the end is where that stands
-pub none_after : (n : ℕ) (h end : History) (s : State) (ss : List State) → n ≡ 0 → end ≡ accepted h s ss → Undone n (accepted h s ss) end
+pub none_after : (n : ℕ) (h end : History) (s : State) (ss : List State) → n ≡ 0 → end ≡ after_command h s ss → Undone n (after_command h s ss) end
 none_after n h end s ss z e =
-    let here : Option History = Some (accepted h s ss) in
-    let same : Some (base (accepted h s ss) []) ≡ here = ap (λ (k : History). Some k) (base_accepted h s ss) in
+    let here : Option History = Some (after_command h s ss) in
+    let same : Some (base (after_command h s ss) []) ≡ here = ap (λ (k : History). Some k) (base_accepted h s ss) in
     rw (z, e) (record { follow = []; back = sym same; again = same })
 
-some_after : (n : ℕ) (h end : History) (s : State) (ss : List State) → Reached n (accepted h s ss) end → Undone (suc n) h end
+some_after : (n : ℕ) (h end : History) (s : State) (ss : List State) → Reached n (after_command h s ss) end → Undone (suc n) h end
 some_after n h end s ss (inl none) = one_undone n h end s ss (none_after n h end s ss none.0 none.1)
 some_after n h end s ss (inr undone) = one_undone n h end s ss undone
 
@@ -92,7 +92,7 @@ pub record Leads (m : Retention) (limit n : ℕ) (call : Call) (poor : List Bool
   pub history : (script m limit (replicate n call) poor h).history ≡ end
 
 one_moved : (m : Retention) (limit n : ℕ) (call : Call) (r : Refusal) (move : History → Option History) (poor : List Bool) (h end : History) (x : Option History)
-    → outcome m limit call (first poor) h ≡ moved m h r x → option_and_then (times n move) x ≡ Some end
+    → outcome m limit call (first poor) h ≡ move_outcome m h r x → option_and_then (times n move) x ≡ Some end
     → ((k : History) → times n move k ≡ Some end → Leads m limit n call (rest poor) k end) → Leads m limit (suc n) call poor h end
 one_moved m limit n call r move poor h end None e t more = absurd (cc)
 one_moved m limit n call r move poor h end (Some k) e t more =
@@ -103,7 +103,7 @@ one_moved m limit n call r move poor h end (Some k) e t more =
     record { accepted = rw e others.accepted; retention = retention; history = history }
 
 pub all_moved : (m : Retention) (limit n : ℕ) (call : Call) (r : Refusal) (move : History → Option History) (poor : List Bool) (h end : History)
-    → ((b : Bool) (k : History) → outcome m limit call b k ≡ moved m k r (move k)) → times n move h ≡ Some end → Leads m limit n call poor h end
+    → ((b : Bool) (k : History) → outcome m limit call b k ≡ move_outcome m k r (move k)) → times n move h ≡ Some end → Leads m limit n call poor h end
 all_moved m limit zero call r move poor h end is t = record { accepted = refl; retention = refl; history = cc }
 all_moved m limit (suc n) call r move poor h end is t =
     one_moved m limit n call r move poor h end (move h) (is (first poor) h) t (λ k u. all_moved m limit n call r move (rest poor) k end is u)

@@ -17,7 +17,7 @@ use Rattle.mars_session.specs.declared.calls.Refusal.TheVariants.{Count, Address
 use Rattle.mars_session.specs.History.{History, undo, redo, goto, first_turns, last_turns}
 use Rattle.mars_session.specs.Retention.{Retention}
 use Rattle.mars_session.specs.Commands.{command_limit, States, turns_until, stops_at, step_states, run_states, until_bound, until_states, refusal_of, unless_fault, edit_states, fills, cells_between, fill_states}
-use Rattle.mars_session.specs.Script.{outcome, commanded, moved, no_undo}
+use Rattle.mars_session.specs.Script.{outcome, command_outcome, move_outcome, no_undo}
 use Rattle.mars_session.specs.Laws.{NeverFull}
 
 -- room or memory is wanting
@@ -80,11 +80,11 @@ module _ (k : ℕ) (forgotten : Bool) (limit : ℕ) (poor : Bool) (h : History) 
   abbrev retention : Retention
   retention = record { most = Some k; forgotten = forgotten }
 
-  commanded_judged : (bound : ℕ) (x : Result States Refusal) → IsJudged x → is_wanting (commanded retention limit bound poor h x).reply ≡ false
+  commanded_judged : (bound : ℕ) (x : Result States Refusal) → IsJudged x → is_wanting (command_outcome retention limit bound poor h x).reply ≡ false
   commanded_judged bound (Err r) j = j
   commanded_judged bound (Ok states) j = refl
 
-  moved_judged : (r : Refusal) (x : Option History) → wants r ≡ false → is_wanting (moved retention h r x).reply ≡ false
+  moved_judged : (r : Refusal) (x : Option History) → wants r ≡ false → is_wanting (move_outcome retention h r x).reply ≡ false
   moved_judged r None j = j
   moved_judged r (Some to) j = refl
 

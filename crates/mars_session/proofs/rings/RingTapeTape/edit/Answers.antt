@@ -3,7 +3,7 @@ use Rattle.mars_core.specs.State.{State}
 use Rattle.mars_core.specs.Edit.{edit_fault, edited}
 use Rattle.mars_core.specs.Leads.{Leads}
 use Rattle.mars_session.specs.History.{append, following}
-use Rattle.mars_session.specs.Retention.{kept, noted}
+use Rattle.mars_session.specs.Retention.{retained, noted}
 use Rattle.mars_session.specs.Tapes.{Ringed}
 use Rattle.mars_session.specs.Code.Journals.{journal_history}
 use Rattle.mars_session.proofs.Ends.{second_below, pushed_ends}
@@ -45,8 +45,8 @@ returns-clause-places c =
     let made : c.edit.new.self ≡ edited s.battle c.args.edit = rw may at c.edit.ensures.state in
     rw (c.push.ensures.ring, c.push.ensures.at, c.push.ensures.first_mark)
     (ring_pushed r.first_mark r.ring.items r.ring.capacity r.at s.battle c.edit.new.self c.in-Ok.atom c.self.invariant.0 at_end leads
-    ∙ ap (λ (x : State). kept (Some r.ring.capacity) (append (journal_history r.first_mark r.ring.items r.at s.battle) x)) made
-    ∙ ap (λ (t : Ringed). kept (Some t.most) (append t.history (edited t.history.present.state c.args.edit))) c.self.view_is)
+    ∙ ap (λ (x : State). retained (Some r.ring.capacity) (append (journal_history r.first_mark r.ring.items r.at s.battle) x)) made
+    ∙ ap (λ (t : Ringed). retained (Some t.most) (append t.history (edited t.history.present.state c.args.edit))) c.self.view_is)
 
 pub returns-clause-retention : goal.returns-clause-retention
 returns-clause-retention c =

@@ -2,7 +2,7 @@ use Rattle.std.proofs.Common.{◌≡◌, ◌∙◌, Some, ap, length, arith}
 use Rattle.mars_core.specs.State.{State}
 use Rattle.mars_core.specs.Turn.{turn_of, turn_record}
 use Rattle.mars_session.specs.History.{append, following}
-use Rattle.mars_session.specs.Retention.{kept, noted}
+use Rattle.mars_session.specs.Retention.{retained, noted}
 use Rattle.mars_session.specs.Tapes.{Ringed}
 use Rattle.mars_session.specs.Code.Journals.{journal_history}
 use Rattle.mars_session.proofs.Ends.{second_below, pushed_ends}
@@ -38,8 +38,8 @@ returns-clause-places c =
     let at_end : length r.ring.items ≡ r.at = omega (arith, rest, journal_following r.first_mark r.ring.items r.at s.battle, c.self.invariant.0.journal.inside) in
     rw (c.push_turn.ensures.ring, c.push_turn.ensures.at, c.push_turn.ensures.first_mark)
     (ring_pushed r.first_mark r.ring.items r.ring.capacity r.at s.battle c.push_turn.new.battle (turn_record s.battle) c.self.invariant.0 at_end c.push_turn.ensures.leads
-    ∙ ap (λ (x : State). kept (Some r.ring.capacity) (append (journal_history r.first_mark r.ring.items r.at s.battle) x)) c.push_turn.ensures.battle
-    ∙ ap (λ (t : Ringed). kept (Some t.most) (append t.history (turn_of t.history.present.state))) c.self.view_is)
+    ∙ ap (λ (x : State). retained (Some r.ring.capacity) (append (journal_history r.first_mark r.ring.items r.at s.battle) x)) c.push_turn.ensures.battle
+    ∙ ap (λ (t : Ringed). retained (Some t.most) (append t.history (turn_of t.history.present.state))) c.self.view_is)
 
 pub returns-clause-retention : goal.returns-clause-retention
 returns-clause-retention c =
