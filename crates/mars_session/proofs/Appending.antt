@@ -6,7 +6,7 @@ use Rattle.mars_core.specs.State.{State}
 use Rattle.mars_session.specs.declared.calls.Standing.{Standing}
 use Rattle.mars_session.specs.declared.calls.Refusal.{Refusal}
 use Rattle.mars_session.specs.History.{Place, History, cut, marked, append, append_all}
-use Rattle.mars_session.specs.Retention.{Retention, left, retained, too_many, noted}
+use Rattle.mars_session.specs.Retention.{Retention, left, retained, too_many, retention_after}
 use Rattle.mars_session.specs.Script.{standing_of, appended}
 use Rattle.mars_session.specs.Code.Appending.{Kept, go_on, go_on_all}
 
@@ -51,7 +51,7 @@ go_on_twice h m s t =
 
 -- from a first place on
 pub all_kept : (h : History) (m : Retention) (s : State) (ss : List State)
-    → go_on_all (go_on (record { history = h; retention = m }) s) ss ≡ record { history = retained m.most (append_all (append h s) ss); retention = noted m (append_all (append h s) ss) }
+    → go_on_all (go_on (record { history = h; retention = m }) s) ss ≡ record { history = retained m.most (append_all (append h s) ss); retention = retention_after m (append_all (append h s) ss) }
 all_kept h m s [] = refl
 all_kept h m s (t ∷ ss) = ap (λ (k : Kept). go_on_all k ss) (go_on_twice h m s t) ∙ all_kept (append h s) m t ss
 

@@ -10,7 +10,7 @@ use Rattle.mars_core.specs.Leads.{Leads}
 use Rattle.mars_core.specs.declared.record.Atom.{Atom}
 use Rattle.mars_session.specs.Limits.{longest_history}
 use Rattle.mars_session.specs.History.{Place, History, position_of, marked, append}
-use Rattle.mars_session.specs.Retention.{Retention, retained, noted}
+use Rattle.mars_session.specs.Retention.{Retention, retained, retention_after}
 use Rattle.mars_session.specs.Code.Journals.{entry_at, journal_history, IsJournal, IsRing}
 use Rattle.mars_session.proofs.Appending.{take_all}
 use Rattle.mars_session.proofs.Stepping.{journal_position, journal_marked, marked_kept, journal_append, append_kept, cut_kept, history_is, dropped_before, dropped_mark, dropped_here}
@@ -115,7 +115,7 @@ pushed_ring es most at s t a d e leads = by_room (nat_lt at most) refl
     by_room false f = full_ring es most at s t a e (omega (arith, ltb-false at most f, d.within)) d.some d.few leads d.journal
 
 pub pushed_memory : (first forgotten : Bool) (es : List (Atom × Bool)) (most at : ℕ) (s t : State)
-    → ◌≡◌ {A = Retention} (record { most = Some most; forgotten = forgotten || nat_lt most (at + 1) }) (noted (record { most = Some most; forgotten = forgotten }) (append (journal_history first es at s) t))
+    → ◌≡◌ {A = Retention} (record { most = Some most; forgotten = forgotten || nat_lt most (at + 1) }) (retention_after (record { most = Some most; forgotten = forgotten }) (append (journal_history first es at s) t))
 pushed_memory first forgotten es most at s t =
     let more : position_of (append (journal_history first es at s) t) ≡ at + 1 = omega (arith, journal_position first es at s) in
     rw more refl

@@ -6,7 +6,7 @@ use Rattle.mars_session.specs.History.{Place, History, position_of, append, appe
 use Rattle.mars_session.specs.declared.calls.Call.{Call}
 use Rattle.mars_session.specs.declared.calls.Refusal.{Refusal}
 use Rattle.mars_session.specs.Commands.{States}
-use Rattle.mars_session.specs.Retention.{Retention, never, retained, noted}
+use Rattle.mars_session.specs.Retention.{Retention, never, retained, retention_after}
 use Rattle.mars_session.specs.Script.{CallKind, Command, Move, kind_of, outcome_of, outcome, command_outcome, appended, move_outcome, no_room, first, rest, script}
 use Rattle.mars_session.specs.Laws.{command_places, times, is_command, count_of, appended_by, AllAccepted, UndosGiveBack, RedosGiveAgain, RedoAfterUndo}
 
@@ -105,7 +105,7 @@ accepted_call m limit call poor h c ok = accepted_kind m limit (kind_of call) po
 
 -- what a call remembers: as much as before, or what is noted of a history
 abbrev Remembers : Retention → Retention → Type 0
-Remembers m n = (n ≡ m) ⊎ ((x : History) × (n ≡ noted m x))
+Remembers m n = (n ≡ m) ⊎ ((x : History) × (n ≡ retention_after m x))
 
 remembers_room : (m : Retention) (h : History) (states : States) (o : Option Refusal) → Remembers m (appended m h states o).retention
 remembers_room m h states (Some r) = inl refl

@@ -27,5 +27,5 @@ too_many None n = false
 too_many (Some k) n = nat_lt k n
 
 -- what is known once just these places of a history are kept
-abbrev pub noted : Retention → History → Retention
-noted m h = record m { forgotten = m.forgotten || too_many m.most (position_of h) }
+abbrev pub retention_after : Retention → History → Retention
+retention_after m h = record m { forgotten = m.forgotten || too_many m.most (position_of h) }

@@ -8,7 +8,7 @@ use Rattle.mars_session.specs.declared.calls.Standing.{Standing}
 use Rattle.mars_session.specs.declared.calls.Refusal.{Refusal}
 use Rattle.mars_session.specs.declared.calls.Refusal.TheVariants.{NothingToUndo, NothingToRedo, NotInHistory, JournalFull, OutOfMemory, Forgotten}
 use Rattle.mars_session.specs.History.{History, position_of, last_of, following, after_command, undo, redo, goto, first_turns, last_turns}
-use Rattle.mars_session.specs.Retention.{Retention, retained, noted}
+use Rattle.mars_session.specs.Retention.{Retention, retained, retention_after}
 use Rattle.mars_session.specs.Commands.{States, step_states, run_states, until_bound, until_states, edit_states, cells_between, fill_states}
 
 -- a session: its history, the most places after the first one where none is forgotten, and what it keeps
@@ -49,7 +49,7 @@ done m h = record { history = h; retention = m; reply = Ok (standing_of h) }
 
 -- an accepted command too, once the oldest places that are too many are forgotten
 abbrev pub remembered : Retention → History → Outcome
-remembered m h = done (noted m h) (retained m.most h)
+remembered m h = done (retention_after m h) (retained m.most h)
 
 -- a move leads to a place, or is refused
 abbrev pub move_outcome : Retention → History → Refusal → Option History → Outcome

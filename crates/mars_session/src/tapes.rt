@@ -4,7 +4,7 @@ ghost use Rattle.mars_core.specs.State.{is_over_of};
 ghost use Rattle.mars_core.specs.Turn.{turn_of};
 ghost use Rattle.mars_core.specs.Edit.{edit_fault, edited};
 ghost use Rattle.mars_session.specs.History.{History, position_of, last_of, following, marked, cut, append, back, forward, first_turns, last_turns};
-ghost use Rattle.mars_session.specs.Retention.{Retention, retained, noted};
+ghost use Rattle.mars_session.specs.Retention.{Retention, retained, retention_after};
 ghost use Rattle.mars_session.specs.Tapes.{TurnsRise};
 
 use mars_core::{Battle, Edit};
@@ -87,7 +87,7 @@ pub trait Tape {
         requires runs { is_over_of (history self.old).present.state ≡ false }
         ensures places { history self.new ≡ retained (retention self.old).most
             (append (history self.old) (turn_of (history self.old).present.state)) }
-        ensures retention { retention self.new ≡ noted (retention self.old) (append (history self.old) (turn_of (history self.old).present.state)) }
+        ensures retention { retention self.new ≡ retention_after (retention self.old) (append (history self.old) (turn_of (history self.old).present.state)) }
         ensures room { room self.old ≤ room self.new + 1 };
 
     /// Appends what an edit makes of the present place, and goes there. The first place may be forgotten.
@@ -97,7 +97,7 @@ pub trait Tape {
         requires accepted { edit_fault (history self.old).present.state edit ≡ None }
         ensures places { history self.new ≡ retained (retention self.old).most
             (append (history self.old) (edited (history self.old).present.state edit)) }
-        ensures retention { retention self.new ≡ noted (retention self.old)
+        ensures retention { retention self.new ≡ retention_after (retention self.old)
             (append (history self.old) (edited (history self.old).present.state edit)) }
         ensures room { room self.old ≤ room self.new + 1 };
 

@@ -2,7 +2,7 @@
 use Rattle.std.specs.Prelude.{List, [], ◌∷◌}
 use Rattle.mars_core.specs.State.{State}
 use Rattle.mars_session.specs.History.{History, append}
-use Rattle.mars_session.specs.Retention.{Retention, retained, noted}
+use Rattle.mars_session.specs.Retention.{Retention, retained, retention_after}
 
 -- what a tape keeps of its places
 pub record Kept : Type 0 where
@@ -11,7 +11,7 @@ pub record Kept : Type 0 where
 
 -- one place more
 abbrev pub go_on : Kept → State → Kept
-go_on t s = record { history = retained t.retention.most (append t.history s); retention = noted t.retention (append t.history s) }
+go_on t s = record { history = retained t.retention.most (append t.history s); retention = retention_after t.retention (append t.history s) }
 
 abbrev pub go_on_all : Kept → List State → Kept
 go_on_all t [] = t

@@ -3,7 +3,7 @@ use Rattle.mars_core.specs.State.{State}
 use Rattle.mars_core.specs.Edit.{edit_fault, edited}
 use Rattle.mars_core.specs.Leads.{Leads}
 use Rattle.mars_session.specs.History.{append, following}
-use Rattle.mars_session.specs.Retention.{retained, noted}
+use Rattle.mars_session.specs.Retention.{retained, retention_after}
 use Rattle.mars_session.specs.Tapes.{Ringed}
 use Rattle.mars_session.specs.Code.Journals.{journal_history}
 use Rattle.mars_session.proofs.Ends.{second_below, pushed_ends}
@@ -54,4 +54,4 @@ returns-clause-retention c =
     let r = s.records in
     rw (c.push.ensures.ring, c.push.ensures.forgotten)
     (pushed_memory r.first_mark r.forgotten r.ring.items r.ring.capacity r.at s.battle (edited s.battle c.args.edit)
-    ∙ ap (λ (t : Ringed). noted (record { most = Some t.most; forgotten = t.forgotten }) (append t.history (edited t.history.present.state c.args.edit))) c.self.view_is)
+    ∙ ap (λ (t : Ringed). retention_after (record { most = Some t.most; forgotten = t.forgotten }) (append t.history (edited t.history.present.state c.args.edit))) c.self.view_is)

@@ -2,7 +2,7 @@ use Rattle.std.proofs.Common.{◌≡◌, ◌∙◌, Some, ap, length, arith}
 use Rattle.mars_core.specs.State.{State}
 use Rattle.mars_core.specs.Turn.{turn_of, turn_record}
 use Rattle.mars_session.specs.History.{append, following}
-use Rattle.mars_session.specs.Retention.{retained, noted}
+use Rattle.mars_session.specs.Retention.{retained, retention_after}
 use Rattle.mars_session.specs.Tapes.{Ringed}
 use Rattle.mars_session.specs.Code.Journals.{journal_history}
 use Rattle.mars_session.proofs.Ends.{second_below, pushed_ends}
@@ -47,4 +47,4 @@ returns-clause-retention c =
     let r = s.records in
     rw (c.push_turn.ensures.ring, c.push_turn.ensures.forgotten)
     (pushed_memory r.first_mark r.forgotten r.ring.items r.ring.capacity r.at s.battle (turn_of s.battle)
-    ∙ ap (λ (t : Ringed). noted (record { most = Some t.most; forgotten = t.forgotten }) (append t.history (turn_of t.history.present.state))) c.self.view_is)
+    ∙ ap (λ (t : Ringed). retention_after (record { most = Some t.most; forgotten = t.forgotten }) (append t.history (turn_of t.history.present.state))) c.self.view_is)
