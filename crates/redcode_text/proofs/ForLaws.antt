@@ -19,6 +19,7 @@ pub mod CountedTokens
 pub mod CountedTrees
 pub mod HeadLines
 pub mod KeptNames
+pub mod Likeness
 pub mod LineRead
 pub mod LoneLoops
 pub mod Moved
@@ -39,6 +40,7 @@ pub mod RenamedSides
 pub mod RenamedTokens
 pub mod RenamedTrees
 pub mod RenamedWords
+pub mod Replacements
 pub mod SameNames
 pub mod ShapedTrees
 pub mod Simulations

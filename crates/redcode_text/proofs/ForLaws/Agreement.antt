@@ -1,6 +1,6 @@
 -- Lists that agree element by element, options that agree where they have a value, and results that agree where they are values.
 use Rattle.std.specs.Bool.{⊤}
-use Rattle.std.proofs.Common.{◌≡◌, Bool, true, false, cond, List, [], ◌∷◌, ◌++◌, length, filter, Option, Some, None, Result, Ok, Err, refl, subst, arith}
+use Rattle.std.proofs.Common.{◌≡◌, Bool, true, false, cond, List, [], ◌∷◌, ◌++◌, length, filter, map, Option, Some, None, Result, Ok, Err, refl, subst, arith}
 use Rattle.std.specs.List.{last_or}
 use Rattle.redcode_text.specs.Results.{◌>>=◌}
 
@@ -35,6 +35,14 @@ pairwise-append R [] [] zs ws h k = k
 pairwise-append R [] (y ∷ ys) zs ws h k = absurd h
 pairwise-append R (x ∷ xs) [] zs ws h k = absurd h
 pairwise-append R (x ∷ xs) (y ∷ ys) zs ws h k = (h.0, pairwise-append R xs ys zs ws h.1 k)
+
+pub pairwise-mapped : {A B : Type 0} (R : A → B → Type 0) (f : A → B) → ((x : A) → R x (f x)) → (xs : List A) → Pairwise R xs (map f xs)
+pairwise-mapped R f h [] = tt
+pairwise-mapped R f h (x ∷ xs) = (h x, pairwise-mapped R f h xs)
+
+pub pairwise-itself : {A : Type 0} (R : A → A → Type 0) → ((x : A) → R x x) → (xs : List A) → Pairwise R xs xs
+pairwise-itself R h [] = tt
+pairwise-itself R h (x ∷ xs) = (h x, pairwise-itself R h xs)
 
 -- what two tests keep, that say the same of what agrees
 pub pairwise-filter : {A B : Type 0} (R : A → B → Type 0) (f : A → Bool) (g : B → Bool) → ((x : A) (y : B) → R x y → f x ≡ g y)

@@ -10,11 +10,12 @@ use Rattle.redcode_text.specs.declared.token.Token.{Token}
 use Rattle.redcode_text.specs.declared.token.TokenKind.{TokenKind}
 use Rattle.redcode_text.specs.declared.token.TokenKind.TheVariants.{Number, Name}
 use Rattle.redcode_text.specs.declared.token.TokenKind.TheVariants as token
-use Rattle.redcode_text.specs.Equates.{Equate, equate_lines}
+use Rattle.redcode_text.specs.Equates.{equate_lines}
 use Rattle.redcode_text.specs.Lines.{Parts, Predefined, Reading, before_first, behind_last, is_end, is_equate, is_instruction, is_label, is_operation, is_org, is_predefined, is_spelled, may_label, operation_lines, operations, parts_of, parts_within, predefined_value, split_colon, with_current_line}
-use Rattle.redcode_text.proofs.ForLaws.SameNames.{SameEquate, SameKind, SameLine, SameName, SameToken, SameTokens, index-same}
+use Rattle.redcode_text.proofs.ForLaws.SameNames.{SameKind, SameLine, SameName, SameToken, SameTokens, index-same}
 use Rattle.redcode_text.proofs.ForLaws.AlikeReadings.{ReadAlike, SameLines}
-use Rattle.redcode_text.proofs.ForLaws.AlikeResults.{Together, both-if, both-is_some, together-if, pairwise-any}
+use Rattle.redcode_text.proofs.ForLaws.AlikeResults.{Together, both-is_some, together-if, pairwise-any}
+use Rattle.redcode_text.proofs.ForLaws.Replacements as alike
 use Rattle.redcode_text.proofs.ForLaws.Agreement.{AgreeOption, Pairwise, pairwise-append, pairwise-length}
 
 -- ---- what a name is
@@ -23,19 +24,10 @@ module _ (st other : Reading) (r : ReadAlike st other) where
   names-test : (n m k l : ℕ) → SameName st.names other.names n m → SameName st.names other.names k l → (n == k) ≡ (m == l)
   names-test n m k l s t = index-same st.names other.names r.first.distinct r.second.distinct n k m l s t
 
-  among-alike : (es fs : List Equate) → Pairwise (SameEquate st.names other.names) es fs → (n m : ℕ) → SameName st.names other.names n m
-      → AgreeOption (SameLines st.names other.names) (equate_lines es n) (equate_lines fs m)
-  among-alike [] [] h n m s = tt
-  among-alike [] (f ∷ fs) h n m s = absurd h
-  among-alike (e ∷ es) [] h n m s = absurd h
-  among-alike (e ∷ es) (f ∷ fs) h n m s =
-      both-if (SameLines st.names other.names) (n == e.name) (m == f.name) (Some e.lines) (equate_lines es n) (Some f.lines)
-      (equate_lines fs m)
-      (names-test n m e.name f.name s h.0.0) h.0.1 (among-alike es fs h.1 n m s)
-
   pub equates-alike : (n m : ℕ) → SameName st.names other.names n m
       → AgreeOption (SameLines st.names other.names) (equate_lines st.equates n) (equate_lines other.equates m)
-  equates-alike n m s = among-alike st.equates other.equates r.equates n m s
+  equates-alike n m s =
+      alike.equates-alike (SameName st.names other.names) (SameToken st.names other.names) names-test st.equates other.equates r.equates n m s
 
   pub equate-test : (n m : ℕ) → SameName st.names other.names n m → is_equate st n ≡ is_equate other m
   equate-test n m s =

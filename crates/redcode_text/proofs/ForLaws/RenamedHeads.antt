@@ -17,15 +17,17 @@ use Rattle.redcode_text.specs.Lines.{Predefined, Reading, WithTokens, assert_lin
 use Rattle.redcode_text.specs.Source.{SourceRow, LineKind, RofLine, ForLine, EquLine, OtherLine, directive_text, directive_text_at, has_directive_word, is_comment, line_kind}
 use Rattle.redcode_text.specs.Tokens.{without_line}
 use Rattle.redcode_text.proofs.ForLaws.Agreement.{pairwise-append}
+use Rattle.redcode_text.proofs.ForLaws.Likeness.{Equal, equal-index, kind-like}
 use Rattle.redcode_text.proofs.ForLaws.RenamedComments.{IsSameAssert, SameComment, comments-same}
 use Rattle.redcode_text.proofs.ForLaws.RenamedKinds.{SameKind, comment-same, kind-same}
 use Rattle.redcode_text.proofs.ForLaws.RenamedLines.{ordinary-same}
 use Rattle.redcode_text.proofs.ForLaws.RenamedPlaces.{any-drop, scan-on}
-use Rattle.redcode_text.proofs.ForLaws.RenamedReadings.{Related, RenamedAssert, SameKinds, line-read-same, name-renamed, predefined-same, value-renamed, with-asserts, with-author, with-equates, with-name}
+use Rattle.redcode_text.proofs.ForLaws.RenamedReadings.{Related, RenamedAssert, SameKinds, line-read-same, name-renamed, predefined-same, same-kinds, value-renamed, with-asserts, with-author, with-equates, with-name}
 use Rattle.redcode_text.proofs.ForLaws.RenamedResults.{BothGive, both-elim, both-same, both-then}
-use Rattle.redcode_text.proofs.ForLaws.RenamedRows.{AnyPlace, SameCode, SameRead, SameSubstituted, after-same, any-code, anywhere, beside, comment-behind, equ-same, name-same, read-same, same-read, substituted-same}
+use Rattle.redcode_text.proofs.ForLaws.RenamedRows.{AnyPlace, SameCode, SameRead, after-same, any-code, anywhere, beside, comment-behind, equ-same, name-same, read-same, same-read}
 use Rattle.redcode_text.proofs.ForLaws.RenamedSides.{Sides}
 use Rattle.redcode_text.proofs.ForLaws.RenamedTokens.{renamed_loop}
+use Rattle.redcode_text.proofs.ForLaws.Replacements.{replaced-alike}
 
 abbrev pub IsFor : LineKind → Type 0
 IsFor (ForLine at) = ⊤
@@ -216,9 +218,9 @@ module _ (ps : Predefined) (rename : List ℕ → List ℕ) (r : IsRenaming ps r
 
   count-same : (st other : Reading) → Related ps rename r st other → (ts us : List Token) → SameKinds ts us → BothGive (λ x y. x ≡ y) (count_of ps st ts) (count_of ps other us)
   count-same st other q ts us h =
-      both-then SameSubstituted (λ x y. x ≡ y) (without_line (substitution st.equates ts)) (without_line (substitution other.equates us)) (λ vs. counted st (kinds vs)) (λ vs. counted other (kinds vs))
-      (substituted-same st.equates other.equates ts us q.equates h)
-      (λ vs ws e. subst (λ ks. BothGive (λ x y. x ≡ y) (counted st (kinds vs)) (counted other ks)) e
+      both-then SameKinds (λ x y. x ≡ y) (without_line (substitution st.equates ts)) (without_line (substitution other.equates us)) (λ vs. counted st (kinds vs)) (λ vs. counted other (kinds vs))
+      (replaced-alike Equal (λ t u. t.kind ≡ u.kind) equal-index (λ t u. kind-like t.kind u.kind) st.equates other.equates q.equates ts us h)
+      (λ vs ws e. subst (λ ks. BothGive (λ x y. x ≡ y) (counted st (kinds vs)) (counted other ks)) (same-kinds vs ws e)
       (both-elim (λ x y. x ≡ y) (has_label ps st (kinds vs)) (has_label ps other (kinds vs)) (Err LabelInCount) (valued st (kinds vs)) (Err LabelInCount) (valued other (kinds vs)) (label-found st other q (kinds vs)) refl
       (both-same (λ x y. x ≡ y) (valued st (kinds vs)) (valued other (kinds vs)) (λ i. as_count (value_of (λ n. names-valued st other q n i) (kinds vs))) (λ x. refl))))
     where

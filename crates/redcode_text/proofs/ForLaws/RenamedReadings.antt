@@ -1,5 +1,5 @@
 -- Two readings, of a source and of the source with its names renamed.
-use Rattle.std.proofs.Common.{◌≡◌, ◌∙◌, refl, ap, sym, subst, true≢false, ℕ, zero, suc, ◌+◌, ◌==◌, ◌&&◌, ◌||◌, not, Bool, true, false, nat_le, nat_lt, List, [], ◌∷◌, length, map, pos, Option, Some, None, is_some, Result, Ok, Err}
+use Rattle.std.proofs.Common.{◌≡◌, ◌∙◌, refl, ap, sym, true≢false, ℕ, zero, suc, ◌+◌, ◌==◌, ◌&&◌, ◌||◌, not, Bool, true, false, nat_le, nat_lt, List, [], ◌∷◌, length, map, pos, Option, Some, None, is_some, Result, Ok, Err}
 use Rattle.std.specs.Prelude.{codes, ℤ}
 use Rattle.std.specs.List.{list_any}
 use Rattle.std.specs.Str.{bytes_eq, str_eq_ignore_ascii_case}
@@ -13,11 +13,13 @@ use Rattle.redcode_text.specs.Lines.{Assert, Line, Predefined, Reading, is_end, 
 use Rattle.redcode_text.specs.Tokens.{OpenLoop}
 use Rattle.redcode_text.proofs.ForLaws.Agreement.{AgreeOption, Pairwise, pairwise-length}
 use Rattle.redcode_text.proofs.ForLaws.AlikeResults.{both-is_some, pairwise-any, pairwise-map}
+use Rattle.redcode_text.proofs.ForLaws.Likeness.{Equal, equal-index}
 use Rattle.redcode_text.proofs.ForLaws.RenamedKinds.{kept-test, operation-same, operations-same}
 use Rattle.redcode_text.proofs.ForLaws.RenamedPlaces.{either-second}
 use Rattle.redcode_text.proofs.ForLaws.RenamedResults.{BothGive, both-elim}
 use Rattle.redcode_text.proofs.ForLaws.RenamedTokens.{renamed_loop}
 use Rattle.redcode_text.proofs.ForLaws.RenamedWords.{empty-stays}
+use Rattle.redcode_text.proofs.ForLaws.Replacements.{equates-alike}
 
 -- ---- tokens of the same kinds
 
@@ -48,17 +50,7 @@ pub same-length : (ts us : List Token) → SameKinds ts us → length ts ≡ len
 same-length ts us h = pairwise-length (λ (t u : Token). t.kind ≡ u.kind) ts us h
 
 pub equates-found : (es fs : List Equate) (n : ℕ) → Pairwise RenamedEquate es fs → AgreeOption SameTexts (equate_lines es n) (equate_lines fs n)
-equates-found [] [] n h = tt
-equates-found [] (f ∷ fs) n h = absurd h
-equates-found (e ∷ es) [] n h = absurd h
-equates-found (e ∷ es) (f ∷ fs) n h =
-    subst (λ m. AgreeOption SameTexts (equate_lines (e ∷ es) n) (elim (n == m) as (λ _. Option (List (List Token))) [ true ↦ Some f.lines | false ↦ equate_lines fs n ])) h.0.0
-    (go (n == e.name) (equates-found es fs n h.1))
-  where
-    go : (t : Bool) → AgreeOption SameTexts (equate_lines es n) (equate_lines fs n)
-        → AgreeOption SameTexts (elim t as (λ _. Option (List (List Token))) [ true ↦ Some e.lines | false ↦ equate_lines es n ]) (elim t as (λ _. Option (List (List Token))) [ true ↦ Some f.lines | false ↦ equate_lines fs n ])
-    go true k = h.0.1
-    go false k = k
+equates-found es fs n h = equates-alike Equal (λ t u. t.kind ≡ u.kind) equal-index es fs h n n refl
 
 module _ (ps : Predefined) (rename : List ℕ → List ℕ) (r : IsRenaming ps rename) where
   -- ---- names

@@ -15,6 +15,12 @@ both-then R S (Ok x) (Err e) f g h k = absurd h
 both-then R S (Err d) (Ok y) f g h k = absurd h
 both-then R S (Err d) (Err e) f g h k = h
 
+pub gives-weaker : {A B E : Type 0} (R S : A → B → Type 0) (r : Result A E) (s : Result B E) → BothGive R r s → ((x : A) (y : B) → R x y → S x y) → BothGive S r s
+gives-weaker R S (Ok x) (Ok y) h k = k x y h
+gives-weaker R S (Ok x) (Err e) h k = absurd h
+gives-weaker R S (Err d) (Ok y) h k = absurd h
+gives-weaker R S (Err d) (Err e) h k = h
+
 pub both-elim : {A B E : Type 0} (R : A → B → Type 0) (c d : Bool) (x y : Result A E) (z w : Result B E) → c ≡ d → BothGive R x z → BothGive R y w
     → BothGive R (elim c as (λ _. Result A E) [ true ↦ x | false ↦ y ]) (elim d as (λ _. Result B E) [ true ↦ z | false ↦ w ])
 both-elim R true true x y z w e h k = h

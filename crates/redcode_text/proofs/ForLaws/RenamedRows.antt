@@ -1,5 +1,5 @@
 -- What a row adds to two readings, of a source and of the source with its names renamed.
-use Rattle.std.proofs.Common.{◌≡◌, ◌∙◌, refl, ap, sym, subst, true≢false, ℕ, ◌+◌, ◌-◌, ◌==◌, ◌&&◌, ◌||◌, inl, inr, Bool, true, false, nat_lt, List, [], ◌∷◌, ◌++◌, length, drop, map, Result, Ok, Err, arith}
+use Rattle.std.proofs.Common.{◌≡◌, ◌∙◌, refl, ap, sym, subst, true≢false, ℕ, ◌+◌, ◌-◌, ◌==◌, ◌&&◌, ◌||◌, inl, inr, Bool, true, false, nat_lt, List, [], ◌∷◌, ◌++◌, length, drop, map, Result, Ok, arith}
 use Rattle.std.specs.Prelude.{⊤}
 use Rattle.std.specs.List.{list_all, list_any}
 use Rattle.std.proofs.lemmas.Bool.{and_parts}
@@ -7,20 +7,19 @@ use Rattle.std.proofs.lemmas.Bool.Decides.{nat_tests}
 use Rattle.std.proofs.lemmas.List.{append-nil}
 use Rattle.redcode_text.specs.declared.fault.TextProblem.{TextProblem}
 use Rattle.redcode_text.specs.declared.token.Token.{Token}
-use Rattle.redcode_text.specs.Equates.{Equate, limit, substitution}
+use Rattle.redcode_text.specs.Equates.{limit}
 use Rattle.redcode_text.specs.Expression.{kinds}
 use Rattle.redcode_text.specs.Laws.{IsRenaming, JoinsAreRenamed, renamed_from, renamed_text}
 use Rattle.redcode_text.specs.Lines.{Predefined, Reading, WithTokens, before_comment, equ_line, equated, name_in_front, row_tokens, tokens_after, tokens_before}
 use Rattle.redcode_text.specs.Source.{SourceRow, blank_len, is_comment}
-use Rattle.redcode_text.specs.Tokens.{is_word_byte, scan_from, tokens, without_line}
+use Rattle.redcode_text.specs.Tokens.{is_word_byte, scan_from, tokens}
 use Rattle.redcode_text.proofs.ForLaws.Agreement.{Pairwise, pairwise-filter, pairwise-length}
-use Rattle.redcode_text.proofs.ForLaws.AlikeResults.{pairwise-map, pairwise-weaker}
-use Rattle.redcode_text.proofs.ForLaws.Moved.{kinds-moved, moved_equate, moved_tokens, substitution-moved}
+use Rattle.redcode_text.proofs.ForLaws.AlikeResults.{pairwise-weaker}
 use Rattle.redcode_text.proofs.ForLaws.RenamedColumns.{first-before, second-before, to_second}
 use Rattle.redcode_text.proofs.ForLaws.RenamedKinds.{Placed}
 use Rattle.redcode_text.proofs.ForLaws.RenamedLines.{equated-same}
 use Rattle.redcode_text.proofs.ForLaws.RenamedPlaces.{SameScan, scan-on}
-use Rattle.redcode_text.proofs.ForLaws.RenamedReadings.{Related, RenamedEquate, SameKinds, same-kinds, with-tokens-read}
+use Rattle.redcode_text.proofs.ForLaws.RenamedReadings.{Related, SameKinds, same-kinds, with-tokens-read}
 use Rattle.redcode_text.proofs.ForLaws.RenamedResults.{BothGive, both-same, both-then}
 use Rattle.redcode_text.proofs.ForLaws.RenamedSides.{Sides, goes-first, goes-second}
 use Rattle.redcode_text.proofs.ForLaws.RenamedTokens.{renamed_loop}
@@ -48,41 +47,6 @@ any-code (b ∷ bs) e = go (b == 59) e (any-code bs)
         → ((b == 38) || list_any (λ c. c == 38) bs) ≡ true
     go true e h = absurd (true≢false (sym e))
     go false e h = on (b == 38) e h
-
--- ---- counts
-
-abbrev bare : Token → Token
-bare t = record { kind = t.kind; line = 0; from = 0; to = 0 }
-
-bare-same : (ts us : List Token) → SameKinds ts us → map bare ts ≡ map bare us
-bare-same ts us h = pairwise-map (λ (t u : Token). t.kind ≡ u.kind) bare bare (λ t u e. ap (λ k. record { kind = k; line = 0; from = 0; to = 0 }) e) ts us h
-
-texts-same : (ls ms : List (List Token)) → Pairwise SameKinds ls ms → map (map bare) ls ≡ map (map bare) ms
-texts-same ls ms h = pairwise-map SameKinds (map bare) (map bare) bare-same ls ms h
-
-equates-bare : (es fs : List Equate) → Pairwise RenamedEquate es fs → map (moved_equate bare (λ t. refl)) es ≡ map (moved_equate bare (λ t. refl)) fs
-equates-bare es fs h =
-    pairwise-map RenamedEquate (moved_equate bare (λ t. refl)) (moved_equate bare (λ t. refl)) (λ e f k. let a = k.0 in let b = texts-same e.lines f.lines k.1 in λ i. record { name = a i; lines = b i }) es fs h
-
-abbrev pub SameSubstituted : List Token → List Token → Type 0
-SameSubstituted ts us = kinds ts ≡ kinds us
-
-abbrev good : List Token → Result (List Token) TextProblem
-good ts = Ok ts
-
-pub substituted-same : (es fs : List Equate) (ts us : List Token) → Pairwise RenamedEquate es fs → SameKinds ts us → BothGive SameSubstituted (without_line (substitution es ts)) (without_line (substitution fs us))
-substituted-same es fs ts us h k =
-    go (without_line (substitution es ts)) (without_line (substitution fs us))
-    (sym (substitution-moved bare (λ t. refl) es ts) ∙ (λ i. without_line (substitution (equates-bare es fs h i) (bare-same ts us k i))) ∙ substitution-moved bare (λ t. refl) fs us)
-  where
-    ok : (xs ys : List Token) → good xs ≡ good ys → xs ≡ ys
-    ok xs ys e = cc
-
-    go : (x y : Result (List Token) TextProblem) → moved_tokens bare (λ t. refl) x ≡ moved_tokens bare (λ t. refl) y → BothGive SameSubstituted x y
-    go (Ok xs) (Ok ys) e = sym (kinds-moved bare (λ t. refl) xs) ∙ ap kinds (ok (map bare xs) (map bare ys) e) ∙ kinds-moved bare (λ t. refl) ys
-    go (Ok xs) (Err d) e = absurd (cc)
-    go (Err d) (Ok ys) e = absurd (cc)
-    go (Err d) (Err f) e = cc
 
 -- wherever two tokens stand
 abbrev pub AnyPlace : ℕ → ℕ → Type 0

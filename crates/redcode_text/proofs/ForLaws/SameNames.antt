@@ -11,6 +11,7 @@ use Rattle.redcode_text.specs.Alike.{spelled, spelled_assert, spelled_equate, sp
 use Rattle.redcode_text.specs.Equates.{Equate}
 use Rattle.redcode_text.specs.Lines.{Assert, Line, name_at}
 use Rattle.redcode_text.proofs.ForLaws.Agreement.{AgreeOption, Pairwise}
+use Rattle.redcode_text.proofs.ForLaws.Likeness.{LikeEquate, LikeKind}
 use Rattle.redcode_text.proofs.Named.{AreBelow, AreDistinct, IsBelow, IsEquateBelow, IsLineBelow}
 
 module _ (names others : List (List ℕ)) where
@@ -19,10 +20,7 @@ module _ (names others : List (List ℕ)) where
   SameName n m = (n < length names) × (m < length others) × (name_at names n ≡ name_at others m)
 
   abbrev pub SameKind : TokenKind → TokenKind → Type 0
-  SameKind (Name n) (Name m) = SameName n m
-  SameKind (Number a) (Number b) = a ≡ b
-  SameKind (token.Sign s) (token.Sign u) = s ≡ u
-  SameKind _ _ = ⊥
+  SameKind k l = LikeKind SameName k l
 
   abbrev pub SameToken : Token → Token → Type 0
   SameToken t u = SameKind t.kind u.kind
@@ -31,7 +29,7 @@ module _ (names others : List (List ℕ)) where
   SameTokens ts us = Pairwise SameToken ts us
 
   abbrev pub SameEquate : Equate → Equate → Type 0
-  SameEquate e f = SameName e.name f.name × Pairwise SameTokens e.lines f.lines
+  SameEquate e f = LikeEquate SameName SameToken e f
 
   abbrev pub SameLine : Line → Line → Type 0
   SameLine l k = Pairwise SameName l.labels k.labels × AgreeOption SameName l.operation k.operation × SameTokens l.rest k.rest

@@ -1,0 +1,40 @@
+-- Tokens and EQU names that are alike: they are the same but for the names' indices, of which a relation tells which stand for one another.
+use Rattle.std.proofs.Common.{◌≡◌, refl, subst, ℕ, ◌==◌, List}
+use Rattle.redcode_text.specs.declared.token.Token.{Token}
+use Rattle.redcode_text.specs.declared.token.TokenKind.{TokenKind}
+use Rattle.redcode_text.specs.declared.token.TokenKind.TheVariants.{Number, Name}
+use Rattle.redcode_text.specs.declared.token.TokenKind.TheVariants as token
+use Rattle.redcode_text.specs.Equates.{Equate}
+use Rattle.redcode_text.proofs.ForLaws.Agreement.{Pairwise}
+
+abbrev pub LikeKind : (ℕ → ℕ → Type 0) → TokenKind → TokenKind → Type 0
+LikeKind N (Name n) (Name m) = N n m
+LikeKind N (Number a) (Number b) = a ≡ b
+LikeKind N (token.Sign s) (token.Sign u) = s ≡ u
+LikeKind N _ _ = ⊥
+
+abbrev pub LikeToken : (ℕ → ℕ → Type 0) → Token → Token → Type 0
+LikeToken N t u = LikeKind N t.kind u.kind
+
+abbrev pub LikeTokens : (ℕ → ℕ → Type 0) → List Token → List Token → Type 0
+LikeTokens N ts us = Pairwise (LikeToken N) ts us
+
+-- an EQU name and the lines of it, by a relation of tokens
+abbrev pub LikeEquate : (ℕ → ℕ → Type 0) → (Token → Token → Type 0) → Equate → Equate → Type 0
+LikeEquate N T e f = N e.name f.name × Pairwise (Pairwise T) e.lines f.lines
+
+-- ---- the same indices
+
+abbrev pub Equal : ℕ → ℕ → Type 0
+Equal n m = n ≡ m
+
+pub kind-like : (k l : TokenKind) → k ≡ l → LikeKind Equal k l
+kind-like k l e = subst (LikeKind Equal k) e (go k)
+  where
+    go : (k : TokenKind) → LikeKind Equal k k
+    go (Name n) = refl
+    go (Number a) = refl
+    go (token.Sign s) = refl
+
+pub equal-index : (n m k l : ℕ) → Equal n m → Equal k l → (n == k) ≡ (m == l)
+equal-index n m k l e f = λ i. e i == f i
