@@ -7,8 +7,7 @@ use Rattle.redcode_text.specs.Equates.{Equate, substitution}
 use Rattle.redcode_text.specs.Tokens.{without_line}
 use Rattle.redcode_text.specs.Expression.{kinds}
 use Rattle.redcode_text.proofs.ForLaws.Agreement.{pairwise-itself}
-use Rattle.redcode_text.proofs.ForLaws.Likeness.{Equal, LikeEquate, equal-index, kind-like}
-use Rattle.redcode_text.proofs.ForLaws.RenamedReadings.{same-kinds}
+use Rattle.redcode_text.proofs.ForLaws.Likeness.{Equal, LikeEquate, equal-index, kind-like, same-kinds}
 use Rattle.redcode_text.proofs.ForLaws.RenamedResults.{gives-weaker}
 use Rattle.redcode_text.proofs.ForLaws.Replacements.{replaced-alike}
 pub use Rattle.redcode_text.proofs.ForLaws.PrintedNames.{program-printed}
@@ -29,9 +28,10 @@ pub use Rattle.redcode_text.proofs.ForLaws.SameNames.{SameAssert, SameEquate, Sa
 pub use Rattle.redcode_text.proofs.ForLaws.SourcePrograms.{loops-written-out, source-named}
 pub use Rattle.redcode_text.proofs.ForLaws.AlikeResults.{pairwise-map}
 pub use Rattle.redcode_text.proofs.ForLaws.CountedOut.{counter-loops}
-pub use Rattle.redcode_text.proofs.ForLaws.RenamedKinds.{operation-same}
-pub use Rattle.redcode_text.proofs.ForLaws.RenamedPrograms.{RenamedProgram, source-renamed}
-pub use Rattle.redcode_text.proofs.ForLaws.RenamedReadings.{RenamedAssert, RenamedEquate, RenamedLine, SameKinds, name-renamed, value-renamed}
+pub use Rattle.redcode_text.proofs.ForLaws.RenamedKinds.{operation-same, value-renamed}
+pub use Rattle.redcode_text.proofs.ForLaws.RenamedPrograms.{RenamedAssert, RenamedEquate, RenamedLine, RenamedProgram, source-renamed}
+pub use Rattle.redcode_text.proofs.ForLaws.RenamedReadings.{name-renamed}
+pub use Rattle.redcode_text.proofs.ForLaws.Likeness.{SameKinds}
 pub use Rattle.redcode_text.proofs.ForLaws.RenamedResults.{BothGive}
 
 -- ---- tokens of the same kinds, wherever they stand

@@ -1,9 +1,7 @@
 -- What laws and the crates above stand on, and no function of this crate.
 pub mod Agreement
-pub mod AlikeCounts
 pub mod AlikeLines
 pub mod AlikeNames
-pub mod AlikeParts
 pub mod AlikeReadings
 pub mod AlikeResults
 pub mod AlikeSteps
@@ -17,8 +15,12 @@ pub mod CountedRows
 pub mod CountedSteps
 pub mod CountedTokens
 pub mod CountedTrees
+pub mod Follows
 pub mod HeadLines
 pub mod KeptNames
+pub mod LikeHeads
+pub mod LikeLines
+pub mod LikeReadings
 pub mod Likeness
 pub mod LineRead
 pub mod LoneLoops
@@ -29,7 +31,6 @@ pub mod RenamedColumns
 pub mod RenamedComments
 pub mod RenamedHeads
 pub mod RenamedKinds
-pub mod RenamedLines
 pub mod RenamedPlaces
 pub mod RenamedPrograms
 pub mod RenamedReadings

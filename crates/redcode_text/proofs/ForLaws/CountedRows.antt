@@ -15,9 +15,9 @@ use Rattle.redcode_text.specs.Laws.{HasItsJoins, IsCounterName, IsInstructionLin
 use Rattle.redcode_text.specs.Lines.{Predefined, Reading, WithTokens, before_comment, comment_line, line_read, ordinary_line, plain_line, row_tokens, tokens_line}
 use Rattle.redcode_text.specs.Source.{SourceRow, LineKind, OtherLine}
 use Rattle.redcode_text.specs.Tokens.{OpenLoop, begins_name, begins_word, is_word_byte, round_of, tokens}
-use Rattle.redcode_text.proofs.ForLaws.AlikeLines.{ordinary-alike}
-use Rattle.redcode_text.proofs.ForLaws.AlikeReadings.{ReadAlike, ReadOn, SameRow, like_row, line-read-alike, row-alike}
-use Rattle.redcode_text.proofs.ForLaws.AlikeResults.{together-made}
+use Rattle.redcode_text.proofs.ForLaws.LikeLines.{ordinary-alike}
+use Rattle.redcode_text.proofs.ForLaws.AlikeReadings.{ReadAlike, name_for_name, nothing-renamed, row-alike}
+use Rattle.redcode_text.proofs.ForLaws.LikeReadings.{line-read-alike}
 use Rattle.redcode_text.proofs.ForLaws.SameNames.{SameTokens}
 use Rattle.redcode_text.proofs.ForLaws.CountedLines.{kinds-on, ordinary-opened}
 use Rattle.redcode_text.proofs.ForLaws.LoneLoops.{digit-begins-none, no-counter}
@@ -166,8 +166,7 @@ module _ (ps : Predefined) (counter : List ℕ) (name : IsCounterName counter) (
   tokens-written behind (t ∷ ts) (u ∷ ws) x y r h a e =
       let o = both-made (λ (a b : Reading). b ≡ record a { loops = behind }) (ordinary_line ps row.number depth_limit (t ∷ ts) x) (ordinary_line ps row.number depth_limit (t ∷ ts) (record x { loops = behind })) a
       (ordinary-opened behind ps row.number depth_limit (t ∷ ts) x) e in
-      let k = together-made (ReadOn (record x { loops = behind }) y) o.0 (ordinary_line ps row.number depth_limit (t ∷ ts) (record x { loops = behind })) (ordinary_line ps like.number depth_limit (u ∷ ws) y)
-      (ordinary-alike ps row.number like.number depth_limit (record x { loops = behind }) y r (t ∷ ts) (u ∷ ws) h) o.1 in
+      let k = (ordinary-alike ps name_for_name (nothing-renamed ps) row.number like.number tt depth_limit (record x { loops = behind }) y r (t ∷ ts) (u ∷ ws) h).value o.0 o.1 in
       (k.0, k.1, subst (λ z. ReadAlike z k.0) o.2 k.2.read)
 
   -- ---- the line
@@ -186,8 +185,7 @@ module _ (ps : Predefined) (counter : List ℕ) (name : IsCounterName counter) (
           → (b : Reading) × ((row_tokens like 0 other >>= λ x. tokens_line ps OtherLine like x.0 x.1) ≡ Ok b) × ReadAlike (record a { loops = behind }) b
       go (Ok x) made is =
           let u = both-made (SameTokensRead behind) (row_tokens row 0 st) (row_tokens like 0 (record st { loops = behind })) x (row-written st behind e (round-none (record st { loops = behind }) other r)) made in
-          let v = together-made (SameRow like.at like.at) u.0 (row_tokens like 0 (record st { loops = behind })) (row_tokens (like_row like like.number like.at) 0 other)
-          (row-alike like like.number like.at 0 (record st { loops = behind }) other r) u.1 in
+          let v = (row-alike like like.number like.at 0 (record st { loops = behind }) other r).value u.0 u.1 in
           let alike : ReadAlike (record (x.1) { loops = behind }) v.0.1 = subst (λ z. ReadAlike z v.0.1) u.2.1 v.2.read in
           let placed = subst (λ z. SameTokens z v.0.1.names x.0 v.0.0) (ap (λ (z : Reading). z.names) u.2.1) (kinds-on u.0.1.names v.0.1.names like.at like.at x.0 u.0.0 v.0.0 u.2.0 v.2.tokens) in
           let w = tokens-written behind x.0 v.0.0 x.1 v.0.1 alike placed a is in
@@ -211,8 +209,7 @@ module _ (ps : Predefined) (counter : List ℕ) (name : IsCounterName counter) (
               let same : x ≡ record st { lines_read = st.lines_read + 1 } = cc in
               let fewer : line_read (record st { loops = h.behind }) ≡ Ok (record st { lines_read = st.lines_read + 1; loops = h.behind }) =
               ap (λ t. elim t as (λ _. Result Reading TextProblem) [ true ↦ Err TooLong | false ↦ Ok (record st { lines_read = st.lines_read + 1; loops = h.behind }) ]) f in
-              let k = together-made (ReadOn (record st { loops = h.behind }) other) (record st { lines_read = st.lines_read + 1; loops = h.behind }) (line_read (record st { loops = h.behind })) (line_read other)
-              (line-read-alike (record st { loops = h.behind }) other h.read) fewer in
+              let k = (line-read-alike name_for_name (record st { loops = h.behind }) other h.read).value (record st { lines_read = st.lines_read + 1; loops = h.behind }) fewer in
               (ap (λ (z : Reading). z.loops) same, k.0, k.1, subst (λ (z : Reading). ReadAlike (record z { loops = h.behind }) k.0) (sym same) k.2.read)
 
       go : (m : Result Reading TextProblem) → line_read st ≡ m → (m >>= λ a. row_tokens row 0 a >>= λ x. tokens_line ps OtherLine row x.0 x.1) ≡ Ok a

@@ -1,6 +1,6 @@
 -- What a line is, and where its FOR or EQU stands, with its names renamed.
-use Rattle.std.proofs.Common.{◌≡◌, ◌∙◌, refl, ap, sym, subst, true≢false, ℕ, ◌&&◌, ◌||◌, ◌⊎◌, inl, inr, Bool, true, false, List, [], ◌∷◌, ◌++◌, take, drop, drop-drop, map, nat_eq, Option, Some, None, is_some, append_assoc, arith}
-use Rattle.std.specs.Prelude.{⊤, codes}
+use Rattle.std.proofs.Common.{◌≡◌, ◌∙◌, refl, ap, sym, subst, true≢false, ℕ, ◌&&◌, ◌||◌, ◌⊎◌, inl, inr, Bool, true, false, List, [], ◌∷◌, ◌++◌, take, drop, drop-drop, map, nat_eq, Option, Some, None, pos, is_some, append_assoc, arith}
+use Rattle.std.specs.Prelude.{⊤, ℤ, codes}
 use Rattle.std.specs.Char.{to_ascii_lowercase}
 use Rattle.std.specs.List.{list_all, list_any, starts_with}
 use Rattle.std.specs.Str.{bytes_eq, str_eq_ignore_ascii_case, str_to_ascii_lowercase}
@@ -47,7 +47,7 @@ all-parts (x ∷ xs) ys e = all-parts xs ys (and_parts (is_word_byte x) (list_al
 
 module _ (ps : Predefined) (rename : List ℕ → List ℕ) (r : IsRenaming ps rename) where
   -- what is true of words with a meaning alone is true of a word and of the word renamed
-  pub kept-test : (P : List ℕ → Bool) → ((word : List ℕ) → P word ≡ true → is_reserved ps word ≡ true) → (word : List ℕ) → P (rename word) ≡ P word
+  kept-test : (P : List ℕ → Bool) → ((word : List ℕ) → P word ≡ true → is_reserved ps word ≡ true) → (word : List ℕ) → P (rename word) ≡ P word
   kept-test P means word = go (P word) (P (rename word)) refl refl
     where
       go : (t u : Bool) → P word ≡ t → P (rename word) ≡ u → u ≡ t
@@ -65,6 +65,29 @@ module _ (ps : Predefined) (rename : List ℕ → List ℕ) (r : IsRenaming ps r
   operations-same =
       kept-test (λ word. list_any (str_eq_ignore_ascii_case word) operations)
       (λ word e. either (list_any (str_eq_ignore_ascii_case word) operations) (is_some (predefined_value (with_current_line ps 0) word)) e)
+
+  value-some : (k : ℕ) (word : List ℕ) → is_some (predefined_value (with_current_line ps k) word) ≡ is_some (predefined_value (with_current_line ps 0) word)
+  value-some k word = go (bytes_eq (codes "CURLINE") word)
+    where
+      go : (t : Bool) → is_some (elim t as (λ _. Option ℤ) [ true ↦ Some (pos k) | false ↦ predefined_value ps word ]) ≡ is_some (elim t as (λ _. Option ℤ) [ true ↦ Some (pos 0) | false ↦ predefined_value ps word ])
+      go true = refl
+      go false = refl
+
+  value-means : (k : ℕ) (word : List ℕ) → is_some (predefined_value (with_current_line ps k) word) ≡ true → is_reserved ps word ≡ true
+  value-means k word e = either-second (list_any (str_eq_ignore_ascii_case word) operations) (is_some (predefined_value (with_current_line ps 0) word)) (sym (value-some k word) ∙ e)
+
+  no-value : (o : Option ℤ) → is_some o ≡ false → o ≡ None
+  no-value None e = refl
+  no-value (Some x) e = absurd (true≢false e)
+
+  pub value-renamed : (k : ℕ) (word : List ℕ) → predefined_value (with_current_line ps k) (rename word) ≡ predefined_value (with_current_line ps k) word
+  value-renamed k word = go (is_some (predefined_value (with_current_line ps k) word)) refl
+    where
+      go : (t : Bool) → is_some (predefined_value (with_current_line ps k) word) ≡ t → predefined_value (with_current_line ps k) (rename word) ≡ predefined_value (with_current_line ps k) word
+      go true e = ap (predefined_value (with_current_line ps k)) (r.reserved word (value-means k word e))
+      go false e =
+          no-value (predefined_value (with_current_line ps k) (rename word)) (kept-test (λ w. is_some (predefined_value (with_current_line ps k) w)) (value-means k) word ∙ e)
+          ∙ sym (no-value (predefined_value (with_current_line ps k) word) e)
 
   -- a text that is one word
   one-word : (word bs : List ℕ) → list_all is_word_byte bs ≡ true → renamed_from rename word bs ≡ rename (word ++ bs)

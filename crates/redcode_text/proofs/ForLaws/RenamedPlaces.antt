@@ -12,6 +12,7 @@ use Rattle.redcode_text.specs.Laws.{IsRenaming, JoinsAreRenamed, renamed_from, r
 use Rattle.redcode_text.specs.Lines.{Predefined}
 use Rattle.redcode_text.specs.Tokens.{Found, OpenLoop, Scanned, begins_word, is_blank, is_word_byte, scan_from, token_at, with_room, with_token}
 use Rattle.redcode_text.proofs.ForLaws.Agreement.{Pairwise, pairwise-append, pairwise-length}
+use Rattle.redcode_text.proofs.ForLaws.Likeness.{Equal, PlacedToken, kind-like}
 use Rattle.redcode_text.proofs.ForLaws.RenamedResults.{BothGive, both-cond, both-then}
 use Rattle.redcode_text.proofs.ForLaws.RenamedScans.{SameStep, behind-token, first-byte, token-step, word-shows}
 use Rattle.redcode_text.proofs.ForLaws.RenamedTokens.{renamed_loop}
@@ -77,7 +78,7 @@ module _ (ps : Predefined) (rename : List ℕ → List ℕ) (r : IsRenaming ps r
 
     -- the same token, at two places
     abbrev pub SameToken : Token → Token → Type 0
-    SameToken t u = (t.kind ≡ u.kind) × Q t.from u.from
+    SameToken t u = PlacedToken Equal Q t u
 
     pub record SameScan (s t : Scanned) : Type 0 where
       pub tokens : Pairwise SameToken s.tokens t.tokens
@@ -94,7 +95,7 @@ module _ (ps : Predefined) (rename : List ℕ → List ℕ) (r : IsRenaming ps r
         (record {
           tokens =
               pairwise-append SameToken s.tokens t.tokens (record { kind = f.kind; line = line; from = at; to = at + f.len } ∷ [])
-              (record { kind = g.kind; line = line; from = to; to = to + g.len } ∷ []) q.tokens ((h.kind, here), tt);
+              (record { kind = g.kind; line = line; from = to; to = to + g.len } ∷ []) q.tokens ((kind-like f.kind g.kind h.kind, here), tt);
           names = h.names;
         }) refl
 
