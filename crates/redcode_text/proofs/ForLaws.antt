@@ -9,7 +9,6 @@ pub mod AlikeTokens
 pub mod AlikeValues
 pub mod BehindEnd
 pub mod CountedHeads
-pub mod CountedLines
 pub mod CountedOut
 pub mod CountedRows
 pub mod CountedSteps

@@ -4,7 +4,7 @@ use Rattle.redcode_text.specs.Expansion.{Head, head_line, rof_line}
 use Rattle.redcode_text.specs.Lines.{Predefined, Reading, plain_line}
 use Rattle.redcode_text.specs.Source.{SourceRow}
 use Rattle.redcode_text.proofs.ForLaws.AlikeLines.{head-alike, plain-line-alike, rof-alike}
-use Rattle.redcode_text.proofs.ForLaws.AlikeReadings.{ReadAlike, both-opened, name_for_name, one-opened}
+use Rattle.redcode_text.proofs.ForLaws.AlikeReadings.{LoopsAlike, ReadAlike, both-opened, name_for_name, one-opened}
 use Rattle.redcode_text.proofs.ForLaws.Follows.{Follows}
 use Rattle.redcode_text.proofs.ForLaws.LikeHeads.{LikeHead}
 use Rattle.redcode_text.proofs.ForLaws.LikeReadings.{loops-changed}
@@ -27,15 +27,15 @@ simulation ps =
           (head_line ps row st) (lone-head ps row n st other small e r) is;
       lone_rof = λ st other a row r is. alone-made (λ (a : Reading). ReadAlike a other) a (rof_line row st) (lone-rof row st other r) is;
       both_open =
-          λ st other counter round is r. loops-changed name_for_name st other r (record { counter = counter; round = round } ∷ st.loops)
+          λ st other counter round is r. loops-changed name_for_name LoopsAlike (λ loops ls h. h.fewer) st other r (record { counter = counter; round = round } ∷ st.loops)
           (record { counter = counter; round = round } ∷ other.loops) (both-opened st.loops other.loops counter round is r.loops);
       one_open =
-          λ st other round r. loops-changed name_for_name st other r (record { counter = None; round = round } ∷ st.loops) other.loops
+          λ st other round r. loops-changed name_for_name LoopsAlike (λ loops ls h. h.fewer) st other r (record { counter = None; round = round } ∷ st.loops) other.loops
           (one-opened st.loops other.loops round r.loops);
-      closed = λ st other a b r s. loops-changed name_for_name a b s st.loops other.loops r.loops;
+      closed = λ st other a b r s. loops-changed name_for_name LoopsAlike (λ loops ls h. h.fewer) a b s st.loops other.loops r.loops;
       ended = λ st other r. r.ended;
       one_line = λ st other a row like round e. plain st other a row like e;
-      one_closed = λ st other a b round r e s. subst (λ y. ReadAlike (record a { loops = st.loops }) y) (ap (λ l. record b { loops = l }) (sym e)) (loops-changed name_for_name a b s st.loops other.loops r.loops);
+      one_closed = λ st other a b round r e s. subst (λ y. ReadAlike (record a { loops = st.loops }) y) (ap (λ l. record b { loops = l }) (sym e)) (loops-changed name_for_name LoopsAlike (λ loops ls h. h.fewer) a b s st.loops other.loops r.loops);
       one_ended = λ st other round r. r.ended;
     }
   where

@@ -20,12 +20,12 @@ use Rattle.redcode_text.specs.Lines.{Predefined, Reading, WithTokens, before_com
 use Rattle.redcode_text.specs.Source.{ForLine, SourceRow, line_kind}
 use Rattle.redcode_text.specs.Tokens.{Scanned, tokens}
 use Rattle.redcode_text.proofs.ForLaws.LikeHeads.{headed}
-use Rattle.redcode_text.proofs.ForLaws.LikeReadings.{grows-changed, loops-changed}
+use Rattle.redcode_text.proofs.ForLaws.LikeReadings.{Reads, grows-changed, loops-changed}
 use Rattle.redcode_text.proofs.ForLaws.AlikeNames.{Grown, grown-itself}
-use Rattle.redcode_text.proofs.ForLaws.AlikeReadings.{ReadAlike, name_for_name, reading-grown}
+use Rattle.redcode_text.proofs.ForLaws.AlikeReadings.{LoopsAlike, ReadAlike, name_for_name, reading-grown}
 use Rattle.redcode_text.proofs.ForLaws.AlikeSteps.{simulation}
 use Rattle.redcode_text.proofs.ForLaws.CountedHeads.{IsCounterHead, head-kind, second-at}
-use Rattle.redcode_text.proofs.ForLaws.CountedRows.{IsInside, IsWritten, line-written}
+use Rattle.redcode_text.proofs.ForLaws.CountedRows.{IsWritten, Opened, line-written, loop_open, opened-room}
 use Rattle.redcode_text.proofs.ForLaws.CountedTokens.{IsHead, IsNamed, head-scan, words-code}
 use Rattle.redcode_text.proofs.ForLaws.HeadLines.{code-whole, is_code}
 use Rattle.redcode_text.proofs.ForLaws.LoneLoops.{Alone, alone-made, alone-then, any-room, digits-code, line-alone, number-count, scan-alone}
@@ -119,7 +119,7 @@ module _ (ps : Predefined) (counter : List ℕ) (name : IsCounterName counter) w
 
   -- ---- the relation is kept
 
-  pub counter-simulation : IsSimulation ps ReadAlike (IsCounterHead counter) (IsWritten counter) (Some counter) (IsInside counter)
+  pub counter-simulation : IsSimulation ps ReadAlike (IsCounterHead counter) (IsWritten counter) (Some counter) (λ round. Reads (loop_open counter round))
   counter-simulation =
       let s = simulation ps in
       record {
@@ -131,8 +131,8 @@ module _ (ps : Predefined) (counter : List ℕ) (name : IsCounterName counter) w
         both_open = s.both_open;
         closed = s.closed;
         ended = s.ended;
-        one_open = λ st other round r. record { behind = st.loops; loops = refl; read = r };
-        one_line = λ st other a row like round w h is. line-written ps counter name round row like w st other a h is;
-        one_closed = λ st other a b round r e h. subst (λ y. ReadAlike (record a { loops = st.loops }) y) (ap (λ l. record b { loops = l }) (sym e)) (loops-changed name_for_name (record a { loops = h.behind }) b h.read st.loops other.loops r.loops);
-        one_ended = λ st other round h. h.read.ended;
+        one_open = λ st other round r. loops-changed name_for_name (Opened counter round) (opened-room counter round) st other r (record { counter = Some counter; round = round } ∷ st.loops) other.loops (st.loops, refl, r.loops);
+        one_line = λ st other a row like round w h. (line-written ps counter name round row like w st other h).value a;
+        one_closed = λ st other a b round r e h. subst (λ y. ReadAlike (record a { loops = st.loops }) y) (ap (λ l. record b { loops = l }) (sym e)) (loops-changed (loop_open counter round) LoopsAlike (λ loops ls k. k.fewer) a b h st.loops other.loops r.loops);
+        one_ended = λ st other round h. h.ended;
       }

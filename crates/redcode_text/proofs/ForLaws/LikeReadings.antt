@@ -69,12 +69,12 @@ module _ (l : Likeness) where
     pub read : Reads x.1 y.1
     pub tokens : Pairwise (PlacedToken (LikeName x.1 y.1) Q) x.0 y.0
 
-  -- other counts, other open loops, and EQU lines that may add less or as much
-  pub counts-alike : (st other : Reading) → Reads st other → (loops ls : List OpenLoop) → l.Loops loops ls → (s t : Bool) → Implies l.exact s t → (i j k m : ℕ) → Fewer l.exact i j → Fewer l.exact k m
-      → Reads (record st { loops = loops; equate_grows = s; lines_read = i; tokens_read = k }) (record other { loops = ls; equate_grows = t; lines_read = j; tokens_read = m })
-  counts-alike st other q loops ls o s t grows i j k m few less =
+  -- other counts, and EQU lines that may add less or as much
+  pub counts-alike : (st other : Reading) → Reads st other → (s t : Bool) → Implies l.exact s t → (i j k m : ℕ) → Fewer l.exact i j → Fewer l.exact k m
+      → Reads (record st { equate_grows = s; lines_read = i; tokens_read = k }) (record other { equate_grows = t; lines_read = j; tokens_read = m })
+  counts-alike st other q s t grows i j k m few less =
       record {
-        loops = o;
+        loops = q.loops;
         names = q.names;
         equates = q.equates;
         grows = grows;
@@ -88,14 +88,9 @@ module _ (l : Likeness) where
         ended = q.ended;
       }
 
-  pub loops-changed : (st other : Reading) → Reads st other → (loops ls : List OpenLoop) → l.Loops loops ls → Reads (record st { loops = loops }) (record other { loops = ls })
-  loops-changed st other q loops ls h =
-      counts-alike st other q loops ls h st.equate_grows other.equate_grows q.grows st.lines_read other.lines_read st.tokens_read other.tokens_read q.lines_read q.tokens_read
-
   -- whether EQU lines add
   pub grows-changed : (st other : Reading) → Reads st other → (s t : Bool) → Implies l.exact s t → Reads (record st { equate_grows = s }) (record other { equate_grows = t })
-  grows-changed st other q s t grows =
-      counts-alike st other q st.loops other.loops q.loops s t grows st.lines_read other.lines_read st.tokens_read other.tokens_read q.lines_read q.tokens_read
+  grows-changed st other q s t grows = counts-alike st other q s t grows st.lines_read other.lines_read st.tokens_read other.tokens_read q.lines_read q.tokens_read
 
   -- ---- lines and tokens are counted
 
@@ -105,7 +100,7 @@ module _ (l : Likeness) where
         follows-limit (nat_le limit) (le-met limit) st.lines_read other.lines_read TooLong (record st { lines_read = st.lines_read + 1 }) (record other { lines_read = other.lines_read + 1 }) q.lines_read
         (record {
           read =
-              counts-alike st other q st.loops other.loops q.loops st.equate_grows other.equate_grows q.grows (st.lines_read + 1) (other.lines_read + 1) st.tokens_read other.tokens_read
+              counts-alike st other q st.equate_grows other.equate_grows q.grows (st.lines_read + 1) (other.lines_read + 1) st.tokens_read other.tokens_read
               (fewer-more l.exact st.lines_read other.lines_read 1 1 q.lines_read refl) q.tokens_read;
           first = refl;
           second = refl;
@@ -118,10 +113,29 @@ module _ (l : Likeness) where
         (record other { tokens_read = other.tokens_read + length us }) few
         (record {
           read =
-              counts-alike st other q st.loops other.loops q.loops st.equate_grows other.equate_grows q.grows st.lines_read other.lines_read (st.tokens_read + length ts) (other.tokens_read + length us) q.lines_read few;
+              counts-alike st other q st.equate_grows other.equate_grows q.grows st.lines_read other.lines_read (st.tokens_read + length ts) (other.tokens_read + length us) q.lines_read few;
           first = refl;
           second = refl;
         })
+
+-- other open loops, related otherwise
+pub loops-changed : (l : Likeness) (Loops : List OpenLoop → List OpenLoop → Type 0) (room : (loops others : List OpenLoop) → Loops loops others → Fewer l.exact (length loops) (length others)) (st other : Reading)
+    → Reads l st other → (loops others : List OpenLoop) → Loops loops others → Reads (record l { Loops = Loops; room = room }) (record st { loops = loops }) (record other { loops = others })
+loops-changed l Loops room st other q loops others h =
+    record {
+      loops = h;
+      names = q.names;
+      equates = q.equates;
+      grows = q.grows;
+      lines = q.lines;
+      instructions = q.instructions;
+      lines_read = q.lines_read;
+      tokens_read = q.tokens_read;
+      name = q.name;
+      author = q.author;
+      asserts = q.asserts;
+      ended = q.ended;
+    }
 
 -- ---- what a name is
 

@@ -1,5 +1,6 @@
 -- Tokens and EQU names that are alike: they are the same but for the names' indices, of which a relation tells which stand for one another.
 use Rattle.std.proofs.Common.{◌≡◌, refl, ap, subst, ℕ, ◌==◌, nat_lt, List}
+use Rattle.std.specs.Prelude.{⊤}
 use Rattle.redcode_text.specs.declared.token.Token.{Token}
 use Rattle.redcode_text.specs.declared.token.TokenKind.{TokenKind}
 use Rattle.redcode_text.specs.declared.token.TokenKind.TheVariants.{Number, Name}
@@ -28,6 +29,10 @@ LikeEquate N T e f = N e.name f.name × Pairwise (Pairwise T) e.lines f.lines
 -- tokens of one kind, at places that are related
 abbrev pub PlacedToken : (ℕ → ℕ → Type 0) → (ℕ → ℕ → Type 0) → Token → Token → Type 0
 PlacedToken N Q t u = LikeKind N t.kind u.kind × Q t.from u.from
+
+-- wherever two tokens stand
+abbrev pub AnyPlace : ℕ → ℕ → Type 0
+AnyPlace x y = ⊤
 
 -- on the same side of the place p as the other of the place q
 abbrev pub Sides : ℕ → ℕ → ℕ → ℕ → Type 0

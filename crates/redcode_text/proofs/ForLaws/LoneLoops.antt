@@ -67,7 +67,7 @@ module _ (st other : Reading) (r : ReadAlike st other) where
           (elim c as (λ _. Result Reading TextProblem) [ true ↦ Err TooLong | false ↦ Ok (record st { lines_read = st.lines_read + 1 }) ])
       go true = tt
       go false =
-          counts-alike name_for_name st other r st.loops other.loops r.loops st.equate_grows other.equate_grows r.grows (st.lines_read + 1)
+          counts-alike name_for_name st other r st.equate_grows other.equate_grows r.grows (st.lines_read + 1)
           other.lines_read st.tokens_read other.tokens_read (let k = r.lines_read in omega arith) r.tokens_read
 
   pub scan-alone : (line at room : ℕ) (bs : List ℕ) → Alone (λ (s : Scanned). Grown st.names s.names) (tokens st.loops line at room st.names bs)

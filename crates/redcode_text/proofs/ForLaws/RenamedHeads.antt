@@ -12,12 +12,12 @@ use Rattle.redcode_text.proofs.ForLaws.Follows.{Follows, follows-ok, follows-the
 use Rattle.redcode_text.proofs.ForLaws.LikeHeads.{LikeHead, grows-no-more, headed, headed-alike}
 use Rattle.redcode_text.proofs.ForLaws.LikeLines.{LikeLines, assert-alike, plain-alike, said, said-alike, tokens-line-alike}
 use Rattle.redcode_text.proofs.ForLaws.LikeReadings.{line-read-alike}
-use Rattle.redcode_text.proofs.ForLaws.Likeness.{Sides}
+use Rattle.redcode_text.proofs.ForLaws.Likeness.{AnyPlace, Sides}
 use Rattle.redcode_text.proofs.ForLaws.RenamedComments.{IsSameAssert, SameComment, comments-same}
 use Rattle.redcode_text.proofs.ForLaws.RenamedKinds.{SameKind, comment-same, kind-same}
 use Rattle.redcode_text.proofs.ForLaws.RenamedPlaces.{any-drop, scan-on}
 use Rattle.redcode_text.proofs.ForLaws.RenamedReadings.{Related, renamed_by}
-use Rattle.redcode_text.proofs.ForLaws.RenamedRows.{AnyPlace, SameCode, SameRead, any-code, anywhere, beside, comment-behind, read-same}
+use Rattle.redcode_text.proofs.ForLaws.RenamedRows.{SameCode, SameRead, any-code, anywhere, beside, comment-behind, read-same}
 
 abbrev pub IsFor : LineKind → Type 0
 IsFor (ForLine at) = ⊤

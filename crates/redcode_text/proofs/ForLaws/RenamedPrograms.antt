@@ -96,10 +96,10 @@ module _ (ps : Predefined) (rename : List ℕ → List ℕ) (r : IsRenaming ps r
   rounds-same f g alike c d e (suc n) round st other q =
       follows-then (λ a. unless_ended (record a { loops = st.loops }) (rounds f c (round + 1) n)) (λ b. unless_ended (record b { loops = other.loops }) (rounds g d (round + 1) n))
       (alike (in_round c round st) (in_round d round other)
-      (loops-changed (renamed_by ps rename r) st other q (record { counter = c; round = round } ∷ st.loops) (record { counter = d; round = round } ∷ other.loops)
+      (loops-changed (renamed_by ps rename r) (renamed_by ps rename r).Loops (renamed_by ps rename r).room st other q (record { counter = c; round = round } ∷ st.loops) (record { counter = d; round = round } ∷ other.loops)
       (λ i. record { counter = e i; round = round } ∷ q.loops i)))
       (λ a b h.
-      let k = loops-changed (renamed_by ps rename r) a b h st.loops other.loops q.loops in
+      let k = loops-changed (renamed_by ps rename r) (renamed_by ps rename r).Loops (renamed_by ps rename r).room a b h st.loops other.loops q.loops in
       unless-same (rounds f c (round + 1) n) (rounds g d (round + 1) n) (record a { loops = st.loops }) (record b { loops = other.loops }) k
       (rounds-same f g alike c d e n (round + 1) (record a { loops = st.loops }) (record b { loops = other.loops }) k))
 

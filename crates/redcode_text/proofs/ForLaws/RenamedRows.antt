@@ -13,7 +13,7 @@ use Rattle.redcode_text.specs.Tokens.{is_word_byte, scan_from, tokens}
 use Rattle.redcode_text.proofs.ForLaws.Agreement.{pairwise-length}
 use Rattle.redcode_text.proofs.ForLaws.Follows.{Follows, both-follows, follows-ok, follows-then}
 use Rattle.redcode_text.proofs.ForLaws.LikeReadings.{RowRead}
-use Rattle.redcode_text.proofs.ForLaws.Likeness.{Equal, PlacedToken, Sides}
+use Rattle.redcode_text.proofs.ForLaws.Likeness.{AnyPlace, Equal, PlacedToken, Sides}
 use Rattle.redcode_text.proofs.ForLaws.RenamedColumns.{first-before, second-before, to_second}
 use Rattle.redcode_text.proofs.ForLaws.RenamedKinds.{Placed}
 use Rattle.redcode_text.proofs.ForLaws.RenamedPlaces.{SameScan, scan-on}
@@ -45,10 +45,6 @@ any-code (b ∷ bs) e = go (b == 59) e (any-code bs)
         → ((b == 38) || list_any (λ c. c == 38) bs) ≡ true
     go true e h = absurd (true≢false (sym e))
     go false e h = on (b == 38) e h
-
--- wherever two tokens stand
-abbrev pub AnyPlace : ℕ → ℕ → Type 0
-AnyPlace x y = ⊤
 
 module _ (ps : Predefined) (rename : List ℕ → List ℕ) (r : IsRenaming ps rename) where
   pub comment-behind : (word bs : List ℕ) → list_all is_word_byte word ≡ true → before_comment (renamed_from rename word bs) ≡ renamed_from rename word (before_comment bs)
