@@ -2,6 +2,7 @@
 use Rattle.std.proofs.Common.{◌≡◌, ◌∙◌, refl, ap, sym, true≢false, ℕ, zero, suc, ◌+◌, ◌<◌, ◌≤◌, Bool, true, false, not, cond, ◌||◌, nat_lt, List, [], ◌∷◌, ◌++◌, length, arith, length-append, ltb-true, ltb-false}
 use Rattle.std.specs.List.{list_any}
 use Rattle.std.specs.Str.{bytes_eq}
+use Rattle.std.proofs.lemmas.Bool.{or_parts}
 use Rattle.std.proofs.lemmas.Slice.Eq.{bytes_eq-Decides}
 use Rattle.redcode_text.specs.declared.token.Token.{Token}
 use Rattle.redcode_text.specs.declared.token.TokenKind.{TokenKind}
@@ -43,17 +44,14 @@ end-named : (names : List (List ℕ)) (name : List ℕ) → name_at (names ++ na
 end-named [] name = refl
 end-named (x ∷ names) name = end-named names name
 
-neither : (a b : Bool) → (a || b) ≡ false → (a ≡ false) × (b ≡ false)
-neither true b e = absurd (true≢false e)
-neither false b e = (refl, e)
 
 new-differs : (names : List (List ℕ)) (name : List ℕ) (n : ℕ) → list_any (bytes_eq name) names ≡ false → n < length names
     → name_at names n ≡ name → ⊥
 new-differs [] name n e h is = omega arith
 new-differs (x ∷ names) name zero e h is =
-    let l = neither (bytes_eq name x) (list_any (bytes_eq name) names) e in true≢false (sym ((bytes_eq-Decides name x).1 (sym is)) ∙ l.0)
+    let l = or_parts (bytes_eq name x) (list_any (bytes_eq name) names) e in true≢false (sym ((bytes_eq-Decides name x).1 (sym is)) ∙ l.0)
 new-differs (x ∷ names) name (suc n) e h is =
-    let l = neither (bytes_eq name x) (list_any (bytes_eq name) names) e in new-differs names name n l.1 (omega arith) is
+    let l = or_parts (bytes_eq name x) (list_any (bytes_eq name) names) e in new-differs names name n l.1 (omega arith) is
 
 new-distinct : (names : List (List ℕ)) (name : List ℕ) → list_any (bytes_eq name) names ≡ false → AreDistinct names
     → AreDistinct (names ++ name ∷ [])

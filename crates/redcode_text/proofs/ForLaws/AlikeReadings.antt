@@ -18,7 +18,7 @@ use Rattle.redcode_text.proofs.Named.{AreBelow, IsEquateBelow, IsLineBelow, IsNa
 use Rattle.redcode_text.proofs.ForLaws.SameNames.{SameEquate, SameName, index-same, SameTokens, tokens-spelled}
 use Rattle.redcode_text.proofs.ForLaws.Simulations.{IsCounter}
 use Rattle.redcode_text.specs.Laws.{IsRenaming}
-use Rattle.redcode_text.proofs.ForLaws.Follows.{Follows, fewer-more, follows-ok, follows-then, together-follows}
+use Rattle.redcode_text.proofs.ForLaws.Follows.{Follows, fewer-more, follows-ok, follows-then}
 use Rattle.redcode_text.proofs.ForLaws.LikeLines.{Texts}
 use Rattle.redcode_text.proofs.ForLaws.LikeReadings.{LikeAssert, LikeLine, Likeness, Reads, RowRead}
 
@@ -151,11 +151,9 @@ row-alike row number place at st other r =
     let text = before_comment (drop at row.bytes) in
     follows-then (λ s. Ok (s.tokens, record st { names = s.names; tokens_read = st.tokens_read + length s.tokens }))
     (λ t. Ok (t.tokens, record other { names = t.names; tokens_read = other.tokens_read + length t.tokens }))
-    (together-follows (SameScanned st.names other.names row.at place) (tokens st.loops row.number (row.at + at) (limit - st.tokens_read) st.names text)
-    (tokens other.loops number (place + at) (limit - other.tokens_read) other.names text)
     (scan-alike st.loops other.loops (rounds-same st.loops other.loops r.loops) st.names other.names row.at place row.number number (limit - st.tokens_read) (limit - other.tokens_read)
     (let k = r.tokens_read in omega (arith, k)) text (row.at + at) (place + at) 0 (omega arith) (record { tokens = []; names = st.names }) (record { tokens = []; names = other.names })
-    (record { tokens = tt; first = grown-itself st.names r.names.0; second = grown-itself other.names r.names.1 })))
+    (record { tokens = tt; first = grown-itself st.names r.names.0; second = grown-itself other.names r.names.1 }))
     (λ s t q. follows-ok (record {
       read =
           reading-grown st other r s.names t.names q.first q.second (st.tokens_read + length s.tokens) (other.tokens_read + length t.tokens)
@@ -227,7 +225,7 @@ alike a b r =
           a.asserts b.asserts r.asserts;
     }
 
--- what holds of each first and of each second of a pair
+-- what holds of each first of a pair
 all-first : {A B : Type 0} (R : A → B → Type 0) (P : A → Type 0) → ((x : A) (y : B) → R x y → P x) → (xs : List A) (ys : List B)
     → Pairwise R xs ys → All P xs
 all-first R P k [] [] h = All-nil P
@@ -235,74 +233,30 @@ all-first R P k [] (y ∷ ys) h = absurd h
 all-first R P k (x ∷ xs) [] h = absurd h
 all-first R P k (x ∷ xs) (y ∷ ys) h = All-cons P x xs (k x y h.0) (all-first R P k xs ys h.1)
 
-all-second : {A B : Type 0} (R : A → B → Type 0) (P : B → Type 0) → ((x : A) (y : B) → R x y → P y) → (xs : List A) (ys : List B)
-    → Pairwise R xs ys → All P ys
-all-second R P k [] [] h = All-nil P
-all-second R P k [] (y ∷ ys) h = absurd h
-all-second R P k (x ∷ xs) [] h = absurd h
-all-second R P k (x ∷ xs) (y ∷ ys) h = All-cons P y ys (k x y h.0) (all-second R P k xs ys h.1)
+operation-first : (names others : List (List ℕ)) (o p : Option ℕ) → AgreeOption (SameName names others) o p → IfSome o (λ i. i < length names)
+operation-first names others None p s = tt
+operation-first names others (Some n) None s = absurd s
+operation-first names others (Some n) (Some m) s = s.0
 
-module _ (names others : List (List ℕ)) where
-  operation-first : (o p : Option ℕ) → AgreeOption (SameName names others) o p → IfSome o (λ i. i < length names)
-  operation-first None p s = tt
-  operation-first (Some n) None s = absurd s
-  operation-first (Some n) (Some m) s = s.0
-
-  operation-second : (o p : Option ℕ) → AgreeOption (SameName names others) o p → IfSome p (λ i. i < length others)
-  operation-second o None s = tt
-  operation-second None (Some m) s = absurd s
-  operation-second (Some n) (Some m) s = s.1
-
-  pub equates-first : (es fs : List Equate) → Pairwise (SameEquate names others) es fs → All (IsEquateBelow (length names)) es
-  equates-first es fs s =
-      all-first (SameEquate names others) (IsEquateBelow (length names))
-      (λ e f k. (
-        k.0.0,
-        all-first (SameTokens names others) (AreBelow (length names)) (λ ts us k. (tokens-spelled names others ts us k).0)
-            e.lines f.lines k.1,
-      )) es fs s
-
-  pub equates-second : (es fs : List Equate) → Pairwise (SameEquate names others) es fs → All (IsEquateBelow (length others)) fs
-  equates-second es fs s =
-      all-second (SameEquate names others) (IsEquateBelow (length others))
-      (λ e f k. (
-        k.0.1,
-        all-second (SameTokens names others) (AreBelow (length others))
-            (λ ts us k. (tokens-spelled names others ts us k).1) e.lines f.lines k.1,
-      )) es fs s
-
-  lines-first : (ls ms : List Line) → Pairwise (LikeLine name_for_name (SameName names others)) ls ms → All (IsLineBelow (length names)) ls
-  lines-first ls ms s =
-      all-first (LikeLine name_for_name (SameName names others)) (IsLineBelow (length names)) (λ l m k. (
-        all-first (SameName names others) (λ i. i < length names) (λ i j t. t.0) l.labels m.labels k.0,
-        operation-first l.operation m.operation k.1,
-        (tokens-spelled names others l.rest m.rest k.2).0,
-      )) ls ms s
-
-  lines-second : (ls ms : List Line) → Pairwise (LikeLine name_for_name (SameName names others)) ls ms → All (IsLineBelow (length others)) ms
-  lines-second ls ms s =
-      all-second (LikeLine name_for_name (SameName names others)) (IsLineBelow (length others)) (λ l m k. (
-        all-second (SameName names others) (λ i. i < length others) (λ i j t. t.1) l.labels m.labels k.0,
-        operation-second l.operation m.operation k.1,
-        (tokens-spelled names others l.rest m.rest k.2).1,
-      )) ls ms s
-
-pub named : (a b : Reading) → ReadAlike a b → IsNamed (program_of a) × IsNamed (program_of b)
-named a b r = (
-  record {
-    distinct = r.names.0.distinct;
-    equates = equates-first a.names b.names a.equates b.equates r.equates;
-    lines = lines-first a.names b.names a.lines b.lines r.lines;
-    asserts =
-        all-first (LikeAssert name_for_name (SameName a.names b.names)) (λ (x : Assert). AreBelow (length a.names) x.tokens)
-        (λ x y k. (tokens-spelled a.names b.names x.tokens y.tokens k.1).0) a.asserts b.asserts r.asserts;
-  },
-  record {
-    distinct = r.names.1.distinct;
-    equates = equates-second a.names b.names a.equates b.equates r.equates;
-    lines = lines-second a.names b.names a.lines b.lines r.lines;
-    asserts =
-        all-second (LikeAssert name_for_name (SameName a.names b.names)) (λ (x : Assert). AreBelow (length b.names) x.tokens)
-        (λ x y k. (tokens-spelled a.names b.names x.tokens y.tokens k.1).1) a.asserts b.asserts r.asserts;
-  },
-)
+-- the indices of the first are those of names, no name twice
+pub named : (a b : Reading) → ReadAlike a b → IsNamed (program_of a)
+named a b r =
+    record {
+      distinct = r.names.0.distinct;
+      equates =
+          all-first (SameEquate a.names b.names) (IsEquateBelow (length a.names))
+          (λ e f k. (
+            k.0.0,
+            all-first (SameTokens a.names b.names) (AreBelow (length a.names)) (λ ts us k. (tokens-spelled a.names b.names ts us k).0) e.lines f.lines k.1,
+          )) a.equates b.equates r.equates;
+      lines =
+          all-first (LikeLine name_for_name (SameName a.names b.names)) (IsLineBelow (length a.names))
+          (λ l m k. (
+            all-first (SameName a.names b.names) (λ i. i < length a.names) (λ i j t. t.0) l.labels m.labels k.0,
+            operation-first a.names b.names l.operation m.operation k.1,
+            (tokens-spelled a.names b.names l.rest m.rest k.2).0,
+          )) a.lines b.lines r.lines;
+      asserts =
+          all-first (LikeAssert name_for_name (SameName a.names b.names)) (λ (x : Assert). AreBelow (length a.names) x.tokens)
+          (λ x y k. (tokens-spelled a.names b.names x.tokens y.tokens k.1).0) a.asserts b.asserts r.asserts;
+    }

@@ -2,7 +2,7 @@
 use Rattle.std.proofs.Common.{◌≡◌, ◌∙◌, refl, ap, sym, subst, true≢false, ℕ, zero, suc, ◌+◌, ◌-◌, ◌^◌, ◌<◌, ◌≤◌, ◌==◌, ◌||◌, nat_le, Bool, true, false, List, [], ◌∷◌, ◌++◌, length, decimal, Some, None, Result, Ok, Err, arith}
 use Rattle.std.specs.Char.{is_ascii_digit}
 use Rattle.std.specs.List.{list_all, list_any}
-use Rattle.std.proofs.lemmas.Bool.{and_parts}
+use Rattle.std.proofs.lemmas.Bool.{and_parts, or_parts}
 use Rattle.std.proofs.lemmas.Bool.Decides.{nat_tests}
 use Rattle.std.proofs.lemmas.List.{length-map}
 use Rattle.redcode_text.specs.Results.{◌>>=◌}
@@ -33,9 +33,6 @@ use Rattle.redcode_text.proofs.ForLaws.WrittenWords.{written-all}
 -- ---- bytes that a written text doesn't have
 
 module _ (q : ℕ → Bool) (words : (b : ℕ) → is_word_byte b ≡ true → q b ≡ false) where
-  neither : (a b : Bool) → (a || b) ≡ false → (a ≡ false) × (b ≡ false)
-  neither true b e = absurd (true≢false e)
-  neither false b e = (refl, e)
 
   none-word : (ws bs : List ℕ) → list_all is_word_byte ws ≡ true → list_any q bs ≡ false → list_any q (ws ++ bs) ≡ false
   none-word [] bs e f = f
@@ -43,7 +40,7 @@ module _ (q : ℕ → Bool) (words : (b : ℕ) → is_word_byte b ≡ true → q
 
   none-rest : (bs : List ℕ) → list_any q bs ≡ false → list_any q (rest_of bs) ≡ false
   none-rest [] e = e
-  none-rest (b ∷ bs) e = go (begins_word (b ∷ bs)) (none-rest bs (neither (q b) (list_any q bs) e).1)
+  none-rest (b ∷ bs) e = go (begins_word (b ∷ bs)) (none-rest bs (or_parts (q b) (list_any q bs) e).1)
     where
       go : (t : Bool) → list_any q (rest_of bs) ≡ false → list_any q (elim t as (λ _. List ℕ) [ true ↦ rest_of bs | false ↦ b ∷ bs ]) ≡ false
       go true h = h
@@ -56,7 +53,7 @@ module _ (q : ℕ → Bool) (words : (b : ℕ) → is_word_byte b ≡ true → q
     none-written (suc n) (b ∷ bs) few its e = go (begins_word (b ∷ bs)) (begins_and (b ∷ bs)) refl refl (none-written n)
       where
         parts : (q b ≡ false) × (list_any q bs ≡ false)
-        parts = neither (q b) (list_any q bs) e
+        parts = or_parts (q b) (list_any q bs) e
 
         go : (t a : Bool) → begins_word (b ∷ bs) ≡ t → begins_and (b ∷ bs) ≡ a
             → ((bs : List ℕ) → length bs ≤ n → has_its_joins counter 0 bs ≡ true → list_any q bs ≡ false → list_any q (written_text counter round bs) ≡ false)
@@ -72,8 +69,8 @@ module _ (q : ℕ → Bool) (words : (b : ℕ) → is_word_byte b ≡ true → q
             let is = and-bytes b bs g in
             let its-rest : has_its_joins counter 0 is.0 ≡ true = ap (has_its_joins counter 0) (sym is.1) ∙ its in
             let none : list_any q (38 ∷ 38 ∷ is.0) ≡ false = ap (list_any q) (sym is.1) ∙ e in
-            let one = neither (q 38) (list_any q (38 ∷ is.0)) none in
-            let two = neither (q 38) (list_any q is.0) one.1 in
+            let one = or_parts (q 38) (list_any q (38 ∷ is.0)) none in
+            let two = or_parts (q 38) (list_any q is.0) one.1 in
             let long : length (b ∷ bs) ≡ length (38 ∷ 38 ∷ is.0) = ap length is.1 in
             let rest = on is.0 (omega (arith, long)) its-rest two.1 in
             ap (λ l. list_any q (written_text counter round l)) is.1 ∙ (λ i. one.0 i || (one.0 i || rest i))

@@ -1,11 +1,10 @@
 -- Two results of which the second is a value wherever the first is one, and which are related then; where that is exact, a fault of the first is one of the second.
-use Rattle.std.proofs.Common.{◌≡◌, ◌∙◌, refl, ap, sym, subst, true≢false, ℕ, ◌+◌, ◌≤◌, nat_le, nat_lt, Bool, true, false, Result, Ok, Err, arith}
+use Rattle.std.proofs.Common.{◌≡◌, ◌∙◌, refl, ap, sym, subst, true≢false, ℕ, ◌+◌, ◌≤◌, nat_le, nat_lt, Bool, true, false, cond, Result, Ok, Err, arith}
 use Rattle.std.specs.Prelude.{⊤}
 use Rattle.std.proofs.lemmas.Bool.Decides.{nat_tests}
 use Rattle.redcode_text.specs.Results.{◌>>=◌}
 use Rattle.redcode_text.specs.declared.fault.TextProblem.{TextProblem}
 use Rattle.redcode_text.specs.Tokens.{at_line}
-use Rattle.redcode_text.proofs.ForLaws.AlikeResults.{Together}
 use Rattle.redcode_text.proofs.ForLaws.RenamedResults.{BothGive}
 
 pub record Follows {A B E : Type 0} (exact : Bool) (R : A → B → Type 0) (r : Result A E) (s : Result B E) : Type 0 where
@@ -20,6 +19,10 @@ follows-ok {A} {B} {E} {exact} {R} {x} {y} h =
 
 pub follows-fault : {A B E : Type 0} {exact : Bool} {R : A → B → Type 0} {e : E} → Follows exact R (Err e) (Err e)
 follows-fault {A} {B} {E} {exact} {R} {e} = record { value = λ z i. absurd (cc); fault = λ _ d i. let same : e ≡ d = cc in ap Err same }
+
+-- a fault after which the second may be anything
+pub follows-none : {A B E : Type 0} {R : A → B → Type 0} {d : E} {s : Result B E} → Follows false R (Err d) s
+follows-none = record { value = λ z i. absurd (cc); fault = λ is. absurd (true≢false (sym is)) }
 
 pub follows-then : {A B C D E : Type 0} {exact : Bool} {R : A → B → Type 0} {S : C → D → Type 0} {r : Result A E} {s : Result B E} (f : A → Result C E) (g : B → Result D E)
     → Follows exact R r s → ((x : A) (y : B) → R x y → Follows exact S (f x) (g y)) → Follows exact S (r >>= f) (s >>= g)
@@ -106,23 +109,20 @@ follows-limit {A} {B} {E} {exact} {R} test met n m e x y few h = go exact few
     go true few = follows-if one two (ap test few) follows-fault (follows-ok h)
     go false few = less (test n) (test m) (met n m few)
 
+-- room that the second has where the first has it
+pub follows-room : {A B E : Type 0} {R : A → B → Type 0} (c d : Bool) (e : E) (x : A) (y : B) → (c ≡ true → d ≡ true) → R x y → Follows false R (cond c (Ok x) (Err e)) (cond d (Ok y) (Err e))
+follows-room false d e x y i h = follows-none
+follows-room true true e x y i h = follows-ok h
+follows-room true false e x y i h = absurd (true≢false (sym (i refl)))
+
 -- ---- as other results
 
 pub follows-both : {A B E : Type 0} (R : A → B → Type 0) (r : Result A E) (s : Result B E) → Follows true R r s → BothGive R r s
 follows-both R (Ok x) s h = let v = h.value x refl in subst (λ t. BothGive R (Ok x) t) (sym v.1) v.2
 follows-both R (Err d) s h = subst (λ t. BothGive R (Err d) t) (sym (h.fault refl d refl)) refl
 
-pub follows-together : {A B E : Type 0} {exact : Bool} (R : A → B → Type 0) (r : Result A E) (s : Result B E) → Follows exact R r s → Together R r s
-follows-together R (Ok x) s h = let v = h.value x refl in subst (λ t. Together R (Ok x) t) (sym v.1) v.2
-follows-together R (Err d) s h = tt
-
 pub both-follows : {A B E : Type 0} {exact : Bool} (R : A → B → Type 0) (r : Result A E) (s : Result B E) → BothGive R r s → Follows exact R r s
 both-follows R (Ok x) (Ok y) h = follows-ok h
 both-follows R (Ok x) (Err e) h = absurd h
 both-follows R (Err d) (Ok y) h = absurd h
 both-follows {A} {B} {E} {exact} R (Err d) (Err e) h = subst (λ c. Follows exact R (Err d) (Err c)) h follows-fault
-
-pub together-follows : {A B E : Type 0} (R : A → B → Type 0) (r : Result A E) (s : Result B E) → Together R r s → Follows false R r s
-together-follows R (Ok x) (Ok y) h = follows-ok h
-together-follows R (Ok x) (Err e) h = absurd h
-together-follows R (Err d) s h = record { value = λ z i. absurd (cc); fault = λ is. absurd (true≢false (sym is)) }

@@ -17,7 +17,7 @@ use Rattle.redcode_text.specs.Lines.{Parts, Predefined, Reading, Step, WithToken
 use Rattle.redcode_text.specs.Source.{SourceRow, LineKind, RofLine, ForLine, EquLine, OtherLine, directive_text, directive_text_at, is_comment, line_kind}
 use Rattle.redcode_text.proofs.ForLaws.Agreement.{AgreeOption, Pairwise, pairwise-append, pairwise-filter, pairwise-length}
 use Rattle.redcode_text.proofs.ForLaws.AlikeResults.{pairwise-both, pairwise-weaker}
-use Rattle.redcode_text.proofs.ForLaws.Follows.{Follows, IfExact, Implies, follows-fault, follows-if, follows-ok, follows-then, follows-weaker, implies-itself}
+use Rattle.redcode_text.proofs.ForLaws.Follows.{Follows, IfExact, Implies, follows-fault, follows-if, follows-none, follows-ok, follows-then, follows-weaker, implies-itself}
 use Rattle.redcode_text.proofs.ForLaws.LikeReadings.{LikeAssert, LikeLine, Likeness, ReadOn, Reads, RowRead, counted-alike, end-test, equate-test, instruction-test, label-test, line-read-alike, lines-alike, may-test, operation-test, predefined-test}
 use Rattle.redcode_text.proofs.ForLaws.Likeness.{LikeEquate, LikeKind, LikeToken, LikeTokens, PlacedToken, Sides}
 
@@ -198,7 +198,7 @@ module _ (ps : Predefined) (l : Likeness) (r : IsRenaming ps l.rename) where
       go true c d e h = follows-if one two e (follows-ok h) follows-fault
       go false true true e h = follows-ok h
       go false true false e h = absurd (true≢false (sym (e refl)))
-      go false false d e h = record { value = λ z i. absurd (cc); fault = λ is. absurd (true≢false (sym is)) }
+      go false false d e h = follows-none
   equated-alike st other q ts us h None (Some m) s = absurd s
   equated-alike st other q ts us h (Some n) None s = absurd s
   equated-alike st other q ts us h (Some n) (Some m) s =

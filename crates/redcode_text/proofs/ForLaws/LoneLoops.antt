@@ -26,7 +26,7 @@ use Rattle.redcode_text.proofs.ForLaws.LikeHeads.{headed}
 use Rattle.redcode_text.proofs.ForLaws.LikeReadings.{counts-alike, grows-changed}
 use Rattle.redcode_text.proofs.ForLaws.AlikeNames.{Grown, grown-itself}
 use Rattle.redcode_text.proofs.ForLaws.AlikeReadings.{AreCounters, ReadAlike, name_for_name, reading-grown}
-use Rattle.redcode_text.proofs.ForLaws.AlikeResults.{Together}
+use Rattle.redcode_text.proofs.ForLaws.Follows.{Follows}
 use Rattle.redcode_text.proofs.ForLaws.AlikeTokens.{SameScanned, scan-alike}
 use Rattle.redcode_text.proofs.ForLaws.HeadLines.{code-whole, is_code}
 use Rattle.redcode_text.proofs.Joins.{joined-none}
@@ -53,8 +53,8 @@ pub alone-weaker : {A E : Type 0} (P Q : A → Type 0) (r : Result A E) → Alon
 alone-weaker P Q (Ok a) h k = k a h
 alone-weaker P Q (Err e) h k = tt
 
-pub alone-own : {A E : Type 0} (R : A → A → Type 0) (r : Result A E) → Together R r r → Alone (λ a. R a a) r
-alone-own R (Ok a) h = h
+pub alone-own : {A E : Type 0} (R : A → A → Type 0) (r : Result A E) → Follows false R r r → Alone (λ a. R a a) r
+alone-own R (Ok a) h = let v = h.value a refl in let same : v.0 ≡ a = cc in subst (R a) same v.2
 alone-own R (Err e) h = tt
 
 -- ---- lines of the first reading alone

@@ -128,12 +128,8 @@ module _ (ps : Predefined) (rename : List ℕ → List ℕ) (r : IsRenaming ps r
             (follows-then (row_tokens row 0) (row_tokens like 0) (line-read-alike (renamed_by ps rename r) st other q) (λ x y h. beside ps rename r x y h.read row like c p t placed))
             (λ x y h. headed-alike ps (renamed_by ps rename r) r (for_word_at row) (for_word_at like) x y
             (subst (λ m. SameRead ps rename r (Sides m (for_word_at like)) x y) (sym (for-at row p e)) (subst (λ n. SameRead ps rename r (Sides (row.at + p) n) x y) (sym (for-at like t f)) h)))
-        go (ForLine p) e (EquLine t) f is placed = absurd placed
-        go (ForLine p) e RofLine f is placed = absurd placed
-        go (ForLine p) e OtherLine f is placed = absurd placed
-        go (EquLine p) e l f is placed = absurd is
-        go RofLine e l f is placed = absurd is
-        go OtherLine e l f is placed = absurd is
+        go (ForLine p) e _ f is placed = absurd placed
+        go _ e l f is placed = absurd is
 
   pub plain-line-same : (row like : SourceRow) → SameRow row like → (st other : Reading) → Related ps rename r st other → Both (plain_line ps row st) (plain_line ps like other)
   plain-line-same row like s st other q =

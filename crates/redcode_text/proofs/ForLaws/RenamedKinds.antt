@@ -14,7 +14,7 @@ use Rattle.redcode_text.specs.Source.{LineKind, RofLine, ForLine, EquLine, Other
 use Rattle.redcode_text.specs.Tokens.{is_word_byte, word_len}
 use Rattle.redcode_text.proofs.ForLaws.RenamedColumns.{first-cut, first-is, second-cut, second-is, to_word}
 use Rattle.redcode_text.proofs.ForLaws.RenamedPlaces.{either-second}
-use Rattle.redcode_text.proofs.ForLaws.RenamedScans.{first-byte}
+use Rattle.redcode_text.proofs.ForLaws.RenamedScans.{word-first}
 use Rattle.redcode_text.proofs.ForLaws.RenamedWords.{empty-stays, other-stays, raw-renamed, raw-taken, raw_of}
 
 -- ---- words in either case
@@ -206,11 +206,7 @@ module _ (ps : Predefined) (rename : List ℕ → List ℕ) (r : IsRenaming ps r
       go (b ∷ l) = by (is_word_byte b) refl
         where
           by : (t : Bool) → is_word_byte b ≡ t → starts_with nat_eq (renamed_text rename (b ∷ l)) (59 ∷ []) ≡ starts_with nat_eq (b ∷ l) (59 ∷ [])
-          by true e =
-              let all : (is_word_byte b && true) ≡ true = rw e refl in
-              let first = first-byte ps rename r b [] l all in
-              let same : renamed_text rename (b ∷ l) ≡ first.0 ∷ first.1 = ap (λ t. elim t as (λ _. List ℕ) [ true ↦ renamed_from rename (b ∷ []) l | false ↦ rename [] ++ b ∷ renamed_from rename [] l ]) e ∙ first.2 in
-              ap (λ l. starts_with nat_eq l (59 ∷ [])) same ∙ ap (λ t. t && true) (no-semicolon first.0 first.3 ∙ sym (no-semicolon b e))
+          by true e = word-first ps rename r (λ t. starts_with nat_eq t (59 ∷ []) ≡ starts_with nat_eq (b ∷ l) (59 ∷ [])) b l e (λ c cs k. ap (λ t. t && true) (no-semicolon c k ∙ sym (no-semicolon b e)))
           by false e = ap (λ l. starts_with nat_eq l (59 ∷ [])) (other-stays ps rename r b l e)
 
 -- ---- comment lines

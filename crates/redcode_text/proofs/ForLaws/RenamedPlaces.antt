@@ -14,7 +14,7 @@ use Rattle.redcode_text.specs.Tokens.{Found, OpenLoop, Scanned, begins_word, is_
 use Rattle.redcode_text.proofs.ForLaws.Agreement.{Pairwise, pairwise-append, pairwise-length}
 use Rattle.redcode_text.proofs.ForLaws.Likeness.{Equal, PlacedToken, kind-like}
 use Rattle.redcode_text.proofs.ForLaws.RenamedResults.{BothGive, both-cond, both-then}
-use Rattle.redcode_text.proofs.ForLaws.RenamedScans.{SameStep, behind-token, first-byte, token-step, word-shows}
+use Rattle.redcode_text.proofs.ForLaws.RenamedScans.{SameStep, behind-token, token-step, word-first, word-shows}
 use Rattle.redcode_text.proofs.ForLaws.RenamedTokens.{renamed_loop}
 use Rattle.redcode_text.proofs.ForLaws.RenamedWords.{empty-stays, other-stays, raw_of}
 
@@ -50,10 +50,8 @@ module _ (ps : Predefined) (rename : List ℕ → List ℕ) (r : IsRenaming ps r
     where
       go : (t : Bool) → is_word_byte b ≡ t → prefix_len is_blank (renamed_text rename bs) ≡ prefix_len is_blank bs → prefix_len is_blank (renamed_text rename (b ∷ bs)) ≡ prefix_len is_blank (b ∷ bs)
       go true e h =
-          let all : (is_word_byte b && true) ≡ true = rw e refl in
-          let first = first-byte ps rename r b [] bs all in
-          let same : renamed_text rename (b ∷ bs) ≡ first.0 ∷ first.1 = ap (λ t. elim t as (λ _. List ℕ) [ true ↦ renamed_from rename (b ∷ []) bs | false ↦ rename [] ++ b ∷ renamed_from rename [] bs ]) e ∙ first.2 in
-          ap (prefix_len is_blank) same ∙ ap (λ t. cond t (1 + prefix_len is_blank first.1) 0) (word-shows first.0 first.3) ∙ sym (ap (λ t. cond t (1 + prefix_len is_blank bs) 0) (word-shows b e))
+          word-first ps rename r (λ l. prefix_len is_blank l ≡ prefix_len is_blank (b ∷ bs)) b bs e
+          (λ c cs k. ap (λ t. cond t (1 + prefix_len is_blank cs) 0) (word-shows c k) ∙ sym (ap (λ t. cond t (1 + prefix_len is_blank bs) 0) (word-shows b e)))
       go false e h = ap (prefix_len is_blank) (other-stays ps rename r b bs e) ∙ ap (λ n. cond (is_blank b) (1 + n) 0) h
 
   pub blank-no-word : (b : ℕ) → is_blank b ≡ true → is_word_byte b ≡ false
@@ -104,14 +102,7 @@ module _ (ps : Predefined) (rename : List ℕ → List ℕ) (r : IsRenaming ps r
     shows b bs e = go (is_word_byte b) refl
       where
         go : (t : Bool) → is_word_byte b ≡ t → (c : ℕ) × (cs : List ℕ) × (renamed_text rename (b ∷ bs) ≡ c ∷ cs) × (is_blank c ≡ false)
-        go true w =
-            let all : (is_word_byte b && true) ≡ true = rw w refl in
-            let first = first-byte ps rename r b [] bs all in (
-              first.0,
-              first.1,
-              ap (λ t. elim t as (λ _. List ℕ) [ true ↦ renamed_from rename (b ∷ []) bs | false ↦ rename [] ++ b ∷ renamed_from rename [] bs ]) w ∙ first.2,
-              word-shows first.0 first.3,
-            )
+        go true w = word-first ps rename r (λ l. (c : ℕ) × (cs : List ℕ) × (l ≡ c ∷ cs) × (is_blank c ≡ false)) b bs w (λ c cs k. (c, cs, refl, word-shows c k))
         go false w = (b, renamed_text rename bs, other-stays ps rename r b bs w, e)
 
     abbrev found_then : List OpenLoop → ℕ → List ℕ → List ℕ → Scanned → Result Scanned TextProblem

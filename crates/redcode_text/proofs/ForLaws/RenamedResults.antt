@@ -41,15 +41,8 @@ both-same R (Ok x) (Err y) e k = absurd (cc)
 both-same R (Err x) (Ok y) e k = absurd (cc)
 both-same R (Err x) (Err y) e k = cc
 
--- where the first is a value, so is the second; where it is a fault, the second is the same
 pub both-made : {A B E : Type 0} (R : A → B → Type 0) (r : Result A E) (s : Result B E) (x : A) → BothGive R r s → r ≡ Ok x → (y : B) × (s ≡ Ok y) × R x y
 both-made R (Ok z) (Ok y) x h e = let same : z ≡ x = cc in (y, refl, rw (sym same) h)
 both-made R (Ok z) (Err f) x h e = absurd h
 both-made R (Err d) (Ok y) x h e = absurd h
 both-made R (Err d) (Err f) x h e = cc
-
-pub both-fail : {A B E : Type 0} (R : A → B → Type 0) (r : Result A E) (s : Result B E) (x : E) → BothGive R r s → r ≡ Err x → s ≡ Err x
-both-fail R (Ok z) (Ok y) x h e = cc
-both-fail R (Ok z) (Err f) x h e = absurd h
-both-fail R (Err d) (Ok y) x h e = absurd h
-both-fail R (Err d) (Err f) x h e = cc

@@ -21,6 +21,7 @@ use Rattle.redcode_text.proofs.ForLaws.RenamedReadings.{Related, renamed_by, wit
 use Rattle.redcode_text.proofs.ForLaws.RenamedResults.{BothGive}
 use Rattle.redcode_text.proofs.ForLaws.RenamedSides.{goes-first, goes-second}
 use Rattle.redcode_text.proofs.ForLaws.RenamedTokens.{renamed_loop}
+use Rattle.redcode_text.proofs.ForLaws.RenamedWords.{word-more}
 
 -- ---- comments behind
 
@@ -57,14 +58,10 @@ module _ (ps : Predefined) (rename : List ℕ → List ℕ) (r : IsRenaming ps r
       code : Bool → List ℕ
       code t = elim t as (λ _. List ℕ) [ true ↦ [] | false ↦ b ∷ before_comment bs ]
 
-      more : (word : List ℕ) → list_all is_word_byte word ≡ true → is_word_byte b ≡ true → list_all is_word_byte (word ++ b ∷ []) ≡ true
-      more [] e is = rw is refl
-      more (w ∷ word) e is = let l = and_parts (is_word_byte w) (list_all is_word_byte word) e in λ i. l.0 i && more word l.1 is i
-
       go : (t c : Bool) → is_word_byte b ≡ t → (b == 59) ≡ c → ((w : List ℕ) → list_all is_word_byte w ≡ true → before_comment (renamed_from rename w bs) ≡ renamed_from rename w (before_comment bs))
           → before_comment (step t bs) ≡ renamed_from rename word (code c)
       go true true e f h = absurd (true≢false (sym f ∙ no-semicolon b e))
-      go true false e f h = h (word ++ b ∷ []) (more word all e) ∙ ap (λ t. step t (before_comment bs)) (sym e)
+      go true false e f h = h (word ++ b ∷ []) (word-more word b all e) ∙ ap (λ t. step t (before_comment bs)) (sym e)
       go false true e f h =
           code-front (rename word) (b ∷ renamed_text rename bs) (r.words word all)
           ∙ ap (λ t. rename word ++ elim t as (λ _. List ℕ) [ true ↦ [] | false ↦ b ∷ before_comment (renamed_text rename bs) ]) f ∙ append-nil (rename word)

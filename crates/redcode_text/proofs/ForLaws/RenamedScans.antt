@@ -133,6 +133,14 @@ module _ (ps : Predefined) (rename : List ℕ → List ℕ) (r : IsRenaming ps r
           go true e h = h (word ++ b ∷ []) (word-more (w ∷ word) b all e)
           go false e h = alone w word (b ∷ renamed_text rename bs) all
 
+  -- what holds of each text that begins with a byte of a word holds of this one renamed
+  pub word-first : (P : List ℕ → Type 0) (b : ℕ) (bs : List ℕ) → is_word_byte b ≡ true → ((c : ℕ) (cs : List ℕ) → is_word_byte c ≡ true → P (c ∷ cs)) → P (renamed_text rename (b ∷ bs))
+  word-first P b bs e h =
+      let all : (is_word_byte b && true) ≡ true = rw e refl in
+      let first = first-byte b [] bs all in
+      let same : renamed_text rename (b ∷ bs) ≡ first.0 ∷ first.1 = ap (λ t. elim t as (λ _. List ℕ) [ true ↦ renamed_from rename (b ∷ []) bs | false ↦ rename [] ++ b ∷ renamed_from rename [] bs ]) e ∙ first.2 in
+      subst P (sym same) (h first.0 first.1 first.3)
+
   -- ---- one token
 
   -- the same token, and the same rest
