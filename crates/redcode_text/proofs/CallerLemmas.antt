@@ -26,7 +26,7 @@ pub use Rattle.redcode_text.proofs.ForLaws.AlikeValues.{substitution-same, value
 pub use Rattle.redcode_text.proofs.Named.{AreDistinct, IsNamed}
 pub use Rattle.redcode_text.proofs.ForLaws.SameNames.{SameAssert, SameEquate, SameKind, SameLine, SameName, SameToken, SameTokens, asserts-same, equates-same, index-same, lines-same}
 pub use Rattle.redcode_text.proofs.ForLaws.SourcePrograms.{loops-written-out, source-named}
-pub use Rattle.redcode_text.proofs.ForLaws.AlikeResults.{pairwise-map}
+pub use Rattle.redcode_text.proofs.ForLaws.Agreement.{pairwise-map}
 pub use Rattle.redcode_text.proofs.ForLaws.CountedOut.{counter-loops}
 pub use Rattle.redcode_text.proofs.ForLaws.RenamedKinds.{operation-same, value-renamed}
 pub use Rattle.redcode_text.proofs.ForLaws.RenamedPrograms.{RenamedAssert, RenamedEquate, RenamedLine, RenamedProgram, source-renamed}

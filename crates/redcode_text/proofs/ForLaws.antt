@@ -3,7 +3,6 @@ pub mod Agreement
 pub mod AlikeLines
 pub mod AlikeNames
 pub mod AlikeReadings
-pub mod AlikeResults
 pub mod AlikeSteps
 pub mod AlikeTokens
 pub mod AlikeValues

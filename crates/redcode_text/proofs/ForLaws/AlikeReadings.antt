@@ -9,18 +9,18 @@ use Rattle.redcode_text.specs.Equates.{Equate, limit}
 use Rattle.redcode_text.specs.Expansion.{nothing_read, program_of}
 use Rattle.redcode_text.specs.Lines.{Assert, Line, Predefined, Reading, before_comment, name_at, row_tokens}
 use Rattle.redcode_text.specs.Source.{SourceRow}
-use Rattle.redcode_text.specs.Tokens.{OpenLoop, is_counter, round_of, tokens}
-use Rattle.redcode_text.proofs.ForLaws.Agreement.{AgreeOption, Pairwise, pairwise-length}
-use Rattle.redcode_text.proofs.ForLaws.AlikeNames.{AreNames, Grown, grown-itself, same-grown, tokens-grown}
-use Rattle.redcode_text.proofs.ForLaws.AlikeResults.{both-weaker, pairwise-map, pairwise-weaker}
-use Rattle.redcode_text.proofs.ForLaws.AlikeTokens.{PlacedToken, SameScanned, scan-alike}
+use Rattle.redcode_text.specs.Tokens.{OpenLoop, is_counter, round_of}
+use Rattle.redcode_text.proofs.ForLaws.Agreement.{AgreeOption, Pairwise, pairwise-length, pairwise-map}
+use Rattle.redcode_text.proofs.ForLaws.AlikeNames.{AreNames, Grown, grown-itself, same-grown}
+use Rattle.redcode_text.proofs.ForLaws.AlikeTokens.{scan-alike}
 use Rattle.redcode_text.proofs.Named.{AreBelow, IsEquateBelow, IsLineBelow, IsNamed}
 use Rattle.redcode_text.proofs.ForLaws.SameNames.{SameEquate, SameName, index-same, SameTokens, tokens-spelled}
 use Rattle.redcode_text.proofs.ForLaws.Simulations.{IsCounter}
 use Rattle.redcode_text.specs.Laws.{IsRenaming}
 use Rattle.redcode_text.proofs.ForLaws.Follows.{Follows, fewer-more, follows-ok, follows-then}
 use Rattle.redcode_text.proofs.ForLaws.LikeLines.{Texts}
-use Rattle.redcode_text.proofs.ForLaws.LikeReadings.{LikeAssert, LikeLine, Likeness, Reads, RowRead}
+use Rattle.redcode_text.proofs.ForLaws.Likeness.{AsFar, PlacedToken}
+use Rattle.redcode_text.proofs.ForLaws.LikeReadings.{LikeAssert, LikeLine, Likeness, Reads, RowRead, names-changed}
 
 -- ---- open loops
 
@@ -88,58 +88,12 @@ nothing-renamed ps = record { distinct = λ one other e. e; names = λ word e. e
 abbrev pub ReadAlike : Reading → Reading → Type 0
 ReadAlike st other = Reads name_for_name st other
 
--- ---- names that grow
-
-module _ (names others more most : List (List ℕ)) (g : Grown names more) (h : Grown others most) where
-  lines-grown : (ls ms : List (List Token)) → Texts (SameName names others) ls ms → Texts (SameName more most) ls ms
-  lines-grown ls ms s =
-      pairwise-weaker (SameTokens names others) (SameTokens more most) (λ ts us k. tokens-grown names others more most g h ts us k) ls ms s
-
-  equates-grown : (es fs : List Equate) → Pairwise (SameEquate names others) es fs → Pairwise (SameEquate more most) es fs
-  equates-grown es fs s =
-      pairwise-weaker (SameEquate names others) (SameEquate more most)
-      (λ e f k. (same-grown names others more most g h e.name f.name k.0, lines-grown e.lines f.lines k.1)) es fs s
-
-  read-lines-grown : (ls ms : List Line) → Pairwise (LikeLine name_for_name (SameName names others)) ls ms → Pairwise (LikeLine name_for_name (SameName more most)) ls ms
-  read-lines-grown ls ms s =
-      pairwise-weaker (LikeLine name_for_name (SameName names others)) (LikeLine name_for_name (SameName more most))
-      (λ l m k. (
-        pairwise-weaker (SameName names others) (SameName more most) (same-grown names others more most g h) l.labels m.labels k.0,
-        both-weaker (SameName names others) (SameName more most) (same-grown names others more most g h) l.operation m.operation k.1,
-        tokens-grown names others more most g h l.rest m.rest k.2,
-        k.3,
-      )) ls ms s
-
-  asserts-grown : (ls ms : List Assert) → Pairwise (LikeAssert name_for_name (SameName names others)) ls ms → Pairwise (LikeAssert name_for_name (SameName more most)) ls ms
-  asserts-grown ls ms s =
-      pairwise-weaker (LikeAssert name_for_name (SameName names others)) (LikeAssert name_for_name (SameName more most))
-      (λ l m k. (k.0, tokens-grown names others more most g h l.tokens m.tokens k.1, k.2)) ls ms s
-
 -- further names and tokens
-pub reading-grown : (st other : Reading) → ReadAlike st other → (more most : List (List ℕ)) → Grown st.names more → Grown other.names most
-    → (k l : ℕ) → l ≤ k
+pub reading-grown : (st other : Reading) → ReadAlike st other → (more most : List (List ℕ)) → Grown st.names more → Grown other.names most → (k l : ℕ) → l ≤ k
     → ReadAlike (record st { names = more; tokens_read = k }) (record other { names = most; tokens_read = l })
-reading-grown st other r more most g h k l few =
-    record {
-      loops = r.loops;
-      names = (g.good, h.good);
-      equates = equates-grown st.names other.names more most g h st.equates other.equates r.equates;
-      grows = r.grows;
-      lines = read-lines-grown st.names other.names more most g h st.lines other.lines r.lines;
-      instructions = r.instructions;
-      lines_read = r.lines_read;
-      tokens_read = few;
-      name = r.name;
-      author = r.author;
-      asserts = asserts-grown st.names other.names more most g h st.asserts other.asserts r.asserts;
-      ended = r.ended;
-    }
+reading-grown st other r more most g h k l few = names-changed name_for_name st other r more most (g.good, h.good) (same-grown st.names other.names more most g h) k l few
 
 -- ---- the tokens of a row
-
--- as far from these two places
-abbrev pub AsFar : ℕ → ℕ → ℕ → ℕ → Type 0
-AsFar here there a b = a + there ≡ b + here
 
 -- a row of the same bytes
 abbrev pub like_row : SourceRow → ℕ → ℕ → SourceRow
@@ -157,7 +111,7 @@ row-alike row number place at st other r =
     (λ s t q. follows-ok (record {
       read =
           reading-grown st other r s.names t.names q.first q.second (st.tokens_read + length s.tokens) (other.tokens_read + length t.tokens)
-          (fewer-more false st.tokens_read other.tokens_read (length s.tokens) (length t.tokens) r.tokens_read (pairwise-length (PlacedToken s.names t.names row.at place) s.tokens t.tokens q.tokens));
+          (fewer-more false st.tokens_read other.tokens_read (length s.tokens) (length t.tokens) r.tokens_read (pairwise-length (PlacedToken (SameName s.names t.names) (AsFar row.at place)) s.tokens t.tokens q.tokens));
       tokens = q.tokens;
     }))
 

@@ -7,14 +7,13 @@ use Rattle.redcode_text.specs.Results.{◌>>=◌}
 use Rattle.redcode_text.specs.declared.fault.TextProblem.{TextProblem}
 use Rattle.redcode_text.specs.declared.fault.TextProblem.TheVariants.{BadToken, NotAscii, TooLong}
 use Rattle.redcode_text.specs.declared.token.Sign.{Sign}
-use Rattle.redcode_text.specs.declared.token.Token.{Token}
 use Rattle.redcode_text.specs.declared.token.TokenKind.TheVariants.{Number, Name}
 use Rattle.redcode_text.specs.Tokens.{Found, OpenLoop, Scanned, begins_name, begins_word, is_blank, join_counters, join_parts, joined, look_up, name_found, name_index, number_found, one_byte_signs, parts_at_joins, round_digits, round_of, round_or_bad, scan_from, sign_found, sign_token, token_at, two_byte_signs, with_name, with_room, with_token, word_found, word_len, word_token}
-use Rattle.redcode_text.proofs.ForLaws.Agreement.{Pairwise, pairwise-append, pairwise-length}
-use Rattle.redcode_text.proofs.ForLaws.AlikeResults.{pairwise-weaker}
+use Rattle.redcode_text.proofs.ForLaws.Agreement.{Pairwise, pairwise-append, pairwise-length, pairwise-weaker}
 use Rattle.redcode_text.proofs.ForLaws.Follows.{Follows, follows-fault, follows-ok, follows-room, follows-then}
-use Rattle.redcode_text.proofs.ForLaws.AlikeNames.{AreNames, Grown, grown-itself, grown-on, kind-grown, with-grown, with-same}
-use Rattle.redcode_text.proofs.ForLaws.SameNames.{SameKind}
+use Rattle.redcode_text.proofs.ForLaws.AlikeNames.{AreNames, Grown, grown-itself, grown-on, same-grown, with-grown, with-same}
+use Rattle.redcode_text.proofs.ForLaws.SameNames.{SameKind, SameName}
+use Rattle.redcode_text.proofs.ForLaws.Likeness.{AsFar, PlacedToken, kind-weaker}
 
 -- ---- a token
 
@@ -103,13 +102,9 @@ module _ (loops ls : List OpenLoop) (rounds : (name : List ℕ) → round_of loo
 
 -- ---- one token after another
 
--- the same token, as far from these two places
-abbrev pub PlacedToken : List (List ℕ) → List (List ℕ) → ℕ → ℕ → Token → Token → Type 0
-PlacedToken names others here there t u = SameKind names others t.kind u.kind × (t.from + there ≡ u.from + here)
-
 -- the same tokens, and the names with theirs
 pub record SameScanned (names others : List (List ℕ)) (here there : ℕ) (s t : Scanned) : Type 0 where
-  pub tokens : Pairwise (PlacedToken s.names t.names here there) s.tokens t.tokens
+  pub tokens : Pairwise (PlacedToken (SameName s.names t.names) (AsFar here there)) s.tokens t.tokens
   pub first : Grown names s.names
   pub second : Grown others t.names
 
@@ -123,17 +118,17 @@ module _ (loops ls : List OpenLoop) (rounds : (name : List ℕ) → round_of loo
       → SameFound s.names t.names f g
       → Follows false (SameScanned names others here there) (with_room room s line at f) (with_room space t row to g)
   room-alike at to same s t f g q h =
-      let len : length s.tokens ≡ length t.tokens = pairwise-length (PlacedToken s.names t.names here there) s.tokens t.tokens q.tokens in
+      let len : length s.tokens ≡ length t.tokens = pairwise-length (PlacedToken (SameName s.names t.names) (AsFar here there)) s.tokens t.tokens q.tokens in
       follows-room (nat_lt (length s.tokens) room) (nat_lt (length t.tokens) space) TooLong
       (with_token s line at f) (with_token t row to g)
       (λ e. let a = ltb-true (length s.tokens) room e in lt-ltb (length t.tokens) space (omega arith))
       (record {
         tokens =
-            pairwise-append (PlacedToken f.names g.names here there) s.tokens t.tokens
+            pairwise-append (PlacedToken (SameName f.names g.names) (AsFar here there)) s.tokens t.tokens
             (record { kind = f.kind; line = line; from = at; to = at + f.len } ∷ [])
             (record { kind = g.kind; line = row; from = to; to = to + g.len } ∷ [])
-            (pairwise-weaker (PlacedToken s.names t.names here there) (PlacedToken f.names g.names here there)
-            (λ x y k. (kind-grown s.names t.names f.names g.names h.first h.second x.kind y.kind k.0, k.1)) s.tokens t.tokens q.tokens)
+            (pairwise-weaker (PlacedToken (SameName s.names t.names) (AsFar here there)) (PlacedToken (SameName f.names g.names) (AsFar here there))
+            (λ x y k. (kind-weaker (SameName s.names t.names) (SameName f.names g.names) (same-grown s.names t.names f.names g.names h.first h.second) x.kind y.kind k.0, k.1)) s.tokens t.tokens q.tokens)
             ((h.kind, same), tt);
         first = grown-on names s.names f.names q.first h.first;
         second = grown-on others t.names g.names q.second h.second;

@@ -1,29 +1,26 @@
 -- A row of a round and the row in its place, in two readings of which the first has the loop open.
-use Rattle.std.proofs.Common.{◌≡◌, ◌∙◌, refl, ap, sym, subst, true≢false, ℕ, zero, suc, ◌+◌, ◌-◌, ◌^◌, ◌<◌, ◌≤◌, ◌==◌, ◌||◌, nat_le, Bool, true, false, List, [], ◌∷◌, ◌++◌, length, decimal, Some, None, Result, Ok, Err, arith}
+use Rattle.std.proofs.Common.{◌≡◌, ◌∙◌, refl, ap, sym, subst, true≢false, ℕ, zero, suc, ◌+◌, ◌-◌, ◌^◌, ◌<◌, ◌≤◌, ◌==◌, ◌||◌, Bool, true, false, List, [], ◌∷◌, ◌++◌, length, decimal, Some, None, Ok, arith}
 use Rattle.std.specs.Char.{is_ascii_digit}
 use Rattle.std.specs.List.{list_all, list_any}
 use Rattle.std.proofs.lemmas.Bool.{and_parts, or_parts}
 use Rattle.std.proofs.lemmas.Bool.Decides.{nat_tests}
 use Rattle.std.proofs.lemmas.List.{length-map}
-use Rattle.redcode_text.specs.Results.{◌>>=◌}
-use Rattle.redcode_text.specs.declared.fault.TextProblem.{TextProblem}
-use Rattle.redcode_text.specs.declared.fault.TextProblem.TheVariants.{TooLong}
 use Rattle.redcode_text.specs.declared.token.Token.{Token}
-use Rattle.redcode_text.specs.Equates.{depth_limit, limit}
+use Rattle.redcode_text.specs.Equates.{limit}
 use Rattle.redcode_text.specs.Expression.{kinds}
 use Rattle.redcode_text.specs.Laws.{HasItsJoins, IsCounterName, IsInstructionLine, begins_and, has_its_joins, written_line, written_text, written_word}
-use Rattle.redcode_text.specs.Lines.{Predefined, Reading, WithTokens, before_comment, comment_line, line_read, ordinary_line, plain_line, row_tokens, tokens_line}
+use Rattle.redcode_text.specs.Lines.{Predefined, Reading, WithTokens, before_comment, plain_line, row_tokens, tokens_line}
 use Rattle.redcode_text.specs.Source.{SourceRow, OtherLine, line_kind}
 use Rattle.redcode_text.specs.Tokens.{OpenLoop, begins_name, begins_word, is_word_byte, round_of, tokens}
 use Rattle.redcode_text.proofs.ForLaws.LikeLines.{LikeLines, plain-alike, tokens-line-alike}
-use Rattle.redcode_text.proofs.ForLaws.AlikeReadings.{AsFar, LoopsAlike, ReadAlike, name_for_name, nothing-renamed, row-alike}
+use Rattle.redcode_text.proofs.ForLaws.AlikeReadings.{LoopsAlike, ReadAlike, name_for_name, nothing-renamed, row-alike}
 use Rattle.redcode_text.proofs.ForLaws.LikeReadings.{Likeness, Reads, RowRead, loops-changed}
-use Rattle.redcode_text.proofs.ForLaws.Likeness.{AnyPlace, LikeKind, PlacedToken}
+use Rattle.redcode_text.proofs.ForLaws.Likeness.{AnyPlace, AsFar, LikeKind, PlacedToken}
 use Rattle.redcode_text.proofs.ForLaws.Agreement.{Pairwise}
 use Rattle.redcode_text.proofs.ForLaws.SameNames.{SameName}
 use Rattle.redcode_text.proofs.ForLaws.Follows.{Follows, both-follows, follows-on, follows-then, follows-weaker}
 use Rattle.redcode_text.proofs.ForLaws.LoneLoops.{digit-begins-none, no-counter}
-use Rattle.redcode_text.proofs.ForLaws.RenamedResults.{BothGive, both-made, both-then}
+use Rattle.redcode_text.proofs.ForLaws.RenamedResults.{BothGive, both-then}
 use Rattle.redcode_text.proofs.ForLaws.RenamedWords.{rest_of}
 use Rattle.redcode_text.proofs.ForLaws.TokensRead.{decimal-is}
 use Rattle.redcode_text.proofs.ForLaws.WrittenTexts.{and-bytes, its-other, its-word, other-front, rest-shorter, word-front}
@@ -33,7 +30,6 @@ use Rattle.redcode_text.proofs.ForLaws.WrittenWords.{written-all}
 -- ---- bytes that a written text doesn't have
 
 module _ (q : ℕ → Bool) (words : (b : ℕ) → is_word_byte b ≡ true → q b ≡ false) where
-
   none-word : (ws bs : List ℕ) → list_all is_word_byte ws ≡ true → list_any q bs ≡ false → list_any q (ws ++ bs) ≡ false
   none-word [] bs e f = f
   none-word (w ∷ ws) bs e f = let l = and_parts (is_word_byte w) (list_all is_word_byte ws) e in let a = words w l.0 in let b = none-word ws bs l.1 f in λ i. a i || b i

@@ -14,8 +14,7 @@ use Rattle.redcode_text.specs.Expression.{kinds, value_of}
 use Rattle.redcode_text.specs.Laws.{IsRenaming}
 use Rattle.redcode_text.specs.Lines.{Predefined, Reading, WithTokens, name_at, name_in_front, predefined_value, tokens_after, tokens_before, with_current_line}
 use Rattle.redcode_text.specs.Tokens.{without_line}
-use Rattle.redcode_text.proofs.ForLaws.Agreement.{AgreeOption, Pairwise}
-use Rattle.redcode_text.proofs.ForLaws.AlikeResults.{pairwise-both}
+use Rattle.redcode_text.proofs.ForLaws.Agreement.{AgreeOption, Pairwise, pairwise-both}
 use Rattle.redcode_text.proofs.ForLaws.AlikeValues.{value-like}
 use Rattle.redcode_text.proofs.ForLaws.Follows.{Follows, both-follows, follows-limit, follows-ok, follows-same, follows-then, implies-itself, le-met}
 use Rattle.redcode_text.proofs.ForLaws.LikeLines.{after-placed, before-placed, front-alike}

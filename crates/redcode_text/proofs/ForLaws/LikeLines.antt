@@ -15,8 +15,7 @@ use Rattle.redcode_text.specs.Expression.{kinds}
 use Rattle.redcode_text.specs.Laws.{IsRenaming}
 use Rattle.redcode_text.specs.Lines.{Parts, Predefined, Reading, Step, WithTokens, assert_line, before_first, behind_last, comment_line, directive_value, each_line, equ_line, equated, is_operation, line_added, may_label, name_in_front, on_line, operation_lines, ordinary_line, ordinary_with, parts_of, parts_read, parts_within, plain_line, row_tokens, split_colon, token_on_line, tokens_after, tokens_before, tokens_counted, tokens_line, unless_empty, unless_ended, with_line}
 use Rattle.redcode_text.specs.Source.{SourceRow, LineKind, RofLine, ForLine, EquLine, OtherLine, directive_text, directive_text_at, is_comment, line_kind}
-use Rattle.redcode_text.proofs.ForLaws.Agreement.{AgreeOption, Pairwise, pairwise-append, pairwise-filter, pairwise-length}
-use Rattle.redcode_text.proofs.ForLaws.AlikeResults.{pairwise-both, pairwise-weaker}
+use Rattle.redcode_text.proofs.ForLaws.Agreement.{AgreeOption, Pairwise, pairwise-append, pairwise-both, pairwise-filter, pairwise-length, pairwise-weaker}
 use Rattle.redcode_text.proofs.ForLaws.Follows.{Follows, IfExact, Implies, follows-fault, follows-if, follows-none, follows-ok, follows-then, follows-weaker, implies-itself}
 use Rattle.redcode_text.proofs.ForLaws.LikeReadings.{LikeAssert, LikeLine, Likeness, ReadOn, Reads, RowRead, counted-alike, end-test, equate-test, instruction-test, label-test, line-read-alike, lines-alike, may-test, operation-test, predefined-test}
 use Rattle.redcode_text.proofs.ForLaws.Likeness.{LikeEquate, LikeKind, LikeToken, LikeTokens, PlacedToken, Sides}

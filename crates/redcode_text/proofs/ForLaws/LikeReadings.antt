@@ -9,10 +9,9 @@ use Rattle.redcode_text.specs.Equates.{equate_lines, limit}
 use Rattle.redcode_text.specs.Laws.{IsRenaming}
 use Rattle.redcode_text.specs.Lines.{Assert, Line, Predefined, Reading, WithTokens, is_end, is_equate, is_instruction, is_label, is_operation, is_org, is_predefined, is_spelled, line_read, may_label, name_at, operations, predefined_value, tokens_counted, with_current_line}
 use Rattle.redcode_text.specs.Tokens.{OpenLoop}
-use Rattle.redcode_text.proofs.ForLaws.Agreement.{AgreeOption, Pairwise, pairwise-length}
-use Rattle.redcode_text.proofs.ForLaws.AlikeResults.{both-is_some, pairwise-any}
+use Rattle.redcode_text.proofs.ForLaws.Agreement.{AgreeOption, Pairwise, both-is_some, both-weaker, pairwise-any, pairwise-length, pairwise-weaker}
 use Rattle.redcode_text.proofs.ForLaws.Follows.{Fewer, Follows, IfExact, Implies, fewer-more, follows-limit, le-met, lt-met}
-use Rattle.redcode_text.proofs.ForLaws.Likeness.{LikeEquate, LikeToken, LikeTokens, PlacedToken}
+use Rattle.redcode_text.proofs.ForLaws.Likeness.{LikeEquate, LikeToken, LikeTokens, PlacedToken, kind-weaker}
 use Rattle.redcode_text.proofs.ForLaws.RenamedKinds.{operation-same, operations-same, value-renamed}
 use Rattle.redcode_text.proofs.ForLaws.Replacements.{equates-alike}
 
@@ -136,6 +135,37 @@ loops-changed l Loops room st other q loops others h =
       asserts = q.asserts;
       ended = q.ended;
     }
+
+-- further names and tokens
+pub names-changed : (l : Likeness) (st other : Reading) → Reads l st other → (more most : List (List ℕ)) → l.Names more most → ((n m : ℕ) → l.Name st.names other.names n m → l.Name more most n m) → (i j : ℕ) → Fewer l.exact i j
+    → Reads l (record st { names = more; tokens_read = i }) (record other { names = most; tokens_read = j })
+names-changed l st other q more most names keeps i j few =
+    record {
+      loops = q.loops;
+      names = names;
+      equates =
+          pairwise-weaker (LikeEquate N (LikeToken N)) (LikeEquate M (LikeToken M)) (λ e f k. (keeps e.name f.name k.0, pairwise-weaker (LikeTokens N) (LikeTokens M) tokens e.lines f.lines k.1)) st.equates other.equates q.equates;
+      grows = q.grows;
+      lines =
+          pairwise-weaker (LikeLine l N) (LikeLine l M)
+          (λ a b k. (pairwise-weaker N M keeps a.labels b.labels k.0, both-weaker N M keeps a.operation b.operation k.1, tokens a.rest b.rest k.2, k.3)) st.lines other.lines q.lines;
+      instructions = q.instructions;
+      lines_read = q.lines_read;
+      tokens_read = few;
+      name = q.name;
+      author = q.author;
+      asserts = pairwise-weaker (LikeAssert l N) (LikeAssert l M) (λ a b k. (k.0, tokens a.tokens b.tokens k.1, k.2)) st.asserts other.asserts q.asserts;
+      ended = q.ended;
+    }
+  where
+    N : ℕ → ℕ → Type 0
+    N n m = l.Name st.names other.names n m
+
+    M : ℕ → ℕ → Type 0
+    M n m = l.Name more most n m
+
+    tokens : (ts us : List Token) → LikeTokens N ts us → LikeTokens M ts us
+    tokens ts us h = pairwise-weaker (LikeToken N) (LikeToken M) (λ t u k. kind-weaker N M keeps t.kind u.kind k) ts us h
 
 -- ---- what a name is
 

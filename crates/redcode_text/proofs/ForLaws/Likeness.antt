@@ -1,5 +1,5 @@
 -- Tokens and EQU names that are alike: they are the same but for the names' indices, of which a relation tells which stand for one another.
-use Rattle.std.proofs.Common.{◌≡◌, refl, ap, subst, ℕ, ◌==◌, nat_lt, List}
+use Rattle.std.proofs.Common.{◌≡◌, refl, ap, subst, ℕ, ◌+◌, ◌==◌, nat_lt, List}
 use Rattle.std.specs.Prelude.{⊤}
 use Rattle.redcode_text.specs.declared.token.Token.{Token}
 use Rattle.redcode_text.specs.declared.token.TokenKind.{TokenKind}
@@ -7,14 +7,19 @@ use Rattle.redcode_text.specs.declared.token.TokenKind.TheVariants.{Number, Name
 use Rattle.redcode_text.specs.declared.token.TokenKind.TheVariants as token
 use Rattle.redcode_text.specs.Equates.{Equate}
 use Rattle.redcode_text.specs.Expression.{kinds}
-use Rattle.redcode_text.proofs.ForLaws.Agreement.{Pairwise}
-use Rattle.redcode_text.proofs.ForLaws.AlikeResults.{pairwise-map}
+use Rattle.redcode_text.proofs.ForLaws.Agreement.{Pairwise, pairwise-map}
 
 abbrev pub LikeKind : (ℕ → ℕ → Type 0) → TokenKind → TokenKind → Type 0
 LikeKind N (Name n) (Name m) = N n m
 LikeKind N (Number a) (Number b) = a ≡ b
 LikeKind N (token.Sign s) (token.Sign u) = s ≡ u
 LikeKind N _ _ = ⊥
+
+pub kind-weaker : (N M : ℕ → ℕ → Type 0) → ((n m : ℕ) → N n m → M n m) → (k l : TokenKind) → LikeKind N k l → LikeKind M k l
+kind-weaker N M h (Name n) (Name m) k = h n m k
+kind-weaker N M h (Number a) (Number b) k = k
+kind-weaker N M h (token.Sign s) (token.Sign u) k = k
+kind-weaker N M h _ _ k = absurd k
 
 abbrev pub LikeToken : (ℕ → ℕ → Type 0) → Token → Token → Type 0
 LikeToken N t u = LikeKind N t.kind u.kind
@@ -33,6 +38,10 @@ PlacedToken N Q t u = LikeKind N t.kind u.kind × Q t.from u.from
 -- wherever two tokens stand
 abbrev pub AnyPlace : ℕ → ℕ → Type 0
 AnyPlace x y = ⊤
+
+-- as far from these two places
+abbrev pub AsFar : ℕ → ℕ → ℕ → ℕ → Type 0
+AsFar here there a b = a + there ≡ b + here
 
 -- on the same side of the place p as the other of the place q
 abbrev pub Sides : ℕ → ℕ → ℕ → ℕ → Type 0

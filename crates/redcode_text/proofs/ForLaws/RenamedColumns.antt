@@ -1,7 +1,7 @@
 -- Where the first and the second word of a line begin, in a text and in the text renamed.
-use Rattle.std.proofs.Common.{◌≡◌, ◌∙◌, refl, ap, sym, subst, ℕ, suc, ◌+◌, ◌==◌, ◌&&◌, ◌||◌, Bool, true, false, cond, List, [], ◌∷◌, ◌++◌, drop, drop-drop, arith, one-add, add-one}
+use Rattle.std.proofs.Common.{◌≡◌, ◌∙◌, refl, ap, sym, subst, ℕ, suc, ◌+◌, ◌==◌, ◌&&◌, ◌||◌, Bool, true, false, cond, List, [], ◌∷◌, drop, drop-drop, arith, one-add, add-one}
 use Rattle.std.proofs.lemmas.Bool.Decides.{nat_tests}
-use Rattle.redcode_text.specs.Laws.{IsRenaming, renamed_from, renamed_text}
+use Rattle.redcode_text.specs.Laws.{IsRenaming, renamed_text}
 use Rattle.redcode_text.specs.Lines.{Predefined, before_comment}
 use Rattle.redcode_text.specs.Source.{blank_len, colon_len, first_word_at, past_blanks, past_word, second_word_at}
 use Rattle.redcode_text.specs.Tokens.{begins_name, begins_word, is_blank, is_word_byte, word_len}

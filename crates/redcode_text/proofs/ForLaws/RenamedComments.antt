@@ -1,5 +1,5 @@
 -- A comment line with its names renamed: what `;assert` says, and nothing else.
-use Rattle.std.proofs.Common.{◌≡◌, ◌∙◌, refl, ap, sym, subst, true≢false, ℕ, zero, suc, ◌+◌, ◌&&◌, ◌⊎◌, inl, inr, Bool, true, false, cond, List, [], ◌∷◌, ◌++◌, length, length-append, take, drop, map, nat_eq, append_assoc, arith, one-add}
+use Rattle.std.proofs.Common.{◌≡◌, ◌∙◌, refl, ap, sym, subst, true≢false, ℕ, suc, ◌+◌, ◌&&◌, ◌⊎◌, inl, inr, Bool, true, false, cond, List, [], ◌∷◌, ◌++◌, length, length-append, take, drop, map, nat_eq, append_assoc, arith, one-add}
 use Rattle.std.specs.Prelude.{codes}
 use Rattle.std.specs.Char.{to_ascii_lowercase}
 use Rattle.std.specs.List.{list_all, starts_with}
@@ -7,7 +7,7 @@ use Rattle.std.proofs.lemmas.Bool.{and_parts}
 use Rattle.std.proofs.lemmas.Bool.Decides.{nat_tests}
 use Rattle.std.proofs.lemmas.List.{length-map, map-append, take-append-drop}
 use Rattle.std.proofs.Math.Seq.{drop-append_seam, take-append_seam}
-use Rattle.redcode_text.specs.Laws.{IsRenaming, renamed_comment, renamed_from, renamed_line, renamed_text}
+use Rattle.redcode_text.specs.Laws.{IsRenaming, renamed_comment, renamed_line, renamed_text}
 use Rattle.redcode_text.specs.Lines.{Predefined}
 use Rattle.redcode_text.specs.Source.{blank_len, directive_text, directive_text_at, ends_word, has_directive, has_directive_word, is_comment, without_blanks}
 use Rattle.redcode_text.specs.Tokens.{is_blank, is_word_byte}

@@ -55,22 +55,3 @@ module _ (ps : Predefined) (rename : List ℕ → List ℕ) (r : IsRenaming ps r
         asserts = tt;
         ended = refl;
       }
-
-  -- further names and tokens
-  pub with-tokens-read : (st other : Reading) → Related st other → (more most : List (List ℕ)) (k l : ℕ) → most ≡ map rename more → k ≡ l
-      → Related (record st { names = more; tokens_read = k }) (record other { names = most; tokens_read = l })
-  with-tokens-read st other q more most k l e f =
-      record {
-        loops = q.loops;
-        names = e;
-        equates = q.equates;
-        grows = q.grows;
-        lines = q.lines;
-        instructions = q.instructions;
-        lines_read = q.lines_read;
-        tokens_read = f;
-        name = q.name;
-        author = q.author;
-        asserts = q.asserts;
-        ended = q.ended;
-      }

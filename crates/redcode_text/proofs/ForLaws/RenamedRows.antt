@@ -1,6 +1,5 @@
 -- What a row adds to two readings, of a source and of the source with its names renamed.
-use Rattle.std.proofs.Common.{◌≡◌, ◌∙◌, refl, ap, sym, subst, true≢false, ℕ, ◌+◌, ◌-◌, ◌==◌, ◌&&◌, ◌||◌, inl, inr, Bool, true, false, List, [], ◌∷◌, ◌++◌, length, drop, map, Ok, arith}
-use Rattle.std.specs.Prelude.{⊤}
+use Rattle.std.proofs.Common.{◌≡◌, ◌∙◌, refl, ap, sym, subst, true≢false, ℕ, ◌+◌, ◌-◌, ◌==◌, ◌||◌, inl, inr, Bool, true, false, List, [], ◌∷◌, ◌++◌, length, drop, map, Ok, arith}
 use Rattle.std.specs.List.{list_all, list_any}
 use Rattle.std.proofs.lemmas.Bool.{and_parts}
 use Rattle.std.proofs.lemmas.Bool.Decides.{nat_tests}
@@ -12,12 +11,12 @@ use Rattle.redcode_text.specs.Source.{SourceRow, blank_len, is_comment}
 use Rattle.redcode_text.specs.Tokens.{is_word_byte, scan_from, tokens}
 use Rattle.redcode_text.proofs.ForLaws.Agreement.{pairwise-length}
 use Rattle.redcode_text.proofs.ForLaws.Follows.{Follows, both-follows, follows-ok, follows-then}
-use Rattle.redcode_text.proofs.ForLaws.LikeReadings.{RowRead}
+use Rattle.redcode_text.proofs.ForLaws.LikeReadings.{RowRead, names-changed}
 use Rattle.redcode_text.proofs.ForLaws.Likeness.{AnyPlace, Equal, PlacedToken, Sides}
 use Rattle.redcode_text.proofs.ForLaws.RenamedColumns.{first-before, second-before, to_second}
 use Rattle.redcode_text.proofs.ForLaws.RenamedKinds.{Placed}
 use Rattle.redcode_text.proofs.ForLaws.RenamedPlaces.{SameScan, scan-on}
-use Rattle.redcode_text.proofs.ForLaws.RenamedReadings.{Related, renamed_by, with-tokens-read}
+use Rattle.redcode_text.proofs.ForLaws.RenamedReadings.{Related, renamed_by}
 use Rattle.redcode_text.proofs.ForLaws.RenamedResults.{BothGive}
 use Rattle.redcode_text.proofs.ForLaws.RenamedSides.{goes-first, goes-second}
 use Rattle.redcode_text.proofs.ForLaws.RenamedTokens.{renamed_loop}
@@ -94,7 +93,7 @@ module _ (ps : Predefined) (rename : List ℕ → List ℕ) (r : IsRenaming ps r
       (λ i. tokens st.loops row.number (row.at + at) (limit - st.tokens_read) st.names (sym one i)) h)))
       (λ s t k. follows-ok (record {
         read =
-            with-tokens-read ps rename r st other q s.names t.names (st.tokens_read + length s.tokens) (other.tokens_read + length t.tokens) k.names
+            names-changed (renamed_by ps rename r) st other q s.names t.names k.names (λ n m e. e) (st.tokens_read + length s.tokens) (other.tokens_read + length t.tokens)
             (let n = pairwise-length (PlacedToken Equal Q) s.tokens t.tokens k.tokens in λ i. q.tokens_read i + n i);
         tokens = k.tokens;
       }))

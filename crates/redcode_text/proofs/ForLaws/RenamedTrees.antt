@@ -11,8 +11,7 @@ use Rattle.redcode_text.specs.Lines.{Predefined}
 use Rattle.redcode_text.specs.Source as source
 use Rattle.redcode_text.specs.Source.{SourceRow, Items, Nothing, Plain, Loop, LoneRof, LineKind, RofLine, ForLine, EquLine, OtherLine, Pairing, begins_redcode, directive_text_at, from_redcode, has_directive, has_directive_word, is_comment, line_kind, lines_of, opened, paired, paired_with, read_rows, rows_from, then_lone, tree_of, tree_of_rows, with_lone, without_blanks}
 use Rattle.redcode_text.specs.Tokens.{is_word_byte}
-use Rattle.redcode_text.proofs.ForLaws.Agreement.{Pairwise}
-use Rattle.redcode_text.proofs.ForLaws.AlikeResults.{pairwise-any}
+use Rattle.redcode_text.proofs.ForLaws.Agreement.{Pairwise, pairwise-any}
 use Rattle.redcode_text.proofs.ForLaws.RenamedComments.{comments-same}
 use Rattle.redcode_text.proofs.ForLaws.RenamedHeads.{IsFor, SameRow, code-row}
 use Rattle.redcode_text.proofs.ForLaws.RenamedKinds.{SameKind, comment-other, comment-same, kind-same}
