@@ -6,9 +6,8 @@ use Rattle.redcode_text.specs.declared.token.Token.{Token}
 use Rattle.redcode_text.specs.Equates.{Equate, substitution}
 use Rattle.redcode_text.specs.Tokens.{without_line}
 use Rattle.redcode_text.specs.Expression.{kinds}
-use Rattle.redcode_text.proofs.ForLaws.Agreement.{pairwise-itself}
+use Rattle.redcode_text.proofs.ForLaws.Agreement.{gives-weaker, pairwise-itself}
 use Rattle.redcode_text.proofs.ForLaws.Likeness.{Equal, LikeEquate, equal-index, kind-like, same-kinds}
-use Rattle.redcode_text.proofs.ForLaws.RenamedResults.{gives-weaker}
 use Rattle.redcode_text.proofs.ForLaws.Replacements.{replaced-alike}
 pub use Rattle.redcode_text.proofs.ForLaws.PrintedNames.{program-printed}
 pub use Rattle.redcode_text.proofs.ForLaws.Moved.{kinds-moved, moved_tokens, substitution-moved}
@@ -21,18 +20,16 @@ pub use Rattle.redcode_text.specs.Trees.{spelling, is_prefix, IsLevelled}
 pub use Rattle.redcode_text.proofs.Trees.{rank-≤5}
 pub use Rattle.redcode_text.proofs.Shapes.{shaped}
 pub use Rattle.redcode_text.proofs.Splits.{tree-spelled}
-pub use Rattle.redcode_text.proofs.ForLaws.Agreement.{Agree, AgreeOption, Pairwise, Same, agree-after, agree-bind, agree-same, agree-value, pairwise-filter, pairwise-last, pairwise-length}
+pub use Rattle.redcode_text.proofs.ForLaws.Agreement.{Agree, AgreeOption, BothGive, Pairwise, Same, agree-after, agree-bind, agree-same, agree-value, pairwise-filter, pairwise-last, pairwise-length, pairwise-map}
 pub use Rattle.redcode_text.proofs.ForLaws.AlikeValues.{substitution-same, value-same}
 pub use Rattle.redcode_text.proofs.Named.{AreDistinct, IsNamed}
 pub use Rattle.redcode_text.proofs.ForLaws.SameNames.{SameAssert, SameEquate, SameKind, SameLine, SameName, SameToken, SameTokens, asserts-same, equates-same, index-same, lines-same}
 pub use Rattle.redcode_text.proofs.ForLaws.SourcePrograms.{loops-written-out, source-named}
-pub use Rattle.redcode_text.proofs.ForLaws.Agreement.{pairwise-map}
 pub use Rattle.redcode_text.proofs.ForLaws.CountedOut.{counter-loops}
 pub use Rattle.redcode_text.proofs.ForLaws.RenamedKinds.{operation-same, value-renamed}
 pub use Rattle.redcode_text.proofs.ForLaws.RenamedPrograms.{RenamedAssert, RenamedEquate, RenamedLine, RenamedProgram, source-renamed}
 pub use Rattle.redcode_text.proofs.ForLaws.RenamedReadings.{name-renamed}
 pub use Rattle.redcode_text.proofs.ForLaws.Likeness.{SameKinds}
-pub use Rattle.redcode_text.proofs.ForLaws.RenamedResults.{BothGive}
 
 -- ---- tokens of the same kinds, wherever they stand
 

@@ -32,7 +32,6 @@ pub mod RenamedKinds
 pub mod RenamedPlaces
 pub mod RenamedPrograms
 pub mod RenamedReadings
-pub mod RenamedResults
 pub mod RenamedRows
 pub mod RenamedScans
 pub mod RenamedSides

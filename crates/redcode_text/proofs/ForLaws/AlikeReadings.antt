@@ -10,17 +10,17 @@ use Rattle.redcode_text.specs.Expansion.{nothing_read, program_of}
 use Rattle.redcode_text.specs.Lines.{Assert, Line, Predefined, Reading, before_comment, name_at, row_tokens}
 use Rattle.redcode_text.specs.Source.{SourceRow}
 use Rattle.redcode_text.specs.Tokens.{OpenLoop, is_counter, round_of}
+use Rattle.redcode_text.specs.Laws.{IsRenaming}
 use Rattle.redcode_text.proofs.ForLaws.Agreement.{AgreeOption, Pairwise, pairwise-length, pairwise-map}
 use Rattle.redcode_text.proofs.ForLaws.AlikeNames.{AreNames, Grown, grown-itself, same-grown}
 use Rattle.redcode_text.proofs.ForLaws.AlikeTokens.{scan-alike}
-use Rattle.redcode_text.proofs.Named.{AreBelow, IsEquateBelow, IsLineBelow, IsNamed}
-use Rattle.redcode_text.proofs.ForLaws.SameNames.{SameEquate, SameName, index-same, SameTokens, tokens-spelled}
-use Rattle.redcode_text.proofs.ForLaws.Simulations.{IsCounter}
-use Rattle.redcode_text.specs.Laws.{IsRenaming}
 use Rattle.redcode_text.proofs.ForLaws.Follows.{Follows, fewer-more, follows-ok, follows-then}
 use Rattle.redcode_text.proofs.ForLaws.LikeLines.{Texts}
-use Rattle.redcode_text.proofs.ForLaws.Likeness.{AsFar, PlacedToken}
 use Rattle.redcode_text.proofs.ForLaws.LikeReadings.{LikeAssert, LikeLine, Likeness, Reads, RowRead, names-changed}
+use Rattle.redcode_text.proofs.ForLaws.Likeness.{AsFar, PlacedToken}
+use Rattle.redcode_text.proofs.ForLaws.SameNames.{SameEquate, SameName, index-same, SameTokens, tokens-spelled}
+use Rattle.redcode_text.proofs.ForLaws.Simulations.{IsCounter}
+use Rattle.redcode_text.proofs.Named.{AreBelow, IsEquateBelow, IsLineBelow, IsNamed}
 
 -- ---- open loops
 

@@ -10,10 +10,10 @@ use Rattle.redcode_text.specs.declared.token.Sign.{Sign}
 use Rattle.redcode_text.specs.declared.token.TokenKind.TheVariants.{Number, Name}
 use Rattle.redcode_text.specs.Tokens.{Found, OpenLoop, Scanned, begins_name, begins_word, is_blank, join_counters, join_parts, joined, look_up, name_found, name_index, number_found, one_byte_signs, parts_at_joins, round_digits, round_of, round_or_bad, scan_from, sign_found, sign_token, token_at, two_byte_signs, with_name, with_room, with_token, word_found, word_len, word_token}
 use Rattle.redcode_text.proofs.ForLaws.Agreement.{Pairwise, pairwise-append, pairwise-length, pairwise-weaker}
-use Rattle.redcode_text.proofs.ForLaws.Follows.{Follows, follows-fault, follows-ok, follows-room, follows-then}
 use Rattle.redcode_text.proofs.ForLaws.AlikeNames.{AreNames, Grown, grown-itself, grown-on, same-grown, with-grown, with-same}
-use Rattle.redcode_text.proofs.ForLaws.SameNames.{SameKind, SameName}
+use Rattle.redcode_text.proofs.ForLaws.Follows.{Follows, follows-fault, follows-ok, follows-room, follows-then}
 use Rattle.redcode_text.proofs.ForLaws.Likeness.{AsFar, PlacedToken, kind-weaker}
+use Rattle.redcode_text.proofs.ForLaws.SameNames.{SameKind, SameName}
 
 -- ---- a token
 

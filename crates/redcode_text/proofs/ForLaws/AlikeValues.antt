@@ -12,9 +12,8 @@ use Rattle.redcode_text.specs.Code.Climbing.{State, move, operand, run, wants}
 use Rattle.redcode_text.specs.Equates.{Equate, substitution}
 use Rattle.redcode_text.specs.Expression.{kinds, known, next_state, shape, start, value_of}
 use Rattle.redcode_text.specs.Tokens.{without_line}
-use Rattle.redcode_text.proofs.ForLaws.Agreement.{Agree, Pairwise}
+use Rattle.redcode_text.proofs.ForLaws.Agreement.{Agree, BothGive, Pairwise}
 use Rattle.redcode_text.proofs.ForLaws.Likeness.{LikeKind, LikeTokens}
-use Rattle.redcode_text.proofs.ForLaws.RenamedResults.{BothGive}
 use Rattle.redcode_text.proofs.ForLaws.Replacements.{replaced-alike}
 use Rattle.redcode_text.proofs.Evaluates.{evaluates, value_of-misshapen}
 use Rattle.redcode_text.proofs.Named.{AreDistinct}

@@ -12,16 +12,15 @@ use Rattle.redcode_text.specs.Laws.{HasItsJoins, IsCounterName, IsInstructionLin
 use Rattle.redcode_text.specs.Lines.{Predefined, Reading, WithTokens, before_comment, plain_line, row_tokens, tokens_line}
 use Rattle.redcode_text.specs.Source.{SourceRow, OtherLine, line_kind}
 use Rattle.redcode_text.specs.Tokens.{OpenLoop, begins_name, begins_word, is_word_byte, round_of, tokens}
-use Rattle.redcode_text.proofs.ForLaws.LikeLines.{LikeLines, plain-alike, tokens-line-alike}
+use Rattle.redcode_text.proofs.ForLaws.Agreement.{BothGive, Pairwise, both-then}
 use Rattle.redcode_text.proofs.ForLaws.AlikeReadings.{LoopsAlike, ReadAlike, name_for_name, nothing-renamed, row-alike}
+use Rattle.redcode_text.proofs.ForLaws.Follows.{Follows, both-follows, follows-on, follows-then, follows-weaker}
+use Rattle.redcode_text.proofs.ForLaws.LikeLines.{LikeLines, plain-alike, tokens-line-alike}
 use Rattle.redcode_text.proofs.ForLaws.LikeReadings.{Likeness, Reads, RowRead, loops-changed}
 use Rattle.redcode_text.proofs.ForLaws.Likeness.{AnyPlace, AsFar, LikeKind, PlacedToken}
-use Rattle.redcode_text.proofs.ForLaws.Agreement.{Pairwise}
-use Rattle.redcode_text.proofs.ForLaws.SameNames.{SameName}
-use Rattle.redcode_text.proofs.ForLaws.Follows.{Follows, both-follows, follows-on, follows-then, follows-weaker}
 use Rattle.redcode_text.proofs.ForLaws.LoneLoops.{digit-begins-none, no-counter}
-use Rattle.redcode_text.proofs.ForLaws.RenamedResults.{BothGive, both-then}
 use Rattle.redcode_text.proofs.ForLaws.RenamedWords.{rest_of}
+use Rattle.redcode_text.proofs.ForLaws.SameNames.{SameName}
 use Rattle.redcode_text.proofs.ForLaws.TokensRead.{decimal-is}
 use Rattle.redcode_text.proofs.ForLaws.WrittenTexts.{and-bytes, its-other, its-word, other-front, rest-shorter, word-front}
 use Rattle.redcode_text.proofs.ForLaws.WrittenTokens.{SameScan, scan-same}

@@ -19,8 +19,6 @@ use Rattle.redcode_text.specs.Laws.{IsCounterName}
 use Rattle.redcode_text.specs.Lines.{Predefined, Reading, WithTokens, before_comment, line_read, name_at, name_in_front, row_tokens, tokens_after, tokens_before}
 use Rattle.redcode_text.specs.Source.{ForLine, SourceRow, line_kind}
 use Rattle.redcode_text.specs.Tokens.{Scanned, tokens}
-use Rattle.redcode_text.proofs.ForLaws.LikeHeads.{headed}
-use Rattle.redcode_text.proofs.ForLaws.LikeReadings.{Reads, grows-changed, loops-changed}
 use Rattle.redcode_text.proofs.ForLaws.AlikeNames.{Grown, grown-itself}
 use Rattle.redcode_text.proofs.ForLaws.AlikeReadings.{LoopsAlike, ReadAlike, name_for_name, reading-grown}
 use Rattle.redcode_text.proofs.ForLaws.AlikeSteps.{simulation}
@@ -28,6 +26,8 @@ use Rattle.redcode_text.proofs.ForLaws.CountedHeads.{IsCounterHead, head-kind, s
 use Rattle.redcode_text.proofs.ForLaws.CountedRows.{IsWritten, Opened, line-written, loop_open, opened-room}
 use Rattle.redcode_text.proofs.ForLaws.CountedTokens.{IsHead, IsNamed, head-scan, words-code}
 use Rattle.redcode_text.proofs.ForLaws.HeadLines.{code-whole, is_code}
+use Rattle.redcode_text.proofs.ForLaws.LikeHeads.{headed}
+use Rattle.redcode_text.proofs.ForLaws.LikeReadings.{Reads, grows-changed, loops-changed}
 use Rattle.redcode_text.proofs.ForLaws.LoneLoops.{Alone, alone-made, alone-then, any-room, digits-code, line-alone, number-count, scan-alone}
 use Rattle.redcode_text.proofs.ForLaws.Simulations.{IsSimulation}
 use Rattle.redcode_text.proofs.ForLaws.TokensRead.{are_digits, decimal-is}

@@ -5,7 +5,7 @@ use Rattle.std.proofs.lemmas.Bool.Decides.{nat_tests}
 use Rattle.redcode_text.specs.Results.{◌>>=◌}
 use Rattle.redcode_text.specs.declared.fault.TextProblem.{TextProblem}
 use Rattle.redcode_text.specs.Tokens.{at_line}
-use Rattle.redcode_text.proofs.ForLaws.RenamedResults.{BothGive}
+use Rattle.redcode_text.proofs.ForLaws.Agreement.{BothGive}
 
 pub record Follows {A B E : Type 0} (exact : Bool) (R : A → B → Type 0) (r : Result A E) (s : Result B E) : Type 0 where
   pub value : (x : A) → r ≡ Ok x → (y : B) × (s ≡ Ok y) × R x y

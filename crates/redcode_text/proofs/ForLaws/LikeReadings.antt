@@ -15,21 +15,23 @@ use Rattle.redcode_text.proofs.ForLaws.Likeness.{LikeEquate, LikeToken, LikeToke
 use Rattle.redcode_text.proofs.ForLaws.RenamedKinds.{operation-same, operations-same, value-renamed}
 use Rattle.redcode_text.proofs.ForLaws.Replacements.{equates-alike}
 
--- how two readings are related
+-- how two readings are related: by the tables of their names, the indices in these, their open loops and the counters of loops, and what these relations keep
 pub record Likeness : Type 1 where
   -- whether all that is counted and each fault is the same; else the second may have fewer lines and tokens, and no fault
   pub exact : Bool
-  -- the names of the first, as the second has them
+  -- a name of the first, as the second has it
   pub rename : List ℕ → List ℕ
   pub Names : List (List ℕ) → List (List ℕ) → Type 0
-  -- two indices of one name
+  -- two indices that stand for one another
   pub Name : List (List ℕ) → List (List ℕ) → ℕ → ℕ → Type 0
   pub Loops : List OpenLoop → List OpenLoop → Type 0
   pub Counter : Option (List ℕ) → Option (List ℕ) → Type 0
+  -- two indices are one in both tables, or in neither
   pub index : (names others : List (List ℕ)) → Names names others → (n m k l : ℕ) → Name names others n m → Name names others k l → (n == k) ≡ (m == l)
   pub says : (names others : List (List ℕ)) → Names names others → (n m : ℕ) → Name names others n m → name_at others m ≡ rename (name_at names n)
   pub counter : (names others : List (List ℕ)) → Names names others → (n m : ℕ) → Name names others n m → Counter (Some (name_at names n)) (Some (name_at others m))
   pub no_counter : Counter None None
+  -- where a loop may be opened in the first, it may in the second
   pub room : (loops others : List OpenLoop) → Loops loops others → Fewer exact (length loops) (length others)
 
 module _ (l : Likeness) where
@@ -42,6 +44,7 @@ module _ (l : Likeness) where
   abbrev pub LikeAssert : (ℕ → ℕ → Type 0) → Assert → Assert → Type 0
   LikeAssert N a b = (a.current_line ≡ b.current_line) × LikeTokens N a.tokens b.tokens × IfExact l.exact a.number b.number
 
+  -- two readings that are related so
   pub record Reads (st other : Reading) : Type 0 where
     pub loops : l.Loops st.loops other.loops
     pub names : l.Names st.names other.names

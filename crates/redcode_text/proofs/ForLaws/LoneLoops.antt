@@ -22,16 +22,16 @@ use Rattle.redcode_text.specs.Expression.{kinds, tree_within, value_of}
 use Rattle.redcode_text.specs.Lines.{Predefined, Reading, WithTokens, before_comment, line_read, name_in_front, row_tokens, tokens_after, tokens_before}
 use Rattle.redcode_text.specs.Source.{SourceRow, ForLine, line_kind}
 use Rattle.redcode_text.specs.Tokens.{Found, OpenLoop, Scanned, begins_name, begins_word, is_counter, is_letter, is_word_byte, name_found, number_found, number_kind, round_of, scan_from, sign_token, token_at, tokens, with_room, with_token, word_found, word_len, word_token}
-use Rattle.redcode_text.proofs.ForLaws.LikeHeads.{headed}
-use Rattle.redcode_text.proofs.ForLaws.LikeReadings.{counts-alike, grows-changed}
 use Rattle.redcode_text.proofs.ForLaws.AlikeNames.{Grown, grown-itself}
 use Rattle.redcode_text.proofs.ForLaws.AlikeReadings.{AreCounters, ReadAlike, name_for_name, reading-grown}
-use Rattle.redcode_text.proofs.ForLaws.Follows.{Follows}
 use Rattle.redcode_text.proofs.ForLaws.AlikeTokens.{SameScanned, scan-alike}
+use Rattle.redcode_text.proofs.ForLaws.Follows.{Follows}
 use Rattle.redcode_text.proofs.ForLaws.HeadLines.{code-whole, is_code}
-use Rattle.redcode_text.proofs.Joins.{joined-none}
+use Rattle.redcode_text.proofs.ForLaws.LikeHeads.{headed}
+use Rattle.redcode_text.proofs.ForLaws.LikeReadings.{counts-alike, grows-changed}
 use Rattle.redcode_text.proofs.ForLaws.Simulations.{IsCounter}
 use Rattle.redcode_text.proofs.ForLaws.TokensRead.{are_digits, ascii-byte, begins, decimal-is, digits-are-word, no-joins, not-blank, whole-word}
+use Rattle.redcode_text.proofs.Joins.{joined-none}
 
 -- ---- one result
 

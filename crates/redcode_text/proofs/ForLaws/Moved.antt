@@ -5,9 +5,8 @@ use Rattle.redcode_text.specs.declared.token.Token.{Token}
 use Rattle.redcode_text.specs.Equates.{Equate, substitution}
 use Rattle.redcode_text.specs.Expression.{kinds}
 use Rattle.redcode_text.specs.Tokens.{without_line}
-use Rattle.redcode_text.proofs.ForLaws.Agreement.{Pairwise, pairwise-mapped}
+use Rattle.redcode_text.proofs.ForLaws.Agreement.{BothGive, Pairwise, pairwise-mapped}
 use Rattle.redcode_text.proofs.ForLaws.Likeness.{Equal, LikeEquate, equal-index, kind-like}
-use Rattle.redcode_text.proofs.ForLaws.RenamedResults.{BothGive}
 use Rattle.redcode_text.proofs.ForLaws.Replacements.{replaced-alike}
 
 module _ (move : Token → Token) (keeps : (t : Token) → (move t).kind ≡ t.kind) where

@@ -11,9 +11,8 @@ use Rattle.redcode_text.specs.declared.token.Token.{Token}
 use Rattle.redcode_text.specs.Laws.{IsRenaming, JoinsAreRenamed, renamed_text}
 use Rattle.redcode_text.specs.Lines.{Predefined}
 use Rattle.redcode_text.specs.Tokens.{Found, OpenLoop, Scanned, begins_word, is_blank, is_word_byte, scan_from, token_at, with_room, with_token}
-use Rattle.redcode_text.proofs.ForLaws.Agreement.{Pairwise, pairwise-append, pairwise-length}
+use Rattle.redcode_text.proofs.ForLaws.Agreement.{BothGive, Pairwise, both-cond, both-then, pairwise-append, pairwise-length}
 use Rattle.redcode_text.proofs.ForLaws.Likeness.{Equal, PlacedToken, kind-like}
-use Rattle.redcode_text.proofs.ForLaws.RenamedResults.{BothGive, both-cond, both-then}
 use Rattle.redcode_text.proofs.ForLaws.RenamedScans.{SameStep, behind-token, token-step, word-first, word-shows}
 use Rattle.redcode_text.proofs.ForLaws.RenamedTokens.{renamed_loop}
 use Rattle.redcode_text.proofs.ForLaws.RenamedWords.{empty-stays, other-stays, raw_of}

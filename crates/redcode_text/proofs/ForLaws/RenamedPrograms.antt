@@ -13,13 +13,12 @@ use Rattle.redcode_text.specs.Lines.{Assert, Line, Predefined, Reading, unless_e
 use Rattle.redcode_text.specs.Source as source
 use Rattle.redcode_text.specs.Source.{SourceRow, Items, Nothing, Plain, Loop, LoneRof, tree_of}
 use Rattle.redcode_text.specs.Tokens.{at_line}
-use Rattle.redcode_text.proofs.ForLaws.Agreement.{AgreeOption, Pairwise, pairwise-weaker}
+use Rattle.redcode_text.proofs.ForLaws.Agreement.{AgreeOption, BothGive, Pairwise, pairwise-weaker}
 use Rattle.redcode_text.proofs.ForLaws.Follows.{Follows, follows-at-line, follows-both, follows-fault, follows-if, follows-ok, follows-then}
 use Rattle.redcode_text.proofs.ForLaws.LikeReadings.{LikeAssert, LikeLine, line-read-alike, loops-changed}
 use Rattle.redcode_text.proofs.ForLaws.Likeness.{Equal, LikeEquate, LikeToken, LikeTokens, SameKinds, like-kind}
 use Rattle.redcode_text.proofs.ForLaws.RenamedHeads.{head-same, plain-line-same, rof-same}
 use Rattle.redcode_text.proofs.ForLaws.RenamedReadings.{Related, renamed_by, start}
-use Rattle.redcode_text.proofs.ForLaws.RenamedResults.{BothGive}
 use Rattle.redcode_text.proofs.ForLaws.RenamedTrees.{SameTree, sources-tree}
 
 -- ---- programs

@@ -9,7 +9,7 @@ use Rattle.redcode_text.specs.Laws.{IsRenaming, JoinsAreRenamed, renamed_from, r
 use Rattle.redcode_text.specs.Lines.{Predefined, Reading, WithTokens, before_comment, row_tokens}
 use Rattle.redcode_text.specs.Source.{SourceRow, blank_len, is_comment}
 use Rattle.redcode_text.specs.Tokens.{is_word_byte, scan_from, tokens}
-use Rattle.redcode_text.proofs.ForLaws.Agreement.{pairwise-length}
+use Rattle.redcode_text.proofs.ForLaws.Agreement.{BothGive, pairwise-length}
 use Rattle.redcode_text.proofs.ForLaws.Follows.{Follows, both-follows, follows-ok, follows-then}
 use Rattle.redcode_text.proofs.ForLaws.LikeReadings.{RowRead, names-changed}
 use Rattle.redcode_text.proofs.ForLaws.Likeness.{AnyPlace, Equal, PlacedToken, Sides}
@@ -17,7 +17,6 @@ use Rattle.redcode_text.proofs.ForLaws.RenamedColumns.{first-before, second-befo
 use Rattle.redcode_text.proofs.ForLaws.RenamedKinds.{Placed}
 use Rattle.redcode_text.proofs.ForLaws.RenamedPlaces.{SameScan, scan-on}
 use Rattle.redcode_text.proofs.ForLaws.RenamedReadings.{Related, renamed_by}
-use Rattle.redcode_text.proofs.ForLaws.RenamedResults.{BothGive}
 use Rattle.redcode_text.proofs.ForLaws.RenamedSides.{goes-first, goes-second}
 use Rattle.redcode_text.proofs.ForLaws.RenamedTokens.{renamed_loop}
 use Rattle.redcode_text.proofs.ForLaws.RenamedWords.{word-more}

@@ -14,7 +14,7 @@ use Rattle.redcode_text.specs.declared.token.Sign.TheVariants.{Equal, NotEqual, 
 use Rattle.redcode_text.specs.Laws.{IsRenaming, KeepsDigits, renamed_from, renamed_text}
 use Rattle.redcode_text.specs.Lines.{Predefined}
 use Rattle.redcode_text.specs.Tokens.{Found, OpenLoop, Scanned, begins_name, begins_word, is_blank, is_word_byte, look_up, one_byte_signs, scan_from, sign_found, sign_token, token_at, two_byte_signs, word_len, word_token}
-use Rattle.redcode_text.proofs.ForLaws.RenamedResults.{BothGive, both-cond}
+use Rattle.redcode_text.proofs.ForLaws.Agreement.{BothGive, both-cond}
 use Rattle.redcode_text.proofs.ForLaws.RenamedTokens.{SameFound, renamed_loop, word-renamed}
 use Rattle.redcode_text.proofs.ForLaws.RenamedWords.{begins-from, empty-stays, other-stays, raw-long, raw-renamed, raw-taken, raw_of, rest-dropped, rest-renamed, word-more}
 

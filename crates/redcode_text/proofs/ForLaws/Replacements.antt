@@ -11,9 +11,8 @@ use Rattle.redcode_text.specs.declared.token.TokenKind.TheVariants.{Number, Name
 use Rattle.redcode_text.specs.declared.token.TokenKind.TheVariants as token
 use Rattle.redcode_text.specs.Equates.{Equate, Replaced, Replacing, depth_limit, each_replaced, each_replaced_at_line, equate_lines, kept_token, limit, one_line, one_more, replaced_name, replaced_token, replacing, substitution, token_lines}
 use Rattle.redcode_text.specs.Tokens.{at_line, without_line}
-use Rattle.redcode_text.proofs.ForLaws.Agreement.{AgreeOption, Pairwise, both-if, pairwise-append, pairwise-length}
+use Rattle.redcode_text.proofs.ForLaws.Agreement.{AgreeOption, BothGive, Pairwise, both-elim, both-if, both-then, pairwise-append, pairwise-length}
 use Rattle.redcode_text.proofs.ForLaws.Likeness.{LikeEquate, LikeKind}
-use Rattle.redcode_text.proofs.ForLaws.RenamedResults.{BothGive, both-elim, both-then}
 
 -- ---- lines apart
 
