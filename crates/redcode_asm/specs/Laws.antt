@@ -1,5 +1,5 @@
 -- The laws of names, of sources that are alike, of an instruction in front, of load files and of score formulas.
-use Rattle.std.specs.Prelude.{◌≡◌, ◌≢◌, ⊤, ℕ, ◌-◌, ◌/◌, ◌^◌, ◌<◌, ◌≤◌, nat_le, if◌then◌else◌, ℤ, pos, List, [], ◌∷◌, ◌++◌, length, map, All, true, Some, is_some, Ok, IfErr, codes}
+use Rattle.std.specs.Prelude.{◌≡◌, ◌≢◌, ⊤, ℕ, ◌-◌, ◌/◌, ◌^◌, ◌<◌, ◌≤◌, nat_le, if◌then◌else◌, ℤ, pos, List, [], ◌∷◌, ◌++◌, length, All, true, Some, is_some, Ok, IfErr, codes}
 use Rattle.std.specs.Str.{str_eq_ignore_ascii_case}
 use Rattle.mars_cell.specs.declared.instruction.Cell.{Cell}
 use Rattle.mars_cell.specs.declared.instruction.Mode.{Mode}
@@ -17,16 +17,14 @@ use Rattle.redcode_text.specs.declared.fault.ExprFault.TheVariants.{DivideByZero
 use Rattle.redcode_text.specs.Tokens.{Scanned, name_index, tokens, with_name}
 use Rattle.redcode_text.specs.declared.token.Sign.{Sign}
 use Rattle.redcode_text.specs.declared.token.Sign.TheVariants as sign
-use Rattle.redcode_text.specs.declared.token.Token.{Token}
 use Rattle.redcode_text.specs.declared.token.TokenKind.{TokenKind}
 use Rattle.redcode_text.specs.declared.token.TokenKind.TheVariants.{Number, Name}
 use Rattle.redcode_text.specs.declared.token.TokenKind.TheVariants as token
-use Rattle.redcode_text.specs.Equates.{Equate}
 use Rattle.redcode_text.specs.Expression.{kinds}
 use Rattle.redcode_text.specs.Alike.{AreAlike}
 use Rattle.redcode_text.specs.Expansion.{ProgramValue, expansion}
 use Rattle.redcode_text.specs.Laws.{HasItsJoins, IsBodyLine, IsCounterName, IsInstructionLine, IsLine, IsRenaming, JoinsAreRenamed, copies, counter_lines, loop_lines, renamed, text_of_lines, written_rounds}
-use Rattle.redcode_text.specs.Lines.{Assert, Line, Predefined, directive_value, is_instruction, name_at, predefined_value, with_current_line}
+use Rattle.redcode_text.specs.Lines.{Line, Predefined, directive_value, is_instruction, name_at, predefined_value, with_current_line}
 use Rattle.redcode_asm.specs.Assembly.{Placed, assembly, at_line, cell_of, cells_of, instructions, predefined, warrior_of}
 use Rattle.redcode_asm.specs.Formula.{formula_of, score_of}
 
@@ -57,33 +55,6 @@ pub record SaysTheSame (ps : Predefined) (one other : List ℕ) : Type 0 where
 abbrev pub NamesAreFree : Type 0
 NamesAreFree = (ps : Predefined) (p : Parameters) (source : ProgramValue) (names : List (List ℕ)) → ((n : ℕ) → SaysTheSame ps (name_at source.names n) (name_at names n))
     → warrior_of ps p source ≡ warrior_of ps p (record source { names = names })
-
--- tokens, and what has some, without the places where they stand
-abbrev pub unplaced_token : Token → Token
-unplaced_token t = record { kind = t.kind; line = 0; from = 0; to = 0 }
-
-abbrev pub unplaced : List Token → List Token
-unplaced ts = map unplaced_token ts
-
-abbrev pub unplaced_equate : Equate → Equate
-unplaced_equate e = record { name = e.name; lines = map unplaced e.lines }
-
-abbrev pub unplaced_line : Line → Line
-unplaced_line l = record l { rest = unplaced l.rest }
-
-abbrev pub unplaced_assert : Assert → Assert
-unplaced_assert a = record a { tokens = unplaced a.tokens }
-
-abbrev pub unplaced_program : ProgramValue → ProgramValue
-unplaced_program s = record s { equates = map unplaced_equate s.equates; lines = map unplaced_line s.lines; asserts = map unplaced_assert s.asserts }
-
--- two sources whose programs are the same but for the spelling of names, and for where their tokens stand, are assembled to the same warrior, or have the same fault
-abbrev pub NamesOfSourcesAreFree : Type 0
-NamesOfSourcesAreFree = (p : Parameters) (rounds warriors : ℕ) (one other : List ℕ) (s t : ProgramValue)
-    → expansion (predefined p rounds warriors) one ≡ Ok s → expansion (predefined p rounds warriors) other ≡ Ok t
-    → unplaced_program t ≡ record (unplaced_program s) { names = t.names }
-    → ((n : ℕ) → SaysTheSame (predefined p rounds warriors) (name_at s.names n) (name_at t.names n))
-    → assembly p rounds warriors one ≡ assembly p rounds warriors other
 
 -- a word that is a modifier, in either case, stays
 abbrev pub KeepsModifiers : (List ℕ → List ℕ) → Type 0

@@ -1,5 +1,5 @@
 //! Laws of the definitions. The functions do nothing; their contracts are the laws.
-ghost use Rattle.redcode_asm.specs.Laws.{AlikeSourcesAssembleAlike, AssembledLoadIsRead, CellIsAssembled, CellIsScanned, CounterLoopsAreWrittenOut, InstructionsInFrontMoveNothing, LoadFileIsSource, LoopsAreWrittenOut, NamesAreFree, NamesOfSourcesAreFree, RenamedSourcesAreTheSame, ScoresHaveValues};
+ghost use Rattle.redcode_asm.specs.Laws.{AlikeSourcesAssembleAlike, AssembledLoadIsRead, CellIsAssembled, CellIsScanned, CounterLoopsAreWrittenOut, InstructionsInFrontMoveNothing, LoadFileIsSource, LoopsAreWrittenOut, NamesAreFree, RenamedSourcesAreTheSame, ScoresHaveValues};
 
 /// `Formula::score` of a formula that `Formula::new` read is refused by DivideByZero and Range alone.
 pub fn scores_have_values()
@@ -14,12 +14,6 @@ pub fn assembled_load_is_read()
 /// Names are free: a program with other spellings of its labels and EQU names gives the same warrior, or the same fault.
 pub fn names_are_free()
     ensures { NamesAreFree }
-{}
-
-/// Two sources whose programs are the same but for the spelling of their labels, EQU names and counters are assembled to
-/// the same warrior, or have the same fault.
-pub fn names_of_sources_are_free()
-    ensures { NamesOfSourcesAreFree }
 {}
 
 /// A source with its names renamed is assembled to the same warrior, or has the same fault, on the same line. Labels, EQU

@@ -54,12 +54,12 @@ abbrev pub replaced_name : Option Replacing → Replaced → List (List Token) �
 replaced_name None r lines = Err EquDepth
 replaced_name (Some deeper) r lines = one_line lines >>= λ line. one_more r >>= λ s. deeper s line
 
-abbrev pub kept : Replaced → Token → Result Replaced TextProblem
-kept r t = elim (nat_le limit (length r.tokens)) [ true ↦ Err TooLong | false ↦ Ok (record { tokens = r.tokens ++ t ∷ []; count = r.count }) ]
+abbrev pub kept_token : Replaced → Token → Result Replaced TextProblem
+kept_token r t = elim (nat_le limit (length r.tokens)) [ true ↦ Err TooLong | false ↦ Ok (record { tokens = r.tokens ++ t ∷ []; count = r.count }) ]
 
 abbrev pub replaced_token : Option Replacing → Replaced → Token → Option (List (List Token)) → Result Replaced TextProblem
 replaced_token deeper r t (Some lines) = replaced_name deeper r lines
-replaced_token deeper r t None = kept r t
+replaced_token deeper r t None = kept_token r t
 
 -- the tokens one after another
 abbrev pub each_replaced : List Equate → Option Replacing → Replacing

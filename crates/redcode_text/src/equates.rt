@@ -1,7 +1,7 @@
 //! EQU names, and tokens with EQU names replaced.
 ghost use Rattle.std.specs.Prelude.{◌≡◌, ◌≤◌, [], ◌∷◌, ◌++◌, map, None, Ok, Err, IfOk, MatchResult, option_map, vec_len};
 ghost use Rattle.redcode_text.specs.declared.limits.TheConstants.{MAX_REPLACED};
-ghost use Rattle.redcode_text.specs.Equates.{Replaced, equate_lines, token_lines, one_line, one_more, kept, replaced_name, replaced_token, each_replaced, replacing, depth_limit, each_replaced_at_line, substitution};
+ghost use Rattle.redcode_text.specs.Equates.{Replaced, equate_lines, token_lines, one_line, one_more, kept_token, replaced_name, replaced_token, each_replaced, replacing, depth_limit, each_replaced_at_line, substitution};
 ghost use Rattle.redcode_text.specs.Lines.{with_line};
 ghost use Rattle.redcode_text.specs.Outcomes.{Answers};
 ghost use Rattle.redcode_text.specs.Code.Problems.{Gives};
@@ -78,7 +78,7 @@ impl Replaced {
 
     /// A token that is no EQU name.
     fn keep(&mut self, token: Token) -> Result<(), TextProblem>
-        ensures { Gives (λ _. self.new) result (kept self.old token) }
+        ensures { Gives (λ _. self.new) result (kept_token self.old token) }
     {
         if self.tokens.len() >= MAX_REPLACED {
             return Err(TextProblem::TooLong);

@@ -14,7 +14,7 @@ use Rattle.redcode_text.specs.Expansion.{ProgramValue}
 use Rattle.redcode_text.specs.Expression.{kinds, value_of}
 use Rattle.redcode_text.specs.Equates.{substitution}
 use Rattle.redcode_text.specs.Tokens.{without_line}
-use Rattle.redcode_text.proofs.CallerLemmas.{LikeTokens, Pairwise, length-kinds, replaced-like}
+use Rattle.redcode_text.proofs.CallerLemmas.{BothGive, Pairwise, length-kinds, replaced-like}
 use Rattle.redcode_asm.specs.Assembly.{cell_from, expressed, is_comma, is_dot, mode_of, modifier_first, modifier_in, operand_value, parts_at_commas, replaced, split_mode, split_modifier, texted}
 use Rattle.redcode_asm.specs.declared.fault.AsmProblem.{AsmProblem}
 use Rattle.redcode_asm.proofs.ForLaws.Parts.{AreAsEmpty, pairwise-made}
@@ -103,7 +103,7 @@ pub record IsReplaced (tokens : List Token) (result : Result (List Token) AsmPro
 pub replaced-alike : (source : ProgramValue) (ts us made : List Token) → kinds ts ≡ kinds us → replaced source ts ≡ Ok made → IsReplaced made (replaced source us)
 replaced-alike source ts us made e h = go (without_line (substitution source.equates ts)) (without_line (substitution source.equates us)) (replaced-like source.equates ts us e) h
   where
-    go : (x y : Result (List Token) TextProblem) → LikeTokens x y → texted x ≡ Ok made → IsReplaced made (texted y)
+    go : (x y : Result (List Token) TextProblem) → BothGive (λ (ts us : List Token). kinds ts ≡ kinds us) x y → texted x ≡ Ok made → IsReplaced made (texted y)
     go (Ok a) (Ok b) l h = record { made = b; is = refl; like = (let same : a ≡ made = cc in ap kinds (sym same) ∙ l) }
     go (Ok a) (Err f) l h = absurd l
     go (Err e) (Ok b) l h = absurd l

@@ -16,8 +16,8 @@ use Rattle.redcode_text.specs.Laws.{IsRenaming, JoinsAreRenamed, renamed}
 use Rattle.redcode_text.specs.Lines.{Assert, Line, Predefined, name_at}
 use Rattle.redcode_text.proofs.CallerLemmas.{BothGive, RenamedAssert, RenamedEquate, RenamedLine, RenamedProgram, SameKinds, name-renamed, operation-same, pairwise-map, source-renamed, value-renamed}
 use Rattle.redcode_asm.specs.Assembly.{assembly, predefined, text_read, warrior_of}
-use Rattle.redcode_asm.specs.Laws.{KeepsModifiers, SaysTheSame, unplaced, unplaced_assert, unplaced_equate, unplaced_line, unplaced_program, unplaced_token}
-use Rattle.redcode_asm.proofs.ForLaws.Unplaced.{sources-same}
+use Rattle.redcode_asm.specs.Laws.{KeepsModifiers, SaysTheSame}
+use Rattle.redcode_asm.proofs.ForLaws.Unplaced.{sources-same, unplaced, unplaced_assert, unplaced_equate, unplaced_line, unplaced_program, unplaced_token}
 
 -- ---- tokens without their places
 

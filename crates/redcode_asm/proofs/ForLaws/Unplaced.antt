@@ -9,7 +9,7 @@ use Rattle.mars_cell.specs.Parameters.{Parameters}
 use Rattle.redcode_text.specs.Results.{◌>>=◌}
 use Rattle.redcode_text.specs.declared.fault.TextProblem.{TextProblem}
 use Rattle.redcode_text.specs.declared.token.Token.{Token}
-use Rattle.redcode_text.specs.Equates.{substitution}
+use Rattle.redcode_text.specs.Equates.{Equate, substitution}
 use Rattle.redcode_text.specs.Expansion.{ProgramValue, expansion}
 use Rattle.redcode_text.specs.Expression.{kinds, value_of}
 use Rattle.redcode_text.specs.Lines.{Line, Assert, Predefined, name_at, is_org, is_end, is_instruction}
@@ -17,9 +17,28 @@ use Rattle.redcode_text.specs.Tokens.{without_line}
 use Rattle.redcode_text.proofs.CallerLemmas.{kinds-moved, moved_tokens, substitution-moved}
 use Rattle.redcode_asm.specs.declared.fault.AsmProblem.{AsmProblem}
 use Rattle.redcode_asm.specs.Assembly.{Placed, as_start, assembly, asserts_hold, at_line, cell_from, cell_of, cells_of, end_operand, expressed, holds, index_after, instructions, is_dot, known_value, label_among, last_where, length_checked, modifier_first, modifier_in, name_value, none_past, not_empty, opcode_of, placed, placed_from, predefined, replaced, split_modifier, start_at, start_by, start_of, text_read, texted, value_or, warrior_of}
-use Rattle.redcode_asm.specs.Laws.{SaysTheSame, unplaced, unplaced_assert, unplaced_line, unplaced_program, unplaced_token}
+use Rattle.redcode_asm.specs.Laws.{SaysTheSame}
 use Rattle.redcode_asm.proofs.ForLaws.Alike.{cell-like}
 use Rattle.redcode_asm.proofs.ForLaws.FreeNames.{warrior-same}
+
+-- tokens, and what has some, without the places where they stand
+abbrev pub unplaced_token : Token → Token
+unplaced_token t = record { kind = t.kind; line = 0; from = 0; to = 0 }
+
+abbrev pub unplaced : List Token → List Token
+unplaced ts = map unplaced_token ts
+
+abbrev pub unplaced_equate : Equate → Equate
+unplaced_equate e = record { name = e.name; lines = map unplaced e.lines }
+
+abbrev pub unplaced_line : Line → Line
+unplaced_line l = record l { rest = unplaced l.rest }
+
+abbrev pub unplaced_assert : Assert → Assert
+unplaced_assert a = record a { tokens = unplaced a.tokens }
+
+abbrev pub unplaced_program : ProgramValue → ProgramValue
+unplaced_program s = record s { equates = map unplaced_equate s.equates; lines = map unplaced_line s.lines; asserts = map unplaced_assert s.asserts }
 
 bare_placed : Placed → Placed
 bare_placed p = record { index = p.index; line = unplaced_line p.line }
@@ -197,7 +216,7 @@ module _ (ps : Predefined) (s : ProgramValue) where
       λ i. cells i >>= λ cells. length-bare p.max_length i >>= λ _. start-bare (length cells) i >>= λ start. asserts-bare s.asserts i >>= λ _.
       Ok (record { name = s.name; author = s.author; cells = cells; start = start })
 
--- ---- two sources
+-- ---- two sources whose programs are the same but for the spelling of names, and for where their tokens stand
 
 pub sources-same : (p : Parameters) (rounds warriors : ℕ) (one other : List ℕ) (s t : ProgramValue) → expansion (predefined p rounds warriors) one ≡ Ok s → expansion (predefined p rounds warriors) other ≡ Ok t
     → unplaced_program t ≡ record (unplaced_program s) { names = t.names } → ((n : ℕ) → SaysTheSame (predefined p rounds warriors) (name_at s.names n) (name_at t.names n))

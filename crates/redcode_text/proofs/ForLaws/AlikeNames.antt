@@ -2,17 +2,13 @@
 use Rattle.std.proofs.Common.{◌≡◌, ◌∙◌, refl, ap, sym, true≢false, ℕ, zero, suc, ◌+◌, ◌<◌, ◌≤◌, Bool, true, false, not, cond, ◌||◌, nat_lt, List, [], ◌∷◌, ◌++◌, length, arith, length-append, ltb-true, ltb-false}
 use Rattle.std.specs.List.{list_any}
 use Rattle.std.specs.Str.{bytes_eq}
+use Rattle.std.proofs.lemmas.Bool.{or_parts}
 use Rattle.std.proofs.lemmas.Slice.Eq.{bytes_eq-Decides}
-use Rattle.redcode_text.specs.declared.token.Token.{Token}
-use Rattle.redcode_text.specs.declared.token.TokenKind.{TokenKind}
-use Rattle.redcode_text.specs.declared.token.TokenKind.TheVariants.{Number, Name}
-use Rattle.redcode_text.specs.declared.token.TokenKind.TheVariants as token
 use Rattle.redcode_text.specs.Lines.{name_at}
 use Rattle.redcode_text.specs.Tokens.{begins_name, name_index, with_name}
-use Rattle.redcode_text.proofs.ForLaws.AlikeResults.{pairwise-weaker}
 use Rattle.redcode_text.proofs.ForLaws.KeptNames.{named-with}
 use Rattle.redcode_text.proofs.Named.{AreDistinct}
-use Rattle.redcode_text.proofs.ForLaws.SameNames.{SameKind, SameName, SameToken, SameTokens}
+use Rattle.redcode_text.proofs.ForLaws.SameNames.{SameName}
 
 -- ---- names that grow
 
@@ -43,17 +39,13 @@ end-named : (names : List (List ℕ)) (name : List ℕ) → name_at (names ++ na
 end-named [] name = refl
 end-named (x ∷ names) name = end-named names name
 
-neither : (a b : Bool) → (a || b) ≡ false → (a ≡ false) × (b ≡ false)
-neither true b e = absurd (true≢false e)
-neither false b e = (refl, e)
-
 new-differs : (names : List (List ℕ)) (name : List ℕ) (n : ℕ) → list_any (bytes_eq name) names ≡ false → n < length names
     → name_at names n ≡ name → ⊥
 new-differs [] name n e h is = omega arith
 new-differs (x ∷ names) name zero e h is =
-    let l = neither (bytes_eq name x) (list_any (bytes_eq name) names) e in true≢false (sym ((bytes_eq-Decides name x).1 (sym is)) ∙ l.0)
+    let l = or_parts (bytes_eq name x) (list_any (bytes_eq name) names) e in true≢false (sym ((bytes_eq-Decides name x).1 (sym is)) ∙ l.0)
 new-differs (x ∷ names) name (suc n) e h is =
-    let l = neither (bytes_eq name x) (list_any (bytes_eq name) names) e in new-differs names name n l.1 (omega arith) is
+    let l = or_parts (bytes_eq name x) (list_any (bytes_eq name) names) e in new-differs names name n l.1 (omega arith) is
 
 new-distinct : (names : List (List ℕ)) (name : List ℕ) → list_any (bytes_eq name) names ≡ false → AreDistinct names
     → AreDistinct (names ++ name ∷ [])
@@ -143,17 +135,3 @@ same-grown names others more most g h n m s =
 pub with-same : (names others : List (List ℕ)) (name : List ℕ)
     → SameName (with_name names name) (with_name others name) (name_index names name) (name_index others name)
 with-same names others name = (index-within names name, index-within others name, named-with names name ∙ sym (named-with others name))
-
--- ---- tokens
-
-pub kind-grown : (names others more most : List (List ℕ)) → Grown names more → Grown others most → (k j : TokenKind)
-    → SameKind names others k j → SameKind more most k j
-kind-grown names others more most g h (Name n) (Name m) s = same-grown names others more most g h n m s
-kind-grown names others more most g h (Number v) (Number w) s = s
-kind-grown names others more most g h (token.Sign t) (token.Sign r) s = s
-kind-grown names others more most g h _ _ s = absurd s
-
-pub tokens-grown : (names others more most : List (List ℕ)) → Grown names more → Grown others most → (ts us : List Token)
-    → SameTokens names others ts us → SameTokens more most ts us
-tokens-grown names others more most g h ts us s =
-    pairwise-weaker (SameToken names others) (SameToken more most) (λ t u k. kind-grown names others more most g h t.kind u.kind k) ts us s

@@ -1,24 +1,26 @@
--- Two readings that are alike: the first may have open loops without a counter, and more lines and tokens behind it.
-use Rattle.std.proofs.Common.{◌≡◌, ◌∙◌, refl, ap, sym, ℕ, ◌+◌, ◌-◌, ◌<◌, ◌≤◌, Bool, true, false, nat_le, nat_lt, List, [], ◌∷◌, length, map, drop, Option, Some, None, Ok, arith}
-use Rattle.std.proofs.lemmas.Bool.Decides.{nat_tests}
+-- Two readings of the same names, in which they may have other indices.
+use Rattle.std.proofs.Common.{◌≡◌, ◌∙◌, refl, ap, sym, ℕ, ◌+◌, ◌-◌, ◌<◌, ◌≤◌, true, false, List, [], ◌∷◌, length, map, drop, Option, Some, None, Ok, arith}
 use Rattle.std.specs.Prelude.{⊤, option_map, IfSome}
 use Rattle.std.specs.List.{All}
 use Rattle.std.proofs.lemmas.List.Elements.{All-cons, All-nil}
-use Rattle.redcode_text.specs.declared.fault.TextProblem.TheVariants.{TooLong}
 use Rattle.redcode_text.specs.declared.token.Token.{Token}
 use Rattle.redcode_text.specs.Alike.{AreAlike, spelled, spelled_assert, spelled_equate, spelled_line}
 use Rattle.redcode_text.specs.Equates.{Equate, limit}
 use Rattle.redcode_text.specs.Expansion.{nothing_read, program_of}
-use Rattle.redcode_text.specs.Lines.{Assert, Line, Reading, WithTokens, before_comment, line_read, name_at, row_tokens, tokens_counted}
+use Rattle.redcode_text.specs.Lines.{Assert, Line, Predefined, Reading, before_comment, name_at, row_tokens}
 use Rattle.redcode_text.specs.Source.{SourceRow}
-use Rattle.redcode_text.specs.Tokens.{OpenLoop, is_counter, round_of, tokens}
-use Rattle.redcode_text.proofs.ForLaws.Agreement.{AgreeOption, Pairwise, pairwise-length}
-use Rattle.redcode_text.proofs.ForLaws.AlikeNames.{AreNames, Grown, grown-itself, same-grown, tokens-grown}
-use Rattle.redcode_text.proofs.ForLaws.AlikeResults.{Together, both-weaker, together-limit, together-then, pairwise-map, pairwise-weaker}
-use Rattle.redcode_text.proofs.ForLaws.AlikeTokens.{PlacedToken, SameScanned, scan-alike}
-use Rattle.redcode_text.proofs.Named.{AreBelow, IsEquateBelow, IsLineBelow, IsNamed}
-use Rattle.redcode_text.proofs.ForLaws.SameNames.{SameAssert, SameEquate, SameLine, SameName, SameToken, SameTokens, tokens-spelled}
+use Rattle.redcode_text.specs.Tokens.{OpenLoop, is_counter, round_of}
+use Rattle.redcode_text.specs.Laws.{IsRenaming}
+use Rattle.redcode_text.proofs.ForLaws.Agreement.{AgreeOption, Pairwise, pairwise-length, pairwise-map}
+use Rattle.redcode_text.proofs.ForLaws.AlikeNames.{AreNames, Grown, grown-itself, same-grown}
+use Rattle.redcode_text.proofs.ForLaws.AlikeTokens.{scan-alike}
+use Rattle.redcode_text.proofs.ForLaws.Follows.{Follows, fewer-more, follows-ok, follows-then}
+use Rattle.redcode_text.proofs.ForLaws.LikeLines.{Texts}
+use Rattle.redcode_text.proofs.ForLaws.LikeReadings.{LikeAssert, LikeLine, Likeness, Reads, RowRead, names-changed}
+use Rattle.redcode_text.proofs.ForLaws.Likeness.{AsFar, PlacedToken}
+use Rattle.redcode_text.proofs.ForLaws.SameNames.{SameEquate, SameName, index-same, SameTokens, tokens-spelled}
 use Rattle.redcode_text.proofs.ForLaws.Simulations.{IsCounter}
+use Rattle.redcode_text.proofs.Named.{AreBelow, IsEquateBelow, IsLineBelow, IsNamed}
 
 -- ---- open loops
 
@@ -63,179 +65,66 @@ one-opened loops ls round h = record { same = h.same; fewer = (let l = h.fewer i
 
 -- ---- what was read
 
-abbrev pub SameLines : List (List ℕ) → List (List ℕ) → List (List Token) → List (List Token) → Type 0
-SameLines names others ls ms = Pairwise (SameTokens names others) ls ms
+-- the first may have open loops without a counter, and more lines and tokens behind it
+abbrev pub name_for_name : Likeness
+name_for_name =
+    record {
+      exact = false;
+      rename = λ word. word;
+      Names = λ names others. AreNames names × AreNames others;
+      Name = λ names others n m. SameName names others n m;
+      Loops = λ loops ls. LoopsAlike loops ls;
+      Counter = λ c d. (c ≡ d) × IsCounter c;
+      index = λ names others d n m k l. index-same names others d.0.distinct d.1.distinct n k m l;
+      says = λ names others d n m h. sym h.2;
+      counter = λ names others d n m h. (ap Some h.2, d.0.begin n h.0);
+      no_counter = (refl, tt);
+      room = λ loops ls h. h.fewer;
+    }
 
-pub record ReadAlike (st other : Reading) : Type 0 where
-  pub loops : LoopsAlike st.loops other.loops
-  pub first : AreNames st.names
-  pub second : AreNames other.names
-  pub equates : Pairwise (SameEquate st.names other.names) st.equates other.equates
-  -- FOR and ROF alone make it false
-  pub grows : st.equate_grows ≡ true → other.equate_grows ≡ true
-  pub lines : Pairwise (SameLine st.names other.names) st.lines other.lines
-  pub instructions : st.instructions ≡ other.instructions
-  pub lines_read : other.lines_read ≤ st.lines_read
-  pub tokens_read : other.tokens_read ≤ st.tokens_read
-  pub name : st.name ≡ other.name
-  pub author : st.author ≡ other.author
-  pub asserts : Pairwise (SameAssert st.names other.names) st.asserts other.asserts
-  pub ended : st.ended ≡ other.ended
+pub nothing-renamed : (ps : Predefined) → IsRenaming ps (λ word. word)
+nothing-renamed ps = record { distinct = λ one other e. e; names = λ word e. e; words = λ word e. e; others = λ word e. refl; reserved = λ word e. refl }
 
--- ---- names that grow
-
-module _ (names others more most : List (List ℕ)) (g : Grown names more) (h : Grown others most) where
-  lines-grown : (ls ms : List (List Token)) → SameLines names others ls ms → SameLines more most ls ms
-  lines-grown ls ms s =
-      pairwise-weaker (SameTokens names others) (SameTokens more most) (λ ts us k. tokens-grown names others more most g h ts us k) ls ms s
-
-  equates-grown : (es fs : List Equate) → Pairwise (SameEquate names others) es fs → Pairwise (SameEquate more most) es fs
-  equates-grown es fs s =
-      pairwise-weaker (SameEquate names others) (SameEquate more most)
-      (λ e f k. (same-grown names others more most g h e.name f.name k.0, lines-grown e.lines f.lines k.1)) es fs s
-
-  read-lines-grown : (ls ms : List Line) → Pairwise (SameLine names others) ls ms → Pairwise (SameLine more most) ls ms
-  read-lines-grown ls ms s =
-      pairwise-weaker (SameLine names others) (SameLine more most)
-      (λ l m k. (
-        pairwise-weaker (SameName names others) (SameName more most) (same-grown names others more most g h) l.labels m.labels k.0,
-        both-weaker (SameName names others) (SameName more most) (same-grown names others more most g h) l.operation m.operation k.1,
-        tokens-grown names others more most g h l.rest m.rest k.2,
-      )) ls ms s
-
-  asserts-grown : (ls ms : List Assert) → Pairwise (SameAssert names others) ls ms → Pairwise (SameAssert more most) ls ms
-  asserts-grown ls ms s =
-      pairwise-weaker (SameAssert names others) (SameAssert more most)
-      (λ l m k. (k.0, tokens-grown names others more most g h l.tokens m.tokens k.1)) ls ms s
+abbrev pub ReadAlike : Reading → Reading → Type 0
+ReadAlike st other = Reads name_for_name st other
 
 -- further names and tokens
-pub reading-grown : (st other : Reading) → ReadAlike st other → (more most : List (List ℕ)) → Grown st.names more → Grown other.names most
-    → (k l : ℕ) → l ≤ k
+pub reading-grown : (st other : Reading) → ReadAlike st other → (more most : List (List ℕ)) → Grown st.names more → Grown other.names most → (k l : ℕ) → l ≤ k
     → ReadAlike (record st { names = more; tokens_read = k }) (record other { names = most; tokens_read = l })
-reading-grown st other r more most g h k l few =
-    record {
-      loops = r.loops;
-      first = g.good;
-      second = h.good;
-      equates = equates-grown st.names other.names more most g h st.equates other.equates r.equates;
-      grows = r.grows;
-      lines = read-lines-grown st.names other.names more most g h st.lines other.lines r.lines;
-      instructions = r.instructions;
-      lines_read = r.lines_read;
-      tokens_read = few;
-      name = r.name;
-      author = r.author;
-      asserts = asserts-grown st.names other.names more most g h st.asserts other.asserts r.asserts;
-      ended = r.ended;
-    }
-
--- other counts, other open loops, and EQU lines that may add less or as much
-pub counts-alike : (st other : Reading) → ReadAlike st other → (loops ls : List OpenLoop) → LoopsAlike loops ls → (s t : Bool)
-    → (s ≡ true → t ≡ true) → (i j k l : ℕ) → j ≤ i → l ≤ k
-    → ReadAlike (record st { loops = loops; equate_grows = s; lines_read = i; tokens_read = k })
-    (record other { loops = ls; equate_grows = t; lines_read = j; tokens_read = l })
-counts-alike st other r loops ls o s t grows i j k l few less =
-    record {
-      loops = o;
-      first = r.first;
-      second = r.second;
-      equates = r.equates;
-      grows = grows;
-      lines = r.lines;
-      instructions = r.instructions;
-      lines_read = few;
-      tokens_read = less;
-      name = r.name;
-      author = r.author;
-      asserts = r.asserts;
-      ended = r.ended;
-    }
-
--- ---- lines and tokens are counted
-
--- two alike readings, with the names that were there before
-pub record ReadOn (st other a b : Reading) : Type 0 where
-  pub read : ReadAlike a b
-  pub first : a.names ≡ st.names
-  pub second : b.names ≡ other.names
-
-pub le-met : (n a b : ℕ) → b ≤ a → nat_le n a ≡ false → nat_le n b ≡ false
-le-met n a b few e = grind (arith, nat_tests)
-
-lt-met : (n a b : ℕ) → b ≤ a → nat_lt n a ≡ false → nat_lt n b ≡ false
-lt-met n a b few e = grind (arith, nat_tests)
-
-module _ (st other : Reading) (r : ReadAlike st other) where
-  pub line-read-alike : Together (ReadOn st other) (line_read st) (line_read other)
-  line-read-alike =
-      together-limit (ReadOn st other) (nat_le limit st.lines_read) (nat_le limit other.lines_read) TooLong
-      (record st { lines_read = st.lines_read + 1 }) (record other { lines_read = other.lines_read + 1 })
-      (le-met limit st.lines_read other.lines_read r.lines_read)
-      (record {
-        read =
-            counts-alike st other r st.loops other.loops r.loops st.equate_grows other.equate_grows r.grows (st.lines_read + 1)
-            (other.lines_read + 1) st.tokens_read other.tokens_read (let k = r.lines_read in omega arith) r.tokens_read;
-        first = refl;
-        second = refl;
-      })
-
-  pub counted-alike : (ts us : List Token) → SameTokens st.names other.names ts us
-      → Together (ReadOn st other) (tokens_counted ts st) (tokens_counted us other)
-  counted-alike ts us s =
-      let len : length ts ≡ length us = pairwise-length (SameToken st.names other.names) ts us s in
-      let few : other.tokens_read + length us ≤ st.tokens_read + length ts = (let k = r.tokens_read in omega (arith, len)) in
-      together-limit (ReadOn st other) (nat_lt limit (st.tokens_read + length ts)) (nat_lt limit (other.tokens_read + length us)) TooLong
-      (record st { tokens_read = st.tokens_read + length ts }) (record other { tokens_read = other.tokens_read + length us })
-      (lt-met limit (st.tokens_read + length ts) (other.tokens_read + length us) few)
-      (record {
-        read =
-            counts-alike st other r st.loops other.loops r.loops st.equate_grows other.equate_grows r.grows st.lines_read other.lines_read
-            (st.tokens_read + length ts) (other.tokens_read + length us) r.lines_read few;
-        first = refl;
-        second = refl;
-      })
+reading-grown st other r more most g h k l few = names-changed name_for_name st other r more most (g.good, h.good) (same-grown st.names other.names more most g h) k l few
 
 -- ---- the tokens of a row
-
--- two readings with the same tokens behind them, as far from these two places
-pub record SameRow (here there : ℕ) (x y : WithTokens) : Type 0 where
-  pub read : ReadAlike x.1 y.1
-  pub tokens : Pairwise (PlacedToken x.1.names y.1.names here there) x.0 y.0
 
 -- a row of the same bytes
 abbrev pub like_row : SourceRow → ℕ → ℕ → SourceRow
 like_row row number place = record { number = number; at = place; bytes = row.bytes }
 
 pub row-alike : (row : SourceRow) (number place at : ℕ) (st other : Reading) → ReadAlike st other
-    → Together (SameRow row.at place) (row_tokens row at st) (row_tokens (like_row row number place) at other)
+    → Follows false (RowRead name_for_name (AsFar row.at place)) (row_tokens row at st) (row_tokens (like_row row number place) at other)
 row-alike row number place at st other r =
     let text = before_comment (drop at row.bytes) in
-    together-then (SameScanned st.names other.names row.at place) (SameRow row.at place)
-    (tokens st.loops row.number (row.at + at) (limit - st.tokens_read) st.names text)
-    (tokens other.loops number (place + at) (limit - other.tokens_read) other.names text)
-    (λ s. Ok (s.tokens, record st { names = s.names; tokens_read = st.tokens_read + length s.tokens }))
+    follows-then (λ s. Ok (s.tokens, record st { names = s.names; tokens_read = st.tokens_read + length s.tokens }))
     (λ t. Ok (t.tokens, record other { names = t.names; tokens_read = other.tokens_read + length t.tokens }))
-    (scan-alike st.loops other.loops (rounds-same st.loops other.loops r.loops) st.names other.names row.at place row.number number
-    (limit - st.tokens_read) (limit - other.tokens_read)
-    (let k = r.tokens_read in omega arith) text (row.at + at) (place + at) 0 (omega arith) (record { tokens = []; names = st.names })
-    (record { tokens = []; names = other.names })
-    (record { tokens = tt; first = grown-itself st.names r.first; second = grown-itself other.names r.second }))
-    (λ s t q. record {
+    (scan-alike st.loops other.loops (rounds-same st.loops other.loops r.loops) st.names other.names row.at place row.number number (limit - st.tokens_read) (limit - other.tokens_read)
+    (let k = r.tokens_read in omega (arith, k)) text (row.at + at) (place + at) 0 (omega arith) (record { tokens = []; names = st.names }) (record { tokens = []; names = other.names })
+    (record { tokens = tt; first = grown-itself st.names r.names.0; second = grown-itself other.names r.names.1 }))
+    (λ s t q. follows-ok (record {
       read =
           reading-grown st other r s.names t.names q.first q.second (st.tokens_read + length s.tokens) (other.tokens_read + length t.tokens)
-          (let k = r.tokens_read in let len : length s.tokens ≡ length t.tokens = pairwise-length
-          (PlacedToken s.names t.names row.at place) s.tokens t.tokens q.tokens in omega arith);
+          (fewer-more false st.tokens_read other.tokens_read (length s.tokens) (length t.tokens) r.tokens_read (pairwise-length (PlacedToken (SameName s.names t.names) (AsFar row.at place)) s.tokens t.tokens q.tokens));
       tokens = q.tokens;
-    })
+    }))
 
 -- ---- the ends
+
+no_names : AreNames []
+no_names = record { distinct = λ n m h k e. absurd (omega arith); begin = λ n h. absurd (omega arith) }
 
 pub start : ReadAlike nothing_read nothing_read
 start =
     record {
       loops = record { same = refl; fewer = omega arith; counters = tt };
-      first = record { distinct = λ n m h k e. absurd (omega arith); begin = λ n h. absurd (omega arith) };
-      second = record { distinct = λ n m h k e. absurd (omega arith); begin = λ n h. absurd (omega arith) };
+      names = (no_names, no_names);
       equates = tt;
       grows = λ e. e;
       lines = tt;
@@ -249,7 +138,7 @@ start =
     }
 
 module _ (names others : List (List ℕ)) where
-  lines-spelled : (ls ms : List (List Token)) → SameLines names others ls ms → map (spelled names) ls ≡ map (spelled others) ms
+  lines-spelled : (ls ms : List (List Token)) → Texts (SameName names others) ls ms → map (spelled names) ls ≡ map (spelled others) ms
   lines-spelled ls ms s =
       pairwise-map (SameTokens names others) (spelled names) (spelled others) (λ ts us k. (tokens-spelled names others ts us k).2) ls ms s
 
@@ -266,14 +155,14 @@ module _ (names others : List (List ℕ)) where
   option-spelled (Some n) None s = absurd s
   option-spelled (Some n) (Some m) s = ap Some s.2
 
-  line-spelled : (l m : Line) → SameLine names others l m → spelled_line names l ≡ spelled_line others m
+  line-spelled : (l m : Line) → LikeLine name_for_name (SameName names others) l m → spelled_line names l ≡ spelled_line others m
   line-spelled l m s =
       let a = pairwise-map (SameName names others) (name_at names) (name_at others) (λ i j k. k.2) l.labels m.labels s.0 in
       let b = option-spelled l.operation m.operation s.1 in
       let c = (tokens-spelled names others l.rest m.rest s.2).2 in
       λ i. (a i, b i, c i)
 
-  assert-spelled : (a b : Assert) → SameAssert names others a b → spelled_assert names a ≡ spelled_assert others b
+  assert-spelled : (a b : Assert) → LikeAssert name_for_name (SameName names others) a b → spelled_assert names a ≡ spelled_assert others b
   assert-spelled a b s = let p = s.0 in let q = (tokens-spelled names others a.tokens b.tokens s.1).2 in λ i. (p i, q i)
 
 pub alike : (a b : Reading) → ReadAlike a b → AreAlike (program_of a) (program_of b)
@@ -283,14 +172,14 @@ alike a b r =
       author = r.author;
       equates = equates-spelled a.names b.names a.equates b.equates r.equates;
       lines =
-          pairwise-map (SameLine a.names b.names) (spelled_line a.names) (spelled_line b.names) (line-spelled a.names b.names) a.lines
+          pairwise-map (LikeLine name_for_name (SameName a.names b.names)) (spelled_line a.names) (spelled_line b.names) (line-spelled a.names b.names) a.lines
           b.lines r.lines;
       asserts =
-          pairwise-map (SameAssert a.names b.names) (spelled_assert a.names) (spelled_assert b.names) (assert-spelled a.names b.names)
+          pairwise-map (LikeAssert name_for_name (SameName a.names b.names)) (spelled_assert a.names) (spelled_assert b.names) (assert-spelled a.names b.names)
           a.asserts b.asserts r.asserts;
     }
 
--- what holds of each first and of each second of a pair
+-- what holds of each first of a pair
 all-first : {A B : Type 0} (R : A → B → Type 0) (P : A → Type 0) → ((x : A) (y : B) → R x y → P x) → (xs : List A) (ys : List B)
     → Pairwise R xs ys → All P xs
 all-first R P k [] [] h = All-nil P
@@ -298,74 +187,30 @@ all-first R P k [] (y ∷ ys) h = absurd h
 all-first R P k (x ∷ xs) [] h = absurd h
 all-first R P k (x ∷ xs) (y ∷ ys) h = All-cons P x xs (k x y h.0) (all-first R P k xs ys h.1)
 
-all-second : {A B : Type 0} (R : A → B → Type 0) (P : B → Type 0) → ((x : A) (y : B) → R x y → P y) → (xs : List A) (ys : List B)
-    → Pairwise R xs ys → All P ys
-all-second R P k [] [] h = All-nil P
-all-second R P k [] (y ∷ ys) h = absurd h
-all-second R P k (x ∷ xs) [] h = absurd h
-all-second R P k (x ∷ xs) (y ∷ ys) h = All-cons P y ys (k x y h.0) (all-second R P k xs ys h.1)
+operation-first : (names others : List (List ℕ)) (o p : Option ℕ) → AgreeOption (SameName names others) o p → IfSome o (λ i. i < length names)
+operation-first names others None p s = tt
+operation-first names others (Some n) None s = absurd s
+operation-first names others (Some n) (Some m) s = s.0
 
-module _ (names others : List (List ℕ)) where
-  operation-first : (o p : Option ℕ) → AgreeOption (SameName names others) o p → IfSome o (λ i. i < length names)
-  operation-first None p s = tt
-  operation-first (Some n) None s = absurd s
-  operation-first (Some n) (Some m) s = s.0
-
-  operation-second : (o p : Option ℕ) → AgreeOption (SameName names others) o p → IfSome p (λ i. i < length others)
-  operation-second o None s = tt
-  operation-second None (Some m) s = absurd s
-  operation-second (Some n) (Some m) s = s.1
-
-  pub equates-first : (es fs : List Equate) → Pairwise (SameEquate names others) es fs → All (IsEquateBelow (length names)) es
-  equates-first es fs s =
-      all-first (SameEquate names others) (IsEquateBelow (length names))
-      (λ e f k. (
-        k.0.0,
-        all-first (SameTokens names others) (AreBelow (length names)) (λ ts us k. (tokens-spelled names others ts us k).0)
-            e.lines f.lines k.1,
-      )) es fs s
-
-  pub equates-second : (es fs : List Equate) → Pairwise (SameEquate names others) es fs → All (IsEquateBelow (length others)) fs
-  equates-second es fs s =
-      all-second (SameEquate names others) (IsEquateBelow (length others))
-      (λ e f k. (
-        k.0.1,
-        all-second (SameTokens names others) (AreBelow (length others))
-            (λ ts us k. (tokens-spelled names others ts us k).1) e.lines f.lines k.1,
-      )) es fs s
-
-  lines-first : (ls ms : List Line) → Pairwise (SameLine names others) ls ms → All (IsLineBelow (length names)) ls
-  lines-first ls ms s =
-      all-first (SameLine names others) (IsLineBelow (length names)) (λ l m k. (
-        all-first (SameName names others) (λ i. i < length names) (λ i j t. t.0) l.labels m.labels k.0,
-        operation-first l.operation m.operation k.1,
-        (tokens-spelled names others l.rest m.rest k.2).0,
-      )) ls ms s
-
-  lines-second : (ls ms : List Line) → Pairwise (SameLine names others) ls ms → All (IsLineBelow (length others)) ms
-  lines-second ls ms s =
-      all-second (SameLine names others) (IsLineBelow (length others)) (λ l m k. (
-        all-second (SameName names others) (λ i. i < length others) (λ i j t. t.1) l.labels m.labels k.0,
-        operation-second l.operation m.operation k.1,
-        (tokens-spelled names others l.rest m.rest k.2).1,
-      )) ls ms s
-
-pub named : (a b : Reading) → ReadAlike a b → IsNamed (program_of a) × IsNamed (program_of b)
-named a b r = (
-  record {
-    distinct = r.first.distinct;
-    equates = equates-first a.names b.names a.equates b.equates r.equates;
-    lines = lines-first a.names b.names a.lines b.lines r.lines;
-    asserts =
-        all-first (SameAssert a.names b.names) (λ (x : Assert). AreBelow (length a.names) x.tokens)
-        (λ x y k. (tokens-spelled a.names b.names x.tokens y.tokens k.1).0) a.asserts b.asserts r.asserts;
-  },
-  record {
-    distinct = r.second.distinct;
-    equates = equates-second a.names b.names a.equates b.equates r.equates;
-    lines = lines-second a.names b.names a.lines b.lines r.lines;
-    asserts =
-        all-second (SameAssert a.names b.names) (λ (x : Assert). AreBelow (length b.names) x.tokens)
-        (λ x y k. (tokens-spelled a.names b.names x.tokens y.tokens k.1).1) a.asserts b.asserts r.asserts;
-  },
-)
+-- the indices of the first are those of names, no name twice
+pub named : (a b : Reading) → ReadAlike a b → IsNamed (program_of a)
+named a b r =
+    record {
+      distinct = r.names.0.distinct;
+      equates =
+          all-first (SameEquate a.names b.names) (IsEquateBelow (length a.names))
+          (λ e f k. (
+            k.0.0,
+            all-first (SameTokens a.names b.names) (AreBelow (length a.names)) (λ ts us k. (tokens-spelled a.names b.names ts us k).0) e.lines f.lines k.1,
+          )) a.equates b.equates r.equates;
+      lines =
+          all-first (LikeLine name_for_name (SameName a.names b.names)) (IsLineBelow (length a.names))
+          (λ l m k. (
+            all-first (SameName a.names b.names) (λ i. i < length a.names) (λ i j t. t.0) l.labels m.labels k.0,
+            operation-first a.names b.names l.operation m.operation k.1,
+            (tokens-spelled a.names b.names l.rest m.rest k.2).0,
+          )) a.lines b.lines r.lines;
+      asserts =
+          all-first (LikeAssert name_for_name (SameName a.names b.names)) (λ (x : Assert). AreBelow (length a.names) x.tokens)
+          (λ x y k. (tokens-spelled a.names b.names x.tokens y.tokens k.1).0) a.asserts b.asserts r.asserts;
+    }

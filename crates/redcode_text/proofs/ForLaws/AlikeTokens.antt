@@ -7,13 +7,13 @@ use Rattle.redcode_text.specs.Results.{◌>>=◌}
 use Rattle.redcode_text.specs.declared.fault.TextProblem.{TextProblem}
 use Rattle.redcode_text.specs.declared.fault.TextProblem.TheVariants.{BadToken, NotAscii, TooLong}
 use Rattle.redcode_text.specs.declared.token.Sign.{Sign}
-use Rattle.redcode_text.specs.declared.token.Token.{Token}
 use Rattle.redcode_text.specs.declared.token.TokenKind.TheVariants.{Number, Name}
 use Rattle.redcode_text.specs.Tokens.{Found, OpenLoop, Scanned, begins_name, begins_word, is_blank, join_counters, join_parts, joined, look_up, name_found, name_index, number_found, one_byte_signs, parts_at_joins, round_digits, round_of, round_or_bad, scan_from, sign_found, sign_token, token_at, two_byte_signs, with_name, with_room, with_token, word_found, word_len, word_token}
-use Rattle.redcode_text.proofs.ForLaws.Agreement.{Pairwise, pairwise-append, pairwise-length}
-use Rattle.redcode_text.proofs.ForLaws.AlikeResults.{Together, together-room, together-then, pairwise-weaker}
-use Rattle.redcode_text.proofs.ForLaws.AlikeNames.{AreNames, Grown, grown-itself, grown-on, kind-grown, with-grown, with-same}
-use Rattle.redcode_text.proofs.ForLaws.SameNames.{SameKind}
+use Rattle.redcode_text.proofs.ForLaws.Agreement.{Pairwise, pairwise-append, pairwise-length, pairwise-weaker}
+use Rattle.redcode_text.proofs.ForLaws.AlikeNames.{AreNames, Grown, grown-itself, grown-on, same-grown, with-grown, with-same}
+use Rattle.redcode_text.proofs.ForLaws.Follows.{Follows, follows-fault, follows-ok, follows-room, follows-then}
+use Rattle.redcode_text.proofs.ForLaws.Likeness.{AsFar, PlacedToken, kind-weaker}
+use Rattle.redcode_text.proofs.ForLaws.SameNames.{SameKind, SameName}
 
 -- ---- a token
 
@@ -25,41 +25,41 @@ pub record SameFound (names others : List (List ℕ)) (f g : Found) : Type 0 whe
   pub second : Grown others g.names
 
 module _ (names others : List (List ℕ)) (d : AreNames names) (e : AreNames others) where
-  number-alike : (len : ℕ) (digits : List ℕ) → Together (SameFound names others) (number_found names len digits)
+  number-alike : (len : ℕ) (digits : List ℕ) → Follows false (SameFound names others) (number_found names len digits)
       (number_found others len digits)
   number-alike len digits = go (nat_lt (digits_value 10 digits) (2 ^ 63))
     where
-      go : (t : Bool) → Together (SameFound names others)
+      go : (t : Bool) → Follows false (SameFound names others)
           ((cond t (Ok (Number (pos (digits_value 10 digits)))) (Err BadToken)) >>= λ kind. Ok
           (record { kind = kind; len = len; names = names }))
           ((cond t (Ok (Number (pos (digits_value 10 digits)))) (Err BadToken)) >>= λ kind. Ok
           (record { kind = kind; len = len; names = others }))
-      go true = record { kind = refl; len = refl; first = grown-itself names d; second = grown-itself others e }
-      go false = tt
+      go true = follows-ok (record { kind = refl; len = refl; first = grown-itself names d; second = grown-itself others e })
+      go false = follows-fault
 
-  name-alike : (len : ℕ) (name : List ℕ) → Together (SameFound names others) (name_found names len name) (name_found others len name)
+  name-alike : (len : ℕ) (name : List ℕ) → Follows false (SameFound names others) (name_found names len name) (name_found others len name)
   name-alike len name = go (begins_name name) refl
     where
-      go : (t : Bool) → begins_name name ≡ t → Together (SameFound names others)
+      go : (t : Bool) → begins_name name ≡ t → Follows false (SameFound names others)
           (cond t (Ok (record { kind = Name (name_index names name); len = len; names = with_name names name })) (Err BadToken))
           (cond t (Ok (record { kind = Name (name_index others name); len = len; names = with_name others name })) (Err BadToken))
-      go true b = record { kind = with-same names others name; len = refl; first = with-grown names name b d; second = with-grown others name b e }
-      go false b = tt
+      go true b = follows-ok (record { kind = with-same names others name; len = refl; first = with-grown names name b d; second = with-grown others name b e })
+      go false b = follows-fault
 
   found-alike : (len : ℕ) (word : List ℕ) (round : Option ℕ)
-      → Together (SameFound names others) (word_found names len word round) (word_found others len word round)
-  found-alike len word (Some round) = record { kind = refl; len = refl; first = grown-itself names d; second = grown-itself others e }
+      → Follows false (SameFound names others) (word_found names len word round) (word_found others len word round)
+  found-alike len word (Some round) = follows-ok (record { kind = refl; len = refl; first = grown-itself names d; second = grown-itself others e })
   found-alike len word None = go (list_all is_ascii_digit word)
     where
-      go : (t : Bool) → Together (SameFound names others) (cond t (number_found names len word) (name_found names len word))
+      go : (t : Bool) → Follows false (SameFound names others) (cond t (number_found names len word) (name_found names len word))
           (cond t (number_found others len word) (name_found others len word))
       go true = number-alike len word
       go false = name-alike len word
 
-  sign-alike : (two one : Option Sign) → Together (SameFound names others) (sign_found names two one) (sign_found others two one)
-  sign-alike (Some s) one = record { kind = refl; len = refl; first = grown-itself names d; second = grown-itself others e }
-  sign-alike None (Some s) = record { kind = refl; len = refl; first = grown-itself names d; second = grown-itself others e }
-  sign-alike None None = tt
+  sign-alike : (two one : Option Sign) → Follows false (SameFound names others) (sign_found names two one) (sign_found others two one)
+  sign-alike (Some s) one = follows-ok (record { kind = refl; len = refl; first = grown-itself names d; second = grown-itself others e })
+  sign-alike None (Some s) = follows-ok (record { kind = refl; len = refl; first = grown-itself names d; second = grown-itself others e })
+  sign-alike None None = follows-fault
 
 -- ---- the same counters
 
@@ -73,42 +73,38 @@ module _ (loops ls : List OpenLoop) (rounds : (name : List ℕ) → round_of loo
   parts-same (front ∷ names) = counters-same front names
 
   word-alike : (names others : List (List ℕ)) → AreNames names → AreNames others → (raw : List ℕ)
-      → Together (SameFound names others) (word_token loops names raw) (word_token ls others raw)
+      → Follows false (SameFound names others) (word_token loops names raw) (word_token ls others raw)
   word-alike names others d e raw =
-      subst (λ r. Together (SameFound names others) (word_token loops names raw)
+      subst (λ r. Follows false (SameFound names others) (word_token loops names raw)
       (r >>= λ word. word_found others (length raw) word (round_of ls word))) (parts-same (parts_at_joins raw)) (go (joined loops raw))
     where
-      go : (r : Result (List ℕ) TextProblem) → Together (SameFound names others)
+      go : (r : Result (List ℕ) TextProblem) → Follows false (SameFound names others)
           (r >>= λ word. word_found names (length raw) word (round_of loops word))
           (r >>= λ word. word_found others (length raw) word (round_of ls word))
       go (Ok w) =
-          subst (λ o. Together (SameFound names others) (word_found names (length raw) w (round_of loops w))
+          subst (λ o. Follows false (SameFound names others) (word_found names (length raw) w (round_of loops w))
           (word_found others (length raw) w o)) (rounds w) (found-alike names others d e (length raw) w (round_of loops w))
-      go (Err p) = tt
+      go (Err p) = follows-fault
 
   token-alike : (names others : List (List ℕ)) → AreNames names → AreNames others → (bs : List ℕ)
-      → Together (SameFound names others) (token_at loops names bs) (token_at ls others bs)
+      → Follows false (SameFound names others) (token_at loops names bs) (token_at ls others bs)
   token-alike names others d e bs = go (not (list_all is_ascii (take 1 bs))) (begins_word bs)
     where
       raw : List ℕ
       raw = take (word_len bs) bs
 
-      go : (a b : Bool) → Together (SameFound names others)
+      go : (a b : Bool) → Follows false (SameFound names others)
           (cond a (Err NotAscii) (cond b (word_token loops names (take (word_len bs) bs)) (sign_token names bs)))
           (cond a (Err NotAscii) (cond b (word_token ls others (take (word_len bs) bs)) (sign_token others bs)))
-      go true b = tt
+      go true b = follows-fault
       go false true = word-alike names others d e (take (word_len bs) bs)
       go false false = sign-alike names others d e (look_up two_byte_signs (take 2 bs)) (look_up one_byte_signs (take 1 bs))
 
 -- ---- one token after another
 
--- the same token, as far from these two places
-abbrev pub PlacedToken : List (List ℕ) → List (List ℕ) → ℕ → ℕ → Token → Token → Type 0
-PlacedToken names others here there t u = SameKind names others t.kind u.kind × (t.from + there ≡ u.from + here)
-
 -- the same tokens, and the names with theirs
 pub record SameScanned (names others : List (List ℕ)) (here there : ℕ) (s t : Scanned) : Type 0 where
-  pub tokens : Pairwise (PlacedToken s.names t.names here there) s.tokens t.tokens
+  pub tokens : Pairwise (PlacedToken (SameName s.names t.names) (AsFar here there)) s.tokens t.tokens
   pub first : Grown names s.names
   pub second : Grown others t.names
 
@@ -120,46 +116,40 @@ found_then loops line room at text bs s =
 module _ (loops ls : List OpenLoop) (rounds : (name : List ℕ) → round_of loops name ≡ round_of ls name) (names others : List (List ℕ)) (here there line row room space : ℕ) (fits : room ≤ space) where
   room-alike : (at to : ℕ) → at + there ≡ to + here → (s t : Scanned) (f g : Found) → SameScanned names others here there s t
       → SameFound s.names t.names f g
-      → Together (SameScanned names others here there) (with_room room s line at f) (with_room space t row to g)
+      → Follows false (SameScanned names others here there) (with_room room s line at f) (with_room space t row to g)
   room-alike at to same s t f g q h =
-      let len : length s.tokens ≡ length t.tokens = pairwise-length (PlacedToken s.names t.names here there) s.tokens t.tokens q.tokens in
-      together-room (SameScanned names others here there) (nat_lt (length s.tokens) room) (nat_lt (length t.tokens) space) TooLong
+      let len : length s.tokens ≡ length t.tokens = pairwise-length (PlacedToken (SameName s.names t.names) (AsFar here there)) s.tokens t.tokens q.tokens in
+      follows-room (nat_lt (length s.tokens) room) (nat_lt (length t.tokens) space) TooLong
       (with_token s line at f) (with_token t row to g)
       (λ e. let a = ltb-true (length s.tokens) room e in lt-ltb (length t.tokens) space (omega arith))
       (record {
         tokens =
-            pairwise-append (PlacedToken f.names g.names here there) s.tokens t.tokens
+            pairwise-append (PlacedToken (SameName f.names g.names) (AsFar here there)) s.tokens t.tokens
             (record { kind = f.kind; line = line; from = at; to = at + f.len } ∷ [])
             (record { kind = g.kind; line = row; from = to; to = to + g.len } ∷ [])
-            (pairwise-weaker (PlacedToken s.names t.names here there) (PlacedToken f.names g.names here there)
-            (λ x y k. (kind-grown s.names t.names f.names g.names h.first h.second x.kind y.kind k.0, k.1)) s.tokens t.tokens q.tokens)
+            (pairwise-weaker (PlacedToken (SameName s.names t.names) (AsFar here there)) (PlacedToken (SameName f.names g.names) (AsFar here there))
+            (λ x y k. (kind-weaker (SameName s.names t.names) (SameName f.names g.names) (same-grown s.names t.names f.names g.names h.first h.second) x.kind y.kind k.0, k.1)) s.tokens t.tokens q.tokens)
             ((h.kind, same), tt);
         first = grown-on names s.names f.names q.first h.first;
         second = grown-on others t.names g.names q.second h.second;
       })
 
   pub scan-alike : (bs : List ℕ) (at to skip : ℕ) → at + there ≡ to + here → (s t : Scanned) → SameScanned names others here there s t
-      → Together (SameScanned names others here there) (scan_from loops line room at skip bs s) (scan_from ls row space to skip bs t)
-  scan-alike [] at to zero same s t q = q
-  scan-alike [] at to (suc skip) same s t q = q
+      → Follows false (SameScanned names others here there) (scan_from loops line room at skip bs s) (scan_from ls row space to skip bs t)
+  scan-alike [] at to zero same s t q = follows-ok q
+  scan-alike [] at to (suc skip) same s t q = follows-ok q
   scan-alike (b ∷ bs) at to (suc skip) same s t q = scan-alike bs (at + 1) (to + 1) skip (omega arith) s t q
   scan-alike (b ∷ bs) at to zero same s t q = go (is_blank b) (λ skip s t q. scan-alike bs (at + 1) (to + 1) skip (omega arith) s t q)
     where
-      go : (c : Bool) → ((skip : ℕ) (s t : Scanned) → SameScanned names others here there s t → Together
+      go : (c : Bool) → ((skip : ℕ) (s t : Scanned) → SameScanned names others here there s t → Follows false
           (SameScanned names others here there) (scan_from loops line room (at + 1) skip bs s) (scan_from ls row space (to + 1) skip bs t))
-          → Together (SameScanned names others here there)
+          → Follows false (SameScanned names others here there)
           (elim c as (λ _. Result Scanned TextProblem) [ true ↦ scan_from loops line room (at + 1) 0 bs s | false ↦ found_then loops line room at (b ∷ bs) bs s ])
           (elim c as (λ _. Result Scanned TextProblem) [ true ↦ scan_from ls row space (to + 1) 0 bs t | false ↦ found_then ls row space to (b ∷ bs) bs t ])
       go true on = on 0 s t q
       go false on =
-          together-then (SameFound s.names t.names) (SameScanned names others here there) (token_at loops s.names (b ∷ bs))
-          (token_at ls t.names (b ∷ bs))
-          (λ f. with_room room s line at f >>= λ t. scan_from loops line room (at + 1) (f.len - 1) bs t)
-          (λ g. with_room space t row to g >>= λ t. scan_from ls row space (to + 1) (g.len - 1) bs t)
+          follows-then (λ f. with_room room s line at f >>= λ t. scan_from loops line room (at + 1) (f.len - 1) bs t) (λ g. with_room space t row to g >>= λ t. scan_from ls row space (to + 1) (g.len - 1) bs t)
           (token-alike loops ls rounds s.names t.names q.first.good q.second.good (b ∷ bs))
-          (λ f g h. together-then (SameScanned names others here there) (SameScanned names others here there) (with_room room s line at f)
-          (with_room space t row to g)
-          (λ t. scan_from loops line room (at + 1) (f.len - 1) bs t) (λ t. scan_from ls row space (to + 1) (g.len - 1) bs t)
-          (room-alike at to same s t f g q h)
-          (λ p r k. subst (λ n. Together (SameScanned names others here there) (scan_from loops line room (at + 1) (f.len - 1) bs p)
+          (λ f g h. follows-then (λ t. scan_from loops line room (at + 1) (f.len - 1) bs t) (λ t. scan_from ls row space (to + 1) (g.len - 1) bs t) (room-alike at to same s t f g q h)
+          (λ p r k. subst (λ n. Follows false (SameScanned names others here there) (scan_from loops line room (at + 1) (f.len - 1) bs p)
           (scan_from ls row space (to + 1) (n - 1) bs r)) h.len (on (f.len - 1) p r k)))

@@ -19,14 +19,15 @@ use Rattle.redcode_text.specs.Laws.{IsCounterName}
 use Rattle.redcode_text.specs.Lines.{Predefined, Reading, WithTokens, before_comment, line_read, name_at, name_in_front, row_tokens, tokens_after, tokens_before}
 use Rattle.redcode_text.specs.Source.{ForLine, SourceRow, line_kind}
 use Rattle.redcode_text.specs.Tokens.{Scanned, tokens}
-use Rattle.redcode_text.proofs.ForLaws.AlikeCounts.{grows-no-more, headed}
 use Rattle.redcode_text.proofs.ForLaws.AlikeNames.{Grown, grown-itself}
-use Rattle.redcode_text.proofs.ForLaws.AlikeReadings.{ReadAlike, reading-grown}
-use Rattle.redcode_text.proofs.ForLaws.AlikeSteps.{loops-changed, simulation}
+use Rattle.redcode_text.proofs.ForLaws.AlikeReadings.{LoopsAlike, ReadAlike, name_for_name, reading-grown}
+use Rattle.redcode_text.proofs.ForLaws.AlikeSteps.{simulation}
 use Rattle.redcode_text.proofs.ForLaws.CountedHeads.{IsCounterHead, head-kind, second-at}
-use Rattle.redcode_text.proofs.ForLaws.CountedRows.{IsInside, IsWritten, line-written}
+use Rattle.redcode_text.proofs.ForLaws.CountedRows.{IsWritten, Opened, line-written, loop_open, opened-room}
 use Rattle.redcode_text.proofs.ForLaws.CountedTokens.{IsHead, IsNamed, head-scan, words-code}
 use Rattle.redcode_text.proofs.ForLaws.HeadLines.{code-whole, is_code}
+use Rattle.redcode_text.proofs.ForLaws.LikeHeads.{headed}
+use Rattle.redcode_text.proofs.ForLaws.LikeReadings.{Reads, grows-changed, loops-changed}
 use Rattle.redcode_text.proofs.ForLaws.LoneLoops.{Alone, alone-made, alone-then, any-room, digits-code, line-alone, number-count, scan-alone}
 use Rattle.redcode_text.proofs.ForLaws.Simulations.{IsSimulation}
 use Rattle.redcode_text.proofs.ForLaws.TokensRead.{are_digits, decimal-is}
@@ -68,7 +69,7 @@ module _ (ps : Predefined) (counter : List ℕ) (name : IsCounterName counter) w
         subst (λ ts. Alone (Gives n other) (name_in_front (kinds ts) >>= λ counter. room_for_loop x.1 >>= λ _. count_of ps x.1 (tokens_after place x.0) >>= made counter)) (sym before-one) (go q.named)
       where
         counted : (i : ℕ) → name_at x.1.names i ≡ counter → (c : Bool) → Alone (Gives n other) ((elim c as (λ _. Result ℕ TextProblem) [ true ↦ Ok n | false ↦ Err BadCount ]) >>= λ count. made (Some i) count)
-        counted i e true = (ap Some e, refl, grows-no-more x.1 other r other.equate_grows)
+        counted i e true = (ap Some e, refl, grows-changed name_for_name x.1 other r false other.equate_grows (λ e. absurd (cc)))
         counted i e false = tt
 
         go : IsNamed counter name q.one x.1.names
@@ -89,7 +90,7 @@ module _ (ps : Predefined) (counter : List ℕ) (name : IsCounterName counter) w
       go : (x : Result Scanned TextProblem) → Alone (λ (s : Scanned). Grown st.names s.names) x → Alone (λ (s : Scanned). Q s.tokens s.names) x
           → Alone (λ (x : WithTokens). ReadAlike x.1 other × Q x.0 x.1.names) (x >>= λ s. Ok (s.tokens, record st { names = s.names; tokens_read = st.tokens_read + length s.tokens }))
       go (Ok s) g q = (
-        reading-grown st other r s.names other.names g (grown-itself other.names r.second) (st.tokens_read + length s.tokens) other.tokens_read (let k = r.tokens_read in omega arith),
+        reading-grown st other r s.names other.names g (grown-itself other.names r.names.1) (st.tokens_read + length s.tokens) other.tokens_read (let k = r.tokens_read in omega arith),
         q,
       )
       go (Err e) g q = tt
@@ -118,7 +119,7 @@ module _ (ps : Predefined) (counter : List ℕ) (name : IsCounterName counter) w
 
   -- ---- the relation is kept
 
-  pub counter-simulation : IsSimulation ps ReadAlike (IsCounterHead counter) (IsWritten counter) (Some counter) (IsInside counter)
+  pub counter-simulation : IsSimulation ps ReadAlike (IsCounterHead counter) (IsWritten counter) (Some counter) (λ round. Reads (loop_open counter round))
   counter-simulation =
       let s = simulation ps in
       record {
@@ -130,8 +131,8 @@ module _ (ps : Predefined) (counter : List ℕ) (name : IsCounterName counter) w
         both_open = s.both_open;
         closed = s.closed;
         ended = s.ended;
-        one_open = λ st other round r. record { behind = st.loops; loops = refl; read = r };
-        one_line = λ st other a row like round w h is. line-written ps counter name round row like w st other a h is;
-        one_closed = λ st other a b round r e h. subst (λ y. ReadAlike (record a { loops = st.loops }) y) (ap (λ l. record b { loops = l }) (sym e)) (loops-changed (record a { loops = h.behind }) b h.read st.loops other.loops r.loops);
-        one_ended = λ st other round h. h.read.ended;
+        one_open = λ st other round r. loops-changed name_for_name (Opened counter round) (opened-room counter round) st other r (record { counter = Some counter; round = round } ∷ st.loops) other.loops (st.loops, refl, r.loops);
+        one_line = λ st other a row like round w h. (line-written ps counter name round row like w st other h).value a;
+        one_closed = λ st other a b round r e h. subst (λ y. ReadAlike (record a { loops = st.loops }) y) (ap (λ l. record b { loops = l }) (sym e)) (loops-changed (loop_open counter round) LoopsAlike (λ loops ls k. k.fewer) a b h st.loops other.loops r.loops);
+        one_ended = λ st other round h. h.ended;
       }

@@ -22,15 +22,16 @@ use Rattle.redcode_text.specs.Expression.{kinds, tree_within, value_of}
 use Rattle.redcode_text.specs.Lines.{Predefined, Reading, WithTokens, before_comment, line_read, name_in_front, row_tokens, tokens_after, tokens_before}
 use Rattle.redcode_text.specs.Source.{SourceRow, ForLine, line_kind}
 use Rattle.redcode_text.specs.Tokens.{Found, OpenLoop, Scanned, begins_name, begins_word, is_counter, is_letter, is_word_byte, name_found, number_found, number_kind, round_of, scan_from, sign_token, token_at, tokens, with_room, with_token, word_found, word_len, word_token}
-use Rattle.redcode_text.proofs.ForLaws.AlikeCounts.{grows-no-more, headed}
 use Rattle.redcode_text.proofs.ForLaws.AlikeNames.{Grown, grown-itself}
-use Rattle.redcode_text.proofs.ForLaws.AlikeReadings.{AreCounters, ReadAlike, counts-alike, reading-grown}
-use Rattle.redcode_text.proofs.ForLaws.AlikeResults.{Together}
+use Rattle.redcode_text.proofs.ForLaws.AlikeReadings.{AreCounters, ReadAlike, name_for_name, reading-grown}
 use Rattle.redcode_text.proofs.ForLaws.AlikeTokens.{SameScanned, scan-alike}
+use Rattle.redcode_text.proofs.ForLaws.Follows.{Follows}
 use Rattle.redcode_text.proofs.ForLaws.HeadLines.{code-whole, is_code}
-use Rattle.redcode_text.proofs.Joins.{joined-none}
+use Rattle.redcode_text.proofs.ForLaws.LikeHeads.{headed}
+use Rattle.redcode_text.proofs.ForLaws.LikeReadings.{counts-alike, grows-changed}
 use Rattle.redcode_text.proofs.ForLaws.Simulations.{IsCounter}
 use Rattle.redcode_text.proofs.ForLaws.TokensRead.{are_digits, ascii-byte, begins, decimal-is, digits-are-word, no-joins, not-blank, whole-word}
+use Rattle.redcode_text.proofs.Joins.{joined-none}
 
 -- ---- one result
 
@@ -52,8 +53,8 @@ pub alone-weaker : {A E : Type 0} (P Q : A → Type 0) (r : Result A E) → Alon
 alone-weaker P Q (Ok a) h k = k a h
 alone-weaker P Q (Err e) h k = tt
 
-pub alone-own : {A E : Type 0} (R : A → A → Type 0) (r : Result A E) → Together R r r → Alone (λ a. R a a) r
-alone-own R (Ok a) h = h
+pub alone-own : {A E : Type 0} (R : A → A → Type 0) (r : Result A E) → Follows false R r r → Alone (λ a. R a a) r
+alone-own R (Ok a) h = let v = h.value a refl in let same : v.0 ≡ a = cc in subst (R a) same v.2
 alone-own R (Err e) h = tt
 
 -- ---- lines of the first reading alone
@@ -66,7 +67,7 @@ module _ (st other : Reading) (r : ReadAlike st other) where
           (elim c as (λ _. Result Reading TextProblem) [ true ↦ Err TooLong | false ↦ Ok (record st { lines_read = st.lines_read + 1 }) ])
       go true = tt
       go false =
-          counts-alike st other r st.loops other.loops r.loops st.equate_grows other.equate_grows r.grows (st.lines_read + 1)
+          counts-alike name_for_name st other r st.equate_grows other.equate_grows r.grows (st.lines_read + 1)
           other.lines_read st.tokens_read other.tokens_read (let k = r.lines_read in omega arith) r.tokens_read
 
   pub scan-alone : (line at room : ℕ) (bs : List ℕ) → Alone (λ (s : Scanned). Grown st.names s.names) (tokens st.loops line at room st.names bs)
@@ -74,7 +75,7 @@ module _ (st other : Reading) (r : ReadAlike st other) where
       let own = alone-own (SameScanned st.names st.names at at) (tokens st.loops line at room st.names bs)
       (scan-alike st.loops st.loops (λ name. refl) st.names st.names at at line line room room (omega arith) bs at at 0 refl
       (record { tokens = []; names = st.names }) (record { tokens = []; names = st.names })
-      (record { tokens = tt; first = grown-itself st.names r.first; second = grown-itself st.names r.first })) in
+      (record { tokens = tt; first = grown-itself st.names r.names.0; second = grown-itself st.names r.names.0 })) in
       go (tokens st.loops line at room st.names bs) own
     where
       go : (x : Result Scanned TextProblem) → Alone (λ (s : Scanned). SameScanned st.names st.names at at s s) x
@@ -94,7 +95,7 @@ module _ (st other : Reading) (r : ReadAlike st other) where
           → Alone (λ (x : WithTokens). ReadAlike x.1 other × Q x.0)
           (x >>= λ s. Ok (s.tokens, record st { names = s.names; tokens_read = st.tokens_read + length s.tokens }))
       go (Ok s) g q = (
-        reading-grown st other r s.names other.names g (grown-itself other.names r.second) (st.tokens_read + length s.tokens)
+        reading-grown st other r s.names other.names g (grown-itself other.names r.names.1) (st.tokens_read + length s.tokens)
             other.tokens_read (let k = r.tokens_read in omega arith),
         q,
       )
@@ -113,7 +114,7 @@ lone-rof row st other r =
     (line-alone st other r)
     (λ a k. row-alone a other k row 0 (λ _. ⊤) (no-matter
     (tokens a.loops row.number (row.at + 0) (limit - a.tokens_read) a.names (before_comment (drop 0 row.bytes))))))
-    (λ x k. grows-no-more x.1 other k.0 other.equate_grows)
+    (λ x k. grows-changed name_for_name x.1 other k.0 false other.equate_grows (λ e. absurd (cc)))
 
 -- ---- the tokens of FOR and a number
 
@@ -304,7 +305,7 @@ headed-alone ps line at n other x r q =
     go : (c : Bool) → Alone (IsLoneHead n other) ((elim c as (λ _. Result ℕ TextProblem)
         [ true ↦ Ok n | false ↦ Err BadCount ]) >>= λ count. Ok
         (record { counter = None; count = count; reading = record (x.1) { equate_grows = false } }))
-    go true = (refl, refl, grows-no-more x.1 other r other.equate_grows)
+    go true = (refl, refl, grows-changed name_for_name x.1 other r false other.equate_grows (λ e. absurd (cc)))
     go false = tt
 
 pub lone-head : (ps : Predefined) (row : SourceRow) (n : ℕ) (st other : Reading) → n < 2 ^ 63 → row.bytes ≡ codes "FOR " ++ decimal n

@@ -1,12 +1,12 @@
 -- Where the first and the second word of a line begin, in a text and in the text renamed.
-use Rattle.std.proofs.Common.{◌≡◌, ◌∙◌, refl, ap, sym, ℕ, suc, ◌+◌, ◌==◌, ◌&&◌, ◌||◌, Bool, true, false, cond, List, [], ◌∷◌, ◌++◌, drop, drop-drop, arith, one-add, add-one}
+use Rattle.std.proofs.Common.{◌≡◌, ◌∙◌, refl, ap, sym, subst, ℕ, suc, ◌+◌, ◌==◌, ◌&&◌, ◌||◌, Bool, true, false, cond, List, [], ◌∷◌, drop, drop-drop, arith, one-add, add-one}
 use Rattle.std.proofs.lemmas.Bool.Decides.{nat_tests}
-use Rattle.redcode_text.specs.Laws.{IsRenaming, renamed_from, renamed_text}
+use Rattle.redcode_text.specs.Laws.{IsRenaming, renamed_text}
 use Rattle.redcode_text.specs.Lines.{Predefined, before_comment}
 use Rattle.redcode_text.specs.Source.{blank_len, colon_len, first_word_at, past_blanks, past_word, second_word_at}
 use Rattle.redcode_text.specs.Tokens.{begins_name, begins_word, is_blank, is_word_byte, word_len}
 use Rattle.redcode_text.proofs.ForLaws.RenamedPlaces.{blanks-renamed, past-blanks}
-use Rattle.redcode_text.proofs.ForLaws.RenamedScans.{first-byte}
+use Rattle.redcode_text.proofs.ForLaws.RenamedScans.{word-first}
 use Rattle.redcode_text.proofs.ForLaws.RenamedWords.{empty-stays, other-stays, rest-dropped, rest-renamed}
 
 -- ---- lengths at the front, one after another
@@ -58,55 +58,44 @@ code-behind f g h k bs =
       sym (drop-drop (g (drop (f bs) bs)) (f bs) (before_comment bs)) ∙ ap (drop (g (drop (f bs) bs))) a.1 ∙ b.1 ∙ ap before_comment (drop-drop (g (drop (f bs) bs)) (f bs) bs),
     )
 
-code-cons : (b : ℕ) (bs : List ℕ) → (b == 59) ≡ false → before_comment (b ∷ bs) ≡ b ∷ before_comment bs
-code-cons b bs e = ap (λ t. elim t as (λ _. List ℕ) [ true ↦ [] | false ↦ b ∷ before_comment bs ]) e
+-- a length that counts its first byte, which is no `;`, or is 0
+code-first : (f : List ℕ → ℕ) (b : ℕ) (bs : List ℕ) (t : Bool) (n k : ℕ) → f [] ≡ 0 → f (b ∷ bs) ≡ cond t (suc n) 0 → f (b ∷ before_comment bs) ≡ cond t (suc k) 0 → (t ≡ true → (b == 59) ≡ false)
+    → (k ≡ n) × (drop n (before_comment bs) ≡ before_comment (drop n bs))
+    → (f (before_comment (b ∷ bs)) ≡ f (b ∷ bs)) × (drop (f (b ∷ bs)) (before_comment (b ∷ bs)) ≡ before_comment (drop (f (b ∷ bs)) (b ∷ bs)))
+code-first f b bs t n k none one two counts on =
+    subst (λ m. (f (before_comment (b ∷ bs)) ≡ m) × (drop m (before_comment (b ∷ bs)) ≡ before_comment (drop m (b ∷ bs)))) (sym one) (go t two counts)
+  where
+    cut : Bool → List ℕ
+    cut c = elim c as (λ _. List ℕ) [ true ↦ [] | false ↦ b ∷ before_comment bs ]
+
+    nothing : (c : Bool) → f (b ∷ before_comment bs) ≡ 0 → f (cut c) ≡ 0
+    nothing true e = none
+    nothing false e = e
+
+    go : (t : Bool) → f (b ∷ before_comment bs) ≡ cond t (suc k) 0 → (t ≡ true → (b == 59) ≡ false)
+        → (f (before_comment (b ∷ bs)) ≡ cond t (suc n) 0) × (drop (cond t (suc n) 0) (before_comment (b ∷ bs)) ≡ before_comment (drop (cond t (suc n) 0) (b ∷ bs)))
+    go true e h = let cuts = ap cut (h refl) in (ap f cuts ∙ e ∙ ap suc on.0, ap (drop (suc n)) cuts ∙ on.1)
+    go false e h = (nothing (b == 59) e, refl)
+
+counts : (t : Bool) (m n : ℕ) → m ≡ n → elim t as (λ _. ℕ) [ true ↦ m | false ↦ 0 ] ≡ cond t n 0
+counts true m n e = e
+counts false m n e = refl
 
 blank-code : (b : ℕ) → is_blank b ≡ true → (b == 59) ≡ false
 blank-code b e = grind (arith, nat_tests)
 
 blanks-code : IsCode blank_len
 blanks-code [] = (refl, refl)
-blanks-code (b ∷ bs) = go (is_blank b) refl (b == 59) refl (blanks-code bs)
-  where
-    go : (t : Bool) → is_blank b ≡ t → (c : Bool) → (b == 59) ≡ c → ((blank_len (before_comment bs) ≡ blank_len bs) × (drop (blank_len bs) (before_comment bs) ≡ before_comment (drop (blank_len bs) bs)))
-        → (blank_len (before_comment (b ∷ bs)) ≡ blank_len (b ∷ bs)) × (drop (blank_len (b ∷ bs)) (before_comment (b ∷ bs)) ≡ before_comment (drop (blank_len (b ∷ bs)) (b ∷ bs)))
-    go true e c f on =
-        let cut = code-cons b bs (blank-code b e) in
-        let n : cond (is_blank b) (1 + blank_len bs) 0 ≡ suc (blank_len bs) = ap (λ t. cond t (1 + blank_len bs) 0) e ∙ one-add (blank_len bs) in
-        let m : cond (is_blank b) (1 + blank_len (before_comment bs)) 0 ≡ suc (blank_len bs) = ap (λ t. cond t (1 + blank_len (before_comment bs)) 0) e ∙ one-add (blank_len (before_comment bs)) ∙ ap suc on.0 in
-        (ap blank_len cut ∙ m ∙ sym n, ap (λ k. drop k (before_comment (b ∷ bs))) n ∙ ap (drop (suc (blank_len bs))) cut ∙ on.1 ∙ sym (ap (λ k. before_comment (drop k (b ∷ bs))) n))
-    go false e true f on =
-        let cut : before_comment (b ∷ bs) ≡ [] = ap (λ t. elim t as (λ _. List ℕ) [ true ↦ [] | false ↦ b ∷ before_comment bs ]) f in
-        let n : cond (is_blank b) (1 + blank_len bs) 0 ≡ 0 = ap (λ t. cond t (1 + blank_len bs) 0) e in
-        (ap blank_len cut ∙ sym n, ap (λ k. drop k (before_comment (b ∷ bs))) n ∙ sym (ap (λ k. before_comment (drop k (b ∷ bs))) n))
-    go false e false f on =
-        let cut = code-cons b bs f in
-        let n : cond (is_blank b) (1 + blank_len bs) 0 ≡ 0 = ap (λ t. cond t (1 + blank_len bs) 0) e in
-        (ap blank_len cut ∙ ap (λ t. cond t (1 + blank_len (before_comment bs)) 0) e ∙ sym n, ap (λ k. drop k (before_comment (b ∷ bs))) n ∙ sym (ap (λ k. before_comment (drop k (b ∷ bs))) n))
+blanks-code (b ∷ bs) =
+    code-first blank_len b bs (is_blank b) (blank_len bs) (blank_len (before_comment bs)) refl (ap (λ n. cond (is_blank b) n 0) (one-add (blank_len bs))) (ap (λ n. cond (is_blank b) n 0) (one-add (blank_len (before_comment bs))))
+    (blank-code b) (blanks-code bs)
 
 colon-code : IsCode colon_len
 colon-code [] = (refl, refl)
-colon-code (b ∷ bs) = go (b == 58) refl (b == 59) refl
+colon-code (b ∷ bs) = code-first colon_len b bs (b == 58) 0 0 refl (counts (b == 58) 1 1 refl) (counts (b == 58) 1 1 refl) (no-comment b) (refl, refl)
   where
-    not-both : (b : ℕ) → (b == 58) ≡ true → (b == 59) ≡ false
-    not-both b e = grind (arith, nat_tests)
-
-    one : (t : Bool) → ℕ
-    one t = elim t as (λ _. ℕ) [ true ↦ 1 | false ↦ 0 ]
-
-    go : (t : Bool) → (b == 58) ≡ t → (c : Bool) → (b == 59) ≡ c → (colon_len (before_comment (b ∷ bs)) ≡ colon_len (b ∷ bs)) × (drop (colon_len (b ∷ bs)) (before_comment (b ∷ bs)) ≡ before_comment (drop (colon_len (b ∷ bs)) (b ∷ bs)))
-    go true e c f =
-        let cut = code-cons b bs (not-both b e) in
-        let n : one (b == 58) ≡ 1 = ap one e in
-        (ap colon_len cut, ap (λ k. drop k (before_comment (b ∷ bs))) n ∙ ap (drop 1) cut ∙ sym (ap (λ k. before_comment (drop k (b ∷ bs))) n))
-    go false e true f =
-        let cut : before_comment (b ∷ bs) ≡ [] = ap (λ t. elim t as (λ _. List ℕ) [ true ↦ [] | false ↦ b ∷ before_comment bs ]) f in
-        let n : one (b == 58) ≡ 0 = ap one e in
-        (ap colon_len cut ∙ sym n, ap (λ k. drop k (before_comment (b ∷ bs))) n ∙ sym (ap (λ k. before_comment (drop k (b ∷ bs))) n))
-    go false e false f =
-        let cut = code-cons b bs f in
-        let n : one (b == 58) ≡ 0 = ap one e in
-        (ap colon_len cut, ap (λ k. drop k (before_comment (b ∷ bs))) n ∙ sym (ap (λ k. before_comment (drop k (b ∷ bs))) n))
+    no-comment : (b : ℕ) → (b == 58) ≡ true → (b == 59) ≡ false
+    no-comment b e = grind (arith, nat_tests)
 
 begins-code : (bs : List ℕ) → begins_name (before_comment bs) ≡ begins_name bs
 begins-code [] = refl
@@ -121,37 +110,13 @@ begins-code (b ∷ bs) = go (b == 59) refl
 
 word-code : IsCode word_len
 word-code [] = (refl, refl)
-word-code (b ∷ bs) = go (b == 59) refl (is_word_byte b || ((b == 38) && begins_name bs)) refl (word-code bs)
+word-code (b ∷ bs) =
+    code-first word_len b bs (begins_word (b ∷ bs)) (word_len bs) (word_len (before_comment bs)) refl (counts (begins_word (b ∷ bs)) (word_len bs + 1) (suc (word_len bs)) (add-one (word_len bs)))
+    (counts (begins_word (b ∷ before_comment bs)) (word_len (before_comment bs) + 1) (suc (word_len (before_comment bs))) (add-one (word_len (before_comment bs)))
+    ∙ ap (λ t. cond (is_word_byte b || ((b == 38) && t)) (suc (word_len (before_comment bs))) 0) (begins-code bs)) (no-comment b (begins_name bs)) (word-code bs)
   where
-    no-word : (b : ℕ) → (b == 59) ≡ true → is_word_byte b ≡ false
-    no-word b e = grind (arith, nat_tests)
-
-    no-join : (b : ℕ) → (b == 59) ≡ true → (b == 38) ≡ false
-    no-join b e = grind (arith, nat_tests)
-
-    long : Bool → ℕ → ℕ
-    long t n = elim t as (λ _. ℕ) [ true ↦ n + 1 | false ↦ 0 ]
-
-    go : (c : Bool) → (b == 59) ≡ c → (t : Bool) → begins_word (b ∷ bs) ≡ t → ((word_len (before_comment bs) ≡ word_len bs) × (drop (word_len bs) (before_comment bs) ≡ before_comment (drop (word_len bs) bs)))
-        → (word_len (before_comment (b ∷ bs)) ≡ word_len (b ∷ bs)) × (drop (word_len (b ∷ bs)) (before_comment (b ∷ bs)) ≡ before_comment (drop (word_len (b ∷ bs)) (b ∷ bs)))
-    go true f t e on =
-        let cut : before_comment (b ∷ bs) ≡ [] = ap (λ t. elim t as (λ _. List ℕ) [ true ↦ [] | false ↦ b ∷ before_comment bs ]) f in
-        let n : long (begins_word (b ∷ bs)) (word_len bs) ≡ 0 = (λ i. long (no-word b f i || (no-join b f i && begins_name bs)) (word_len bs)) in
-        (ap word_len cut ∙ sym n, ap (λ k. drop k (before_comment (b ∷ bs))) n ∙ sym (ap (λ k. before_comment (drop k (b ∷ bs))) n))
-    go false f true e on =
-        let cut = code-cons b bs f in
-        let begins : begins_word (b ∷ before_comment bs) ≡ begins_word (b ∷ bs) = ap (λ t. is_word_byte b || ((b == 38) && t)) (begins-code bs) in
-        let n : long (begins_word (b ∷ bs)) (word_len bs) ≡ suc (word_len bs) = ap (λ t. long t (word_len bs)) e ∙ add-one (word_len bs) in (
-          ap word_len cut ∙ (λ i. long (begins i) (on.0 i)),
-          ap (λ k. drop k (before_comment (b ∷ bs))) n ∙ ap (drop (suc (word_len bs))) cut ∙ on.1 ∙ sym (ap (λ k. before_comment (drop k (b ∷ bs))) n),
-        )
-    go false f false e on =
-        let cut = code-cons b bs f in
-        let begins : begins_word (b ∷ before_comment bs) ≡ begins_word (b ∷ bs) = ap (λ t. is_word_byte b || ((b == 38) && t)) (begins-code bs) in
-        let n : long (begins_word (b ∷ bs)) (word_len bs) ≡ 0 = ap (λ t. long t (word_len bs)) e in (
-          ap word_len cut ∙ (λ i. long (begins i) (word_len (before_comment bs))) ∙ ap (λ t. long t (word_len (before_comment bs))) e ∙ sym n,
-          ap (λ k. drop k (before_comment (b ∷ bs))) n ∙ sym (ap (λ k. before_comment (drop k (b ∷ bs))) n),
-        )
+    no-comment : (b : ℕ) (t : Bool) → (is_word_byte b || ((b == 38) && t)) ≡ true → (b == 59) ≡ false
+    no-comment b t e = grind (arith, nat_tests, e)
 
 second-code : IsCode to_second
 second-code =
@@ -193,11 +158,7 @@ module _ (ps : Predefined) (rename : List ℕ → List ℕ) (r : IsRenaming ps r
       one t = elim t as (λ _. ℕ) [ true ↦ 1 | false ↦ 0 ]
 
       go : (t : Bool) → is_word_byte b ≡ t → colon_len (renamed_text rename (b ∷ bs)) ≡ colon_len (b ∷ bs)
-      go true e =
-          let all : (is_word_byte b && true) ≡ true = rw e refl in
-          let first = first-byte ps rename r b [] bs all in
-          let same : renamed_text rename (b ∷ bs) ≡ first.0 ∷ first.1 = ap (λ t. elim t as (λ _. List ℕ) [ true ↦ renamed_from rename (b ∷ []) bs | false ↦ rename [] ++ b ∷ renamed_from rename [] bs ]) e ∙ first.2 in
-          ap colon_len same ∙ ap one (no-colon first.0 first.3) ∙ sym (ap one (no-colon b e))
+      go true e = word-first ps rename r (λ l. colon_len l ≡ colon_len (b ∷ bs)) b bs e (λ c cs k. ap one (no-colon c k) ∙ sym (ap one (no-colon b e)))
       go false e = ap colon_len (other-stays ps rename r b bs e)
 
   colon-cut : Cuts colon_len

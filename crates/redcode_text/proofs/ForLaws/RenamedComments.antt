@@ -1,16 +1,17 @@
 -- A comment line with its names renamed: what `;assert` says, and nothing else.
-use Rattle.std.proofs.Common.{◌≡◌, ◌∙◌, refl, ap, sym, subst, true≢false, ℕ, zero, suc, ◌+◌, ◌&&◌, ◌⊎◌, inl, inr, Bool, true, false, cond, List, [], ◌∷◌, ◌++◌, length, length-append, take, drop, map, nat_eq, append_assoc, arith, one-add}
+use Rattle.std.proofs.Common.{◌≡◌, ◌∙◌, refl, ap, sym, subst, true≢false, ℕ, suc, ◌+◌, ◌&&◌, ◌⊎◌, inl, inr, Bool, true, false, cond, List, [], ◌∷◌, ◌++◌, length, length-append, take, drop, map, nat_eq, append_assoc, arith, one-add}
 use Rattle.std.specs.Prelude.{codes}
 use Rattle.std.specs.Char.{to_ascii_lowercase}
 use Rattle.std.specs.List.{list_all, starts_with}
 use Rattle.std.proofs.lemmas.Bool.{and_parts}
 use Rattle.std.proofs.lemmas.Bool.Decides.{nat_tests}
-use Rattle.std.proofs.lemmas.List.{length-map, map-append}
-use Rattle.redcode_text.specs.Laws.{IsRenaming, renamed_comment, renamed_from, renamed_line, renamed_text}
+use Rattle.std.proofs.lemmas.List.{length-map, map-append, take-append-drop}
+use Rattle.std.proofs.Math.Seq.{drop-append_seam, take-append_seam}
+use Rattle.redcode_text.specs.Laws.{IsRenaming, renamed_comment, renamed_line, renamed_text}
 use Rattle.redcode_text.specs.Lines.{Predefined}
 use Rattle.redcode_text.specs.Source.{blank_len, directive_text, directive_text_at, ends_word, has_directive, has_directive_word, is_comment, without_blanks}
 use Rattle.redcode_text.specs.Tokens.{is_blank, is_word_byte}
-use Rattle.redcode_text.proofs.ForLaws.RenamedScans.{first-byte, word-shows}
+use Rattle.redcode_text.proofs.ForLaws.RenamedScans.{word-first, word-shows}
 use Rattle.redcode_text.proofs.ForLaws.RenamedWords.{empty-stays, other-stays}
 
 -- ---- a text that begins with a word
@@ -53,14 +54,6 @@ blanks-front (b ∷ bs) l all none =
     let k = and_parts (is_blank b) (list_all is_blank bs) all in
     ap (λ t. cond t (1 + blank_len (bs ++ l)) 0) k.0 ∙ one-add (blank_len (bs ++ l)) ∙ ap suc (blanks-front bs l k.1 none)
 
-drop-front : (xs ys : List ℕ) → drop (length xs) (xs ++ ys) ≡ ys
-drop-front [] ys = refl
-drop-front (x ∷ xs) ys = drop-front xs ys
-
-take-front : (xs ys : List ℕ) → take (length xs) (xs ++ ys) ≡ xs
-take-front [] ys = refl
-take-front (x ∷ xs) ys = ap (λ l. x ∷ l) (take-front xs ys)
-
 lower-semicolon : (b : ℕ) → to_ascii_lowercase b ≡ 59 → b ≡ 59
 lower-semicolon b e = grind (arith, nat_tests, e)
 
@@ -74,11 +67,6 @@ pub record IsAssert (line rest : List ℕ) : Type 0 where
   pub all : list_all is_blank blanks ≡ true
   pub is : lower front ≡ codes ";assert"
 
-taken-dropped : (n : ℕ) (l : List ℕ) → take n l ++ drop n l ≡ l
-taken-dropped zero l = refl
-taken-dropped (suc n) [] = refl
-taken-dropped (suc n) (x ∷ l) = ap (λ t. x ∷ t) (taken-dropped n l)
-
 is-assert : (line : List ℕ) → has_directive (codes "assert") line ≡ true → (rest : List ℕ) × IsAssert line rest
 is-assert line e =
     let h = begun (codes ";assert") (without_blanks line) e in (
@@ -86,7 +74,7 @@ is-assert line e =
       record {
         blanks = take (blank_len line) line;
         front = h.front;
-        parts = sym (taken-dropped (blank_len line) line) ∙ ap (λ l. take (blank_len line) line ++ l) h.parts;
+        parts = sym (take-append-drop (blank_len line) line) ∙ ap (λ l. take (blank_len line) line ++ l) h.parts;
         all = all-blanks line;
         is = h.is;
       },
@@ -110,7 +98,7 @@ module _ (line rest : List ℕ) (a : IsAssert line rest) where
   blanks-are = ap blank_len a.parts ∙ blanks-front a.blanks (a.front ++ rest) a.all first.2
 
   behind-blanks : without_blanks line ≡ a.front ++ rest
-  behind-blanks = (λ i. drop (blanks-are i) (a.parts i)) ∙ drop-front a.blanks (a.front ++ rest)
+  behind-blanks = (λ i. drop (blanks-are i) (a.parts i)) ∙ drop-append_seam a.blanks (a.front ++ rest)
 
   pub assert-comment : is_comment line ≡ true
   assert-comment = ap (λ l. starts_with nat_eq l (59 ∷ [])) behind-blanks ∙ first.1
@@ -140,10 +128,10 @@ module _ (line rest : List ℕ) (a : IsAssert line rest) where
       omega (arith, n, m, k, six)
 
   pub assert-text : directive_text (codes "assert") line ≡ rest
-  assert-text = (λ i. drop (text-at i) ((a.parts ∙ sym (append_assoc a.blanks a.front rest)) i)) ∙ drop-front (a.blanks ++ a.front) rest
+  assert-text = (λ i. drop (text-at i) ((a.parts ∙ sym (append_assoc a.blanks a.front rest)) i)) ∙ drop-append_seam (a.blanks ++ a.front) rest
 
   pub assert-front : take (directive_text_at (codes "assert") line) line ≡ a.blanks ++ a.front
-  assert-front = (λ i. take (text-at i) ((a.parts ∙ sym (append_assoc a.blanks a.front rest)) i)) ∙ take-front (a.blanks ++ a.front) rest
+  assert-front = (λ i. take (text-at i) ((a.parts ∙ sym (append_assoc a.blanks a.front rest)) i)) ∙ take-append_seam (a.blanks ++ a.front) rest
 
 module _ (ps : Predefined) (rename : List ℕ → List ℕ) (r : IsRenaming ps rename) where
   ends-same : (bs : List ℕ) → ends_word (renamed_text rename bs) ≡ ends_word bs
@@ -151,11 +139,7 @@ module _ (ps : Predefined) (rename : List ℕ → List ℕ) (r : IsRenaming ps r
   ends-same (b ∷ bs) = go (is_word_byte b) refl
     where
       go : (t : Bool) → is_word_byte b ≡ t → ends_word (renamed_text rename (b ∷ bs)) ≡ is_blank b
-      go true e =
-          let all : (is_word_byte b && true) ≡ true = rw e refl in
-          let first = first-byte ps rename r b [] bs all in
-          let same : renamed_text rename (b ∷ bs) ≡ first.0 ∷ first.1 = ap (λ t. elim t as (λ _. List ℕ) [ true ↦ renamed_from rename (b ∷ []) bs | false ↦ rename [] ++ b ∷ renamed_from rename [] bs ]) e ∙ first.2 in
-          ap ends_word same ∙ word-shows first.0 first.3 ∙ sym (word-shows b e)
+      go true e = word-first ps rename r (λ l. ends_word l ≡ is_blank b) b bs e (λ c cs k. word-shows c k ∙ sym (word-shows b e))
       go false e = ap ends_word (other-stays ps rename r b bs e)
 
   pub record IsSameAssert (line other : List ℕ) : Type 0 where

@@ -1,6 +1,6 @@
 -- What a line is, and where its FOR or EQU stands, with its names renamed.
-use Rattle.std.proofs.Common.{◌≡◌, ◌∙◌, refl, ap, sym, subst, true≢false, ℕ, ◌&&◌, ◌||◌, ◌⊎◌, inl, inr, Bool, true, false, List, [], ◌∷◌, ◌++◌, take, drop, drop-drop, map, nat_eq, Option, Some, None, is_some, append_assoc, arith}
-use Rattle.std.specs.Prelude.{⊤, codes}
+use Rattle.std.proofs.Common.{◌≡◌, ◌∙◌, refl, ap, sym, subst, true≢false, ℕ, ◌&&◌, ◌||◌, ◌⊎◌, inl, inr, Bool, true, false, List, [], ◌∷◌, ◌++◌, take, drop, drop-drop, map, nat_eq, Option, Some, None, pos, is_some, append_assoc, arith}
+use Rattle.std.specs.Prelude.{⊤, ℤ, codes}
 use Rattle.std.specs.Char.{to_ascii_lowercase}
 use Rattle.std.specs.List.{list_all, list_any, starts_with}
 use Rattle.std.specs.Str.{bytes_eq, str_eq_ignore_ascii_case, str_to_ascii_lowercase}
@@ -14,7 +14,7 @@ use Rattle.redcode_text.specs.Source.{LineKind, RofLine, ForLine, EquLine, Other
 use Rattle.redcode_text.specs.Tokens.{is_word_byte, word_len}
 use Rattle.redcode_text.proofs.ForLaws.RenamedColumns.{first-cut, first-is, second-cut, second-is, to_word}
 use Rattle.redcode_text.proofs.ForLaws.RenamedPlaces.{either-second}
-use Rattle.redcode_text.proofs.ForLaws.RenamedScans.{first-byte}
+use Rattle.redcode_text.proofs.ForLaws.RenamedScans.{word-first}
 use Rattle.redcode_text.proofs.ForLaws.RenamedWords.{empty-stays, other-stays, raw-renamed, raw-taken, raw_of}
 
 -- ---- words in either case
@@ -47,7 +47,7 @@ all-parts (x ∷ xs) ys e = all-parts xs ys (and_parts (is_word_byte x) (list_al
 
 module _ (ps : Predefined) (rename : List ℕ → List ℕ) (r : IsRenaming ps rename) where
   -- what is true of words with a meaning alone is true of a word and of the word renamed
-  pub kept-test : (P : List ℕ → Bool) → ((word : List ℕ) → P word ≡ true → is_reserved ps word ≡ true) → (word : List ℕ) → P (rename word) ≡ P word
+  kept-test : (P : List ℕ → Bool) → ((word : List ℕ) → P word ≡ true → is_reserved ps word ≡ true) → (word : List ℕ) → P (rename word) ≡ P word
   kept-test P means word = go (P word) (P (rename word)) refl refl
     where
       go : (t u : Bool) → P word ≡ t → P (rename word) ≡ u → u ≡ t
@@ -65,6 +65,29 @@ module _ (ps : Predefined) (rename : List ℕ → List ℕ) (r : IsRenaming ps r
   operations-same =
       kept-test (λ word. list_any (str_eq_ignore_ascii_case word) operations)
       (λ word e. either (list_any (str_eq_ignore_ascii_case word) operations) (is_some (predefined_value (with_current_line ps 0) word)) e)
+
+  value-some : (k : ℕ) (word : List ℕ) → is_some (predefined_value (with_current_line ps k) word) ≡ is_some (predefined_value (with_current_line ps 0) word)
+  value-some k word = go (bytes_eq (codes "CURLINE") word)
+    where
+      go : (t : Bool) → is_some (elim t as (λ _. Option ℤ) [ true ↦ Some (pos k) | false ↦ predefined_value ps word ]) ≡ is_some (elim t as (λ _. Option ℤ) [ true ↦ Some (pos 0) | false ↦ predefined_value ps word ])
+      go true = refl
+      go false = refl
+
+  value-means : (k : ℕ) (word : List ℕ) → is_some (predefined_value (with_current_line ps k) word) ≡ true → is_reserved ps word ≡ true
+  value-means k word e = either-second (list_any (str_eq_ignore_ascii_case word) operations) (is_some (predefined_value (with_current_line ps 0) word)) (sym (value-some k word) ∙ e)
+
+  no-value : (o : Option ℤ) → is_some o ≡ false → o ≡ None
+  no-value None e = refl
+  no-value (Some x) e = absurd (true≢false e)
+
+  pub value-renamed : (k : ℕ) (word : List ℕ) → predefined_value (with_current_line ps k) (rename word) ≡ predefined_value (with_current_line ps k) word
+  value-renamed k word = go (is_some (predefined_value (with_current_line ps k) word)) refl
+    where
+      go : (t : Bool) → is_some (predefined_value (with_current_line ps k) word) ≡ t → predefined_value (with_current_line ps k) (rename word) ≡ predefined_value (with_current_line ps k) word
+      go true e = ap (predefined_value (with_current_line ps k)) (r.reserved word (value-means k word e))
+      go false e =
+          no-value (predefined_value (with_current_line ps k) (rename word)) (kept-test (λ w. is_some (predefined_value (with_current_line ps k) w)) (value-means k) word ∙ e)
+          ∙ sym (no-value (predefined_value (with_current_line ps k) word) e)
 
   -- a text that is one word
   one-word : (word bs : List ℕ) → list_all is_word_byte bs ≡ true → renamed_from rename word bs ≡ rename (word ++ bs)
@@ -183,11 +206,7 @@ module _ (ps : Predefined) (rename : List ℕ → List ℕ) (r : IsRenaming ps r
       go (b ∷ l) = by (is_word_byte b) refl
         where
           by : (t : Bool) → is_word_byte b ≡ t → starts_with nat_eq (renamed_text rename (b ∷ l)) (59 ∷ []) ≡ starts_with nat_eq (b ∷ l) (59 ∷ [])
-          by true e =
-              let all : (is_word_byte b && true) ≡ true = rw e refl in
-              let first = first-byte ps rename r b [] l all in
-              let same : renamed_text rename (b ∷ l) ≡ first.0 ∷ first.1 = ap (λ t. elim t as (λ _. List ℕ) [ true ↦ renamed_from rename (b ∷ []) l | false ↦ rename [] ++ b ∷ renamed_from rename [] l ]) e ∙ first.2 in
-              ap (λ l. starts_with nat_eq l (59 ∷ [])) same ∙ ap (λ t. t && true) (no-semicolon first.0 first.3 ∙ sym (no-semicolon b e))
+          by true e = word-first ps rename r (λ t. starts_with nat_eq t (59 ∷ []) ≡ starts_with nat_eq (b ∷ l) (59 ∷ [])) b l e (λ c cs k. ap (λ t. t && true) (no-semicolon c k ∙ sym (no-semicolon b e)))
           by false e = ap (λ l. starts_with nat_eq l (59 ∷ [])) (other-stays ps rename r b l e)
 
 -- ---- comment lines

@@ -1,5 +1,5 @@
 -- The tokens of a renamed text stand on the same side of the second word of a line, or of the first, as those of the text.
-use Rattle.std.proofs.Common.{◌≡◌, ◌∙◌, refl, ap, sym, subst, true≢false, ℕ, zero, suc, ◌+◌, ◌-◌, ◌≤◌, ◌==◌, ◌&&◌, ◌||◌, Bool, true, false, cond, nat_lt, List, [], ◌∷◌, ◌++◌, length, drop, map, Result, Ok, Err, arith}
+use Rattle.std.proofs.Common.{◌≡◌, ◌∙◌, refl, ap, sym, subst, true≢false, ℕ, zero, suc, ◌+◌, ◌-◌, ◌≤◌, ◌==◌, ◌||◌, Bool, true, false, cond, nat_lt, List, [], ◌∷◌, length, drop, map, Result, Ok, Err, arith}
 use Rattle.std.specs.List.{list_any, prefix_len}
 use Rattle.std.proofs.Common.{one-add}
 use Rattle.std.proofs.lemmas.Bool.Decides.{nat_tests}
@@ -8,12 +8,12 @@ use Rattle.redcode_text.specs.Results.{◌>>=◌}
 use Rattle.redcode_text.specs.declared.fault.TextProblem.{TextProblem}
 use Rattle.redcode_text.specs.declared.fault.TextProblem.TheVariants.{TooLong}
 use Rattle.redcode_text.specs.declared.token.Token.{Token}
-use Rattle.redcode_text.specs.Laws.{IsRenaming, JoinsAreRenamed, renamed_from, renamed_text}
+use Rattle.redcode_text.specs.Laws.{IsRenaming, JoinsAreRenamed, renamed_text}
 use Rattle.redcode_text.specs.Lines.{Predefined}
 use Rattle.redcode_text.specs.Tokens.{Found, OpenLoop, Scanned, begins_word, is_blank, is_word_byte, scan_from, token_at, with_room, with_token}
-use Rattle.redcode_text.proofs.ForLaws.Agreement.{Pairwise, pairwise-append, pairwise-length}
-use Rattle.redcode_text.proofs.ForLaws.RenamedResults.{BothGive, both-cond, both-then}
-use Rattle.redcode_text.proofs.ForLaws.RenamedScans.{SameStep, behind-token, first-byte, token-step, word-shows}
+use Rattle.redcode_text.proofs.ForLaws.Agreement.{BothGive, Pairwise, both-cond, both-then, pairwise-append, pairwise-length}
+use Rattle.redcode_text.proofs.ForLaws.Likeness.{Equal, PlacedToken, kind-like}
+use Rattle.redcode_text.proofs.ForLaws.RenamedScans.{SameStep, behind-token, token-step, word-first, word-shows}
 use Rattle.redcode_text.proofs.ForLaws.RenamedTokens.{renamed_loop}
 use Rattle.redcode_text.proofs.ForLaws.RenamedWords.{empty-stays, other-stays, raw_of}
 
@@ -49,10 +49,8 @@ module _ (ps : Predefined) (rename : List ℕ → List ℕ) (r : IsRenaming ps r
     where
       go : (t : Bool) → is_word_byte b ≡ t → prefix_len is_blank (renamed_text rename bs) ≡ prefix_len is_blank bs → prefix_len is_blank (renamed_text rename (b ∷ bs)) ≡ prefix_len is_blank (b ∷ bs)
       go true e h =
-          let all : (is_word_byte b && true) ≡ true = rw e refl in
-          let first = first-byte ps rename r b [] bs all in
-          let same : renamed_text rename (b ∷ bs) ≡ first.0 ∷ first.1 = ap (λ t. elim t as (λ _. List ℕ) [ true ↦ renamed_from rename (b ∷ []) bs | false ↦ rename [] ++ b ∷ renamed_from rename [] bs ]) e ∙ first.2 in
-          ap (prefix_len is_blank) same ∙ ap (λ t. cond t (1 + prefix_len is_blank first.1) 0) (word-shows first.0 first.3) ∙ sym (ap (λ t. cond t (1 + prefix_len is_blank bs) 0) (word-shows b e))
+          word-first ps rename r (λ l. prefix_len is_blank l ≡ prefix_len is_blank (b ∷ bs)) b bs e
+          (λ c cs k. ap (λ t. cond t (1 + prefix_len is_blank cs) 0) (word-shows c k) ∙ sym (ap (λ t. cond t (1 + prefix_len is_blank bs) 0) (word-shows b e)))
       go false e h = ap (prefix_len is_blank) (other-stays ps rename r b bs e) ∙ ap (λ n. cond (is_blank b) (1 + n) 0) h
 
   pub blank-no-word : (b : ℕ) → is_blank b ≡ true → is_word_byte b ≡ false
@@ -77,7 +75,7 @@ module _ (ps : Predefined) (rename : List ℕ → List ℕ) (r : IsRenaming ps r
 
     -- the same token, at two places
     abbrev pub SameToken : Token → Token → Type 0
-    SameToken t u = (t.kind ≡ u.kind) × Q t.from u.from
+    SameToken t u = PlacedToken Equal Q t u
 
     pub record SameScan (s t : Scanned) : Type 0 where
       pub tokens : Pairwise SameToken s.tokens t.tokens
@@ -94,7 +92,7 @@ module _ (ps : Predefined) (rename : List ℕ → List ℕ) (r : IsRenaming ps r
         (record {
           tokens =
               pairwise-append SameToken s.tokens t.tokens (record { kind = f.kind; line = line; from = at; to = at + f.len } ∷ [])
-              (record { kind = g.kind; line = line; from = to; to = to + g.len } ∷ []) q.tokens ((h.kind, here), tt);
+              (record { kind = g.kind; line = line; from = to; to = to + g.len } ∷ []) q.tokens ((kind-like f.kind g.kind h.kind, here), tt);
           names = h.names;
         }) refl
 
@@ -103,14 +101,7 @@ module _ (ps : Predefined) (rename : List ℕ → List ℕ) (r : IsRenaming ps r
     shows b bs e = go (is_word_byte b) refl
       where
         go : (t : Bool) → is_word_byte b ≡ t → (c : ℕ) × (cs : List ℕ) × (renamed_text rename (b ∷ bs) ≡ c ∷ cs) × (is_blank c ≡ false)
-        go true w =
-            let all : (is_word_byte b && true) ≡ true = rw w refl in
-            let first = first-byte ps rename r b [] bs all in (
-              first.0,
-              first.1,
-              ap (λ t. elim t as (λ _. List ℕ) [ true ↦ renamed_from rename (b ∷ []) bs | false ↦ rename [] ++ b ∷ renamed_from rename [] bs ]) w ∙ first.2,
-              word-shows first.0 first.3,
-            )
+        go true w = word-first ps rename r (λ l. (c : ℕ) × (cs : List ℕ) × (l ≡ c ∷ cs) × (is_blank c ≡ false)) b bs w (λ c cs k. (c, cs, refl, word-shows c k))
         go false w = (b, renamed_text rename bs, other-stays ps rename r b bs w, e)
 
     abbrev found_then : List OpenLoop → ℕ → List ℕ → List ℕ → Scanned → Result Scanned TextProblem

@@ -1,29 +1,25 @@
 -- What a row adds to two readings, of a source and of the source with its names renamed.
-use Rattle.std.proofs.Common.{◌≡◌, ◌∙◌, refl, ap, sym, subst, true≢false, ℕ, ◌+◌, ◌-◌, ◌==◌, ◌&&◌, ◌||◌, inl, inr, Bool, true, false, nat_lt, List, [], ◌∷◌, ◌++◌, length, drop, map, Result, Ok, Err, arith}
-use Rattle.std.specs.Prelude.{⊤}
+use Rattle.std.proofs.Common.{◌≡◌, ◌∙◌, refl, ap, sym, subst, true≢false, ℕ, ◌+◌, ◌-◌, ◌==◌, ◌||◌, inl, inr, Bool, true, false, List, [], ◌∷◌, ◌++◌, length, drop, map, Ok, arith}
 use Rattle.std.specs.List.{list_all, list_any}
 use Rattle.std.proofs.lemmas.Bool.{and_parts}
 use Rattle.std.proofs.lemmas.Bool.Decides.{nat_tests}
 use Rattle.std.proofs.lemmas.List.{append-nil}
-use Rattle.redcode_text.specs.declared.fault.TextProblem.{TextProblem}
-use Rattle.redcode_text.specs.declared.token.Token.{Token}
-use Rattle.redcode_text.specs.Equates.{Equate, limit, substitution}
-use Rattle.redcode_text.specs.Expression.{kinds}
+use Rattle.redcode_text.specs.Equates.{limit}
 use Rattle.redcode_text.specs.Laws.{IsRenaming, JoinsAreRenamed, renamed_from, renamed_text}
-use Rattle.redcode_text.specs.Lines.{Predefined, Reading, WithTokens, before_comment, equ_line, equated, name_in_front, row_tokens, tokens_after, tokens_before}
+use Rattle.redcode_text.specs.Lines.{Predefined, Reading, WithTokens, before_comment, row_tokens}
 use Rattle.redcode_text.specs.Source.{SourceRow, blank_len, is_comment}
-use Rattle.redcode_text.specs.Tokens.{is_word_byte, scan_from, tokens, without_line}
-use Rattle.redcode_text.proofs.ForLaws.Agreement.{Pairwise, pairwise-filter, pairwise-length}
-use Rattle.redcode_text.proofs.ForLaws.AlikeResults.{pairwise-map, pairwise-weaker}
-use Rattle.redcode_text.proofs.ForLaws.Moved.{kinds-moved, moved_equate, moved_tokens, substitution-moved}
+use Rattle.redcode_text.specs.Tokens.{is_word_byte, scan_from, tokens}
+use Rattle.redcode_text.proofs.ForLaws.Agreement.{BothGive, pairwise-length}
+use Rattle.redcode_text.proofs.ForLaws.Follows.{Follows, both-follows, follows-ok, follows-then}
+use Rattle.redcode_text.proofs.ForLaws.LikeReadings.{RowRead, names-changed}
+use Rattle.redcode_text.proofs.ForLaws.Likeness.{AnyPlace, Equal, PlacedToken, Sides}
 use Rattle.redcode_text.proofs.ForLaws.RenamedColumns.{first-before, second-before, to_second}
 use Rattle.redcode_text.proofs.ForLaws.RenamedKinds.{Placed}
-use Rattle.redcode_text.proofs.ForLaws.RenamedLines.{equated-same}
 use Rattle.redcode_text.proofs.ForLaws.RenamedPlaces.{SameScan, scan-on}
-use Rattle.redcode_text.proofs.ForLaws.RenamedReadings.{Related, RenamedEquate, SameKinds, same-kinds, with-tokens-read}
-use Rattle.redcode_text.proofs.ForLaws.RenamedResults.{BothGive, both-same, both-then}
-use Rattle.redcode_text.proofs.ForLaws.RenamedSides.{Sides, goes-first, goes-second}
+use Rattle.redcode_text.proofs.ForLaws.RenamedReadings.{Related, renamed_by}
+use Rattle.redcode_text.proofs.ForLaws.RenamedSides.{goes-first, goes-second}
 use Rattle.redcode_text.proofs.ForLaws.RenamedTokens.{renamed_loop}
+use Rattle.redcode_text.proofs.ForLaws.RenamedWords.{word-more}
 
 -- ---- comments behind
 
@@ -49,45 +45,6 @@ any-code (b ∷ bs) e = go (b == 59) e (any-code bs)
     go true e h = absurd (true≢false (sym e))
     go false e h = on (b == 38) e h
 
--- ---- counts
-
-abbrev bare : Token → Token
-bare t = record { kind = t.kind; line = 0; from = 0; to = 0 }
-
-bare-same : (ts us : List Token) → SameKinds ts us → map bare ts ≡ map bare us
-bare-same ts us h = pairwise-map (λ (t u : Token). t.kind ≡ u.kind) bare bare (λ t u e. ap (λ k. record { kind = k; line = 0; from = 0; to = 0 }) e) ts us h
-
-texts-same : (ls ms : List (List Token)) → Pairwise SameKinds ls ms → map (map bare) ls ≡ map (map bare) ms
-texts-same ls ms h = pairwise-map SameKinds (map bare) (map bare) bare-same ls ms h
-
-equates-bare : (es fs : List Equate) → Pairwise RenamedEquate es fs → map (moved_equate bare (λ t. refl)) es ≡ map (moved_equate bare (λ t. refl)) fs
-equates-bare es fs h =
-    pairwise-map RenamedEquate (moved_equate bare (λ t. refl)) (moved_equate bare (λ t. refl)) (λ e f k. let a = k.0 in let b = texts-same e.lines f.lines k.1 in λ i. record { name = a i; lines = b i }) es fs h
-
-abbrev pub SameSubstituted : List Token → List Token → Type 0
-SameSubstituted ts us = kinds ts ≡ kinds us
-
-abbrev good : List Token → Result (List Token) TextProblem
-good ts = Ok ts
-
-pub substituted-same : (es fs : List Equate) (ts us : List Token) → Pairwise RenamedEquate es fs → SameKinds ts us → BothGive SameSubstituted (without_line (substitution es ts)) (without_line (substitution fs us))
-substituted-same es fs ts us h k =
-    go (without_line (substitution es ts)) (without_line (substitution fs us))
-    (sym (substitution-moved bare (λ t. refl) es ts) ∙ (λ i. without_line (substitution (equates-bare es fs h i) (bare-same ts us k i))) ∙ substitution-moved bare (λ t. refl) fs us)
-  where
-    ok : (xs ys : List Token) → good xs ≡ good ys → xs ≡ ys
-    ok xs ys e = cc
-
-    go : (x y : Result (List Token) TextProblem) → moved_tokens bare (λ t. refl) x ≡ moved_tokens bare (λ t. refl) y → BothGive SameSubstituted x y
-    go (Ok xs) (Ok ys) e = sym (kinds-moved bare (λ t. refl) xs) ∙ ap kinds (ok (map bare xs) (map bare ys) e) ∙ kinds-moved bare (λ t. refl) ys
-    go (Ok xs) (Err d) e = absurd (cc)
-    go (Err d) (Ok ys) e = absurd (cc)
-    go (Err d) (Err f) e = cc
-
--- wherever two tokens stand
-abbrev pub AnyPlace : ℕ → ℕ → Type 0
-AnyPlace x y = ⊤
-
 module _ (ps : Predefined) (rename : List ℕ → List ℕ) (r : IsRenaming ps rename) where
   pub comment-behind : (word bs : List ℕ) → list_all is_word_byte word ≡ true → before_comment (renamed_from rename word bs) ≡ renamed_from rename word (before_comment bs)
   comment-behind word [] all = ap before_comment (sym (append-nil (rename word))) ∙ code-front (rename word) [] (r.words word all) ∙ append-nil (rename word)
@@ -99,14 +56,10 @@ module _ (ps : Predefined) (rename : List ℕ → List ℕ) (r : IsRenaming ps r
       code : Bool → List ℕ
       code t = elim t as (λ _. List ℕ) [ true ↦ [] | false ↦ b ∷ before_comment bs ]
 
-      more : (word : List ℕ) → list_all is_word_byte word ≡ true → is_word_byte b ≡ true → list_all is_word_byte (word ++ b ∷ []) ≡ true
-      more [] e is = rw is refl
-      more (w ∷ word) e is = let l = and_parts (is_word_byte w) (list_all is_word_byte word) e in λ i. l.0 i && more word l.1 is i
-
       go : (t c : Bool) → is_word_byte b ≡ t → (b == 59) ≡ c → ((w : List ℕ) → list_all is_word_byte w ≡ true → before_comment (renamed_from rename w bs) ≡ renamed_from rename w (before_comment bs))
           → before_comment (step t bs) ≡ renamed_from rename word (code c)
       go true true e f h = absurd (true≢false (sym f ∙ no-semicolon b e))
-      go true false e f h = h (word ++ b ∷ []) (more word all e) ∙ ap (λ t. step t (before_comment bs)) (sym e)
+      go true false e f h = h (word ++ b ∷ []) (word-more word b all e) ∙ ap (λ t. step t (before_comment bs)) (sym e)
       go false true e f h =
           code-front (rename word) (b ∷ renamed_text rename bs) (r.words word all)
           ∙ ap (λ t. rename word ++ elim t as (λ _. List ℕ) [ true ↦ [] | false ↦ b ∷ before_comment (renamed_text rename bs) ]) f ∙ append-nil (rename word)
@@ -118,36 +71,31 @@ module _ (ps : Predefined) (rename : List ℕ → List ℕ) (r : IsRenaming ps r
   -- ---- the tokens of a row
 
   -- the same tokens, at places that are related, and two readings
-  pub record SameRead (Q : ℕ → ℕ → Type 0) (x y : WithTokens) : Type 0 where
-    pub tokens : Pairwise (λ (t u : Token). (t.kind ≡ u.kind) × Q t.from u.from) x.0 y.0
-    pub read : Related ps rename r x.1 y.1
-
-  pub same-read : (Q : ℕ → ℕ → Type 0) (x y : WithTokens) → SameRead Q x y → SameKinds x.0 y.0
-  same-read Q x y h = pairwise-weaker (λ (t u : Token). (t.kind ≡ u.kind) × Q t.from u.from) (λ (t u : Token). t.kind ≡ u.kind) (λ t u k. k.0) x.0 y.0 h.tokens
+  abbrev pub SameRead : (ℕ → ℕ → Type 0) → WithTokens → WithTokens → Type 0
+  SameRead Q x y = RowRead (renamed_by ps rename r) Q x y
 
   pub read-same : (Q : ℕ → ℕ → Type 0) (st other : Reading) → Related ps rename r st other → (row like : SourceRow) (at to : ℕ) (text : List ℕ) → row.number ≡ like.number
       → before_comment (drop at row.bytes) ≡ text → before_comment (drop to like.bytes) ≡ renamed_text rename text
       → BothGive (SameScan ps rename r Q st.loops row.number (limit - st.tokens_read))
       (scan_from st.loops row.number (limit - st.tokens_read) (row.at + at) 0 text (record { tokens = []; names = st.names }))
       (scan_from (map (renamed_loop ps rename r) st.loops) row.number (limit - st.tokens_read) (like.at + to) 0 (renamed_text rename text) (record { tokens = []; names = map rename st.names }))
-      → BothGive (SameRead Q) (row_tokens row at st) (row_tokens like to other)
+      → Follows true (SameRead Q) (row_tokens row at st) (row_tokens like to other)
   read-same Q st other q row like at to text same one two h =
-      both-then (SameScan ps rename r Q st.loops row.number (limit - st.tokens_read)) (SameRead Q)
-      (tokens st.loops row.number (row.at + at) (limit - st.tokens_read) st.names (before_comment (drop at row.bytes)))
-      (tokens other.loops like.number (like.at + to) (limit - other.tokens_read) other.names (before_comment (drop to like.bytes)))
-      (λ s. Ok (s.tokens, record st { names = s.names; tokens_read = st.tokens_read + length s.tokens }))
+      follows-then (λ s. Ok (s.tokens, record st { names = s.names; tokens_read = st.tokens_read + length s.tokens }))
       (λ s. Ok (s.tokens, record other { names = s.names; tokens_read = other.tokens_read + length s.tokens }))
+      (both-follows (SameScan ps rename r Q st.loops row.number (limit - st.tokens_read)) (tokens st.loops row.number (row.at + at) (limit - st.tokens_read) st.names (before_comment (drop at row.bytes)))
+      (tokens other.loops like.number (like.at + to) (limit - other.tokens_read) other.names (before_comment (drop to like.bytes)))
       (subst (λ x. BothGive (SameScan ps rename r Q st.loops row.number (limit - st.tokens_read)) (tokens st.loops row.number (row.at + at) (limit - st.tokens_read) st.names (before_comment (drop at row.bytes))) x)
       (λ i. tokens (sym q.loops i) (same i) (like.at + to) (limit - q.tokens_read i) (sym q.names i) (sym two i))
       (subst (λ x. BothGive (SameScan ps rename r Q st.loops row.number (limit - st.tokens_read)) x
       (scan_from (map (renamed_loop ps rename r) st.loops) row.number (limit - st.tokens_read) (like.at + to) 0 (renamed_text rename text) (record { tokens = []; names = map rename st.names })))
-      (λ i. tokens st.loops row.number (row.at + at) (limit - st.tokens_read) st.names (sym one i)) h))
-      (λ s t k. record {
-        tokens = k.tokens;
+      (λ i. tokens st.loops row.number (row.at + at) (limit - st.tokens_read) st.names (sym one i)) h)))
+      (λ s t k. follows-ok (record {
         read =
-            with-tokens-read ps rename r st other q s.names t.names (st.tokens_read + length s.tokens) (other.tokens_read + length t.tokens) k.names
-            (let n = pairwise-length (λ (t u : Token). (t.kind ≡ u.kind) × Q t.from u.from) s.tokens t.tokens k.tokens in λ i. q.tokens_read i + n i);
-      })
+            names-changed (renamed_by ps rename r) st other q s.names t.names k.names (λ n m e. e) (st.tokens_read + length s.tokens) (other.tokens_read + length t.tokens)
+            (let n = pairwise-length (PlacedToken Equal Q) s.tokens t.tokens k.tokens in λ i. q.tokens_read i + n i);
+        tokens = k.tokens;
+      }))
 
   -- a row that is no comment, and the row renamed
   pub record SameCode (row like : SourceRow) : Type 0 where
@@ -164,14 +112,14 @@ module _ (ps : Predefined) (rename : List ℕ → List ℕ) (r : IsRenaming ps r
     joins-code e = c.joins (any-code row.bytes e)
 
     -- wherever they stand
-    pub anywhere : BothGive (SameRead AnyPlace) (row_tokens row 0 st) (row_tokens like 0 other)
+    pub anywhere : Follows true (SameRead AnyPlace) (row_tokens row 0 st) (row_tokens like 0 other)
     anywhere =
         read-same AnyPlace st other q row like 0 0 (before_comment row.bytes) c.number refl behind
         (scan-on ps rename r AnyPlace st.loops row.number (limit - st.tokens_read) (length (before_comment row.bytes)) (before_comment row.bytes) (omega arith) (row.at + 0) (like.at + 0)
         (record { tokens = []; names = st.names }) (record { tokens = []; names = map rename st.names }) joins-code (λ x y h k. tt) (record { tokens = tt; names = refl }))
 
     -- on each side of a word
-    pub beside : (at to : ℕ) → Placed ps rename r row.bytes at to → BothGive (SameRead (Sides (row.at + at) (like.at + to))) (row_tokens row 0 st) (row_tokens like 0 other)
+    pub beside : (at to : ℕ) → Placed ps rename r row.bytes at to → Follows true (SameRead (Sides (row.at + at) (like.at + to))) (row_tokens row 0 st) (row_tokens like 0 other)
     beside at to (inl p) =
         read-same (Sides (row.at + at) (like.at + to)) st other q row like 0 0 (before_comment row.bytes) c.number refl behind
         (goes-first ps rename r (row.at + at) (like.at + to) st.loops row.number (limit - st.tokens_read) (before_comment row.bytes) (row.at + 0) (like.at + 0)
@@ -186,27 +134,3 @@ module _ (ps : Predefined) (rename : List ℕ → List ℕ) (r : IsRenaming ps r
         (let e = p.0 ∙ sym (second-before row.bytes) in omega (arith, e))
         (let e = p.1 ∙ sym (second-before (renamed_text rename row.bytes)) in let f = ap to_second (comment-behind [] row.bytes refl) in omega (arith, e, f))
         joins-code (record { tokens = tt; names = refl }))
-
-  -- ---- tokens on each side
-
-  pub before-same : (p q : ℕ) (ts us : List Token) → Pairwise (λ (t u : Token). (t.kind ≡ u.kind) × Sides p q t.from u.from) ts us → SameKinds (tokens_before p ts) (tokens_before q us)
-  before-same p q ts us h =
-      pairwise-weaker (λ (t u : Token). (t.kind ≡ u.kind) × Sides p q t.from u.from) (λ (t u : Token). t.kind ≡ u.kind) (λ t u k. k.0) (tokens_before p ts) (tokens_before q us)
-      (pairwise-filter (λ (t u : Token). (t.kind ≡ u.kind) × Sides p q t.from u.from) (λ t. nat_lt t.from p) (λ t. nat_lt t.from q) (λ t u k. k.1.0) ts us h)
-
-  pub after-same : (p q : ℕ) (ts us : List Token) → Pairwise (λ (t u : Token). (t.kind ≡ u.kind) × Sides p q t.from u.from) ts us → SameKinds (tokens_after p ts) (tokens_after q us)
-  after-same p q ts us h =
-      pairwise-weaker (λ (t u : Token). (t.kind ≡ u.kind) × Sides p q t.from u.from) (λ (t u : Token). t.kind ≡ u.kind) (λ t u k. k.0) (tokens_after p ts) (tokens_after q us)
-      (pairwise-filter (λ (t u : Token). (t.kind ≡ u.kind) × Sides p q t.from u.from) (λ t. nat_lt p t.from) (λ t. nat_lt q t.from) (λ t u k. k.1.1) ts us h)
-
-  pub name-same : (p q : ℕ) (ts us : List Token) → Pairwise (λ (t u : Token). (t.kind ≡ u.kind) × Sides p q t.from u.from) ts us → name_in_front (kinds (tokens_before p ts)) ≡ name_in_front (kinds (tokens_before q us))
-  name-same p q ts us h = ap name_in_front (same-kinds (tokens_before p ts) (tokens_before q us) (before-same p q ts us h))
-
-  abbrev Both : Result Reading TextProblem → Result Reading TextProblem → Type 0
-  Both x y = BothGive (Related ps rename r) x y
-
-  pub equ-same : (p q : ℕ) (ts us : List Token) → Pairwise (λ (t u : Token). (t.kind ≡ u.kind) × Sides p q t.from u.from) ts us → (st other : Reading) → Related ps rename r st other → Both (equ_line ps p ts st) (equ_line ps q us other)
-  equ-same p q ts us h st other k =
-      both-then (λ x y. x ≡ y) (Related ps rename r) (name_in_front (kinds (tokens_before p ts))) (name_in_front (kinds (tokens_before q us))) (λ name. equated ps (tokens_after p ts) name st) (λ name. equated ps (tokens_after q us) name other)
-      (both-same (λ x y. x ≡ y) (name_in_front (kinds (tokens_before p ts))) (name_in_front (kinds (tokens_before q us))) (name-same p q ts us h) (λ x. refl))
-      (λ x y e. subst (λ z. Both (equated ps (tokens_after p ts) x st) (equated ps (tokens_after q us) z other)) e (equated-same ps rename r st other k (tokens_after p ts) (tokens_after q us) (after-same p q ts us h) x))

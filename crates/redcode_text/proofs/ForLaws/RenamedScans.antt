@@ -14,7 +14,7 @@ use Rattle.redcode_text.specs.declared.token.Sign.TheVariants.{Equal, NotEqual, 
 use Rattle.redcode_text.specs.Laws.{IsRenaming, KeepsDigits, renamed_from, renamed_text}
 use Rattle.redcode_text.specs.Lines.{Predefined}
 use Rattle.redcode_text.specs.Tokens.{Found, OpenLoop, Scanned, begins_name, begins_word, is_blank, is_word_byte, look_up, one_byte_signs, scan_from, sign_found, sign_token, token_at, two_byte_signs, word_len, word_token}
-use Rattle.redcode_text.proofs.ForLaws.RenamedResults.{BothGive, both-cond}
+use Rattle.redcode_text.proofs.ForLaws.Agreement.{BothGive, both-cond}
 use Rattle.redcode_text.proofs.ForLaws.RenamedTokens.{SameFound, renamed_loop, word-renamed}
 use Rattle.redcode_text.proofs.ForLaws.RenamedWords.{begins-from, empty-stays, other-stays, raw-long, raw-renamed, raw-taken, raw_of, rest-dropped, rest-renamed, word-more}
 
@@ -132,6 +132,14 @@ module _ (ps : Predefined) (rename : List ℕ → List ℕ) (r : IsRenaming ps r
               → (c : ℕ) × (cs : List ℕ) × ((elim t as (λ _. List ℕ) [ true ↦ renamed_from rename (w ∷ word ++ b ∷ []) bs | false ↦ rename (w ∷ word) ++ b ∷ renamed_from rename [] bs ]) ≡ c ∷ cs) × (is_word_byte c ≡ true)
           go true e h = h (word ++ b ∷ []) (word-more (w ∷ word) b all e)
           go false e h = alone w word (b ∷ renamed_text rename bs) all
+
+  -- what holds of each text that begins with a byte of a word holds of this one renamed
+  pub word-first : (P : List ℕ → Type 0) (b : ℕ) (bs : List ℕ) → is_word_byte b ≡ true → ((c : ℕ) (cs : List ℕ) → is_word_byte c ≡ true → P (c ∷ cs)) → P (renamed_text rename (b ∷ bs))
+  word-first P b bs e h =
+      let all : (is_word_byte b && true) ≡ true = rw e refl in
+      let first = first-byte b [] bs all in
+      let same : renamed_text rename (b ∷ bs) ≡ first.0 ∷ first.1 = ap (λ t. elim t as (λ _. List ℕ) [ true ↦ renamed_from rename (b ∷ []) bs | false ↦ rename [] ++ b ∷ renamed_from rename [] bs ]) e ∙ first.2 in
+      subst P (sym same) (h first.0 first.1 first.3)
 
   -- ---- one token
 

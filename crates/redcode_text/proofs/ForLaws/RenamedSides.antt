@@ -6,13 +6,10 @@ use Rattle.redcode_text.specs.Laws.{IsRenaming, JoinsAreRenamed, renamed_text}
 use Rattle.redcode_text.specs.Lines.{Predefined}
 use Rattle.redcode_text.specs.Source.{blank_len, colon_len}
 use Rattle.redcode_text.specs.Tokens.{OpenLoop, Scanned, begins_name, begins_word, is_blank, is_word_byte, look_up, two_byte_signs, word_len}
+use Rattle.redcode_text.proofs.ForLaws.Likeness.{Sides}
 use Rattle.redcode_text.proofs.ForLaws.RenamedColumns.{behind, colon-renamed, to_blanks, to_colon, to_second, to_word, word-cut}
 use Rattle.redcode_text.proofs.ForLaws.RenamedPlaces.{SameScan, Scans, any-drop, blanks-renamed, either-second, blank-no-word, scan-blank, scan-end, scan-on, scan-step, shows}
 use Rattle.redcode_text.proofs.ForLaws.RenamedWords.{empty-stays, other-stays, raw_of, raw-long, raw-renamed}
-
--- on the same side of the place p as the other of the place q
-abbrev pub Sides : ℕ → ℕ → ℕ → ℕ → Type 0
-Sides p q x y = (nat_lt x p ≡ nat_lt y q) × (nat_lt p x ≡ nat_lt q y)
 
 lt-true : (a b : ℕ) → a < b → nat_lt a b ≡ true
 lt-true a b e = grind (arith, nat_tests)

@@ -17,7 +17,7 @@ use Rattle.redcode_text.specs.declared.token.TokenKind.TheVariants.{Number, Name
 use Rattle.redcode_text.specs.Laws.{IsRenaming, KeepsDigits, renamed_text}
 use Rattle.redcode_text.specs.Lines.{Predefined}
 use Rattle.redcode_text.specs.Tokens.{Found, OpenLoop, begins_name, is_counter, is_letter, join_counters, join_parts, name_index, number_found, parts_at_joins, plain_word_found, round_digits, round_of, round_or_bad, with_name, word_found, word_token}
-use Rattle.redcode_text.proofs.ForLaws.RenamedResults.{BothGive}
+use Rattle.redcode_text.proofs.ForLaws.Agreement.{BothGive}
 use Rattle.redcode_text.proofs.ForLaws.RenamedWords.{begins-same, onto_front, parts-renamed, raw_of, some-part}
 
 -- ---- digits

@@ -11,12 +11,12 @@ use Rattle.redcode_text.specs.Lines.{Predefined}
 use Rattle.redcode_text.specs.Source as source
 use Rattle.redcode_text.specs.Source.{SourceRow, Items, Nothing, Plain, Loop, LoneRof, LineKind, RofLine, ForLine, EquLine, OtherLine, Pairing, begins_redcode, directive_text_at, from_redcode, has_directive, has_directive_word, is_comment, line_kind, lines_of, opened, paired, paired_with, read_rows, rows_from, then_lone, tree_of, tree_of_rows, with_lone, without_blanks}
 use Rattle.redcode_text.specs.Tokens.{is_word_byte}
-use Rattle.redcode_text.proofs.ForLaws.Agreement.{Pairwise}
-use Rattle.redcode_text.proofs.ForLaws.AlikeResults.{pairwise-any}
+use Rattle.redcode_text.proofs.ForLaws.Agreement.{Pairwise, pairwise-any}
 use Rattle.redcode_text.proofs.ForLaws.RenamedComments.{comments-same}
 use Rattle.redcode_text.proofs.ForLaws.RenamedHeads.{IsFor, SameRow, code-row}
 use Rattle.redcode_text.proofs.ForLaws.RenamedKinds.{SameKind, comment-other, comment-same, kind-same}
 use Rattle.redcode_text.proofs.ForLaws.RenamedRows.{SameCode}
+use Rattle.redcode_text.proofs.ForLaws.RenamedWords.{word-more}
 use Rattle.redcode_text.proofs.ForLaws.WrittenTrees.{lines-read}
 
 -- ---- lines
@@ -107,16 +107,12 @@ module _ (ps : Predefined) (rename : List ℕ → List ℕ) (r : IsRenaming ps r
   text-line word [] all e = word-line (rename word) (r.words word all)
   text-line word (b ∷ bs) all e = go (is_word_byte b) refl (λ w. text-line w bs)
     where
-      more : (word : List ℕ) → list_all is_word_byte word ≡ true → is_word_byte b ≡ true → list_all is_word_byte (word ++ b ∷ []) ≡ true
-      more [] e is = rw is refl
-      more (w ∷ word) e is = let l = and_parts (is_word_byte w) (list_all is_word_byte word) e in λ i. l.0 i && more word l.1 is i
-
       rest : ((b == 10) ≡ false) × IsLine bs
       rest = line-tail b bs e
 
       go : (t : Bool) → is_word_byte b ≡ t → ((w : List ℕ) → list_all is_word_byte w ≡ true → IsLine bs → IsLine (renamed_from rename w bs))
           → IsLine (elim t as (λ _. List ℕ) [ true ↦ renamed_from rename (word ++ b ∷ []) bs | false ↦ rename word ++ b ∷ renamed_from rename [] bs ])
-      go true is h = h (word ++ b ∷ []) (more word all is) rest.1
+      go true is h = h (word ++ b ∷ []) (word-more word b all is) rest.1
       go false is h = any-both (rename word) (b ∷ renamed_text rename bs) (word-line (rename word) (r.words word all)) (let a = h [] refl rest.1 in λ i. rest.0 i || a i)
 
   line-renamed : (l : List ℕ) → IsLine l → IsLine (renamed_line rename l)
@@ -222,18 +218,7 @@ module _ (ps : Predefined) (rename : List ℕ → List ℕ) (r : IsRenaming ps r
       by c (ForLine at) (ForLine to) e i = opened-same row like c (subst IsFor (sym e) tt) p.here q.here h.here p.waiting q.waiting h.waiting
       by c (EquLine at) (EquLine to) e i = plain
       by c OtherLine OtherLine e i = plain
-      by c RofLine (ForLine to) e i = absurd i
-      by c RofLine (EquLine to) e i = absurd i
-      by c RofLine OtherLine e i = absurd i
-      by c (ForLine at) RofLine e i = absurd i
-      by c (ForLine at) (EquLine to) e i = absurd i
-      by c (ForLine at) OtherLine e i = absurd i
-      by c (EquLine at) RofLine e i = absurd i
-      by c (EquLine at) (ForLine to) e i = absurd i
-      by c (EquLine at) OtherLine e i = absurd i
-      by c OtherLine RofLine e i = absurd i
-      by c OtherLine (ForLine to) e i = absurd i
-      by c OtherLine (EquLine to) e i = absurd i
+      by c _ _ e i = absurd i
 
       go : (t : Bool) → is_comment row.bytes ≡ t → SamePairing (paired_with (line_kind row.bytes) row p) (paired_with (line_kind like.bytes) like q)
       go true e =

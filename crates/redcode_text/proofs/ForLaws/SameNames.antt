@@ -11,7 +11,19 @@ use Rattle.redcode_text.specs.Alike.{spelled, spelled_assert, spelled_equate, sp
 use Rattle.redcode_text.specs.Equates.{Equate}
 use Rattle.redcode_text.specs.Lines.{Assert, Line, name_at}
 use Rattle.redcode_text.proofs.ForLaws.Agreement.{AgreeOption, Pairwise}
+use Rattle.redcode_text.proofs.ForLaws.Likeness.{LikeEquate, LikeKind}
 use Rattle.redcode_text.proofs.Named.{AreBelow, AreDistinct, IsBelow, IsEquateBelow, IsLineBelow}
+
+-- what is spelled alike, element by element, agrees
+pairwise-spelled : {A B C : Type 0} (P : A → Type 0) (Q : B → Type 0) (R : A → B → Type 0) (f : A → C) (g : B → C) → ((x : A) (y : B) → P x → Q y → f x ≡ g y → R x y) → (xs : List A) (ys : List B)
+    → All P xs → All Q ys → map f xs ≡ map g ys → Pairwise R xs ys
+pairwise-spelled P Q R f g h [] [] a b e = tt
+pairwise-spelled P Q R f g h [] (y ∷ ys) a b e = absurd (cc)
+pairwise-spelled P Q R f g h (x ∷ xs) [] a b e = absurd (cc)
+pairwise-spelled P Q R f g h (x ∷ xs) (y ∷ ys) a b e =
+    let first : f x ≡ g y = cc in
+    let rest : map f xs ≡ map g ys = cc in
+    (h x y (All-head P x xs a) (All-head Q y ys b) first, pairwise-spelled P Q R f g h xs ys (All-tail P x xs a) (All-tail Q y ys b) rest)
 
 module _ (names others : List (List ℕ)) where
   -- one name, by its index in each list of names
@@ -19,10 +31,7 @@ module _ (names others : List (List ℕ)) where
   SameName n m = (n < length names) × (m < length others) × (name_at names n ≡ name_at others m)
 
   abbrev pub SameKind : TokenKind → TokenKind → Type 0
-  SameKind (Name n) (Name m) = SameName n m
-  SameKind (Number a) (Number b) = a ≡ b
-  SameKind (token.Sign s) (token.Sign u) = s ≡ u
-  SameKind _ _ = ⊥
+  SameKind k l = LikeKind SameName k l
 
   abbrev pub SameToken : Token → Token → Type 0
   SameToken t u = SameKind t.kind u.kind
@@ -31,7 +40,7 @@ module _ (names others : List (List ℕ)) where
   SameTokens ts us = Pairwise SameToken ts us
 
   abbrev pub SameEquate : Equate → Equate → Type 0
-  SameEquate e f = SameName e.name f.name × Pairwise SameTokens e.lines f.lines
+  SameEquate e f = LikeEquate SameName SameToken e f
 
   abbrev pub SameLine : Line → Line → Type 0
   SameLine l k = Pairwise SameName l.labels k.labels × AgreeOption SameName l.operation k.operation × SameTokens l.rest k.rest
@@ -53,60 +62,18 @@ module _ (names others : List (List ℕ)) where
   kind-same (token.Sign s) (Name m) a b e = let f : token.Sign s ≡ Name 0 = ap (λ (p : TokenKind × List ℕ). p.0) e in cc
   kind-same (token.Sign s) (Number m) a b e = let f : token.Sign s ≡ Number m = ap (λ (p : TokenKind × List ℕ). p.0) e in cc
 
-  pub tokens-same : (ts us : List Token) → AreBelow (length names) ts → AreBelow (length others) us → spelled names ts ≡ spelled others us
-      → SameTokens ts us
-  tokens-same [] [] a b e = tt
-  tokens-same [] (u ∷ us) a b e = cc
-  tokens-same (t ∷ ts) [] a b e = cc
-  tokens-same (t ∷ ts) (u ∷ us) a b e =
-      let first : spelled_kind names t.kind ≡ spelled_kind others u.kind = cc in
-      let rest : spelled names ts ≡ spelled others us = cc in (
-        kind-same t.kind u.kind (All-head (λ (x : Token). IsBelow (length names) x.kind) t ts a)
-            (All-head (λ (x : Token). IsBelow (length others) x.kind) u us b) first,
-        tokens-same ts us (All-tail (λ (x : Token). IsBelow (length names) x.kind) t ts a)
-            (All-tail (λ (x : Token). IsBelow (length others) x.kind) u us b) rest,
-      )
-
-  rows-same : (ls ms : List (List Token)) → All (AreBelow (length names)) ls → All (AreBelow (length others)) ms
-      → map (spelled names) ls ≡ map (spelled others) ms
-      → Pairwise SameTokens ls ms
-  rows-same [] [] a b e = tt
-  rows-same [] (m ∷ ms) a b e = cc
-  rows-same (l ∷ ls) [] a b e = cc
-  rows-same (l ∷ ls) (m ∷ ms) a b e =
-      let first : spelled names l ≡ spelled others m = cc in
-      let rest : map (spelled names) ls ≡ map (spelled others) ms = cc in (
-        tokens-same l m (All-head (AreBelow (length names)) l ls a) (All-head (AreBelow (length others)) m ms b) first,
-        rows-same ls ms (All-tail (AreBelow (length names)) l ls a) (All-tail (AreBelow (length others)) m ms b) rest,
-      )
+  tokens-same : (ts us : List Token) → AreBelow (length names) ts → AreBelow (length others) us → spelled names ts ≡ spelled others us → SameTokens ts us
+  tokens-same ts us a b e =
+      pairwise-spelled (λ (t : Token). IsBelow (length names) t.kind) (λ (t : Token). IsBelow (length others) t.kind) SameToken (λ t. spelled_kind names t.kind) (λ t. spelled_kind others t.kind)
+      (λ t u. kind-same t.kind u.kind) ts us a b e
 
   equate-same : (e f : Equate) → IsEquateBelow (length names) e → IsEquateBelow (length others) f
       → spelled_equate names e ≡ spelled_equate others f → SameEquate e f
-  equate-same e f a b h = ((a.0, b.0, ap (λ p. p.0) h), rows-same e.lines f.lines a.1 b.1 (ap (λ p. p.1) h))
+  equate-same e f a b h = ((a.0, b.0, ap (λ p. p.0) h), pairwise-spelled (AreBelow (length names)) (AreBelow (length others)) SameTokens (spelled names) (spelled others) tokens-same e.lines f.lines a.1 b.1 (ap (λ p. p.1) h))
 
   pub equates-same : (es fs : List Equate) → All (IsEquateBelow (length names)) es → All (IsEquateBelow (length others)) fs
       → map (spelled_equate names) es ≡ map (spelled_equate others) fs → Pairwise SameEquate es fs
-  equates-same [] [] a b h = tt
-  equates-same [] (f ∷ fs) a b h = cc
-  equates-same (e ∷ es) [] a b h = cc
-  equates-same (e ∷ es) (f ∷ fs) a b h =
-      let first : spelled_equate names e ≡ spelled_equate others f = cc in
-      let rest : map (spelled_equate names) es ≡ map (spelled_equate others) fs = cc in (
-        equate-same e f (All-head (IsEquateBelow (length names)) e es a) (All-head (IsEquateBelow (length others)) f fs b) first,
-        equates-same es fs (All-tail (IsEquateBelow (length names)) e es a) (All-tail (IsEquateBelow (length others)) f fs b) rest,
-      )
-
-  labels-same : (ns ms : List ℕ) → All (λ i. i < length names) ns → All (λ i. i < length others) ms
-      → map (name_at names) ns ≡ map (name_at others) ms → Pairwise SameName ns ms
-  labels-same [] [] a b e = tt
-  labels-same [] (m ∷ ms) a b e = cc
-  labels-same (n ∷ ns) [] a b e = cc
-  labels-same (n ∷ ns) (m ∷ ms) a b e =
-      let first : name_at names n ≡ name_at others m = cc in
-      let rest : map (name_at names) ns ≡ map (name_at others) ms = cc in (
-        (All-head (λ i. i < length names) n ns a, All-head (λ i. i < length others) m ms b, first),
-        labels-same ns ms (All-tail (λ i. i < length names) n ns a) (All-tail (λ i. i < length others) m ms b) rest,
-      )
+  equates-same es fs a b e = pairwise-spelled (IsEquateBelow (length names)) (IsEquateBelow (length others)) SameEquate (spelled_equate names) (spelled_equate others) equate-same es fs a b e
 
   operation-same : (o p : Option ℕ) → IfSome o (λ i. i < length names) → IfSome p (λ i. i < length others)
       → option_map (name_at names) o ≡ option_map (name_at others) p
@@ -119,41 +86,20 @@ module _ (names others : List (List ℕ)) where
   line-same : (l k : Line) → IsLineBelow (length names) l → IsLineBelow (length others) k → spelled_line names l ≡ spelled_line others k
       → SameLine l k
   line-same l k a b e = (
-    labels-same l.labels k.labels a.0 b.0 (ap (λ p. p.0) e),
+    pairwise-spelled (λ i. i < length names) (λ i. i < length others) SameName (name_at names) (name_at others) (λ i j p q f. (p, q, f)) l.labels k.labels a.0 b.0 (ap (λ p. p.0) e),
     operation-same l.operation k.operation a.1 b.1 (ap (λ p. p.1) e),
     tokens-same l.rest k.rest a.2 b.2 (ap (λ p. p.2) e),
   )
 
   pub lines-same : (ls ks : List Line) → All (IsLineBelow (length names)) ls → All (IsLineBelow (length others)) ks
-      → map (spelled_line names) ls ≡ map (spelled_line others) ks
-      → Pairwise SameLine ls ks
-  lines-same [] [] a b e = tt
-  lines-same [] (k ∷ ks) a b e = cc
-  lines-same (l ∷ ls) [] a b e = cc
-  lines-same (l ∷ ls) (k ∷ ks) a b e =
-      let first : spelled_line names l ≡ spelled_line others k = cc in
-      let rest : map (spelled_line names) ls ≡ map (spelled_line others) ks = cc in (
-        line-same l k (All-head (IsLineBelow (length names)) l ls a) (All-head (IsLineBelow (length others)) k ks b) first,
-        lines-same ls ks (All-tail (IsLineBelow (length names)) l ls a) (All-tail (IsLineBelow (length others)) k ks b) rest,
-      )
+      → map (spelled_line names) ls ≡ map (spelled_line others) ks → Pairwise SameLine ls ks
+  lines-same ls ks a b e = pairwise-spelled (IsLineBelow (length names)) (IsLineBelow (length others)) SameLine (spelled_line names) (spelled_line others) line-same ls ks a b e
 
-  pub asserts-same : (xs ys : List Assert) → All (λ (x : Assert). AreBelow (length names) x.tokens) xs
-      → All (λ (x : Assert). AreBelow (length others) x.tokens) ys
+  pub asserts-same : (xs ys : List Assert) → All (λ (x : Assert). AreBelow (length names) x.tokens) xs → All (λ (x : Assert). AreBelow (length others) x.tokens) ys
       → map (spelled_assert names) xs ≡ map (spelled_assert others) ys → Pairwise SameAssert xs ys
-  asserts-same [] [] a b e = tt
-  asserts-same [] (y ∷ ys) a b e = cc
-  asserts-same (x ∷ xs) [] a b e = cc
-  asserts-same (x ∷ xs) (y ∷ ys) a b e =
-      let first : spelled_assert names x ≡ spelled_assert others y = cc in
-      let rest : map (spelled_assert names) xs ≡ map (spelled_assert others) ys = cc in
-      let p : Assert → Type 0 = λ (z : Assert). AreBelow (length names) z.tokens in
-      let q : Assert → Type 0 = λ (z : Assert). AreBelow (length others) z.tokens in (
-        (
-          ap (λ h. h.0) first,
-          tokens-same x.tokens y.tokens (All-head p x xs a) (All-head q y ys b) (ap (λ h. h.1) first),
-        ),
-        asserts-same xs ys (All-tail p x xs a) (All-tail q y ys b) rest,
-      )
+  asserts-same xs ys a b e =
+      pairwise-spelled (λ (x : Assert). AreBelow (length names) x.tokens) (λ (x : Assert). AreBelow (length others) x.tokens) SameAssert (spelled_assert names) (spelled_assert others)
+      (λ x y p q f. (ap (λ h. h.0) f, tokens-same x.tokens y.tokens p q (ap (λ h. h.1) f))) xs ys a b e
 
   -- ---- and back
 

@@ -31,11 +31,11 @@ module _ (ps : Predefined) (R : Reading → Reading → Type 0) (H : List ℕ �
       (a.0, b.0, b.2, a.2, ap (λ r. r >>= λ st. Ok (program_of st)) b.1)
 
   -- a program's indices are those of names, no name twice
-  pub read-named : ((a b : Reading) → R a b → IsNamed (program_of a) × IsNamed (program_of b)) → (source : List ℕ) (s : ProgramValue)
+  pub read-named : ((a b : Reading) → R a b → IsNamed (program_of a)) → (source : List ℕ) (s : ProgramValue)
       → expansion ps source ≡ Ok s → IsNamed s
   read-named named source s is =
       let r = sources-read source source s (tree-itself H W (tree_of source)) is in
-      subst (λ x. IsNamed x) r.3 (named r.0 r.1 r.2).0
+      subst (λ x. IsNamed x) r.3 (named r.0 r.1 r.2)
 
 pub written-out : (ps : Predefined) (R : Reading → Reading → Type 0) (counter : Option (List ℕ)) (Inside : ℕ → Reading → Reading → Type 0)
     → IsSimulation ps R IsPlainHead IsCopy counter Inside → R nothing_read nothing_read → ((a b : Reading) → R a b → AreAlike (program_of a) (program_of b))

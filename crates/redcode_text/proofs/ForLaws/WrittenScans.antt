@@ -10,7 +10,7 @@ use Rattle.redcode_text.specs.declared.fault.TextProblem.TheVariants.{NotAscii}
 use Rattle.redcode_text.specs.declared.token.Sign.{Sign}
 use Rattle.redcode_text.specs.Laws.{are_its_joins, begins_and, has_its_joins, written_word}
 use Rattle.redcode_text.specs.Tokens.{Found, OpenLoop, begins_name, begins_word, is_word_byte, look_up, one_byte_signs, parts_at_joins, round_of, sign_found, sign_token, token_at, two_byte_signs, word_len, word_token}
-use Rattle.redcode_text.proofs.ForLaws.RenamedResults.{BothGive, both-cond}
+use Rattle.redcode_text.proofs.ForLaws.Agreement.{BothGive, both-cond}
 use Rattle.redcode_text.proofs.ForLaws.RenamedScans.{lone-and, no-sign, some-none, word-ascii}
 use Rattle.redcode_text.proofs.ForLaws.RenamedWords.{raw-front, raw-long, raw-taken, raw_of, rest-dropped, rest-front, rest_of}
 use Rattle.redcode_text.proofs.ForLaws.WrittenTexts.{FirstByte, Its, T, and-bytes, either-ascii, first-byte, its-other, its-word, no-and, other-front, raw-none, rest-none, word-front}

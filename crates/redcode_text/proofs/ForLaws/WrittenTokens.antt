@@ -12,7 +12,7 @@ use Rattle.redcode_text.specs.declared.token.Token.{Token}
 use Rattle.redcode_text.specs.Expression.{kinds}
 use Rattle.redcode_text.specs.Laws.{CountersAreWrittenInPlace, begins_and, unplaced_scan, written_text}
 use Rattle.redcode_text.specs.Tokens.{Found, OpenLoop, Scanned, begins_name, begins_word, is_blank, is_word_byte, round_of, scan_from, token_at, tokens, with_room, with_token}
-use Rattle.redcode_text.proofs.ForLaws.RenamedResults.{BothGive, both-cond, both-then}
+use Rattle.redcode_text.proofs.ForLaws.Agreement.{BothGive, both-cond, both-then}
 use Rattle.redcode_text.proofs.ForLaws.RenamedScans.{behind-token, word-shows}
 use Rattle.redcode_text.proofs.ForLaws.RenamedWords.{rest_of}
 use Rattle.redcode_text.proofs.ForLaws.WrittenScans.{Good, SameStep, W, token-step}

@@ -15,7 +15,7 @@ use Rattle.redcode_text.specs.declared.fault.TextProblem.TheVariants.{BadToken}
 use Rattle.redcode_text.specs.declared.token.TokenKind.TheVariants.{Number, Name}
 use Rattle.redcode_text.specs.Laws.{are_its_joins, written_joins, written_parts, written_word}
 use Rattle.redcode_text.specs.Tokens.{Found, OpenLoop, begins_name, is_word_byte, join_counters, join_parts, name_found, name_index, number_found, number_kind, parts_at_joins, round_digits, round_of, round_or_bad, with_name, word_found, word_token}
-use Rattle.redcode_text.proofs.ForLaws.RenamedResults.{BothGive}
+use Rattle.redcode_text.proofs.ForLaws.Agreement.{BothGive}
 use Rattle.redcode_text.proofs.ForLaws.RenamedTokens.{decimal-digits, round-digits}
 use Rattle.redcode_text.proofs.ForLaws.RenamedWords.{parts-front, raw_of}
 use Rattle.redcode_text.proofs.ForLaws.TokensRead.{are_digits, decimal-is, digits-are-word}
