@@ -5,7 +5,7 @@ use Rattle.redcode_asm.specs.Formula.{score_of}
 use Rattle.mars_match.proofs.Keeping.{one_more_known}
 use Rattle.mars_match.proofs.Sums.{survivors-le}
 use Rattle.mars_match.proofs.Outcomes.{score_is}
-use Rattle.mars_match.proofs.kept.score_round.Goals as goal
+use Rattle.mars_match.proofs.scores.score_round.Goals as goal
 
 pub overflow_cast-survivors : goal.overflow_cast-survivors
 overflow_cast-survivors c =

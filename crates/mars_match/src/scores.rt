@@ -1,10 +1,8 @@
-//! What the matches of one call leave to the next.
-ghost use Rattle.std.specs.Prelude.{◌≡◌, ℕ, ◌≤◌, ◌≢◌, length, IfErr};
-ghost use Rattle.mars_cell.specs.Parameters.{Parameters};
+//! What each survivor of a round gets.
+ghost use Rattle.std.specs.Prelude.{◌≡◌, ◌≤◌, ◌≢◌, length, IfErr};
 ghost use Rattle.mars_core.specs.Limits.{most_warriors};
-ghost use Rattle.redcode_text.specs.Tokens.{Scanned};
 ghost use Rattle.mars_match.specs.Battles.{lives};
-ghost use Rattle.mars_match.specs.Code.Keeping.{AreScores, IsKept};
+ghost use Rattle.mars_match.specs.Code.Keeping.{AreScores};
 ghost use Rattle.mars_match.specs.Rounds.{round_score};
 
 use crate::fault::MatchFault;
@@ -13,24 +11,6 @@ use redcode_asm::Formula;
 
 /// What each survivor gets, by how many there are, where it was worked out: that of one survivor is the first.
 pub type Scores = [Option<i64>; MOST_WARRIORS];
-
-/// What the matches of one call leave to the next.
-#[derive(Drop)]
-pub struct Kept {
-    /// A battle in whose memory another of as many warriors can start. It is boxed, since each round hands it on.
-    pub last: Option<Box<Battle>>,
-    pub scores: Scores,
-}
-
-/// Nothing is left by a match.
-pub fn nothing_kept() -> Kept
-    ensures { (p : Parameters) (count : ℕ) (formula : Scanned) → IsKept p count formula result }
-{
-    Kept {
-        last: None,
-        scores: [None; MOST_WARRIORS],
-    }
-}
 
 /// What each survivor of a battle gets, worked out once for each number of survivors.
 pub fn score_round(
