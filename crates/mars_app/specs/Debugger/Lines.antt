@@ -18,11 +18,11 @@ abbrev pub IsLine : List ℕ → Type 0
 IsLine l = AllByRecursion (λ b. b ≢ 10) l
 
 -- a line with its LF
-abbrev pub ended : List ℕ → List ℕ
-ended l = l ++ 10 ∷ []
+abbrev pub with_newline : List ℕ → List ℕ
+with_newline l = l ++ 10 ∷ []
 
 -- the bytes are these whole lines, and then a beginning of one
 pub record Splits (bytes : List ℕ) (lines : List (List ℕ)) (rest : List ℕ) : Type 0 where
-  pub whole : bytes ≡ flat_map ended lines ++ rest
+  pub whole : bytes ≡ flat_map with_newline lines ++ rest
   pub each : AllByRecursion IsLine lines
   pub unfinished : IsLine rest

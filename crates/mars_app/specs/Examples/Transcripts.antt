@@ -18,7 +18,7 @@ use Rattle.mars_app.specs.Debugging.{session_at}
 use Rattle.mars_app.specs.Debugger.Lines.{line_asks}
 use Rattle.mars_app.specs.Debugger.Readings.{line_at, list_text, queue_text, show_text, texts, warrior_text}
 use Rattle.mars_app.specs.Debugger.Replies.{refusal_text}
-use Rattle.mars_app.specs.Debugger.Requests.{alone, asked, one_number, request_of, three_numbers, two_numbers, with_arguments}
+use Rattle.mars_app.specs.Debugger.Requests.{alone, command_request, one_number, request_of, three_numbers, two_numbers, with_arguments}
 use Rattle.mars_app.specs.Debugger.Transcript.{answer, until_quit}
 use Rattle.mars_app.specs.Debugger.Words.{after_word, first_word, number_at as number_in}
 
@@ -40,7 +40,7 @@ pub a_step_and_back : Writes 100 imp
     ++ codes "turn 0 cycle 0 next 0 alive 1 at 0/1\n"
     ++ codes "warrior 0 processes 1\n"
     ++ codes "battle running\n")
-unfolding the_machine answer request_of asked with_arguments alone one_number first_word after_word number_in parse_digits queue_text show_text texts warrior_text digits
+unfolding the_machine answer request_of command_request with_arguments alone one_number first_word after_word number_in parse_digits queue_text show_text texts warrior_text digits
 a_step_and_back = refl
 
 -- an edit in the middle of a run drops what follows
@@ -52,7 +52,7 @@ pub an_edit_in_the_middle : Writes 100 imp
     ++ codes "turn 2 cycle 2 next 0 alive 1 at 2/3\n"
     ++ codes "7 DAT.F $0, $0\n"
     ++ codes "turn 2 cycle 2 next 0 alive 1 at 3/3\n")
-unfolding the_machine answer request_of asked with_arguments alone one_number two_numbers first_word after_word number_in parse_digits parts joins begins_word cell_in op_at suffix_at modifier_at mode_at number_at operand_at comma_at op_of modifier_of mode_of parse_number split_sign nearest default_modifier list_text texts line_at digits
+unfolding the_machine answer request_of command_request with_arguments alone one_number two_numbers first_word after_word number_in parse_digits parts joins begins_word cell_in op_at suffix_at modifier_at mode_at number_at operand_at comma_at op_of modifier_of mode_of parse_number split_sign nearest default_modifier list_text texts line_at digits
 an_edit_in_the_middle = refl
 
 pub refusals : Writes 100 imp
@@ -62,14 +62,14 @@ pub refusals : Writes 100 imp
     ++ codes "refused 12 NotInHistory 0 3\n"
     ++ codes "refused 1 Count\n"
     ++ codes "refused 11 NothingToRedo\n")
-unfolding the_machine answer request_of asked with_arguments alone one_number first_word after_word number_in parse_digits refusal_text digits
+unfolding the_machine answer request_of command_request with_arguments alone one_number first_word after_word number_in parse_digits refusal_text digits
 refusals = refl
 
 -- an empty line has no answer, and a line of 257 bytes is unknown
 pub lines_without_a_command : Writes 100 imp
     (codes "undo" ∷ replicate 257 32 ∷ [] ∷ codes "step" ∷ [])
     (codes "refused 10 NothingToUndo\n" ++ codes "unknown\n" ++ codes "turn 1 cycle 1 next 0 alive 1 at 1/1\n")
-unfolding the_machine answer request_of asked with_arguments alone first_word after_word refusal_text digits
+unfolding the_machine answer request_of command_request with_arguments alone first_word after_word refusal_text digits
 lines_without_a_command = refl
 
 -- of two places beside the last one none is forgotten by two turns
@@ -79,7 +79,7 @@ pub two_places_are_kept : Writes 2 imp
     ++ codes "turn 0 cycle 0 next 0 alive 1 at 0/2\n"
     ++ codes "turn 3 cycle 3 next 0 alive 1 at 2/2\n"
     ++ codes "refused 15 Forgotten\n")
-unfolding the_machine answer request_of asked with_arguments alone one_number first_word after_word number_in parse_digits refusal_text digits
+unfolding the_machine answer request_of command_request with_arguments alone one_number first_word after_word number_in parse_digits refusal_text digits
 two_places_are_kept = refl
 
 -- JMP.B $0, $0
@@ -104,10 +104,10 @@ pub warriors_are_edited : Writes 100 three
     ++ codes "warrior 1 dead 0\n"
     ++ codes "warrior 2 processes 2\n"
     ++ codes "battle over\n")
-unfolding the_machine answer request_of asked with_arguments alone one_number two_numbers three_numbers first_word after_word number_in parse_digits queue_text show_text texts warrior_text refusal_text digits
+unfolding the_machine answer request_of command_request with_arguments alone one_number two_numbers three_numbers first_word after_word number_in parse_digits queue_text show_text texts warrior_text refusal_text digits
 warriors_are_edited = refl
 
 -- nothing behind quit is executed, nor is quit
 pub lines_up_to_quit : until_quit 8 (codes "step" ∷ codes "quit 1" ∷ codes " quit" ∷ codes "undo" ∷ []) ≡ codes "step" ∷ codes "quit 1" ∷ []
-unfolding until_quit request_of asked with_arguments alone first_word after_word
+unfolding until_quit request_of command_request with_arguments alone first_word after_word
 lines_up_to_quit = refl

@@ -2,7 +2,7 @@ use Rattle.std.proofs.Common.{ap, inl, inr, refl, sym}
 use Rattle.mars_app.specs.declared.fault.RunFault.TheVariants.{Formula}
 use Rattle.redcode_asm.specs.declared.fault.FormulaFault.TheVariants.{Expression}
 use Rattle.mars_app.proofs.Asking.{formula_fails}
-use Rattle.mars_app.proofs.runs.Settings.new.Goals as goal
+use Rattle.mars_app.proofs.runs.setup_of.Goals as goal
 
 pub returns-in-Err-clause-err : goal.returns-in-Err-clause-err
 returns-in-Err-clause-err c = inr (inl (c.in-Err.fault, sym c.in-Err.ensures.value, refl))
