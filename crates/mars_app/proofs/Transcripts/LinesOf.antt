@@ -4,7 +4,8 @@ use Rattle.std.specs.List.{flat_map, AllByRecursion}
 use Rattle.mars_app.specs.declared.debugger.request.Request.{Request}
 use Rattle.mars_app.specs.declared.debugger.request.Request.TheVariants as request
 use Rattle.mars_cell.specs.Load.{lines_of}
-use Rattle.mars_app.specs.Debugger.Lines.{IsLine, Splits, with_newline, line_asks}
+use Rattle.mars_cell.specs.Written.{with_newline}
+use Rattle.mars_app.specs.Debugger.Lines.{IsLine, Splits, line_asks}
 use Rattle.mars_app.specs.Debugger.Transcript.{GoesOn, is_quit, until_quit}
 
 not_newline : (b : ℕ) → b ≢ 10 → nat_eq b 10 ≡ false

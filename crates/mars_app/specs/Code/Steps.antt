@@ -7,7 +7,8 @@ use Rattle.mars_app.specs.declared.debugger.line_buffer.LineBuffer.{LineBuffer}
 use Rattle.mars_app.specs.Code.LineBuffer.{Holds}
 use Rattle.mars_app.specs.declared.debugger.request.Request.TheVariants.{Quit}
 use Rattle.mars_cell.specs.Load.{lines_of}
-use Rattle.mars_app.specs.Debugger.Lines.{line_asks, Splits, IsLine, with_newline}
+use Rattle.mars_cell.specs.Written.{with_newline}
+use Rattle.mars_app.specs.Debugger.Lines.{line_asks, Splits, IsLine}
 use Rattle.mars_app.specs.Debugger.Transcript.{Transcript, BrokenAt, GoesOn, until_quit}
 
 -- The bytes were read from the session s on. The whole lines among them were executed, which left the session t

@@ -6,7 +6,8 @@ use Rattle.mars_session.specs.Script.{SessionState, standing_of, outcome}
 use Rattle.mars_app.specs.declared.debugger.request.Request.{Request}
 use Rattle.mars_app.specs.declared.debugger.request.Request.TheVariants as request
 use Rattle.mars_cell.specs.Load.{lines_of}
-use Rattle.mars_app.specs.Debugger.Lines.{line_asks, Splits, IsLine, with_newline}
+use Rattle.mars_cell.specs.Written.{with_newline}
+use Rattle.mars_app.specs.Debugger.Lines.{line_asks, Splits, IsLine}
 use Rattle.mars_app.specs.Debugger.Readings.{list_text, queue_text, show_text}
 use Rattle.mars_app.specs.Debugger.Replies.{reply_text}
 
