@@ -2,12 +2,13 @@
 //! forwards.
 #![tactic(auto)]
 
-use mars_app::{SystemFiles, start};
+use mars_app::{Streams, SystemFiles, start};
 use std::process::ExitCode;
 
 fn main(rt: HostRuntime) -> ExitCode {
     let (alloc, files) = (rt.alloc(), SystemFiles(&rt));
-    let (mut input, mut output, mut faults) = (rt.stdin(), rt.stdout(), rt.stderr());
-    let status = start(alloc, &rt, &files, &mut input, &mut output, &mut faults);
+    let (input, output, mut faults) = (rt.stdin(), rt.stdout(), rt.stderr());
+    let mut streams = Streams { input, output };
+    let status = start(alloc, &rt, &files, &mut streams, &mut faults);
     ExitCode::from(status)
 }

@@ -1,7 +1,7 @@
 -- What a match or a league writes.
-use Rattle.std.specs.Prelude.{◌≡◌, ◌≤◌, ◌⊎◌, ℕ, ◌+◌, Bool, if◌then◌else◌, List, [], ◌∷◌, ◌++◌, length, vec_len, decimal, codes, Option, Result, Ok, Err, take}
+use Rattle.std.specs.Prelude.{◌≡◌, ◌≤◌, ◌⊎◌, ℕ, ◌+◌, Bool, if◌then◌else◌, List, [], ◌∷◌, ◌++◌, length, vec_len, decimal, codes, Option, Result, Ok, Err, string_bytes, take}
 use Rattle.std.specs.Io.KnownBytes.{Appends}
-use Rattle.mars_cell.specs.Parameters.{Parameters}
+use Rattle.mars_cell.specs.ParameterFaults.{checked_parameters}
 use Rattle.mars_cell.specs.Warriors.{WarriorValue}
 use Rattle.mars_cell.specs.Written.{load_text}
 use Rattle.mars_match.specs.Leagues.{league_of}
@@ -13,7 +13,9 @@ use Rattle.mars_core.specs.declared.battle.start.BattleFault.TheVariants as batt
 use Rattle.mars_match.specs.declared.fault.MatchFault.{MatchFault}
 use Rattle.mars_match.specs.declared.fault.MatchFault.TheVariants as match
 use Rattle.mars_match.specs.declared.placement.PlaceFault.TheVariants as place
-use Rattle.redcode_text.specs.Tokens.{Scanned}
+use Rattle.redcode_asm.specs.Formula.{formula_of}
+use Rattle.mars_match.specs.declared.setup.Setup.{Setup}
+use Rattle.mars_app.specs.Options.{parameters_of}
 use Rattle.mars_app.specs.declared.fault.RunFault.{RunFault}
 use Rattle.mars_app.specs.declared.fault.RunFault.TheVariants.{Placement, Battle, Score, OutOfMemory, Output}
 use Rattle.mars_app.specs.declared.options.Options.{Options}
@@ -39,11 +41,19 @@ listing core_size brief warriors = if brief then [] else listing_from core_size 
 abbrev pub contest_size : Options → ℕ
 contest_size o = if o.league then 2 else vec_len o.files
 
--- the rows of the match, or of the league, that the options ask for
-abbrev pub contest : Options → Parameters → Scanned → List WarriorValue → Result (List RowValue) MatchFault
-contest o p formula warriors =
-    if o.league then league_of p warriors formula o.fixed o.rounds o.seed
-    else table_of p warriors formula o.fixed o.rounds o.seed
+-- how the options have a match, a league or a debugged battle held
+pub record IsSetupOf (o : Options) (setup : Setup) : Type 0 where
+  pub allowed : checked_parameters (parameters_of o) ≡ Ok setup.params
+  pub scored : formula_of (string_bytes o.score) ≡ Ok setup.plan.formula
+  pub rounds : setup.plan.rounds ≡ o.rounds
+  pub seed : setup.plan.seed ≡ o.seed
+  pub fixed : setup.plan.fixed ≡ o.fixed
+
+-- the rows of the match, or of the league
+abbrev pub contest : Bool → Setup → List WarriorValue → Result (List RowValue) MatchFault
+contest league setup warriors =
+    if league then league_of setup.params warriors setup.plan.formula setup.plan.fixed setup.plan.rounds setup.plan.seed
+    else table_of setup.params warriors setup.plan.formula setup.plan.fixed setup.plan.rounds setup.plan.seed
 
 -- the fault of a match, as the program tells it: want of memory is the same wherever it came
 abbrev pub fault_of : MatchFault → RunFault

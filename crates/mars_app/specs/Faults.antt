@@ -11,17 +11,17 @@ use Rattle.mars_cell.specs.declared.fault.LoadFault.{LoadFault}
 use Rattle.mars_cell.specs.declared.fault.LoadFault.TheVariants as load_fault
 use Rattle.mars_cell.specs.declared.parameters.ParamFault.{ParamFault}
 use Rattle.mars_core.specs.State.{State}
-use Rattle.mars_cell.specs.Output.{CutShort}
 use Rattle.redcode_asm.specs.Assembly.{assembly}
 use Rattle.redcode_asm.specs.Formula.{formula_of}
 use Rattle.redcode_asm.specs.declared.fault.FormulaFault.TheVariants.{Expression}
 use Rattle.redcode_text.specs.Tokens.{Scanned}
 use Rattle.redcode_text.specs.declared.fault.ExprFault.{ExprFault}
 use Rattle.mars_app.specs.Contests.{ContestFails, contest, contest_size, listing}
-use Rattle.mars_app.specs.Debugging.{DebugsInPart, StartsNothing, Untouched, first_round, session_at}
+use Rattle.mars_app.specs.Debugging.{DebugsInPart, StartsNothing, first_round, session_at}
 use Rattle.mars_app.specs.Loading.{AreLoaded, IsRead, IsUnread, is_load_file, largest_file, shown_name}
 use Rattle.mars_app.specs.Options.{AreBad, Ask, AskForHelp, parameters_of, value_of}
 use Rattle.mars_app.specs.Runs.{Asked}
+use Rattle.mars_app.specs.Streams.{StreamsValue, Untouched, WritesInPart}
 use Rattle.mars_app.specs.declared.fault.RunFault.{RunFault}
 use Rattle.mars_app.specs.declared.fault.RunFault.TheVariants as fault
 use Rattle.mars_app.specs.declared.files.FileFault.TheVariants as file
@@ -66,23 +66,23 @@ pub record FirstFails (known : List ℕ → Option (List ℕ)) (p : Parameters) 
 -- Nothing was read or written, since the words are bad, or what they ask for isn't allowed, or has no formula, or a file
 -- fails, or memory is wanting; or a help or a load file was cut short; or the debugger or the contest didn't end well. The
 -- debugger alone reads the input.
-pub data RunFails (words : List (List ℕ)) (known : List ℕ → Option (List ℕ)) (input left v w : Option (List ℕ)) (f : RunFault) : Type 0 where
-  bad : f ≡ fault.Words → AreBad words → Untouched input left v w → RunFails words known input left v w f
-  starved : f ≡ fault.OutOfMemory → Untouched input left v w → RunFails words known input left v w f
-  unhelped : f ≡ fault.Output → AskForHelp words → Keeps input left → (text : List ℕ) → CutShort v w text → RunFails words known input left v w f
+pub data RunFails (words : List (List ℕ)) (known : List ℕ → Option (List ℕ)) (old new : StreamsValue) (f : RunFault) : Type 0 where
+  bad : f ≡ fault.Words → AreBad words → Untouched old new → RunFails words known old new f
+  starved : f ≡ fault.OutOfMemory → Untouched old new → RunFails words known old new f
+  unhelped : f ≡ fault.Output → AskForHelp words → (text : List ℕ) → WritesInPart old new text → RunFails words known old new f
   not_allowed : (o : Options) → Ask words (value_of o) → (e : ParamFault) → checked_parameters (parameters_of o) ≡ Err e
-      → f ≡ fault.Parameters e → Untouched input left v w → RunFails words known input left v w f
+      → f ≡ fault.Parameters e → Untouched old new → RunFails words known old new f
   not_scored : (o : Options) → Ask words (value_of o) → (p : Parameters) → checked_parameters (parameters_of o) ≡ Ok p
-      → (e : ExprFault) → formula_of (string_bytes o.score) ≡ Err e → f ≡ fault.Formula (Expression e) → Untouched input left v w → RunFails words known input left v w f
+      → (e : ExprFault) → formula_of (string_bytes o.score) ≡ Err e → f ≡ fault.Formula (Expression e) → Untouched old new → RunFails words known old new f
   not_loaded : (o : Options) → Ask words (value_of o) → (p : Parameters) → checked_parameters (parameters_of o) ≡ Ok p
       → (s : Scanned) → formula_of (string_bytes o.score) ≡ Ok s
-      → FirstFails known p o.rounds (contest_size o) (map (λ name. string_bytes name) o.files.items) f → Untouched input left v w → RunFails words known input left v w f
-  not_written : (asked : Asked words known) → asked.options.load ≡ true → f ≡ fault.Output → Keeps input left
-      → CutShort v w (flat_map (load_text asked.parameters.core_size) asked.warriors) → RunFails words known input left v w f
+      → FirstFails known p o.rounds (contest_size o) (map (λ name. string_bytes name) o.files.items) f → Untouched old new → RunFails words known old new f
+  not_written : (asked : Asked words known) → asked.options.load ≡ true → f ≡ fault.Output
+      → WritesInPart old new (flat_map (load_text asked.setup.params.core_size) asked.warriors) → RunFails words known old new f
   not_debugged : (asked : Asked words known) → asked.options.load ≡ false → asked.options.debugger ≡ true
-      → StartsNothing f (first_round asked.options asked.parameters asked.warriors) input left v w
-      ⊎ ((s : State) × (first_round asked.options asked.parameters asked.warriors ≡ Ok s)
-      × DebugsInPart f (session_at asked.options.history s) s.params.core_size input left v w) → RunFails words known input left v w f
-  not_contested : (asked : Asked words known) → asked.options.load ≡ false → asked.options.debugger ≡ false → Keeps input left
-      → ContestFails f (contest asked.options asked.parameters asked.formula asked.warriors) asked.options.sorted v w
-      (listing asked.parameters.core_size asked.options.brief asked.warriors) → RunFails words known input left v w f
+      → StartsNothing f (first_round asked.setup asked.warriors) old new
+      ⊎ ((s : State) × (first_round asked.setup asked.warriors ≡ Ok s) × DebugsInPart f (session_at asked.options.history s) old new)
+      → RunFails words known old new f
+  not_contested : (asked : Asked words known) → asked.options.load ≡ false → asked.options.debugger ≡ false → Keeps old.unread new.unread
+      → ContestFails f (contest asked.options.league asked.setup asked.warriors) asked.options.sorted old.written new.written
+      (listing asked.setup.params.core_size asked.options.brief asked.warriors) → RunFails words known old new f

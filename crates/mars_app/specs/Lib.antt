@@ -4,6 +4,7 @@ pub mod CommandLine
 pub mod Options
 pub mod Loading
 pub mod Contests
+pub mod Streams
 pub mod Debugger
 pub mod Debugging
 pub mod Runs

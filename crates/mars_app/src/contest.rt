@@ -9,41 +9,44 @@ ghost use Rattle.mars_match.specs.Results.{results_text};
 ghost use Rattle.mars_match.specs.Tables.{RowValue};
 ghost use Rattle.mars_match.specs.declared.table.Table.{Table};
 ghost use Rattle.mars_cell.specs.Output.{CutShort};
-ghost use Rattle.mars_app.specs.Code.Plans.{planned};
-ghost use Rattle.mars_app.specs.Contests.{BreaksOff, ContestFails, fault_of, listed, listing, listing_head};
+ghost use Rattle.mars_app.specs.Contests.{BreaksOff, ContestFails, contest, fault_of, listed, listing, listing_head};
 ghost use Rattle.mars_app.specs.Loading.{AllFit};
 ghost use Rattle.mars_match.specs.Placement.{FitsTwo};
 ghost use Rattle.mars_core.specs.Limits.{most_warriors};
 
 use crate::fault::RunFault;
 use crate::options::Options;
-use mars_cell::{Line, Params, Warrior, WriteFault, numbered, push_number, write_load, write_text};
+use mars_cell::{Line, Warrior, WriteFault, numbered, push_number, write_load, write_text};
 use mars_core::BattleFault;
-use mars_match::{MatchFault, PlaceFault, Plan, Table, league, rounds, write_results};
+use mars_match::{MatchFault, PlaceFault, Setup, Table, league, rounds, write_results};
 use std::alloc::Global;
 use std::io::Write;
 
-/// Writes the listing of the warriors, where it is wanted, fights the match or the league by the plan, and writes the results.
+/// Writes the listing of the warriors, where it is wanted, fights the match or the league, and writes the results.
 pub fn run_contest<W: Write>(
     alloc: Global,
     options: &Options,
-    plan: &Plan,
-    params: &Params,
+    setup: &Setup,
     warriors: &[Warrior],
     output: &mut W,
 ) -> Result<(), RunFault>
-    requires fit { AllFit params.now.core_size warriors.now }
+    requires fit { AllFit setup.now.params.core_size warriors.now }
     requires few { length warriors.now ≤ most_warriors }
-    requires position { FitsTwo params.now (length warriors.now) plan.now.fixed }
-    ensures ok { OnOk result ((rows : List RowValue)
-        × (planned options.now.league plan.now params.now warriors.now ≡ Ok rows)
-        × Appends (W.contents output.old) (W.contents output.new) (listing params.now.core_size options.now.brief warriors.now ++ results_text rows options.now.sorted)) }
-    ensures err { IfErr result (λ fault. ContestFails fault
-        (planned options.now.league plan.now params.now warriors.now) options.now.sorted (W.contents output.old)
-        (W.contents output.new) (listing params.now.core_size options.now.brief warriors.now)) }
+    requires position { FitsTwo setup.now.params (length warriors.now) setup.now.plan.fixed }
+    ensures ok { OnOk result ((rows : List RowValue) × (contest options.now.league setup.now warriors.now ≡ Ok rows)
+        × Appends (W.contents output.old) (W.contents output.new)
+        (listing setup.now.params.core_size options.now.brief warriors.now ++ results_text rows options.now.sorted)) }
+    ensures err { IfErr result (λ fault. ContestFails fault (contest options.now.league setup.now warriors.now) options.now.sorted
+        (W.contents output.old) (W.contents output.new) (listing setup.now.params.core_size options.now.brief warriors.now)) }
 {
-    write_listing(alloc, options.brief, warriors, params.core_size(), output)?;
-    match hold_contest(alloc, options.league, plan, params, warriors) {
+    write_listing(
+        alloc,
+        options.brief,
+        warriors,
+        setup.params.core_size(),
+        output,
+    )?;
+    match hold_contest(alloc, options.league, setup, warriors) {
         Ok(table) => write_table(&table, options.sorted, output),
         Err(fault) => Err(match_fault(fault)),
     }
@@ -53,18 +56,17 @@ pub fn run_contest<W: Write>(
 fn hold_contest(
     alloc: Global,
     is_league: bool,
-    plan: &Plan,
-    params: &Params,
+    setup: &Setup,
     warriors: &[Warrior],
 ) -> Result<Table, MatchFault>
     requires few { length warriors.now ≤ most_warriors }
-    requires position { FitsTwo params.now (length warriors.now) plan.now.fixed }
-    ensures { IsAnswer (λ (table : Table). table.rows.items) (planned is_league plan.now params.now warriors.now) result }
+    requires position { FitsTwo setup.now.params (length warriors.now) setup.now.plan.fixed }
+    ensures { IsAnswer (λ (table : Table). table.rows.items) (contest is_league setup.now warriors.now) result }
 {
     if is_league {
-        league(alloc, params, warriors, plan)
+        league(alloc, setup, warriors)
     } else {
-        rounds(alloc, params, warriors, plan)
+        rounds(alloc, setup, warriors)
     }
 }
 

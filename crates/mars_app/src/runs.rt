@@ -1,15 +1,14 @@
 //! The program `mars`, over files and streams that are handed in.
 ghost use Rattle.std.specs.Prelude.{◌≡◌, ◌≢◌, ◌≤◌, ◌⊎◌, ℕ, IfErr, IfOk, List, Ok, OnOk, length, map, string_bytes, vec_len};
 ghost use Rattle.std.specs.Global.{Global};
-ghost use Rattle.std.specs.Io.KnownBytes.{Appends, Keeps};
 ghost use Rattle.mars_core.specs.State.{State};
-ghost use Rattle.mars_cell.specs.Output.{CutShort};
-ghost use Rattle.mars_app.specs.Contests.{contest_size};
-ghost use Rattle.mars_app.specs.Debugging.{DebugsInPart, DebugsWell, StartsNothing, Untouched, first_round, session_at};
+ghost use Rattle.mars_app.specs.Contests.{IsSetupOf, contest_size};
+ghost use Rattle.mars_app.specs.Debugging.{DebugsInPart, DebugsWell, StartsNothing, first_round, session_at};
+ghost use Rattle.mars_app.specs.Streams.{Untouched, Writes, WritesInPart};
 ghost use Rattle.mars_app.specs.Loading.{AllFit, IsLoadFileOf};
 ghost use Rattle.mars_match.specs.Placement.{FitsTwo};
 ghost use Rattle.mars_app.specs.Code.Allowed.{AreInRange, IsBetween};
-ghost use Rattle.mars_app.specs.Code.Settings.{AreSettingsOf, IsRefused, PlaysInPart, PlaysWell};
+ghost use Rattle.mars_app.specs.Code.Plays.{IsRefused, PlaysInPart, PlaysWell};
 ghost use Rattle.mars_app.specs.Options.{Ask, parameters_of, value_of};
 ghost use Rattle.mars_app.specs.Faults.{FailsToLoad, RunFails};
 ghost use Rattle.mars_app.specs.Runs.{RunsWell};
@@ -19,15 +18,16 @@ ghost use Rattle.mars_cell.specs.ParameterFaults.{checked_parameters};
 ghost use Rattle.mars_core.specs.Limits.{most_warriors};
 ghost use Rattle.mars_app.specs.Limits.{longest_history};
 
-use crate::contest::{match_fault, run_contest, write_part};
+use crate::contest::{match_fault, run_contest};
 use crate::debugger::{DebugFault, debug};
 use crate::fault::RunFault;
 use crate::files::WarriorFiles;
 use crate::loading::{Contest, load_file_of, load_warriors};
 use crate::options::{Options, WordsFault, read_options};
+use crate::streams::Streams;
 use mars_cell::{ParamFault, Params, Warrior};
 use mars_core::Battle;
-use mars_match::{MatchFault, Plan, round_starts};
+use mars_match::{MatchFault, Plan, Setup};
 use mars_session::{RingTape, Session};
 use redcode_asm::{Formula, FormulaFault};
 use std::alloc::Global;
@@ -37,23 +37,20 @@ use std::io::{Read, Write};
 ///
 /// With status 0 it has written the help, a load file, the transcript of a debugged battle, or the listing and results of a
 /// match or a league; another status is that of the first fault. A fault is one line on `faults`; where that can't be
-/// written, the status is the same. The debugger alone reads `input`.
+/// written, the status is the same. The debugger alone reads the input.
 pub fn run<F: WarriorFiles, R: Read, W: Write, E: Write>(
     alloc: Global,
     words: &[String],
     files: &F,
-    input: &mut R,
-    output: &mut W,
+    streams: &mut Streams<R, W>,
     faults: &mut E,
 ) -> u8
     ensures status { result ≤ 2 }
-    ensures done { result ≡ 0 → RunsWell (map (λ word. string_bytes word) words.now) (F.known files.now) (R.remaining input.old)
-        (R.remaining input.new) (W.contents output.old) (W.contents output.new) }
+    ensures done { result ≡ 0 → RunsWell (map (λ word. string_bytes word) words.now) (F.known files.now) streams.old streams.new }
     ensures failed { result ≢ 0 → (fault : RunFault) × (result ≡ status_of fault)
-        × RunFails (map (λ word. string_bytes word) words.now) (F.known files.now) (R.remaining input.old) (R.remaining input.new)
-        (W.contents output.old) (W.contents output.new) fault }
+        × RunFails (map (λ word. string_bytes word) words.now) (F.known files.now) streams.old streams.new fault }
 {
-    match run_words(alloc, words, files, input, output) {
+    match run_words(alloc, words, files, streams) {
         Ok(()) => 0,
         Err(fault) => {
             write_fault(alloc, &fault, faults);
@@ -75,19 +72,16 @@ fn run_words<F: WarriorFiles, R: Read, W: Write>(
     alloc: Global,
     words: &[String],
     files: &F,
-    input: &mut R,
-    output: &mut W,
+    streams: &mut Streams<R, W>,
 ) -> Result<(), RunFault>
-    ensures ok { OnOk result (RunsWell (map (λ word. string_bytes word) words.now) (F.known files.now) (R.remaining input.old)
-        (R.remaining input.new) (W.contents output.old) (W.contents output.new)) }
-    ensures err { IfErr result (RunFails (map (λ word. string_bytes word) words.now) (F.known files.now) (R.remaining input.old)
-        (R.remaining input.new) (W.contents output.old) (W.contents output.new)) }
+    ensures ok { OnOk result (RunsWell (map (λ word. string_bytes word) words.now) (F.known files.now) streams.old streams.new) }
+    ensures err { IfErr result (RunFails (map (λ word. string_bytes word) words.now) (F.known files.now) streams.old streams.new) }
 {
     match read_options(alloc, words) {
-        Ok(options) => run_options(alloc, &options, files, input, output),
+        Ok(options) => run_options(alloc, &options, files, streams),
         Err(WordsFault::BadWords) => Err(RunFault::Words),
         Err(WordsFault::OutOfMemory) => Err(RunFault::OutOfMemory),
-        Err(WordsFault::Help(text)) => write_part(output, text.as_str().as_bytes()),
+        Err(WordsFault::Help(text)) => streams.write(text.as_str().as_bytes()),
     }
 }
 
@@ -96,116 +90,101 @@ fn run_options<F: WarriorFiles, R: Read, W: Write>(
     alloc: Global,
     options: &Options,
     files: &F,
-    input: &mut R,
-    output: &mut W,
+    streams: &mut Streams<R, W>,
 ) -> Result<(), RunFault>
     requires { AreInRange options.now }
     ensures ok { OnOk result ((words : List (List ℕ)) → Ask words (value_of options.now)
-        → RunsWell words (F.known files.now) (R.remaining input.old) (R.remaining input.new) (W.contents output.old) (W.contents output.new)) }
+        → RunsWell words (F.known files.now) streams.old streams.new) }
     ensures err { IfErr result (λ fault. (words : List (List ℕ)) → Ask words (value_of options.now)
-        → RunFails words (F.known files.now) (R.remaining input.old) (R.remaining input.new) (W.contents output.old) (W.contents output.new) fault) }
+        → RunFails words (F.known files.now) streams.old streams.new fault) }
 {
-    let settings = Settings::new(alloc, options)?;
-    let done = settings.carry_out(alloc, options, files, input, output);
+    let setup = setup_of(alloc, options)?;
+    let done = carry_out(alloc, options, &setup, files, streams);
     // By a call, since each way out of this body would prove the drop anew.
-    drop(settings);
+    drop(setup);
     done
 }
 
-/// What options come to before any file is read.
-#[derive(Drop)]
-struct Settings {
-    params: Params,
-    /// How a match or a league is held.
-    plan: Plan,
+/// What options come to before any file is read: judges the parameters, and then the formula.
+fn setup_of(alloc: Global, options: &Options) -> Result<Setup, RunFault>
+    ensures ok { IfOk result (IsSetupOf options.now) }
+    ensures err { IfErr result (IsRefused options.now) }
+{
+    let params = match parameters(options) {
+        Ok(params) => params,
+        Err(fault) => return Err(RunFault::Parameters(fault)),
+    };
+    match Formula::new(alloc, options.score.as_bytes()) {
+        Ok(formula) => Ok(Setup {
+            params,
+            plan: Plan {
+                rounds: options.rounds,
+                seed: options.seed,
+                fixed: options.fixed,
+                formula,
+            },
+        }),
+        Err(FormulaFault::OutOfMemory) => Err(RunFault::OutOfMemory),
+        Err(FormulaFault::Expression(fault)) => {
+            Err(RunFault::Formula(FormulaFault::Expression(fault)))
+        }
+    }
 }
 
-impl Settings {
-    /// Judges the parameters, and then the formula.
-    fn new(alloc: Global, options: &Options) -> Result<Settings, RunFault>
-        ensures ok { IfOk result (AreSettingsOf options.now) }
-        ensures err { IfErr result (IsRefused options.now) }
-    {
-        let params = match parameters(options) {
-            Ok(params) => params,
-            Err(fault) => return Err(RunFault::Parameters(fault)),
-        };
-        match Formula::new(alloc, options.score.as_bytes()) {
-            Ok(formula) => Ok(Settings {
-                params,
-                plan: Plan {
-                    rounds: options.rounds,
-                    seed: options.seed,
-                    fixed: options.fixed,
-                    formula,
-                },
-            }),
-            Err(FormulaFault::OutOfMemory) => Err(RunFault::OutOfMemory),
-            Err(FormulaFault::Expression(fault)) => {
-                Err(RunFault::Formula(FormulaFault::Expression(fault)))
-            }
-        }
+/// Reads the warriors of the files, and does with them what the options ask for.
+#[tactic(auto, using(crate::proofs::Positions::position_fits))]
+fn carry_out<F: WarriorFiles, R: Read, W: Write>(
+    alloc: Global,
+    options: &Options,
+    setup: &Setup,
+    files: &F,
+    streams: &mut Streams<R, W>,
+) -> Result<(), RunFault>
+    requires range { AreInRange options.now }
+    requires setup { IsSetupOf options.now setup.now }
+    ensures ok { OnOk result ((words : List (List ℕ)) → Ask words (value_of options.now)
+        → RunsWell words (F.known files.now) streams.old streams.new) }
+    ensures err { IfErr result (λ fault. (words : List (List ℕ)) → Ask words (value_of options.now)
+        → RunFails words (F.known files.now) streams.old streams.new fault) }
+{
+    let contest = Contest {
+        params: &setup.params,
+        rounds: options.rounds,
+        warriors: contest_size(options),
+    };
+    if options.load {
+        return write_load_file_of(alloc, files, options.files[0].as_str(), contest, streams);
     }
+    let warriors = load_warriors(alloc, files, options.files.as_slice(), contest)?;
+    let done = play(alloc, options, setup, &warriors, streams);
+    // By a call, as in `run_options`.
+    drop(warriors);
+    done
+}
 
-    /// Reads the warriors of the files, and does with them what the options ask for.
-    #[tactic(auto, using(crate::proofs::Positions::position_fits))]
-    fn carry_out<F: WarriorFiles, R: Read, W: Write>(
-        &self,
-        alloc: Global,
-        options: &Options,
-        files: &F,
-        input: &mut R,
-        output: &mut W,
-    ) -> Result<(), RunFault>
-        requires range { AreInRange options.now }
-        requires settings { AreSettingsOf options.now self.now }
-        ensures ok { OnOk result ((words : List (List ℕ)) → Ask words (value_of options.now)
-            → RunsWell words (F.known files.now) (R.remaining input.old) (R.remaining input.new) (W.contents output.old) (W.contents output.new)) }
-        ensures err { IfErr result (λ fault. (words : List (List ℕ)) → Ask words (value_of options.now)
-            → RunFails words (F.known files.now) (R.remaining input.old) (R.remaining input.new) (W.contents output.old) (W.contents output.new) fault) }
-    {
-        let contest = Contest {
-            params: &self.params,
-            rounds: options.rounds,
-            warriors: contest_size(options),
-        };
-        if options.load {
-            return write_load_file_of(alloc, files, options.files[0].as_str(), contest, output);
-        }
-        let warriors = load_warriors(alloc, files, options.files.as_slice(), contest)?;
-        let done = self.play(alloc, options, &warriors, input, output);
-        // By a call, as in `run_options`.
-        drop(warriors);
-        done
+/// Debugs the battle of the warriors, or holds their contest.
+fn play<R: Read, W: Write>(
+    alloc: Global,
+    options: &Options,
+    setup: &Setup,
+    warriors: &[Warrior],
+    streams: &mut Streams<R, W>,
+) -> Result<(), RunFault>
+    requires setup { IsSetupOf options.now setup.now }
+    requires fit { AllFit setup.now.params.core_size warriors.now }
+    requires some { 1 ≤ length warriors.now }
+    requires few { length warriors.now ≤ most_warriors }
+    requires position { FitsTwo setup.now.params (length warriors.now) options.now.fixed }
+    requires history { IsBetween 1 longest_history options.now.history }
+
+    // What the options ask for was written, or a beginning of it.
+    ensures ok { OnOk result (PlaysWell options.now setup.now warriors.now streams.old streams.new) }
+    ensures err { IfErr result (PlaysInPart options.now setup.now warriors.now streams.old streams.new) }
+{
+    if options.debugger {
+        return debug_round(alloc, setup, options.history, warriors, streams);
     }
-
-    /// Debugs the battle of the warriors, or holds their contest.
-    fn play<R: Read, W: Write>(
-        &self,
-        alloc: Global,
-        options: &Options,
-        warriors: &[Warrior],
-        input: &mut R,
-        output: &mut W,
-    ) -> Result<(), RunFault>
-        requires settings { AreSettingsOf options.now self.now }
-        requires fit { AllFit self.now.params.core_size warriors.now }
-        requires some { 1 ≤ length warriors.now }
-        requires few { length warriors.now ≤ most_warriors }
-        requires position { FitsTwo self.now.params (length warriors.now) options.now.fixed }
-        requires history { IsBetween 1 longest_history options.now.history }
-
-        // What the options ask for was written, or a beginning of it.
-        ensures ok { OnOk result (PlaysWell options.now self.now.params self.now.plan.formula warriors.now (R.remaining input.old)
-            (R.remaining input.new) (W.contents output.old) (W.contents output.new)) }
-        ensures err { IfErr result (PlaysInPart options.now self.now.params self.now.plan.formula warriors.now
-            (R.remaining input.old) (R.remaining input.new) (W.contents output.old) (W.contents output.new)) }
-    {
-        if options.debugger {
-            return debug_round(alloc, options, &self.params, warriors, input, output);
-        }
-        run_contest(alloc, options, &self.plan, &self.params, warriors, output)
-    }
+    run_contest(alloc, options, setup, warriors, &mut streams.output)
 }
 
 /// The parameters that the words ask for: a limit that isn't given is the core size.
@@ -238,72 +217,70 @@ fn contest_size(options: &Options) -> u32
 }
 
 /// Writes the load file of a warrior's file.
-fn write_load_file_of<F: WarriorFiles, W: Write>(
+fn write_load_file_of<F: WarriorFiles, R: Read, W: Write>(
     alloc: Global,
     files: &F,
     name: &str,
     contest: Contest<'_>,
-    output: &mut W,
+    streams: &mut Streams<R, W>,
 ) -> Result<(), RunFault>
     ensures ok { let c = contest.entry in OnOk result ((text : List ℕ)
-        × IsLoadFileOf (F.known files.now) c.params.now c.rounds c.warriors name.now text × Appends (W.contents output.old) (W.contents output.new) text) }
-    ensures err { let c = contest.entry in IfErr result (λ fault. (FailsToLoad (F.known files.now) c.params.now c.rounds c.warriors name.now fault × Keeps (W.contents output.old) (W.contents output.new))
+        × IsLoadFileOf (F.known files.now) c.params.now c.rounds c.warriors name.now text × Writes streams.old streams.new text) }
+    ensures err { let c = contest.entry in IfErr result (λ fault.
+        (FailsToLoad (F.known files.now) c.params.now c.rounds c.warriors name.now fault × Untouched streams.old streams.new)
         ⊎ ((fault ≡ RunFault.Output) × (text : List ℕ)
-        × IsLoadFileOf (F.known files.now) c.params.now c.rounds c.warriors name.now text × CutShort (W.contents output.old) (W.contents output.new) text)) }
+        × IsLoadFileOf (F.known files.now) c.params.now c.rounds c.warriors name.now text × WritesInPart streams.old streams.new text)) }
 {
     let text = load_file_of(alloc, files, name, contest)?;
-    write_part(output, &text)
+    streams.write(&text)
 }
 
-/// Debugs the battle of round 0 by the lines of the input.
+/// Debugs the battle of round 0 by the lines of the input, with a history that keeps so many places beside the last one.
 fn debug_round<R: Read, W: Write>(
     alloc: Global,
-    options: &Options,
-    params: &Params,
+    setup: &Setup,
+    history: u32,
     warriors: &[Warrior],
-    input: &mut R,
-    output: &mut W,
+    streams: &mut Streams<R, W>,
 ) -> Result<(), RunFault>
     requires some { 1 ≤ length warriors.now }
     requires few { length warriors.now ≤ most_warriors }
-    requires position { FitsTwo params.now (length warriors.now) options.now.fixed }
-    requires history { IsBetween 1 longest_history options.now.history }
-    ensures ok { OnOk result ((s : State) × (first_round options.now params.now warriors.now ≡ Ok s)
-        × DebugsWell (session_at options.now.history s) s.params.core_size (R.remaining input.old) (R.remaining input.new) (W.contents output.old) (W.contents output.new)) }
-    ensures err { IfErr result (λ fault. StartsNothing fault (first_round options.now params.now warriors.now) (R.remaining input.old) (R.remaining input.new) (W.contents output.old) (W.contents output.new)
-        ⊎ ((s : State) × (first_round options.now params.now warriors.now ≡ Ok s)
-        × DebugsInPart fault (session_at options.now.history s) s.params.core_size (R.remaining input.old) (R.remaining input.new) (W.contents output.old) (W.contents output.new))) }
+    requires position { FitsTwo setup.now.params (length warriors.now) setup.now.plan.fixed }
+    requires history { IsBetween 1 longest_history history }
+    ensures ok { OnOk result ((s : State) × (first_round setup.now warriors.now ≡ Ok s)
+        × DebugsWell (session_at history s) streams.old streams.new) }
+    ensures err { IfErr result (λ fault. StartsNothing fault (first_round setup.now warriors.now) streams.old streams.new
+        ⊎ ((s : State) × (first_round setup.now warriors.now ≡ Ok s)
+        × DebugsInPart fault (session_at history s) streams.old streams.new)) }
 {
     let count = warriors.len() as u32;
-    let (starts, _seed) = match round_starts(alloc, params, count, options.fixed, options.seed) {
+    let (starts, _seed) = match setup.round_starts(alloc, count, setup.plan.seed) {
         Ok(placed) => placed,
         Err(fault) => return Err(match_fault(fault)),
     };
-    match Battle::new(alloc, params, warriors, &starts) {
-        Ok(battle) => debug_battle(alloc, battle, options.history, input, output),
+    match Battle::new(alloc, &setup.params, warriors, &starts) {
+        Ok(battle) => debug_battle(alloc, battle, history, streams),
         Err(fault) => Err(match_fault(MatchFault::Battle(fault))),
     }
 }
 
-/// Debugs a battle by the lines of the input, with a history that keeps so many places beside the last one.
+/// Debugs a battle, as `debug_round` does.
 fn debug_battle<R: Read, W: Write>(
     alloc: Global,
     battle: Battle,
     history: u32,
-    input: &mut R,
-    output: &mut W,
+    streams: &mut Streams<R, W>,
 ) -> Result<(), RunFault>
     requires { IsBetween 1 longest_history history }
-    ensures ok { OnOk result (DebugsWell (session_at history battle) battle.params.core_size (R.remaining input.old)
-        (R.remaining input.new) (W.contents output.old) (W.contents output.new)) }
-    ensures err { IfErr result (λ fault. ((fault ≡ RunFault.OutOfMemory) × Untouched (R.remaining input.old) (R.remaining input.new) (W.contents output.old) (W.contents output.new))
-        ⊎ DebugsInPart fault (session_at history battle) battle.params.core_size (R.remaining input.old) (R.remaining input.new) (W.contents output.old) (W.contents output.new)) }
+    ensures ok { OnOk result (DebugsWell (session_at history battle) streams.old streams.new) }
+    ensures err { IfErr result (λ fault. ((fault ≡ RunFault.OutOfMemory) × Untouched streams.old streams.new)
+        ⊎ DebugsInPart fault (session_at history battle) streams.old streams.new) }
 {
     let Ok(tape) = RingTape::new(alloc, battle, history as usize) else {
         return Err(RunFault::OutOfMemory);
     };
     let mut session = Session::new(tape, u64::from(history));
-    let debugged = debug(input, output, &mut session);
+    let debugged = debug(&mut streams.input, &mut streams.output, &mut session);
     // By a call, as in `run_options`.
     drop(session);
     match debugged {

@@ -1,6 +1,6 @@
 //! The program as it was started.
 ghost use Rattle.std.specs.Prelude.{◌≡◌, ◌≢◌, ◌⊎◌, ℕ, IfErr, List};
-ghost use Rattle.mars_app.specs.Debugging.{Untouched};
+ghost use Rattle.mars_app.specs.Streams.{Untouched};
 ghost use Rattle.mars_app.specs.Faults.{RunFails};
 ghost use Rattle.mars_app.specs.Runs.{RunsWell};
 ghost use Rattle.mars_app.specs.Status.{status_of};
@@ -9,30 +9,28 @@ ghost use Rattle.mars_app.specs.declared.fault.RunFault.{RunFault};
 use crate::fault::RunFault;
 use crate::files::WarriorFiles;
 use crate::runs::{run, write_fault};
+use crate::streams::Streams;
 use std::alloc::Global;
 use std::env::{self, Env, FillError};
 use std::io::{ErrorKind, Read, Write};
 
 /// Runs the program on the words that it was started with, and gives its exit status, as `run` does.
 ///
-/// A word that isn't UTF-8 is bad words: nothing is read from `input` or written on `output` then.
+/// A word that isn't UTF-8 is bad words: nothing is read or written on `streams` then.
 pub fn start<V: Env, F: WarriorFiles, R: Read, W: Write, E: Write>(
     alloc: Global,
     env: &V,
     files: &F,
-    input: &mut R,
-    output: &mut W,
+    streams: &mut Streams<R, W>,
     faults: &mut E,
 ) -> u8
-    ensures done { result ≡ 0 → (words : List (List ℕ))
-        × RunsWell words (F.known files.now) (R.remaining input.old) (R.remaining input.new) (W.contents output.old)
-        (W.contents output.new) }
+    ensures done { result ≡ 0 → (words : List (List ℕ)) × RunsWell words (F.known files.now) streams.old streams.new }
     ensures failed { result ≢ 0 → (fault : RunFault) × (result ≡ status_of fault)
-        × (((fault ≡ RunFault.Words) × Untouched (R.remaining input.old) (R.remaining input.new) (W.contents output.old) (W.contents output.new))
-        ⊎ ((words : List (List ℕ)) × RunFails words (F.known files.now) (R.remaining input.old) (R.remaining input.new) (W.contents output.old) (W.contents output.new) fault)) }
+        × (((fault ≡ RunFault.Words) × Untouched streams.old streams.new)
+        ⊎ ((words : List (List ℕ)) × RunFails words (F.known files.now) streams.old streams.new fault)) }
 {
     match words_behind_name(alloc, env) {
-        Ok(words) => run(alloc, words.as_slice(), files, input, output, faults),
+        Ok(words) => run(alloc, words.as_slice(), files, streams, faults),
         Err(fault) => {
             write_fault(alloc, &fault, faults);
             fault.status()

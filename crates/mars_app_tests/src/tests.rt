@@ -10,7 +10,7 @@ mod files;
 mod streams;
 mod words;
 
-use mars_app::{MemoryFiles, run};
+use mars_app::{MemoryFiles, Streams, run};
 use std::alloc::Global;
 use std::io::{Read, Write};
 use std::process::Abort;
@@ -127,12 +127,11 @@ fn run_words<R: Read, W: Write, E: Write>(
     alloc: Global,
     files: &MemoryFiles,
     words: &[&str],
-    input: &mut R,
-    output: &mut W,
+    streams: &mut Streams<R, W>,
     faults: &mut E,
 ) -> Result<u8, Fail> {
     let words = words_of(alloc, words)?;
-    let status = run(alloc, words.as_slice(), files, input, output, faults);
+    let status = run(alloc, words.as_slice(), files, streams, faults);
     drop(words);
     Ok(status)
 }
@@ -150,12 +149,13 @@ fn answer_over(
     words: &[&str],
     input: &[u8],
 ) -> Result<Outcome, Fail> {
-    let (mut output, mut faults) = (Vec::new(alloc), Vec::new(alloc));
-    let mut rest = input;
-    let status = run_words(alloc, files, words, &mut rest, &mut output, &mut faults)?;
+    let output = Vec::new(alloc);
+    let mut streams = Streams { input, output };
+    let mut faults = Vec::new(alloc);
+    let status = run_words(alloc, files, words, &mut streams, &mut faults)?;
     Ok(Outcome {
         status,
-        output,
+        output: streams.output,
         faults,
     })
 }

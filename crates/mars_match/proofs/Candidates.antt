@@ -2,7 +2,7 @@
 use Rattle.std.proofs.Common.{◌≡◌, List, [], ◌++◌, Err, Ok, Result, refl}
 use Rattle.redcode_text.specs.Results.{◌>>=◌}
 use Rattle.mars_match.specs.declared.fault.MatchFault.{MatchFault}
-use Rattle.mars_match.specs.declared.populations.Sum.{Sum}
+use Rattle.mars_match.specs.declared.table.Sum.{Sum}
 
 abbrev pub before : List Sum → Result (List Sum) MatchFault → Result (List Sum) MatchFault
 before sums others = others >>= λ more. Ok (sums ++ more)

@@ -13,7 +13,7 @@ use Rattle.std.specs.Prelude.{not, Bool}
 use Rattle.redcode_text.specs.Tokens.{Scanned}
 use Rattle.mars_match.specs.Answers.{IsAnswer}
 use Rattle.mars_match.specs.Battles.{lives, in_load_order, fought}
-use Rattle.mars_match.specs.Rounds.{Outcome, placed_for, round_score, ended, as_score, fits_in_64, checked_rows}
+use Rattle.mars_match.specs.Rounds.{Outcome, placed_for, round_score, round_outcome, as_score, fits_in_64, checked_rows}
 use Rattle.mars_match.specs.Code.Tallies.{tallied, all_added, row_with, rows_with}
 use Rattle.mars_match.specs.declared.fault.MatchFault.{MatchFault}
 use Rattle.mars_match.specs.declared.fault.MatchFault.TheVariants.{OutOfMemory, Score}
@@ -32,11 +32,11 @@ score-in_order f first s =
     rw (how_many-rotated n (lives s), length-rotated n (lives s) (omega (arith, many))) refl
 
 module _ (p : Parameters) (warriors : List WarriorValue) (f : Scanned) (starts : List ℕ) (k : ℕ) where
-  pub ended_ok : (lived : List Bool) (z : ℤ) → fought p warriors starts k ≡ Ok lived → round_score f lived ≡ Ok z → ended p warriors f starts k ≡ Ok (record { lived = lived; score = z })
-  ended_ok lived z e h = rw (e, h) refl
+  pub outcome_ok : (lived : List Bool) (z : ℤ) → fought p warriors starts k ≡ Ok lived → round_score f lived ≡ Ok z → round_outcome p warriors f starts k ≡ Ok (record { lived = lived; score = z })
+  outcome_ok lived z e h = rw (e, h) refl
 
-  pub ended_err : (lived : List Bool) (x : MatchFault) → fought p warriors starts k ≡ Ok lived → round_score f lived ≡ Err x → ended p warriors f starts k ≡ Err x
-  ended_err lived x e h = rw (e, h) refl
+  pub outcome_err : (lived : List Bool) (x : MatchFault) → fought p warriors starts k ≡ Ok lived → round_score f lived ≡ Err x → round_outcome p warriors f starts k ≡ Err x
+  outcome_err lived x e h = rw (e, h) refl
 
 module _ (p : Parameters) (warriors : List WarriorValue) (f : Scanned) (fixed : Option ℕ) (n k seed : ℕ) (tallies : List Tally) (more : k < n) where
   rest : n - k ≡ suc (n - (k + 1))
@@ -45,10 +45,10 @@ module _ (p : Parameters) (warriors : List WarriorValue) (f : Scanned) (fixed : 
   pub tallied_place_err : (x : MatchFault) → placed_for p (length warriors) fixed seed ≡ Err x → tallied p warriors f fixed (n - k) k seed tallies ≡ Err x
   tallied_place_err x e = rw (rest, e) refl
 
-  pub tallied_round_err : (starts : List ℕ) (left : ℕ) (x : MatchFault) → placed_for p (length warriors) fixed seed ≡ Ok (starts, left) → ended p warriors f starts k ≡ Err x → tallied p warriors f fixed (n - k) k seed tallies ≡ Err x
+  pub tallied_round_err : (starts : List ℕ) (left : ℕ) (x : MatchFault) → placed_for p (length warriors) fixed seed ≡ Ok (starts, left) → round_outcome p warriors f starts k ≡ Err x → tallied p warriors f fixed (n - k) k seed tallies ≡ Err x
   tallied_round_err starts left x e h = rw (rest, e, h) refl
 
-  pub tallied_more : (starts : List ℕ) (left : ℕ) (o : Outcome) → placed_for p (length warriors) fixed seed ≡ Ok (starts, left) → ended p warriors f starts k ≡ Ok o →
+  pub tallied_more : (starts : List ℕ) (left : ℕ) (o : Outcome) → placed_for p (length warriors) fixed seed ≡ Ok (starts, left) → round_outcome p warriors f starts k ≡ Ok o →
       tallied p warriors f fixed (n - (k + 1)) (k + 1) left (all_added o 0 tallies) ≡ tallied p warriors f fixed (n - k) k seed tallies
   tallied_more starts left o e h = rw (rest, e, h) refl
 

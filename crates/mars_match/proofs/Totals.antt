@@ -9,7 +9,7 @@ use Rattle.mars_cell.specs.Parameters.{Parameters}
 use Rattle.mars_cell.specs.Warriors.{WarriorValue}
 use Rattle.redcode_text.specs.Results.{◌>>=◌}
 use Rattle.redcode_text.specs.Tokens.{Scanned}
-use Rattle.mars_match.specs.Rounds.{Outcome, placed_for, ended, outcomes, has_won, has_tied, has_lost, points_of, row_of, rows_from, checked_rows, table_of}
+use Rattle.mars_match.specs.Rounds.{Outcome, placed_for, round_outcome, outcomes, has_won, has_tied, has_lost, points_of, row_of, rows_from, checked_rows, table_of}
 use Rattle.mars_match.specs.Code.Tallies.{no_rounds, added, all_added, tallied, row_with, rows_with}
 use Rattle.mars_core.specs.declared.battle.start.BattleFault.{BattleFault}
 use Rattle.mars_match.specs.Battles.{count_fault}
@@ -45,7 +45,7 @@ pub tallied_is : (p : Parameters) (warriors : List WarriorValue) (f : Scanned) (
 unfolding folded
 tallied_is p warriors f fixed zero k seed tallies = refl
 tallied_is p warriors f fixed (suc n) k seed tallies =
-    one_placed (placed_for p (length warriors) fixed seed) (λ starts. ended p warriors f starts k) (λ left o. tallied p warriors f fixed n (k + 1) left (all_added o 0 tallies)) (λ left. outcomes p warriors f fixed n (k + 1) left) tallies
+    one_placed (placed_for p (length warriors) fixed seed) (λ starts. round_outcome p warriors f starts k) (λ left o. tallied p warriors f fixed n (k + 1) left (all_added o 0 tallies)) (λ left. outcomes p warriors f fixed n (k + 1) left) tallies
     (λ left o. tallied_is p warriors f fixed n (k + 1) left (all_added o 0 tallies))
 
 -- ---- one warrior

@@ -9,7 +9,7 @@ use Rattle.mars_match.specs.Rounds.{fits_in_64, table_of}
 use Rattle.mars_match.specs.Tables.{RowValue}
 use Rattle.mars_match.specs.declared.fault.MatchFault.{MatchFault}
 use Rattle.mars_match.specs.declared.fault.MatchFault.TheVariants.{Score}
-use Rattle.mars_match.specs.declared.populations.Sum.{Sum}
+use Rattle.mars_match.specs.declared.table.Sum.{Sum}
 
 -- the sum of no matches
 abbrev pub no_matches : Sum

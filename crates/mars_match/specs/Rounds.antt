@@ -38,8 +38,8 @@ abbrev pub outcome_of : Scanned → List Bool → Result Outcome MatchFault
 outcome_of formula lived = round_score formula lived >>= λ score. Ok (record { lived = lived; score = score })
 
 -- how round k ends, or why it can't
-abbrev pub ended : Parameters → List WarriorValue → Scanned → List ℕ → ℕ → Result Outcome MatchFault
-ended p warriors formula starts k = fought p warriors starts k >>= outcome_of formula
+abbrev pub round_outcome : Parameters → List WarriorValue → Scanned → List ℕ → ℕ → Result Outcome MatchFault
+round_outcome p warriors formula starts k = fought p warriors starts k >>= outcome_of formula
 
 abbrev pub placed_unless : Option PlaceFault → List ℕ × ℕ → Result (List ℕ × ℕ) MatchFault
 placed_unless None placed = Ok placed
@@ -55,7 +55,7 @@ abbrev pub outcomes : Parameters → List WarriorValue → Scanned → Option �
 outcomes p warriors formula fixed zero k seed = Ok []
 outcomes p warriors formula fixed (suc n) k seed =
     placed_for p (length warriors) fixed seed >>= λ placed.
-    ended p warriors formula placed.0 k >>= λ outcome.
+    round_outcome p warriors formula placed.0 k >>= λ outcome.
     outcomes p warriors formula fixed n (k + 1) placed.1 >>= λ others. Ok (outcome ∷ others)
 
 -- warrior i lived

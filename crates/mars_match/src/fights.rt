@@ -95,6 +95,17 @@ impl Lineup {
     }
 }
 
+/// A round of a match: its warriors, where each is laid, and its number.
+#[derive(Clone, Copy)]
+pub struct Round<'r> {
+    pub lineup: &'r Lineup,
+    pub starts: &'r [u32],
+    pub number: u32,
+    ghost same_length: { length starts.now ≡ length lineup.now },
+    ghost some: { 1 ≤ length lineup.now },
+    ghost few: { length lineup.now ≤ most_warriors },
+}
+
 /// Turns the battle until it is over.
 #[tactic(auto, unfolding(crate::specs::Battles::end_of))]
 fn end(battle: &mut Battle)
@@ -153,24 +164,21 @@ fn new_battle(
 fn start_round(
     alloc: Global,
     params: &Params,
-    lineup: &Lineup,
-    starts: &[u32],
-    round: u32,
+    round: Round<'_>,
     last: Option<Box<Battle>>,
 ) -> Result<Box<Battle>, MatchFault>
-    requires starts { length starts.now ≡ length lineup.now }
-    requires some { 1 ≤ length lineup.now }
-    requires few { length lineup.now ≤ most_warriors }
-    requires last { IfSome last (λ battle. HasRoom params.now (length lineup.now) battle.value) }
-    ensures state { IsAnswer (λ (battle : Box State Global). battle.value) (started params.now lineup.now starts.now round) result }
+    requires { IfSome last (λ battle. HasRoom params.now (length round.lineup.now) battle.value) }
+    ensures state { let r = round.entry in IsAnswer (λ (battle : Box State Global). battle.value)
+        (started params.now r.lineup.now r.starts.now r.number) result }
     ensures no_memory { IfSome last (λ _. IfErr result (λ fault. fault ≢ MatchFault.OutOfMemory)) }
 {
-    let first = round as usize % lineup.len();
-    let starts = rotated_starts(starts, first);
+    let first = round.number as usize % round.lineup.len();
+    let warriors = round.lineup.starting_at(first);
+    let starts = rotated_starts(round.starts, first);
     let Some(mut battle) = last else {
-        return new_battle(alloc, params, lineup.starting_at(first), starts.as_slice());
+        return new_battle(alloc, params, warriors, starts.as_slice());
     };
-    match battle.restart(lineup.starting_at(first), starts.as_slice()) {
+    match battle.restart(warriors, starts.as_slice()) {
         Ok(()) => Ok(battle),
         Err(fault) => Err(MatchFault::Battle(fault)),
     }
@@ -192,23 +200,18 @@ pub fn is_alive(battle: &Battle, first: usize, warrior: usize) -> bool
 pub fn fight_round(
     alloc: Global,
     params: &Params,
-    lineup: &Lineup,
-    starts: &[u32],
-    round: u32,
+    round: Round<'_>,
     last: Option<Box<Battle>>,
 ) -> Result<Box<Battle>, MatchFault>
-    requires starts { length starts.now ≡ length lineup.now }
-    requires some { 1 ≤ length lineup.now }
-    requires few { length lineup.now ≤ most_warriors }
-    requires last { IfSome last (λ battle. HasRoom params.now (length lineup.now) battle.value) }
-    ensures survivors { IsAnswer (λ (battle : Box State Global). in_load_order (round % length lineup.now) battle.value)
-        (fought params.now lineup.now starts.now round) result }
-    ensures room { IfOk result (λ battle. HasRoom params.now (length lineup.now) battle.value) }
+    requires { IfSome last (λ battle. HasRoom params.now (length round.lineup.now) battle.value) }
+    ensures survivors { let r = round.entry in IsAnswer (λ (battle : Box State Global). in_load_order (r.number % length r.lineup.now) battle.value)
+        (fought params.now r.lineup.now r.starts.now r.number) result }
+    ensures room { IfOk result (λ battle. HasRoom params.now (length round.entry.lineup.now) battle.value) }
 
     // In the memory of a last battle none is asked for.
     ensures no_memory { IfSome last (λ _. IfErr result (λ fault. fault ≢ MatchFault.OutOfMemory)) }
 {
-    let mut battle = start_round(alloc, params, lineup, starts, round, last)?;
+    let mut battle = start_round(alloc, params, round, last)?;
     end(&mut battle);
     Ok(battle)
 }
@@ -247,6 +250,11 @@ pub fn fight(
     let Ok(lineup) = Lineup::new(alloc, warriors) else {
         return Err(MatchFault::OutOfMemory);
     };
-    let battle = fight_round(alloc, params, &lineup, starts, round, None)?;
+    let fought = Round {
+        lineup: &lineup,
+        starts,
+        number: round,
+    };
+    let battle = fight_round(alloc, params, fought, None)?;
     survivors_list(alloc, &battle, round as usize % warriors.len())
 }

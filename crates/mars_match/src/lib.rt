@@ -1,7 +1,7 @@
 //! Matches: where warriors are laid, the battle of a round, the rounds of a match, and the text of results.
 //!
 //! The layers above may use: `place` gives exactly the defined starts and next seed (`specs/Placement`), or its first
-//! fault; any two of the starts lie at least the least distance apart, both ways round the core. `round_starts` is that, or a fixed
+//! fault; any two of the starts lie at least the least distance apart, both ways round the core. `Setup::round_starts` is that, or a fixed
 //! position of the second of two. `fight` tells who survives a
 //! round (`specs/Battles`), `rounds` gives the table of a match (`specs/Rounds`), `league` that of a league
 //! (`specs/Leagues`), and `population` the sums of candidates (`specs/Populations`), each or its first fault, or want of memory (`specs/Answers`). `write_results` writes exactly the
@@ -11,20 +11,20 @@
 
 mod fault;
 mod fights;
-mod kept;
 pub mod laws;
 mod matches;
 mod placement;
 mod populations;
 mod report;
-mod starts;
+mod scores;
+mod setup;
 mod table;
 
 pub use fault::MatchFault;
 pub use fights::fight;
-pub use matches::{Plan, league, rounds};
+pub use matches::{league, rounds};
 pub use placement::{GREATEST_SEED, PlaceFault, place};
-pub use populations::{Sum, population};
+pub use populations::population;
 pub use report::write_results;
-pub use starts::round_starts;
-pub use table::{Row, Table};
+pub use setup::{Plan, Setup};
+pub use table::{Row, Sum, Table};

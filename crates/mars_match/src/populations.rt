@@ -6,29 +6,16 @@ ghost use Rattle.mars_match.specs.Code.Keeping.{IsKept};
 ghost use Rattle.mars_match.specs.Code.Tallies.{IsOf, most_rounds, summed};
 ghost use Rattle.mars_match.specs.Placement.{FitsTwo};
 ghost use Rattle.mars_match.specs.Populations.{fits, no_matches as spec_no_matches, population_of, sum_from};
-ghost use Rattle.mars_match.specs.declared.populations.Sum.{Sum as SumNumbers};
+ghost use Rattle.mars_match.specs.declared.table.Sum.{Sum as SumNumbers};
 
 use crate::fault::MatchFault;
 use crate::fights::Lineup;
-use crate::kept::{Kept, nothing_kept};
-use crate::matches::{Plan, fitting, play_pair};
-use crate::table::Tally;
-use mars_cell::{Params, Warrior};
+use crate::matches::{Matches, fitting};
+use crate::setup::Setup;
+use crate::table::{Sum, Tally};
+use mars_cell::Warrior;
 use redcode_text::ExprFault;
 use std::alloc::Global;
-
-/// What a candidate got in all its matches.
-#[derive(Clone, Copy, Debug, PartialEq, Eq)]
-pub struct Sum {
-    /// The sum of the scores.
-    pub points: i64,
-    /// How many rounds it survived alone.
-    pub wins: u64,
-    /// How many it survived with others.
-    pub ties: u64,
-    /// How many it didn't survive.
-    pub losses: u64,
-}
 
 /// The sum of no matches.
 fn no_matches() -> Sum
@@ -58,35 +45,35 @@ fn added(sum: Sum, tally: Tally) -> Option<Sum>
     })
 }
 
-/// What a candidate gets in its matches with the opponents.
-fn sum_of(
-    alloc: Global,
-    params: &Params,
-    candidate: &Warrior,
-    opponents: &[Warrior],
-    plan: &Plan,
-    kept: &mut Kept,
-) -> Result<Sum, MatchFault>
-    requires kept { IsKept params.now 2 plan.now.formula kept.old }
-    ensures sum { IsAnswer (λ (sum : SumNumbers). sum) (sum_from params.now plan.now.formula plan.now.fixed plan.now.rounds plan.now.seed
-        candidate.now spec_no_matches opponents.now) result }
-    ensures kept { IfOk result (λ _. IsKept params.now 2 plan.now.formula kept.new) }
-{
-    let Ok(mut lineup) = Lineup::twice(alloc, candidate) else {
-        return Err(MatchFault::OutOfMemory);
-    };
-    let mut sum = no_matches();
-    for opponent in opponents {
-        let Ok(()) = lineup.replace_second(opponent) else {
+impl Matches {
+    /// What a candidate gets in its matches with the opponents.
+    fn sum_of(
+        &mut self,
+        setup: &Setup,
+        candidate: &Warrior,
+        opponents: &[Warrior],
+    ) -> Result<Sum, MatchFault>
+        requires kept { IsKept setup.now 2 self.old }
+        ensures sum { let plan = setup.now.plan in IsAnswer (λ (sum : SumNumbers). sum)
+            (sum_from setup.now.params plan.formula plan.fixed plan.rounds plan.seed candidate.now spec_no_matches opponents.now) result }
+        ensures kept { IfOk result (λ _. IsKept setup.now 2 self.new) }
+    {
+        let Ok(mut lineup) = Lineup::twice(self.alloc, candidate) else {
             return Err(MatchFault::OutOfMemory);
         };
-        let (own, _others) = play_pair(alloc, params, &lineup, plan, kept)?;
-        let Some(more) = added(sum, own) else {
-            return Err(MatchFault::Score(ExprFault::Range));
-        };
-        sum = more;
+        let mut sum = no_matches();
+        for opponent in opponents {
+            let Ok(()) = lineup.replace_second(opponent) else {
+                return Err(MatchFault::OutOfMemory);
+            };
+            let (own, _others) = self.play_pair(setup, &lineup)?;
+            let Some(more) = added(sum, own) else {
+                return Err(MatchFault::Score(ExprFault::Range));
+            };
+            sum = more;
+        }
+        Ok(sum)
     }
-    Ok(sum)
 }
 
 /// What each candidate gets in its matches with all opponents, each of the plan's rounds and begun with its seed, in which the candidate
@@ -94,22 +81,21 @@ fn sum_of(
 /// fault, candidate by candidate. It takes memory for one match at a time, and a sum for each candidate.
 pub fn population(
     alloc: Global,
-    params: &Params,
+    setup: &Setup,
     candidates: &[Warrior],
     opponents: &[Warrior],
-    plan: &Plan,
 ) -> Result<Vec<Sum>, MatchFault>
-    requires fixed { FitsTwo params.now 2 plan.now.fixed }
+    requires fixed { FitsTwo setup.now.params 2 setup.now.plan.fixed }
     ensures many { IfOk result (λ sums. vec_len sums ≡ length candidates.now) }
-    ensures sums { IsAnswer (λ (sums : Vec SumNumbers Global). sums.items)
-        (population_of params.now plan.now.formula plan.now.fixed plan.now.rounds plan.now.seed opponents.now candidates.now) result }
+    ensures sums { let plan = setup.now.plan in IsAnswer (λ (sums : Vec SumNumbers Global). sums.items)
+        (population_of setup.now.params plan.formula plan.fixed plan.rounds plan.seed opponents.now candidates.now) result }
 {
     let Ok(mut sums) = Vec::with_capacity(alloc, candidates.len()) else {
         return Err(MatchFault::OutOfMemory);
     };
-    let mut kept = nothing_kept();
+    let mut matches = Matches::new(alloc);
     for candidate in candidates {
-        let sum = sum_of(alloc, params, candidate, opponents, plan, &mut kept)?;
+        let sum = matches.sum_of(setup, candidate, opponents)?;
         if sums.push(sum).is_err() {
             return Err(MatchFault::OutOfMemory);
         }

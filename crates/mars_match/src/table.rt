@@ -9,16 +9,26 @@ use arrayvec::ArrayString;
 use mars_core::Battle;
 use std::marker::Model;
 
+/// What a warrior got in all its matches.
+#[derive(Clone, Copy, Debug, PartialEq, Eq)]
+pub struct Sum {
+    /// The sum of the scores.
+    pub points: i64,
+    /// How many rounds it survived alone.
+    pub wins: u64,
+    /// How many it survived with others.
+    pub ties: u64,
+    /// How many it didn't survive.
+    pub losses: u64,
+}
+
 /// How one warrior fared in a match or a league.
 #[derive(Debug, Drop)]
 pub struct Row {
     // In place, so that a table takes memory once.
     name: ArrayString<60>,
     author: ArrayString<60>,
-    points: i64,
-    wins: u64,
-    ties: u64,
-    losses: u64,
+    sum: Sum,
 }
 
 impl Model for Row {
@@ -29,35 +39,34 @@ impl Model for Row {
     ghost view = { λ r. record {
       name = r.name.bytes;
       author = r.author.bytes;
-      points = r.points;
-      wins = r.wins;
-      ties = r.ties;
-      losses = r.losses;
+      points = r.sum.points;
+      wins = r.sum.wins;
+      ties = r.sum.ties;
+      losses = r.sum.losses;
     } };
 
     ghost invariant = { λ r. IsRow (record {
       name = r.name.bytes;
       author = r.author.bytes;
-      points = r.points;
-      wins = r.wins;
-      ties = r.ties;
-      losses = r.losses;
+      points = r.sum.points;
+      wins = r.sum.wins;
+      ties = r.sum.ties;
+      losses = r.sum.losses;
     }) };
 }
 
 impl Row {
-    /// A row of a warrior's name and author, of at most 60 bytes from 32 to 126 each, its points, and how often it survived alone, with
-    /// others, and not.
-    pub fn new(name: &str, author: &str, points: i64, wins: u64, ties: u64, losses: u64) -> Row
+    /// A row of a warrior's name and author, of at most 60 bytes from 32 to 126 each, and what it got.
+    pub fn new(name: &str, author: &str, sum: Sum) -> Row
         requires name { IsName name.now }
         requires author { IsName author.now }
         ensures { result ≡ record {
           name = name.now;
           author = author.now;
-          points = points;
-          wins = wins;
-          ties = ties;
-          losses = losses;
+          points = sum.points;
+          wins = sum.wins;
+          ties = sum.ties;
+          losses = sum.losses;
         } }
     {
         let (mut row_name, mut row_author) = (ArrayString::new(), ArrayString::new());
@@ -66,10 +75,7 @@ impl Row {
         Row {
             name: row_name,
             author: row_author,
-            points,
-            wins,
-            ties,
-            losses,
+            sum,
         }
     }
 
@@ -93,28 +99,28 @@ impl Row {
     pub fn points(&self) -> i64
         ensures { result ≡ self.now.points }
     {
-        self.points
+        self.sum.points
     }
 
     /// How often it survived alone.
     pub fn wins(&self) -> u64
         ensures { result ≡ self.now.wins }
     {
-        self.wins
+        self.sum.wins
     }
 
     /// How often it survived with others.
     pub fn ties(&self) -> u64
         ensures { result ≡ self.now.ties }
     {
-        self.ties
+        self.sum.ties
     }
 
     /// How often it didn't survive.
     pub fn losses(&self) -> u64
         ensures { result ≡ self.now.losses }
     {
-        self.losses
+        self.sum.losses
     }
 }
 

@@ -4,7 +4,8 @@ use Rattle.std.specs.List.{flat_map, AllByRecursion}
 use Rattle.mars_app.specs.declared.debugger.request.Request.{Request}
 use Rattle.mars_app.specs.declared.debugger.request.Request.TheVariants as request
 use Rattle.mars_cell.specs.Load.{lines_of}
-use Rattle.mars_app.specs.Debugger.Lines.{IsLine, Splits, ended, line_asks}
+use Rattle.mars_cell.specs.Written.{with_newline}
+use Rattle.mars_app.specs.Debugger.Lines.{IsLine, Splits, line_asks}
 use Rattle.mars_app.specs.Debugger.Transcript.{GoesOn, is_quit, until_quit}
 
 not_newline : (b : ℕ) → b ≢ 10 → nat_eq b 10 ≡ false
@@ -15,7 +16,7 @@ unfolding lines_of
 lines_of-line [] bs h = refl
 lines_of-line (b ∷ l) bs h = rw (not_newline b h.0, lines_of-line l bs h.1) refl
 
--- the line that isn't ended, where there is one
+-- the line without a newline, where there is one
 abbrev pub last_of : List ℕ → List (List ℕ)
 last_of [] = []
 last_of (b ∷ l) = (b ∷ l) ∷ []
@@ -26,9 +27,9 @@ lines_of-open [] h = refl
 lines_of-open (b ∷ []) h = rw (not_newline b h.0) refl
 lines_of-open (b ∷ c ∷ l) h = rw (not_newline b h.0, lines_of-open (c ∷ l) h.1) refl
 
-pub lines_of-lines : (ls : List (List ℕ)) (bs : List ℕ) → AllByRecursion IsLine ls → lines_of (flat_map ended ls ++ bs) ≡ ls ++ lines_of bs
+pub lines_of-lines : (ls : List (List ℕ)) (bs : List ℕ) → AllByRecursion IsLine ls → lines_of (flat_map with_newline ls ++ bs) ≡ ls ++ lines_of bs
 lines_of-lines [] bs h = refl
-lines_of-lines (l ∷ ls) bs h = rw (append_assoc, append_assoc l (10 ∷ []) (flat_map ended ls ++ bs), lines_of-line l (flat_map ended ls ++ bs) h.0, lines_of-lines ls bs h.1) refl
+lines_of-lines (l ∷ ls) bs h = rw (append_assoc, append_assoc l (10 ∷ []) (flat_map with_newline ls ++ bs), lines_of-line l (flat_map with_newline ls ++ bs) h.0, lines_of-lines ls bs h.1) refl
 
 is_no_quit : (r : Request) → r ≢ request.Quit → is_quit r ≡ false
 is_no_quit request.Nothing h = refl

@@ -12,7 +12,8 @@ use Rattle.mars_app.specs.declared.debugger.request.Request.{Request}
 use Rattle.mars_app.specs.declared.debugger.request.Request.TheVariants.{Quit}
 use Rattle.mars_app.specs.Code.LineBuffer.{Holds}
 use Rattle.mars_cell.specs.Load.{lines_of}
-use Rattle.mars_app.specs.Debugger.Lines.{IsLine, ended, line_asks}
+use Rattle.mars_cell.specs.Written.{with_newline}
+use Rattle.mars_app.specs.Debugger.Lines.{IsLine, line_asks}
 use Rattle.mars_cell.specs.Output.{CutShort}
 use Rattle.mars_app.specs.Debugger.Transcript.{Transcript, GoesOn, Completes, WriteFails, answer, until_quit}
 use Rattle.mars_app.specs.Debugger.Transcript.EndsIn.{at_newline, at_end}
@@ -86,7 +87,7 @@ module _ (core : ℕ) where
           lines = r.lines ++ r.rest ∷ [];
           rest = [];
           splits = record {
-            whole = rw (r.splits.whole, append_assoc, flat_map-append ended r.lines (r.rest ∷ [])) (simp append-nil);
+            whole = rw (r.splits.whole, append_assoc, flat_map-append with_newline r.lines (r.rest ∷ [])) (simp append-nil);
             each = every_push IsLine r.lines r.rest r.splits.each r.splits.unfinished;
             unfinished = tt;
           };
@@ -293,7 +294,7 @@ module _ (core : ℕ) where
   quits_all s bytes u text more q =
       let split = every_split IsLine q.lines q.last q.each in
       rw (
-        more_bytes bytes (flat_map ended q.lines) q.last q.more more q.whole,
+        more_bytes bytes (flat_map with_newline q.lines) q.last q.more more q.whole,
         lines_of-lines q.lines (q.last ++ 10 ∷ (q.more ++ more)) split.0,
         lines_of-line q.last (q.more ++ more) split.1,
         until_quit-lines core q.lines (q.last ∷ lines_of (q.more ++ more)) q.goes_on,

@@ -7,7 +7,8 @@ use Rattle.mars_app.specs.declared.debugger.line_buffer.LineBuffer.{LineBuffer}
 use Rattle.mars_app.specs.Code.LineBuffer.{Holds}
 use Rattle.mars_app.specs.declared.debugger.request.Request.TheVariants.{Quit}
 use Rattle.mars_cell.specs.Load.{lines_of}
-use Rattle.mars_app.specs.Debugger.Lines.{line_asks, Splits, IsLine, ended}
+use Rattle.mars_cell.specs.Written.{with_newline}
+use Rattle.mars_app.specs.Debugger.Lines.{line_asks, Splits, IsLine}
 use Rattle.mars_app.specs.Debugger.Transcript.{Transcript, BrokenAt, GoesOn, until_quit}
 
 -- The bytes were read from the session s on. The whole lines among them were executed, which left the session t
@@ -25,7 +26,7 @@ pub record Quitting (core_size : ℕ) (s : SessionState) (bytes : List ℕ) (t :
   pub lines : List (List ℕ)
   pub last : List ℕ
   pub more : List ℕ
-  pub whole : bytes ≡ flat_map ended lines ++ (last ++ 10 ∷ more)
+  pub whole : bytes ≡ flat_map with_newline lines ++ (last ++ 10 ∷ more)
   pub each : AllByRecursion IsLine (lines ++ last ∷ [])
   pub goes_on : AllByRecursion (GoesOn core_size) lines
   pub quits : line_asks core_size last ≡ Quit
@@ -36,7 +37,7 @@ pub record Breaking (core_size : ℕ) (s : SessionState) (bytes : List ℕ) (t :
   pub lines : List (List ℕ)
   pub last : List ℕ
   pub more : List ℕ
-  pub whole : bytes ≡ flat_map ended lines ++ (last ++ 10 ∷ more)
+  pub whole : bytes ≡ flat_map with_newline lines ++ (last ++ 10 ∷ more)
   pub each : AllByRecursion IsLine (lines ++ last ∷ [])
   pub goes_on : AllByRecursion (GoesOn core_size) lines
   pub cut : BrokenAt core_size s lines last t text
@@ -65,4 +66,4 @@ Finishes core_size a t v u w = (s : SessionState) (bytes text : List ℕ) → Re
 abbrev pub BreaksAtEnd : ℕ → LineBuffer → SessionState → Option (List ℕ) → SessionState → Option (List ℕ) → Type 0
 BreaksAtEnd core_size a t v u w = (s : SessionState) (bytes text : List ℕ) → ReadsOn core_size s bytes a t text
     → (added : List ℕ) × (lines : List (List ℕ)) × (last : List ℕ) × Appends v w added
-    × (bytes ≡ flat_map ended lines ++ last) × AllByRecursion IsLine (lines ++ last ∷ []) × AllByRecursion (GoesOn core_size) lines × BrokenAt core_size s lines last u (text ++ added)
+    × (bytes ≡ flat_map with_newline lines ++ last) × AllByRecursion IsLine (lines ++ last ∷ []) × AllByRecursion (GoesOn core_size) lines × BrokenAt core_size s lines last u (text ++ added)

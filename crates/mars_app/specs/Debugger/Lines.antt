@@ -1,6 +1,7 @@
 -- Lines of bytes, and what each asks for.
-use Rattle.std.specs.Prelude.{◌≡◌, ◌≢◌, ℕ, List, [], ◌∷◌, ◌++◌, nat_lt, length, if◌then◌else◌}
+use Rattle.std.specs.Prelude.{◌≡◌, ◌≢◌, ℕ, List, ◌++◌, nat_lt, length, if◌then◌else◌}
 use Rattle.std.specs.List.{flat_map, AllByRecursion}
+use Rattle.mars_cell.specs.Written.{with_newline}
 use Rattle.mars_app.specs.Debugger.Requests.{request_of}
 use Rattle.mars_app.specs.declared.debugger.request.Request.{Request}
 use Rattle.mars_app.specs.declared.debugger.request.Request.TheVariants.{Unknown}
@@ -17,12 +18,8 @@ line_asks core_size l = if nat_lt longest (length l) then Unknown else request_o
 abbrev pub IsLine : List ℕ → Type 0
 IsLine l = AllByRecursion (λ b. b ≢ 10) l
 
--- a line with its LF
-abbrev pub ended : List ℕ → List ℕ
-ended l = l ++ 10 ∷ []
-
 -- the bytes are these whole lines, and then a beginning of one
 pub record Splits (bytes : List ℕ) (lines : List (List ℕ)) (rest : List ℕ) : Type 0 where
-  pub whole : bytes ≡ flat_map ended lines ++ rest
+  pub whole : bytes ≡ flat_map with_newline lines ++ rest
   pub each : AllByRecursion IsLine lines
   pub unfinished : IsLine rest

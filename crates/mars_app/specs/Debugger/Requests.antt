@@ -81,13 +81,13 @@ with_arguments core_size command.Queue l = option_map (λ n. request.Queue n) (o
 with_arguments core_size command.Show l = alone request.Show l
 with_arguments core_size command.Quit l = alone request.Quit l
 
--- what a line with some words asks for, where it asks for anything
-unfoldable pub asked : ℕ → List ℕ → Option Request
-asked core_size l = do
+-- what a line with some words asks for, where they are those of a command
+unfoldable pub command_request : ℕ → List ℕ → Option Request
+command_request core_size l = do
   named ← command_of (first_word l)
   with_arguments core_size named (after_word l)
 
 -- what a line asks for in a core of that size: blanks alone ask for nothing
 unfoldable pub request_of : ℕ → List ℕ → Request
 request_of core_size l =
-    if length (first_word l) == 0 then request.Nothing else unwrap_or (asked core_size l) request.Unknown
+    if length (first_word l) == 0 then request.Nothing else unwrap_or (command_request core_size l) request.Unknown

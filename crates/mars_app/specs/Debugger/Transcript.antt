@@ -6,7 +6,8 @@ use Rattle.mars_session.specs.Script.{SessionState, standing_of, outcome}
 use Rattle.mars_app.specs.declared.debugger.request.Request.{Request}
 use Rattle.mars_app.specs.declared.debugger.request.Request.TheVariants as request
 use Rattle.mars_cell.specs.Load.{lines_of}
-use Rattle.mars_app.specs.Debugger.Lines.{line_asks, Splits, IsLine, ended}
+use Rattle.mars_cell.specs.Written.{with_newline}
+use Rattle.mars_app.specs.Debugger.Lines.{line_asks, Splits, IsLine}
 use Rattle.mars_app.specs.Debugger.Readings.{list_text, queue_text, show_text}
 use Rattle.mars_app.specs.Debugger.Replies.{reply_text}
 
@@ -58,7 +59,7 @@ pub record HasQuit (core_size : ℕ) (bytes : List ℕ) : Type 0 where
   pub lines : List (List ℕ)
   pub last : List ℕ
   pub more : List ℕ
-  pub whole : bytes ≡ flat_map ended lines ++ (last ++ 10 ∷ more)
+  pub whole : bytes ≡ flat_map with_newline lines ++ (last ++ 10 ∷ more)
   pub each : AllByRecursion IsLine (lines ++ last ∷ [])
   pub goes_on : AllByRecursion (GoesOn core_size) lines
   pub quits : line_asks core_size last ≡ request.Quit
@@ -112,8 +113,8 @@ pub record BrokenAt (core_size : ℕ) (s : SessionState) (lines : List (List ℕ
 
 -- the bytes are the whole lines, and then the last line, which has an LF or is all that is left
 pub data EndsIn (bytes : List ℕ) (lines : List (List ℕ)) (last : List ℕ) (rest : Option (List ℕ)) : Type 0 where
-  at_newline : (more : List ℕ) → bytes ≡ flat_map ended lines ++ (last ++ 10 ∷ more) → EndsIn bytes lines last rest
-  at_end : bytes ≡ flat_map ended lines ++ last → IsAtEnd rest → EndsIn bytes lines last rest
+  at_newline : (more : List ℕ) → bytes ≡ flat_map with_newline lines ++ (last ++ 10 ∷ more) → EndsIn bytes lines last rest
+  at_end : bytes ≡ flat_map with_newline lines ++ last → IsAtEnd rest → EndsIn bytes lines last rest
 
 -- A write failed. What was read is these lines, and a last one; they were executed, none before the last is quit, the
 -- text of the lines was written, and of the last one's a beginning, not all of it.

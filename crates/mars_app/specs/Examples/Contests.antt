@@ -4,9 +4,8 @@ use Rattle.std.specs.Fmt.{digits}
 use Rattle.mars_cell.specs.declared.instruction.Op.TheVariants.{Mov}
 use Rattle.mars_cell.specs.declared.instruction.Modifier.TheVariants.{I}
 use Rattle.mars_cell.specs.declared.instruction.Mode.TheVariants.{Direct}
-use Rattle.mars_cell.specs.Parameters.{Parameters}
 use Rattle.mars_cell.specs.Warriors.{WarriorValue}
-use Rattle.redcode_text.specs.Tokens.{Scanned}
+use Rattle.mars_match.specs.declared.setup.Setup.{Setup}
 use Rattle.mars_match.specs.Leagues.{league_of}
 use Rattle.mars_match.specs.Rounds.{table_of}
 use Rattle.mars_cell.specs.declared.parameters.ParamFault.TheVariants.{CoreSize}
@@ -43,13 +42,13 @@ pub limits_are_the_core : (o : Options) → let p = parameters_of (record o { co
 limits_are_the_core o = (refl, refl, refl)
 
 -- a league is fought where one is asked for, between two at a time; else a match
-pub a_league_or_a_match : (o : Options) (p : Parameters) (f : Scanned) (warriors : List WarriorValue) →
-    let league = record o { league = true } in
-    let match = record o { league = false } in
-    (contest league p f warriors ≡ league_of p warriors f o.fixed o.rounds o.seed)
-    × (contest_size league ≡ 2)
-    × (contest match p f warriors ≡ table_of p warriors f o.fixed o.rounds o.seed)
-a_league_or_a_match o p f warriors = (refl, refl, refl)
+pub a_league_or_a_match : (o : Options) (setup : Setup) (warriors : List WarriorValue) →
+    let p = setup.params in
+    let plan = setup.plan in
+    (contest true setup warriors ≡ league_of p warriors plan.formula plan.fixed plan.rounds plan.seed)
+    × (contest_size (record o { league = true }) ≡ 2)
+    × (contest false setup warriors ≡ table_of p warriors plan.formula plan.fixed plan.rounds plan.seed)
+a_league_or_a_match o setup warriors = (refl, refl, refl)
 
 -- 2 where the words say what can't be, else 1
 pub statuses : (status_of fault.Words ≡ 2)

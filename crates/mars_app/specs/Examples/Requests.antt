@@ -9,7 +9,7 @@ use Rattle.mars_cell.specs.Parts.{begins_word, joins, parts}
 use Rattle.mars_cell.specs.Words.{mode_of, modifier_of, op_of}
 use Rattle.mars_session.specs.declared.calls.Call.TheVariants as call
 use Rattle.mars_app.specs.Debugger.Words.{first_word, after_word, number_at as number_in}
-use Rattle.mars_app.specs.Debugger.Requests.{alone, asked, command_of, one_number, request_of, three_numbers, two_numbers, with_arguments}
+use Rattle.mars_app.specs.Debugger.Requests.{alone, command_request, command_of, one_number, request_of, three_numbers, two_numbers, with_arguments}
 use Rattle.mars_app.specs.Debugger.Lines.{line_asks}
 use Rattle.mars_app.specs.declared.debugger.request.Request.TheVariants as request
 
@@ -28,14 +28,14 @@ pub commands_are_known :
     × (line_asks 8 (codes "queue 0") ≡ request.Queue 0)
     × (line_asks 8 (codes "show") ≡ request.Show)
     × (line_asks 8 (codes "quit ") ≡ request.Quit)
-unfolding request_of asked command_of with_arguments alone one_number two_numbers three_numbers first_word after_word number_in parse_digits
+unfolding request_of command_request command_of with_arguments alone one_number two_numbers three_numbers first_word after_word number_in parse_digits
 commands_are_known = (refl, refl, refl, refl, refl, refl, refl, refl, refl, refl, refl, refl, refl)
 
 -- a cell is as in a load file, and its numbers count modulo the core size
 pub cells_are_read :
     (line_asks 8 (codes "edit 7 NOP.F $0, $0") ≡ request.Call (call.SetCell 7 record { op = op.Nop; modifier = modifier.F; a_mode = Direct; a = 0; b_mode = Direct; b = 0 }))
     × (line_asks 8 (codes "fill 10 2 add #-1, 9") ≡ request.Call (call.Fill 10 2 record { op = op.Add; modifier = modifier.Ab; a_mode = Immediate; a = 7; b_mode = Direct; b = 1 }))
-unfolding request_of asked with_arguments first_word after_word number_in parse_digits parts joins begins_word cell_of op_at suffix_at modifier_at mode_at number_at operand_at comma_at op_of modifier_of mode_of parse_number split_sign nearest default_modifier
+unfolding request_of command_request with_arguments first_word after_word number_in parse_digits parts joins begins_word cell_of op_at suffix_at modifier_at mode_at number_at operand_at comma_at op_of modifier_of mode_of parse_number split_sign nearest default_modifier
 cells_are_read = (refl, refl)
 
 -- Blanks alone ask for nothing. A word too few or too many, another spelling, a sign, a number of 19 digits, half a cell, and
@@ -52,5 +52,5 @@ pub lines_that_are_no_commands :
     × (line_asks 8 (codes "run +1") ≡ request.Unknown)
     × (line_asks 8 (codes "goto 1000000000000000000") ≡ request.Unknown)
     × (line_asks 8 (codes "edit 7 NOP.F $0,") ≡ request.Unknown)
-unfolding request_of asked with_arguments alone one_number first_word after_word number_in parse_digits parts joins begins_word cell_of op_at suffix_at modifier_at mode_at number_at operand_at comma_at op_of modifier_of mode_of parse_number split_sign nearest default_modifier
+unfolding request_of command_request with_arguments alone one_number first_word after_word number_in parse_digits parts joins begins_word cell_of op_at suffix_at modifier_at mode_at number_at operand_at comma_at op_of modifier_of mode_of parse_number split_sign nearest default_modifier
 lines_that_are_no_commands = (refl, refl, refl, refl, refl, refl, refl, refl, refl, refl, refl)

@@ -191,7 +191,7 @@ fn read_arguments(command: Command, rest: &[u8], core_size: u32) -> Option<Reque
 }
 
 /// What the bytes of a line ask for, in a core of that size.
-#[tactic(auto, unfolding(crate::specs::Debugger::Requests::request_of, crate::specs::Debugger::Requests::asked))]
+#[tactic(auto, unfolding(crate::specs::Debugger::Requests::request_of, crate::specs::Debugger::Requests::command_request))]
 pub fn read_request(line: &[u8], core_size: u32) -> Request
     requires { 0 < core_size }
     ensures { result ≡ request_of core_size line.now }

@@ -106,6 +106,30 @@ impl Start for RingTape {
     }
 }
 
+/// Load files, and where each starts.
+#[derive(Clone, Copy)]
+struct Entries<'e> {
+    sources: &'e [&'e [u8]],
+    starts: &'e [u32],
+}
+
+const ONE_IMP: Entries<'static> = Entries {
+    sources: &[IMP],
+    starts: &[0],
+};
+
+const THREE_STAY: Entries<'static> = Entries {
+    sources: &[STAY, STAY, STAY],
+    starts: &[0, 2, 4],
+};
+
+/// Lines, and all that is written for them.
+#[derive(Clone, Copy)]
+struct Exchange<'e> {
+    input: &'e [u8],
+    expected: &'e [u8],
+}
+
 fn warriors_of(alloc: Global, params: &Params, sources: &[&[u8]]) -> Result<Vec<Warrior>, Fail> {
     let mut warriors = Vec::new(alloc);
     for source in sources {
@@ -115,100 +139,81 @@ fn warriors_of(alloc: Global, params: &Params, sources: &[&[u8]]) -> Result<Vec<
 }
 
 /// The battle of these load files in a core of 8 cells.
-fn battle_of(
-    rt: &impl Abort,
-    alloc: Global,
-    sources: &[&[u8]],
-    starts: &[u32],
-) -> Result<Battle, Fail> {
+fn battle_of(rt: &impl Abort, alloc: Global, entries: Entries<'_>) -> Result<Battle, Fail> {
     let params = Params::new(8, 8000, 80000, 8, 8, 1, 1)?;
-    let warriors = warriors_of(alloc, &params, sources)?;
-    assert_eq!(rt; warriors.len(), starts.len());
-    let battle = Battle::new(alloc, &params, warriors.as_slice(), starts);
+    let warriors = warriors_of(alloc, &params, entries.sources)?;
+    assert_eq!(rt; warriors.len(), entries.starts.len());
+    let battle = Battle::new(alloc, &params, warriors.as_slice(), entries.starts);
     drop(warriors);
     Ok(battle?)
-}
-
-/// The battle of one imp.
-fn imp_battle(rt: &impl Abort, alloc: Global) -> Result<Battle, Fail> {
-    battle_of(rt, alloc, &[IMP], &[0])
 }
 
 /// A session over the battle of these load files.
 fn session_of<T: Start>(
     rt: &impl Abort,
     alloc: Global,
-    sources: &[&[u8]],
-    starts: &[u32],
+    entries: Entries<'_>,
     limit: u64,
 ) -> Result<Session<T>, Fail> {
-    let battle = battle_of(rt, alloc, sources, starts)?;
+    let battle = battle_of(rt, alloc, entries)?;
     Ok(Session::new(T::start(alloc, battle)?, limit))
 }
 
 /// The session that the program has, of one imp.
 fn imp_session(rt: &impl Abort, alloc: Global) -> Result<Session<RingTape>, Fail> {
-    session_of(rt, alloc, &[IMP], &[0], AMPLE)
+    session_of(rt, alloc, ONE_IMP, AMPLE)
 }
 
-/// The input of this session gives this text, in whatever pieces it is read and written, over each kind of tape. Where places
-/// are forgotten the limit doesn't matter.
+/// A battle's session answers so, in whatever pieces it reads and writes, over each kind of tape. Where places are forgotten
+/// the limit doesn't matter.
 fn gives(
     rt: &impl Abort,
     alloc: Global,
-    sources: &[&[u8]],
-    starts: &[u32],
-    input: &[u8],
-    expected: &str,
+    entries: Entries<'_>,
+    exchange: Exchange<'_>,
 ) -> Result<(), Fail> {
-    gives_within(rt, alloc, sources, starts, AMPLE, input, expected)?;
-    gives_over::<RingTape>(rt, alloc, sources, starts, 0, input, expected)
+    gives_within(rt, alloc, entries, AMPLE, exchange)?;
+    gives_over::<RingTape>(rt, alloc, entries, 0, exchange)
 }
 
 /// So it is over each kind of tape that keeps all places, with a limit.
 fn gives_within(
     rt: &impl Abort,
     alloc: Global,
-    sources: &[&[u8]],
-    starts: &[u32],
+    entries: Entries<'_>,
     limit: u64,
-    input: &[u8],
-    expected: &str,
+    exchange: Exchange<'_>,
 ) -> Result<(), Fail> {
-    gives_over::<WholeTape>(rt, alloc, sources, starts, limit, input, expected)?;
-    gives_over::<DeltaTape>(rt, alloc, sources, starts, limit, input, expected)
+    gives_over::<WholeTape>(rt, alloc, entries, limit, exchange)?;
+    gives_over::<DeltaTape>(rt, alloc, entries, limit, exchange)
 }
 
 /// So it is over one kind of tape.
 fn gives_over<T: Start + Drop>(
     rt: &impl Abort,
     alloc: Global,
-    sources: &[&[u8]],
-    starts: &[u32],
+    entries: Entries<'_>,
     limit: u64,
-    input: &[u8],
-    expected: &str,
+    exchange: Exchange<'_>,
 ) -> Result<(), Fail> {
     for size in [1usize, 2, 3, 256, 5000] {
-        let mut session: Session<T> = session_of(rt, alloc, sources, starts, limit)?;
-        let answered = answers(rt, alloc, &mut session, size, input, expected);
+        let mut session: Session<T> = session_of(rt, alloc, entries, limit)?;
+        answers(rt, alloc, &mut session, size, exchange);
         drop(session);
-        answered?;
     }
     Ok(())
 }
 
-/// The session gives this text for the input, in pieces of so many bytes.
+/// The session answers so in pieces of so many bytes.
 fn answers<T: Tape>(
     rt: &impl Abort,
     alloc: Global,
     session: &mut Session<T>,
     size: usize,
-    input: &[u8],
-    expected: &str,
-) -> Result<(), Fail> {
+    exchange: Exchange<'_>,
+) {
     let mut reader = Pieces {
-        rest: input,
+        rest: exchange.input,
         size: size.max(1),
         fails: false,
     };
@@ -218,13 +223,13 @@ fn answers<T: Tape>(
         room: 100_000,
     };
     assert_eq!(rt; debug(&mut reader, &mut writer, session), Ok(()));
-    assert!(rt; writer.bytes.as_slice() == expected.as_bytes(), "{size}");
-    Ok(())
+    assert!(rt; writer.bytes.as_slice() == exchange.expected, "{size}");
 }
 
 /// The same with one imp.
 fn imp_gives(rt: &impl Abort, alloc: Global, input: &[u8], expected: &str) -> Result<(), Fail> {
-    gives(rt, alloc, &[IMP], &[0], input, expected)
+    let expected = expected.as_bytes();
+    gives(rt, alloc, ONE_IMP, Exchange { input, expected })
 }
 
 #[test]
@@ -265,7 +270,7 @@ fn an_edit_in_the_past(rt: HostRuntime) -> Result<(), Fail> {
 #[test]
 fn a_killed_warrior(rt: HostRuntime) -> Result<(), Fail> {
     let input = b"step\nkill 1 0\nshow\nqueue 1\nspawn 1 4\n";
-    let expected = "turn 1 cycle 0 next 1 alive 3 at 1/1\n\
+    let expected = b"turn 1 cycle 0 next 1 alive 3 at 1/1\n\
         turn 1 cycle 0 next 2 alive 2 at 2/2\n\
         turn 1 cycle 0 next 2 alive 2 at 2/2\n\
         warrior 0 processes 1\n\
@@ -274,8 +279,7 @@ fn a_killed_warrior(rt: HostRuntime) -> Result<(), Fail> {
         battle running\n\
         queue 1:\n\
         refused 6 WarriorDead\n";
-    let alloc = rt.alloc();
-    gives(&rt, alloc, &[STAY, STAY, STAY], &[0, 2, 4], input, expected)
+    gives(&rt, rt.alloc(), THREE_STAY, Exchange { input, expected })
 }
 
 #[test]
@@ -313,14 +317,17 @@ fn fills_moves_and_spawns(rt: HostRuntime) -> Result<(), Fail> {
 #[test]
 fn a_lone_warrior_that_dies(rt: HostRuntime) -> Result<(), Fail> {
     let input = b"step\nstep\nshow\nundo\n";
-    let expected = "turn 1 cycle 0 next 0 alive 0 at 1/1\n\
+    let expected = b"turn 1 cycle 0 next 0 alive 0 at 1/1\n\
         refused 8 Over\n\
         turn 1 cycle 0 next 0 alive 0 at 1/1\n\
         warrior 0 dead 1\n\
         battle over\n\
         turn 0 cycle 0 next 0 alive 1 at 0/1\n";
-    let alloc = rt.alloc();
-    gives(&rt, alloc, &[DEAD], &[0], input, expected)
+    let entries = Entries {
+        sources: &[DEAD],
+        starts: &[0],
+    };
+    gives(&rt, rt.alloc(), entries, Exchange { input, expected })
 }
 
 static LONG: [u8; 257] = [b'x'; 257];

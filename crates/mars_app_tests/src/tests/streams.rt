@@ -1,6 +1,7 @@
 //! Streams that fail or break off.
 
 use super::{answer, memory_files, run_words};
+use mars_app::Streams;
 use std::alloc::Global;
 use std::io;
 use std::io::{ErrorKind, Read, Write};
@@ -11,14 +12,18 @@ use std::test::Fail;
 fn run_over<R: Read, W: Write, E: Write>(
     alloc: Global,
     words: &[&str],
-    input: &mut R,
-    output: &mut W,
+    streams: &mut Streams<R, W>,
     faults: &mut E,
 ) -> Result<u8, Fail> {
     let files = memory_files(alloc)?;
-    let status = run_words(alloc, &files, words, input, output, faults);
+    let status = run_words(alloc, &files, words, streams, faults);
     drop(files);
     status
+}
+
+/// An empty input, and an output.
+fn unread<W: Write>(output: W) -> Streams<&'static [u8], W> {
+    Streams { input: b"", output }
 }
 
 /// Counts its writes.
@@ -44,12 +49,12 @@ impl Write for Counted {
 fn a_fault_is_one_line_and_one_write(rt: HostRuntime) -> Result<(), Fail> {
     let alloc = rt.alloc();
     let words = ["-b", "no\nsuch\x1b[1m file\x7f\u{80}\u{9f}\u{a0}.red"];
-    let mut output = Vec::new(alloc);
+    let mut streams = unread(Vec::new(alloc));
     let mut faults = Counted {
         bytes: Vec::new(alloc),
         writes: 0,
     };
-    let status = run_over(alloc, &words, &mut b"".as_slice(), &mut output, &mut faults)?;
+    let status = run_over(alloc, &words, &mut streams, &mut faults)?;
     assert_eq!(rt; status, 1);
     assert_eq!(rt; faults.writes, 1);
     let line = "mars: no?such?[1m file???\u{a0}.red: cannot read\n".as_bytes();
@@ -82,17 +87,24 @@ const IMP_DEBUGGED: [&str; 8] = ["-e", "-s", "8", "-l", "1", "-d", "1", "imp.loa
 #[test]
 fn broken_streams(rt: HostRuntime) -> Result<(), Fail> {
     let alloc = rt.alloc();
-    let (mut output, mut faults) = (Vec::new(alloc), Vec::new(alloc));
-    let status = run_over(alloc, &IMP_DEBUGGED, &mut Broken, &mut output, &mut faults)?;
+    let mut faults = Vec::new(alloc);
+    let mut streams = Streams {
+        input: Broken,
+        output: Vec::new(alloc),
+    };
+    let status = run_over(alloc, &IMP_DEBUGGED, &mut streams, &mut faults)?;
     assert_eq!(rt; status, 1);
     assert!(rt; faults.as_slice() == b"mars: cannot read the commands\n".as_slice());
     faults.clear();
-    let mut input = b"step\n".as_slice();
-    let status = run_over(alloc, &IMP_DEBUGGED, &mut input, &mut Broken, &mut faults)?;
+    let mut streams = Streams {
+        input: b"step\n".as_slice(),
+        output: Broken,
+    };
+    let status = run_over(alloc, &IMP_DEBUGGED, &mut streams, &mut faults)?;
     assert_eq!(rt; status, 1);
     assert!(rt; faults.as_slice() == b"mars: cannot write\n".as_slice());
-    let mut input = b"".as_slice();
-    let status = run_over(alloc, &["-e"], &mut input, &mut output, &mut Broken)?;
+    let mut streams = unread(Vec::new(alloc));
+    let status = run_over(alloc, &["-e"], &mut streams, &mut Broken)?;
     assert_eq!(rt; status, 2);
     Ok(())
 }
@@ -122,28 +134,26 @@ impl Write for Full {
     }
 }
 
-/// Into a writer with so much room these words write the beginning of the whole, and the fault is told.
+/// Into an empty writer these words write as much of the beginning of the whole as it has room for, and the fault is told.
 fn check_room(
     rt: &impl Abort,
     alloc: Global,
     words: &[&str],
     whole: &[u8],
-    room: usize,
-    idles: bool,
+    output: Full,
 ) -> Result<(), Fail> {
+    let room = output.room;
     let mut faults = Vec::new(alloc);
-    let mut output = Full {
-        bytes: Vec::new(alloc),
-        room,
-        idles,
+    let mut streams = Streams {
+        input: b"step\n".as_slice(),
+        output,
     };
-    let mut input = b"step\n".as_slice();
-    let status = run_over(alloc, words, &mut input, &mut output, &mut faults)?;
+    let status = run_over(alloc, words, &mut streams, &mut faults)?;
     assert_eq!(rt; status, 1, "{words:?}");
     let line = b"mars: cannot write\n".as_slice();
     assert!(rt; faults.as_slice() == line, "{words:?}");
-    assert_eq!(rt; output.bytes.len(), room);
-    assert!(rt; whole.starts_with(&output.bytes), "{words:?}");
+    assert_eq!(rt; streams.output.bytes.len(), room);
+    assert!(rt; whole.starts_with(&streams.output.bytes), "{words:?}");
     Ok(())
 }
 
@@ -171,7 +181,9 @@ fn output_that_breaks_off(rt: HostRuntime) -> Result<(), Fail> {
             (last, true),
             (last, false),
         ] {
-            check_room(&rt, alloc, row, &whole.output, room, idles)?;
+            let bytes = Vec::new(alloc);
+            let output = Full { bytes, room, idles };
+            check_room(&rt, alloc, row, &whole.output, output)?;
         }
     }
     Ok(())
@@ -207,14 +219,20 @@ fn whole_lines(came: &[u8]) -> &[u8] {
 /// Where the read fails behind what came, the lines that came whole are answered.
 fn check_came(rt: &impl Abort, alloc: Global, came: &[u8]) -> Result<(), Fail> {
     let expected = answer(alloc, &IMP_DEBUGGED, whole_lines(came))?;
-    let (mut output, mut faults) = (Vec::new(alloc), Vec::new(alloc));
-    let mut reader = CutOff { rest: came };
-    let status = run_over(alloc, &IMP_DEBUGGED, &mut reader, &mut output, &mut faults)?;
+    let mut faults = Vec::new(alloc);
+    let mut streams = Streams {
+        input: CutOff { rest: came },
+        output: Vec::new(alloc),
+    };
+    let status = run_over(alloc, &IMP_DEBUGGED, &mut streams, &mut faults)?;
     let end = came.len();
     assert_eq!(rt; status, 1, "{end}");
     let line = b"mars: cannot read the commands\n".as_slice();
     assert!(rt; faults.as_slice() == line, "{end}");
-    assert!(rt; output.as_slice() == expected.output.as_slice(), "{end}");
+    assert!(rt;
+        streams.output.as_slice() == expected.output.as_slice(),
+        "{end}"
+    );
     Ok(())
 }
 

@@ -11,7 +11,7 @@ use Rattle.redcode_text.specs.Results.{◌>>=◌}
 use Rattle.redcode_text.specs.Tokens.{Scanned}
 use Rattle.mars_core.specs.declared.battle.start.BattleFault.{BattleFault}
 use Rattle.mars_match.specs.Battles.{count_fault}
-use Rattle.mars_match.specs.Rounds.{Outcome, outcomes, how_many, has_lived, has_won, has_tied, has_lost, rows_from, row_of, fits_in_64, checked_rows, counted, placed_for, ended, table_of}
+use Rattle.mars_match.specs.Rounds.{Outcome, outcomes, how_many, has_lived, has_won, has_tied, has_lost, rows_from, row_of, fits_in_64, checked_rows, counted, placed_for, round_outcome, table_of}
 use Rattle.mars_match.specs.Tables.{RowValue}
 use Rattle.mars_match.specs.Leagues.{Pair, PlacedRow, pairs_with, all_pairs, placed_rows, rows_of_pairs, own_rows, sum_of_rows, sums_from, league_of}
 use Rattle.mars_match.specs.Laws.{rounds_of}
@@ -56,8 +56,8 @@ as_many : (p : Parameters) (warriors : List WarriorValue) (f : Scanned) (fixed :
 as_many p warriors f fixed zero k seed all e = let same : [] ≡ all = cc in ap length (sym same)
 as_many p warriors f fixed (suc n) k seed all e =
     let behind : Outcome → List Outcome → Result (List Outcome) MatchFault = λ o others. Ok (o ∷ others) in
-    let placed = given_by (placed_for p (length warriors) fixed seed) (λ l. ended p warriors f l.0 k >>= λ o. outcomes p warriors f fixed n (k + 1) l.1 >>= behind o) all e in
-    let one = given_by (ended p warriors f placed.0.0 k) (λ o. outcomes p warriors f fixed n (k + 1) placed.0.1 >>= behind o) all placed.2 in
+    let placed = given_by (placed_for p (length warriors) fixed seed) (λ l. round_outcome p warriors f l.0 k >>= λ o. outcomes p warriors f fixed n (k + 1) l.1 >>= behind o) all e in
+    let one = given_by (round_outcome p warriors f placed.0.0 k) (λ o. outcomes p warriors f fixed n (k + 1) placed.0.1 >>= behind o) all placed.2 in
     let others = given_by (outcomes p warriors f fixed n (k + 1) placed.0.1) (behind one.0) all one.2 in
     let same : one.0 ∷ others.0 ≡ all = cc in
     rw (← same) (omega (arith, as_many p warriors f fixed n (k + 1) placed.0.1 others.0 others.1))

@@ -6,10 +6,10 @@ use Rattle.mars_core.specs.State.{State}
 use Rattle.mars_match.specs.Battles.{in_load_order}
 use Rattle.redcode_text.specs.Results.{◌>>=◌}
 use Rattle.redcode_text.specs.Tokens.{Scanned}
-use Rattle.mars_match.specs.Rounds.{Outcome, placed_for, ended, has_lived, how_many}
+use Rattle.mars_match.specs.Rounds.{Outcome, placed_for, round_outcome, has_lived, how_many}
 use Rattle.mars_match.specs.Tables.{RowValue}
 use Rattle.mars_match.specs.declared.fault.MatchFault.{MatchFault}
-use Rattle.mars_match.specs.declared.populations.Sum.{Sum}
+use Rattle.mars_match.specs.declared.table.Sum.{Sum}
 use Rattle.mars_match.specs.declared.table.Tally.{Tally}
 
 abbrev pub no_rounds : Tally
@@ -42,7 +42,7 @@ abbrev pub tallied : Parameters → List WarriorValue → Scanned → Option ℕ
 tallied p warriors formula fixed zero k seed tallies = Ok tallies
 tallied p warriors formula fixed (suc n) k seed tallies =
     placed_for p (length warriors) fixed seed >>= λ placed.
-    ended p warriors formula placed.0 k >>= λ outcome.
+    round_outcome p warriors formula placed.0 k >>= λ outcome.
     tallied p warriors formula fixed n (k + 1) placed.1 (all_added outcome 0 tallies)
 
 -- the most rounds of a match

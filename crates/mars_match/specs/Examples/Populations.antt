@@ -20,7 +20,7 @@ use Rattle.mars_match.specs.Populations.{population_of}
 use Rattle.mars_match.specs.Rounds.{table_of}
 use Rattle.mars_match.specs.declared.fault.MatchFault.{MatchFault}
 use Rattle.mars_match.specs.declared.fault.MatchFault.TheVariants as fault
-use Rattle.mars_match.specs.declared.populations.Sum.{Sum}
+use Rattle.mars_match.specs.declared.table.Sum.{Sum}
 use Rattle.mars_match.specs.Examples.Placements.{sizes}
 use Rattle.mars_match.specs.Examples.Rounds.{one_cell, stay, dead}
 

@@ -8,7 +8,7 @@ use Rattle.mars_app.proofs.runs.debug_round.Goals as goal
 
 pub returns-clause-err : goal.returns-clause-err
 returns-clause-err g c =
-    let p = c.args.params.now in
+    let p = c.args.setup.now.params in
     let ws = c.args.warriors.now in
     let starts = c.in-Ok.placed.0.items in
     let new = rw c.deref.ensures.value at c.new.ensures in

@@ -1,4 +1,3 @@
-use Rattle.std.proofs.KnownBytes.{Keeps-refl}
 use Rattle.std.proofs.lemmas.Result.{IfErr-weaker, on_ok_weaker}
 use Rattle.mars_app.specs.Runs.RunsWell.{helped}
 use Rattle.mars_app.specs.Faults.RunFails.{unhelped}
@@ -12,8 +11,9 @@ pub returns-in-Ok-clause-err : goal.returns-in-Ok-clause-err
 returns-in-Ok-clause-err g c = IfErr-weaker c.run_options.result _ _ (λ f h. h _ c.in-Ok.ensures.value) c.run_options.ensures.err
 
 pub returns-in-Err-Help-clause-ok : goal.returns-in-Err-Help-clause-ok
-returns-in-Err-Help-clause-ok g c = on_ok_weaker c.write_part.result (λ w. helped (asks_for_help _ _ _ c.in-Err-Help.ensures.value c.in-Err-Help.field-0-is) (Keeps-refl _) _ w) c.write_part.ensures.ok
+returns-in-Err-Help-clause-ok g c =
+    on_ok_weaker c.write.result (λ w. helped (asks_for_help _ _ _ c.in-Err-Help.ensures.value c.in-Err-Help.field-0-is) _ w) c.write.ensures.ok
 
 pub returns-in-Err-Help-clause-err : goal.returns-in-Err-Help-clause-err
 returns-in-Err-Help-clause-err g c =
-    IfErr-weaker c.write_part.result _ _ (λ f h. unhelped h.0 (asks_for_help _ _ _ c.in-Err-Help.ensures.value c.in-Err-Help.field-0-is) (Keeps-refl _) _ h.1) c.write_part.ensures.err
+    IfErr-weaker c.write.result _ _ (λ f h. unhelped h.0 (asks_for_help _ _ _ c.in-Err-Help.ensures.value c.in-Err-Help.field-0-is) _ h.1) c.write.ensures.err

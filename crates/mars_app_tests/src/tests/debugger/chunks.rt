@@ -1,5 +1,5 @@
 //! Inputs of more bytes than one read has, and replies of more bytes than wait at once: both are 4,096.
-use super::{Narrow, Pieces, imp_session};
+use super::{Exchange, answers, imp_session};
 use crate::tests::{repeat, repeated};
 use mars_app::debug;
 use mars_session::{RingTape, Session};
@@ -7,46 +7,22 @@ use std::alloc::Global;
 use std::process::Abort;
 use std::test::Fail;
 
-/// The session writes this for an input in pieces of one size, to a writer that takes as many bytes at a time.
-fn check_written(
-    rt: &impl Abort,
-    alloc: Global,
-    session: &mut Session<RingTape>,
-    size: usize,
-    input: &[u8],
-    expected: &[u8],
-) {
-    let mut reader = Pieces {
-        rest: input,
-        size: size.max(1),
-        fails: false,
-    };
-    let mut writer = Narrow {
-        bytes: Vec::new(alloc),
-        size,
-        room: 100_000,
-    };
-    assert_eq!(rt; debug(&mut reader, &mut writer, session), Ok(()));
-    assert!(rt; writer.bytes.as_slice() == expected, "{size}");
-}
-
-/// So it is for pieces of few bytes, and of a byte less and more than 4,096.
+/// The session answers so in pieces of few bytes, and of a byte less and more than 4,096.
 fn check_sizes(
     rt: &impl Abort,
     alloc: Global,
     session: &mut Session<RingTape>,
-    input: &[u8],
-    expected: &[u8],
+    exchange: Exchange<'_>,
 ) {
     for size in [1usize, 7, 4095, 4096, 4097] {
-        check_written(rt, alloc, session, size, input, expected);
+        answers(rt, alloc, session, size, exchange);
     }
 }
 
 /// So it is for a session of one imp.
 fn check_imp(rt: &impl Abort, alloc: Global, input: &[u8], expected: &[u8]) -> Result<(), Fail> {
     let mut session = imp_session(rt, alloc)?;
-    check_sizes(rt, alloc, &mut session, input, expected);
+    check_sizes(rt, alloc, &mut session, Exchange { input, expected });
     drop(session);
     Ok(())
 }
@@ -74,9 +50,13 @@ fn a_list_of_2000_cells(rt: HostRuntime) -> Result<(), Fail> {
 /// After these spawns the queue is this line.
 fn check_queue(rt: &impl Abort, alloc: Global, spawns: &[u8], queue: &[u8]) -> Result<(), Fail> {
     let mut session = imp_session(rt, alloc)?;
-    let (mut input, mut output) = (spawns, Vec::new(alloc));
-    assert_eq!(rt; debug(&mut input, &mut output, &mut session), Ok(()));
-    check_sizes(rt, alloc, &mut session, b"queue 0\n", queue);
+    let (mut lines, mut output) = (spawns, Vec::new(alloc));
+    assert_eq!(rt; debug(&mut lines, &mut output, &mut session), Ok(()));
+    let exchange = Exchange {
+        input: b"queue 0\n",
+        expected: queue,
+    };
+    check_sizes(rt, alloc, &mut session, exchange);
     drop(session);
     Ok(())
 }

@@ -1,5 +1,5 @@
 //! Readers and writers that fail in the middle: what was answered is a beginning of the transcript.
-use super::{AMPLE, IMP, LONG, Narrow, Pieces, STAY, imp_session, session_of};
+use super::{AMPLE, Entries, LONG, Narrow, ONE_IMP, Pieces, THREE_STAY, imp_session, session_of};
 use mars_app::{DebugFault, debug};
 use mars_session::{DeltaTape, Session};
 use std::alloc::Global;
@@ -44,15 +44,14 @@ fn check_cut_off(
 fn answers_what_came(
     rt: &impl Abort,
     alloc: Global,
-    sources: &[&[u8]],
-    starts: &[u32],
+    entries: Entries<'_>,
     input: &[u8],
     replies: &[&str],
 ) -> Result<(), Fail> {
     for (end, _) in input.iter().enumerate() {
         let (came, _) = input.split_at(end);
         let expected = replies_to(alloc, came, replies)?;
-        let mut session: Session<DeltaTape> = session_of(rt, alloc, sources, starts, AMPLE)?;
+        let mut session: Session<DeltaTape> = session_of(rt, alloc, entries, AMPLE)?;
         check_cut_off(rt, alloc, &mut session, came, expected.as_slice());
         drop(session);
     }
@@ -71,7 +70,7 @@ fn an_edit_in_the_past_cut_off(rt: HostRuntime) -> Result<(), Fail> {
         "turn 2 cycle 2 next 0 alive 1 at 3/3\n",
     ];
     let alloc = rt.alloc();
-    answers_what_came(&rt, alloc, &[IMP], &[0], input, &replies)
+    answers_what_came(&rt, alloc, ONE_IMP, input, &replies)
 }
 
 #[test]
@@ -87,7 +86,7 @@ fn the_end_and_back_cut_off(rt: HostRuntime) -> Result<(), Fail> {
         "turn 3 cycle 1 next 1 alive 2 at 4/4\n",
     ];
     let alloc = rt.alloc();
-    answers_what_came(&rt, alloc, &[STAY, STAY, STAY], &[0, 2, 4], input, &replies)
+    answers_what_came(&rt, alloc, THREE_STAY, input, &replies)
 }
 
 #[test]
@@ -100,7 +99,7 @@ fn a_place_within_a_command_cut_off(rt: HostRuntime) -> Result<(), Fail> {
         "turn 4 cycle 4 next 0 alive 1 at 4/4\n",
     ];
     let alloc = rt.alloc();
-    answers_what_came(&rt, alloc, &[IMP], &[0], input, &replies)
+    answers_what_came(&rt, alloc, ONE_IMP, input, &replies)
 }
 
 #[test]
@@ -113,7 +112,7 @@ fn a_killed_warrior_cut_off(rt: HostRuntime) -> Result<(), Fail> {
         "refused 6 WarriorDead\n",
     ];
     let alloc = rt.alloc();
-    answers_what_came(&rt, alloc, &[STAY, STAY, STAY], &[0, 2, 4], input, &replies)
+    answers_what_came(&rt, alloc, THREE_STAY, input, &replies)
 }
 
 #[test]
@@ -123,7 +122,7 @@ fn long_and_empty_lines_cut_off(rt: HostRuntime) -> Result<(), Fail> {
     input.extend_from_slice(&LONG)?;
     input.extend_from_slice(b"\n\nstep")?;
     let replies = ["refused 10 NothingToUndo\n", "unknown\n", ""];
-    answers_what_came(&rt, alloc, &[IMP], &[0], input.as_slice(), &replies)
+    answers_what_came(&rt, alloc, ONE_IMP, input.as_slice(), &replies)
 }
 
 #[test]

@@ -1,5 +1,5 @@
 //! Places and marks: undo, redo, goto, and histories that are full or forget.
-use super::{IMP, STAY, answers, gives, gives_within, imp_battle, imp_gives};
+use super::{Exchange, ONE_IMP, THREE_STAY, answers, battle_of, gives, gives_within, imp_gives};
 use mars_session::{RingTape, Session};
 use std::test::Fail;
 
@@ -16,33 +16,31 @@ fn a_place_within_a_command(rt: HostRuntime) -> Result<(), Fail> {
 #[test]
 fn the_end_and_back(rt: HostRuntime) -> Result<(), Fail> {
     let input = b"step\nstep\nkill 2 0\nkill 0 0\nstep\nundo\nstep\n";
-    let expected = "turn 1 cycle 0 next 1 alive 3 at 1/1\n\
+    let expected = b"turn 1 cycle 0 next 1 alive 3 at 1/1\n\
         turn 2 cycle 0 next 2 alive 3 at 2/2\n\
         turn 2 cycle 1 next 0 alive 2 at 3/3\n\
         turn 2 cycle 1 next 1 alive 1 at 4/4\n\
         refused 8 Over\n\
         turn 2 cycle 1 next 0 alive 2 at 3/4\n\
         turn 3 cycle 1 next 1 alive 2 at 4/4\n";
-    let alloc = rt.alloc();
-    gives(&rt, alloc, &[STAY, STAY, STAY], &[0, 2, 4], input, expected)
+    gives(&rt, rt.alloc(), THREE_STAY, Exchange { input, expected })
 }
 
 #[test]
 fn a_history_that_is_full(rt: HostRuntime) -> Result<(), Fail> {
     let input = b"run 3\nrun 2\nstep\nundo\n";
-    let expected = "refused 13 JournalFull 2\n\
+    let expected = b"refused 13 JournalFull 2\n\
         turn 2 cycle 2 next 0 alive 1 at 2/2\n\
         refused 13 JournalFull 0\n\
         turn 0 cycle 0 next 0 alive 1 at 0/2\n";
-    let alloc = rt.alloc();
-    gives_within(&rt, alloc, &[IMP], &[0], 2, input, expected)
+    gives_within(&rt, rt.alloc(), ONE_IMP, 2, Exchange { input, expected })
 }
 
 /// Two places are kept beside the last one: the first that is left isn't marked.
 #[test]
 fn a_history_that_forgets(rt: HostRuntime) -> Result<(), Fail> {
     let input = b"run 3\nundo\ngoto 0\ngoto 1\nstep\nundo\nundo\nredo\n";
-    let expected = "turn 3 cycle 3 next 0 alive 1 at 2/2\n\
+    let expected = b"turn 3 cycle 3 next 0 alive 1 at 2/2\n\
         refused 15 Forgotten\n\
         refused 12 NotInHistory 1 3\n\
         turn 1 cycle 1 next 0 alive 1 at 0/2\n\
@@ -51,10 +49,10 @@ fn a_history_that_forgets(rt: HostRuntime) -> Result<(), Fail> {
         refused 15 Forgotten\n\
         turn 2 cycle 2 next 0 alive 1 at 1/1\n";
     let alloc = rt.alloc();
-    let mut session = Session::new(RingTape::new(alloc, imp_battle(&rt, alloc)?, 2)?, 0);
-    let answered = answers(&rt, alloc, &mut session, 3, input, expected);
+    let mut session = Session::new(RingTape::new(alloc, battle_of(&rt, alloc, ONE_IMP)?, 2)?, 0);
+    answers(&rt, alloc, &mut session, 3, Exchange { input, expected });
     drop(session);
-    answered
+    Ok(())
 }
 
 #[test]

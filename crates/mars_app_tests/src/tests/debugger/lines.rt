@@ -1,5 +1,5 @@
 //! Lines of any length and kind, and how they come and go.
-use super::{IMP, LONG, Narrow, Pieces, STAY, gives, imp_gives, imp_session};
+use super::{Entries, Exchange, IMP, LONG, Narrow, Pieces, STAY, gives, imp_gives, imp_session};
 use mars_app::{DebugFault, debug, debug_within};
 use std::test::Fail;
 
@@ -42,10 +42,12 @@ fn blanks(rt: HostRuntime) -> Result<(), Fail> {
 
 #[test]
 fn a_warrior_named_with_zeros(rt: HostRuntime) -> Result<(), Fail> {
-    let alloc = rt.alloc();
-    let sources = [STAY, STAY, STAY, STAY, STAY, STAY, STAY, IMP];
-    let starts = [0, 1, 2, 3, 4, 5, 6, 7];
-    gives(&rt, alloc, &sources, &starts, b"queue 007", "queue 7: 7\n")
+    let entries = Entries {
+        sources: &[STAY, STAY, STAY, STAY, STAY, STAY, STAY, IMP],
+        starts: &[0, 1, 2, 3, 4, 5, 6, 7],
+    };
+    let (input, expected) = (b"queue 007", b"queue 7: 7\n");
+    gives(&rt, rt.alloc(), entries, Exchange { input, expected })
 }
 
 #[test]

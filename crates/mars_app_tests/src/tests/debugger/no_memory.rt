@@ -38,12 +38,15 @@ fn writer(alloc: Global, room: usize) -> Option<Narrow> {
     })
 }
 
-/// How the debugger is run: whether the reader fails at its end, the writer's room, and at most so many reads.
+/// How the debugger is run, and what it answers.
 #[derive(Clone, Copy)]
 struct Case {
+    /// Whether the reader fails at its end.
     fails: bool,
+    /// How many bytes the writer takes.
     room: usize,
     reads: u64,
+    done: Result<(), DebugFault>,
 }
 
 impl Case {
@@ -62,22 +65,21 @@ impl Case {
     }
 }
 
-/// A session answers this, and another one over which no memory is left does and writes the same.
+/// A session answers so, and another one over which no memory is left does and writes the same.
 fn check_sessions(
     rt: &impl Abort,
     alloc: Global,
     ample: &mut Session<RingTape>,
     poor: &mut Session<RingTape>,
     case: Case,
-    done: Result<(), DebugFault>,
 ) {
     let (Some(mut text), Some(mut poor_text)) = (writer(alloc, case.room), writer(alloc, case.room))
     else {
         return;
     };
-    assert_eq!(rt; case.debugged(ample, &mut text), done);
+    assert_eq!(rt; case.debugged(ample, &mut text), case.done);
     ask(alloc);
-    assert_eq!(rt; case.debugged(poor, &mut poor_text), done);
+    assert_eq!(rt; case.debugged(poor, &mut poor_text), case.done);
     assert!(rt; poor_text.bytes.as_slice() == text.bytes.as_slice());
     assert_eq!(rt; poor.standing(), ample.standing());
 }
@@ -89,10 +91,9 @@ fn check_session(
     params: &Params,
     ample: &mut Session<RingTape>,
     case: Case,
-    done: Result<(), DebugFault>,
 ) {
     if let Some(mut poor) = imp_session(alloc, params) {
-        check_sessions(rt, alloc, ample, &mut poor, case, done);
+        check_sessions(rt, alloc, ample, &mut poor, case);
         drop(poor);
     }
 }
@@ -107,9 +108,14 @@ fn commands_over_a_ring(rt: HostRuntime) -> Result<(), Fail> {
         (false, 2000, 20, Err(DebugFault::Read)),
         (false, 100, 1000, Err(DebugFault::Write)),
     ] {
-        let case = Case { fails, room, reads };
+        let case = Case {
+            fails,
+            room,
+            reads,
+            done,
+        };
         if let Some(mut ample) = imp_session(alloc, &params) {
-            check_session(&rt, alloc, &params, &mut ample, case, done);
+            check_session(&rt, alloc, &params, &mut ample, case);
             drop(ample);
         }
     }

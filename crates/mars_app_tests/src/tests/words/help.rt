@@ -1,6 +1,6 @@
 //! The help, and the words behind the name of the program.
 use crate::tests::{Outcome, answer, check_fault, memory_files};
-use mars_app::start;
+use mars_app::{Streams, start};
 use std::alloc::Global;
 use std::env::{Env, FillError};
 use std::test::Fail;
@@ -99,22 +99,16 @@ impl Env for Arguments {
 
 /// What a program answers that was started with these arguments.
 fn started(alloc: Global, arguments: &'static [&'static [u8]]) -> Result<Outcome, Fail> {
-    let (mut output, mut faults) = (Vec::new(alloc), Vec::new(alloc));
-    let mut input = b"".as_slice();
+    let (input, output) = (b"".as_slice(), Vec::new(alloc));
+    let mut streams = Streams { input, output };
+    let mut faults = Vec::new(alloc);
     let files = memory_files(alloc)?;
     let environment = Arguments(arguments);
-    let status = start(
-        alloc,
-        &environment,
-        &files,
-        &mut input,
-        &mut output,
-        &mut faults,
-    );
+    let status = start(alloc, &environment, &files, &mut streams, &mut faults);
     drop(files);
     Ok(Outcome {
         status,
-        output,
+        output: streams.output,
         faults,
     })
 }

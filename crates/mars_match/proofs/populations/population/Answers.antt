@@ -5,9 +5,9 @@ use Rattle.mars_match.proofs.populations.population.Goals as goal
 
 pub loop-candidate-init : goal.loop-candidate-init
 loop-candidate-init c =
-    let plan = c.args.plan.now in
+    let plan = c.args.setup.now.plan in
     record {
       many = search rules;
-      sums = rw c.in-Ok.ensures.items (none_before (population_of c.args.params.now plan.formula plan.fixed plan.rounds plan.seed c.args.opponents.now c.args.candidates.now));
-      kept = c.nothing_kept-kept.ensures c.args.params.now 2 plan.formula;
+      sums = rw c.in-Ok.ensures.items (none_before (population_of c.args.setup.now.params plan.formula plan.fixed plan.rounds plan.seed c.args.opponents.now c.args.candidates.now));
+      kept = c.new-matches.ensures c.args.setup.now 2;
     }

@@ -1,0 +1,43 @@
+-- Why options are refused, and what is done with the warriors of their files.
+use Rattle.std.specs.Prelude.{◌≡◌, ◌⊎◌, false, true, List, ◌++◌, Ok, Err, string_bytes}
+use Rattle.std.specs.Io.KnownBytes.{Keeps}
+use Rattle.mars_cell.specs.ParameterFaults.{checked_parameters}
+use Rattle.mars_cell.specs.Parameters.{Parameters}
+use Rattle.mars_cell.specs.Warriors.{WarriorValue}
+use Rattle.mars_cell.specs.declared.parameters.ParamFault.{ParamFault}
+use Rattle.mars_core.specs.State.{State}
+use Rattle.mars_match.specs.Results.{results_text}
+use Rattle.mars_match.specs.Tables.{RowValue}
+use Rattle.mars_match.specs.declared.setup.Setup.{Setup}
+use Rattle.redcode_asm.specs.Formula.{formula_of}
+use Rattle.redcode_asm.specs.declared.fault.FormulaFault.TheVariants.{Expression}
+use Rattle.redcode_text.specs.declared.fault.ExprFault.{ExprFault}
+use Rattle.mars_app.specs.Contests.{ContestFails, contest, listing}
+use Rattle.mars_app.specs.Debugging.{DebugsInPart, DebugsWell, StartsNothing, first_round, session_at}
+use Rattle.mars_app.specs.Options.{parameters_of}
+use Rattle.mars_app.specs.Streams.{StreamsValue, Writes}
+use Rattle.mars_app.specs.declared.fault.RunFault.{RunFault}
+use Rattle.mars_app.specs.declared.fault.RunFault.TheVariants as fault
+use Rattle.mars_app.specs.declared.options.Options.{Options}
+
+-- the parameters aren't allowed, or there is no formula, or memory is wanting
+abbrev pub IsRefused : Options → RunFault → Type 0
+IsRefused o f = (f ≡ fault.OutOfMemory)
+    ⊎ (((e : ParamFault) × (checked_parameters (parameters_of o) ≡ Err e) × (f ≡ fault.Parameters e))
+    ⊎ ((p : Parameters) × (checked_parameters (parameters_of o) ≡ Ok p)
+    × (e : ExprFault) × (formula_of (string_bytes o.score) ≡ Err e) × (f ≡ fault.Formula (Expression e))))
+
+-- the battle of the first round was debugged, or the contest was held
+abbrev pub PlaysWell : Options → Setup → List WarriorValue → StreamsValue → StreamsValue → Type 0
+PlaysWell o setup ws old new =
+    ((o.debugger ≡ true) × (s : State) × (first_round setup ws ≡ Ok s) × DebugsWell (session_at o.history s) old new)
+    ⊎ ((o.debugger ≡ false) × (rows : List RowValue) × (contest o.league setup ws ≡ Ok rows)
+    × Writes old new (listing setup.params.core_size o.brief ws ++ results_text rows o.sorted))
+
+-- that didn't end well
+abbrev pub PlaysInPart : Options → Setup → List WarriorValue → StreamsValue → StreamsValue → RunFault → Type 0
+PlaysInPart o setup ws old new f =
+    ((o.debugger ≡ true) × (StartsNothing f (first_round setup ws) old new
+    ⊎ ((s : State) × (first_round setup ws ≡ Ok s) × DebugsInPart f (session_at o.history s) old new)))
+    ⊎ ((o.debugger ≡ false) × Keeps old.unread new.unread × ContestFails f (contest o.league setup ws) o.sorted
+    old.written new.written (listing setup.params.core_size o.brief ws))

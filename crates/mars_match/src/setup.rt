@@ -1,0 +1,77 @@
+//! How matches are held, and where the warriors of a round are laid: drawn, or at a fixed position.
+ghost use Rattle.std.specs.Prelude.{◌≡◌, ◌≤◌, ℕ, length, IfOk, IfSome, MatchResult, Ok, Err, Vec, vec_len};
+ghost use Rattle.std.specs.Global.{Global};
+ghost use Rattle.mars_core.specs.Limits.{most_warriors};
+ghost use Rattle.mars_match.specs.Answers.{IsAnswer};
+ghost use Rattle.mars_match.specs.Placement.{FitsTwo};
+ghost use Rattle.mars_match.specs.Rounds.{placed_for};
+
+use crate::fault::MatchFault;
+use crate::placement::{find_fault, place_all};
+use mars_cell::Params;
+use redcode_asm::Formula;
+use std::alloc::Global;
+
+/// What a match consists of.
+#[derive(Drop)]
+pub struct Plan {
+    /// How many rounds, or for each pair of a league how many.
+    pub rounds: u32,
+    /// The seed of the first round, from 1 to 2147483646.
+    pub seed: u32,
+    /// Where the second of two warriors starts in each round, in place of a drawn position: from the least distance to the
+    /// core size less it.
+    pub fixed: Option<u32>,
+    /// What each survivor of a round gets.
+    pub formula: Formula,
+}
+
+/// How a match or a league is held: the parameters of its battles, and its plan.
+#[derive(Drop)]
+pub struct Setup {
+    pub params: Params,
+    pub plan: Plan,
+}
+
+impl Setup {
+    /// The starts of a round. Gives the seed that is left.
+    pub(crate) fn place_round(&self, seed: u32, starts: &mut [u32]) -> Result<u32, MatchFault>
+        requires some { 1 ≤ length starts.old }
+        requires few { length starts.old ≤ most_warriors }
+        requires fixed { IfSome self.now.plan.fixed (λ position. length starts.old ≡ 2) }
+        ensures { MatchResult result (λ left. placed_for self.now.params (length starts.old) self.now.plan.fixed seed ≡ Ok (starts.new, left))
+            (λ fault. placed_for self.now.params (length starts.old) self.now.plan.fixed seed ≡ Err fault) }
+    {
+        if let Some(position) = self.plan.fixed {
+            starts[0] = 0;
+            starts[1] = position;
+            return Ok(seed);
+        }
+        if let Some(fault) = find_fault(&self.params, starts.len() as u32, seed) {
+            return Err(MatchFault::Place(fault));
+        }
+        Ok(place_all(&self.params, seed, starts))
+    }
+
+    /// The starts of a round of so many warriors in load order, and the seed that is left: drawn from the seed, or with the
+    /// fixed position of the second of two, which leaves the seed as it is. The faults are those of `place`.
+    pub fn round_starts(
+        &self,
+        alloc: Global,
+        warriors: u32,
+        seed: u32,
+    ) -> Result<(Vec<u32>, u32), MatchFault>
+        requires some { 1 ≤ warriors }
+        requires few { warriors ≤ most_warriors }
+        requires fixed { FitsTwo self.now.params warriors self.now.plan.fixed }
+        ensures value { IsAnswer (λ (placed : Vec ℕ Global × ℕ). (placed.0.items, placed.1))
+            (placed_for self.now.params warriors self.now.plan.fixed seed) result }
+        ensures many { IfOk result (λ placed. vec_len placed.0 ≡ warriors) }
+    {
+        let Ok(mut starts) = vec![in alloc; 0u32; warriors as usize] else {
+            return Err(MatchFault::OutOfMemory);
+        };
+        let left = self.place_round(seed, starts.as_mut_slice())?;
+        Ok((starts, left))
+    }
+}
