@@ -6,6 +6,7 @@ pub mod AlikeReadings
 pub mod AlikeSteps
 pub mod AlikeTokens
 pub mod AlikeValues
+pub mod Alone
 pub mod BehindEnd
 pub mod CountedHeads
 pub mod CountedOut

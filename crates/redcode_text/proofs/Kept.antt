@@ -1,11 +1,11 @@
 -- Lines leave the open loops as they are.
 -- Contracts give values alone, so `Kept f x` says by the definition that a step leaves a part of the reading as it is.
-use Rattle.std.proofs.Common.{◌≡◌, ◌∙◌, ℕ, zero, suc, ◌+◌, ◌-◌, ◌<◌, List, [], ◌∷◌, ◌++◌, length, drop, Bool, true, false, Option, Some, None, Result, Ok, Err, ap, refl, arith, nat_le, nat_lt}
+use Rattle.std.proofs.Common.{◌≡◌, ◌∙◌, ℕ, zero, suc, ◌+◌, ◌-◌, List, [], ◌∷◌, ◌++◌, length, drop, Bool, true, false, Option, Some, None, Result, Ok, Err, refl, nat_le, nat_lt}
 use Rattle.redcode_text.specs.Results.{◌>>=◌}
 use Rattle.redcode_text.specs.declared.fault.TextProblem.{TextProblem}
 use Rattle.redcode_text.specs.declared.fault.TextProblem.TheVariants.{BadToken, Duplicate, TooLong}
 use Rattle.redcode_text.specs.declared.token.Token.{Token}
-use Rattle.redcode_text.specs.Expansion.{Head, head_line, rof_line, counter_name, for_word_at, room_for_loop, count_of}
+use Rattle.redcode_text.specs.Expansion.{rof_line}
 use Rattle.redcode_text.specs.Expression.{kinds}
 use Rattle.redcode_text.specs.Lines.{Reading, Step, Parts, Predefined, WithTokens, each_line, equated, line_read, name_in_front, ordinary_line, ordinary_with, parts_of, parts_read, plain_line, comment_line, assert_line, row_tokens, tokens_before, tokens_after, tokens_counted, tokens_line, unless_ended, before_first, behind_last, before_comment, operation_lines, unless_empty, directive_value, is_equate, is_label, is_predefined, with_line}
 use Rattle.redcode_text.specs.Equates.{limit}
@@ -138,51 +138,5 @@ rof-kept f names grows lines row st = go (line_read st) (line-kept f st (lines s
     go (Ok a) k = kept-at f (f st) (f a) _ k (kept-row f a row 0 (λ r. Ok (record (r.1) { equate_grows = false })) (names a) (λ r. grows r.1))
     go (Err e) k = tt
 
-pub rof-loops : (row : SourceRow) (st : Reading) → Kept loops_of st.loops (rof_line row st)
-rof-loops row st = rof-kept loops_of (λ st names n. refl) (λ st. refl) (λ st. refl) row st
-
 pub rof-ended : (row : SourceRow) (st : Reading) → Kept (λ st. st.ended) st.ended (rof_line row st)
 rof-ended row st = rof-kept (λ st. st.ended) (λ st names n. refl) (λ st. refl) (λ st. refl) row st
-
--- a head keeps the open loops, of which there are fewer than 32
-abbrev pub HeadKept : List OpenLoop → Result Head TextProblem → Type 0
-HeadKept l (Ok h) = (h.reading.loops ≡ l) × (length l < 32)
-HeadKept l (Err e) = ⊤
-
-head-bind : {A : Type 0} (l : List OpenLoop) (r : Result A TextProblem) (g : A → Result Head TextProblem) → ((a : A) → HeadKept l (g a)) → HeadKept l (r >>= g)
-head-bind l (Ok a) g h = h a
-head-bind l (Err e) g h = tt
-
-below : (n : ℕ) (c : Bool) → nat_le 32 n ≡ c → (c ≡ false) → n < 32
-below n c e f = grind (arith, e ∙ f)
-
-room-kept : (l : List OpenLoop) (st : Reading) (g : Reading → Result Head TextProblem) → st.loops ≡ l → (length l < 32 → (a : Reading) → HeadKept l (g a)) → HeadKept l (room_for_loop st >>= g)
-room-kept l st g e h = go (nat_le 32 (length st.loops)) refl
-  where
-    go : (c : Bool) → nat_le 32 (length st.loops) ≡ c → HeadKept l ((elim c as (λ _. Result Reading TextProblem) [ true ↦ Err TooLong | false ↦ Ok st ]) >>= g)
-    go true is = tt
-    go false is = h (let few = below (length st.loops) false is refl in omega (arith, few, ap length e)) st
-
-pub head-kept : (ps : Predefined) (row : SourceRow) (st : Reading) → HeadKept st.loops (head_line ps row st)
-head-kept ps row st = go (line_read st) (line-kept loops_of st refl)
-  where
-    rest : WithTokens → Result Head TextProblem
-    rest r =
-        name_in_front (kinds (tokens_before (for_word_at row) r.0)) >>= λ counter.
-        room_for_loop r.1 >>= λ _.
-        count_of ps r.1 (tokens_after (for_word_at row) r.0) >>= λ count.
-        Ok (record { counter = counter_name r.1 counter; count = count; reading = record (r.1) { equate_grows = false } })
-
-    rest-kept : (r : WithTokens) → r.1.loops ≡ st.loops → HeadKept st.loops (rest r)
-    rest-kept r e =
-        head-bind st.loops (name_in_front (kinds (tokens_before (for_word_at row) r.0))) _ (λ counter.
-        room-kept st.loops r.1 _ e (λ few _.
-        head-bind st.loops (count_of ps r.1 (tokens_after (for_word_at row) r.0)) _ (λ count. (e, few))))
-
-    in-row : (a : Reading) → a.loops ≡ st.loops → (r : Result Scanned TextProblem) → HeadKept st.loops ((r >>= λ s. Ok (s.tokens, record a { names = s.names; tokens_read = a.tokens_read + length s.tokens })) >>= rest)
-    in-row a e (Ok s) = rest-kept (s.tokens, record a { names = s.names; tokens_read = a.tokens_read + length s.tokens }) e
-    in-row a e (Err p) = tt
-
-    go : (r : Result Reading TextProblem) → Kept loops_of st.loops r → HeadKept st.loops (r >>= row_tokens row 0 >>= rest)
-    go (Ok a) k = in-row a k (tokens a.loops row.number (row.at + 0) (limit - a.tokens_read) a.names (before_comment (drop 0 row.bytes)))
-    go (Err e) k = tt

@@ -198,15 +198,3 @@ both-cond R true true x y z w e h k = h
 both-cond R false false x y z w e h k = k
 both-cond R true false x y z w e h k = absurd (true≢false e)
 both-cond R false true x y z w e h k = absurd (true≢false (sym e))
-
-pub both-same : {A E : Type 0} (R : A → A → Type 0) (r s : Result A E) → r ≡ s → ((x : A) → R x x) → BothGive R r s
-both-same R (Ok x) (Ok y) e k = let same : x ≡ y = cc in rw (sym same) (k x)
-both-same R (Ok x) (Err y) e k = absurd (cc)
-both-same R (Err x) (Ok y) e k = absurd (cc)
-both-same R (Err x) (Err y) e k = cc
-
-pub both-made : {A B E : Type 0} (R : A → B → Type 0) (r : Result A E) (s : Result B E) (x : A) → BothGive R r s → r ≡ Ok x → (y : B) × (s ≡ Ok y) × R x y
-both-made R (Ok z) (Ok y) x h e = let same : z ≡ x = cc in (y, refl, rw (sym same) h)
-both-made R (Ok z) (Err f) x h e = absurd h
-both-made R (Err d) (Ok y) x h e = absurd h
-both-made R (Err d) (Err f) x h e = cc

@@ -6,10 +6,11 @@ use Rattle.redcode_text.specs.Results.{◌>>=◌}
 use Rattle.redcode_text.specs.Expansion.{for_word_at, head_line, rof_line}
 use Rattle.redcode_text.specs.Lines.{Predefined, Reading, line_read, plain_line, row_tokens, tokens_line}
 use Rattle.redcode_text.specs.Source.{SourceRow, LineKind, RofLine, ForLine, EquLine, OtherLine, directive_text_at, has_directive_word, line_kind}
+use Rattle.redcode_text.proofs.ForLaws.Alone.{headed}
 use Rattle.redcode_text.proofs.ForLaws.AlikeReadings.{ReadAlike, like_row, name_for_name, nothing-renamed, row-alike}
 use Rattle.redcode_text.proofs.ForLaws.Agreement.{pairwise-weaker}
 use Rattle.redcode_text.proofs.ForLaws.Follows.{Follows, follows-ok, follows-then}
-use Rattle.redcode_text.proofs.ForLaws.LikeHeads.{LikeHead, grows-no-more, headed, headed-alike}
+use Rattle.redcode_text.proofs.ForLaws.LikeHeads.{LikeHead, grows-no-more, headed-alike}
 use Rattle.redcode_text.proofs.ForLaws.LikeLines.{LikeLines, assert-alike, plain-alike, said-alike, tokens-line-alike}
 use Rattle.redcode_text.proofs.ForLaws.LikeReadings.{RowRead, line-read-alike}
 use Rattle.redcode_text.proofs.ForLaws.Likeness.{AsFar, PlacedToken, Sides}

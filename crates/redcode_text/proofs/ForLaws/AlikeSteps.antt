@@ -5,10 +5,11 @@ use Rattle.redcode_text.specs.Lines.{Predefined, Reading, plain_line}
 use Rattle.redcode_text.specs.Source.{SourceRow}
 use Rattle.redcode_text.proofs.ForLaws.AlikeLines.{head-alike, plain-line-alike, rof-alike}
 use Rattle.redcode_text.proofs.ForLaws.AlikeReadings.{LoopsAlike, ReadAlike, both-opened, name_for_name, one-opened}
+use Rattle.redcode_text.proofs.ForLaws.Alone.{alone-made}
 use Rattle.redcode_text.proofs.ForLaws.Follows.{Follows}
 use Rattle.redcode_text.proofs.ForLaws.LikeHeads.{LikeHead}
 use Rattle.redcode_text.proofs.ForLaws.LikeReadings.{loops-changed}
-use Rattle.redcode_text.proofs.ForLaws.LoneLoops.{alone-made, lone-head, lone-rof}
+use Rattle.redcode_text.proofs.ForLaws.LoneLoops.{lone-head, lone-rof}
 use Rattle.redcode_text.proofs.ForLaws.Simulations.{IsSimulation}
 use Rattle.redcode_text.proofs.ForLaws.WrittenTrees.{IsCopy, IsPlainHead}
 

@@ -26,9 +26,9 @@ use Rattle.redcode_text.proofs.ForLaws.CountedHeads.{IsCounterHead, head-kind, s
 use Rattle.redcode_text.proofs.ForLaws.CountedRows.{IsWritten, Opened, line-written, loop_open, opened-room}
 use Rattle.redcode_text.proofs.ForLaws.CountedTokens.{IsHead, IsNamed, head-scan, words-code}
 use Rattle.redcode_text.proofs.ForLaws.HeadLines.{code-whole, is_code}
-use Rattle.redcode_text.proofs.ForLaws.LikeHeads.{headed}
 use Rattle.redcode_text.proofs.ForLaws.LikeReadings.{Reads, grows-changed, loops-changed}
-use Rattle.redcode_text.proofs.ForLaws.LoneLoops.{Alone, alone-made, alone-then, any-room, digits-code, line-alone, number-count, scan-alone}
+use Rattle.redcode_text.proofs.ForLaws.Alone.{Alone, alone-made, alone-then, headed, no-matter}
+use Rattle.redcode_text.proofs.ForLaws.LoneLoops.{digits-code, line-alone, number-count, scan-alone}
 use Rattle.redcode_text.proofs.ForLaws.Simulations.{IsSimulation}
 use Rattle.redcode_text.proofs.ForLaws.TokensRead.{are_digits, decimal-is}
 
@@ -77,7 +77,7 @@ module _ (ps : Predefined) (counter : List ℕ) (name : IsCounterName counter) w
         go (inl z) = subst (λ k. Alone (Gives n other) (name_in_front (k ∷ []) >>= λ counter. room_for_loop x.1 >>= λ _. count_of ps x.1 (tokens_after place x.0) >>= made counter)) (sym z.1) tt
         go (inr i) =
             subst (λ k. Alone (Gives n other) (name_in_front (k ∷ []) >>= λ counter. room_for_loop x.1 >>= λ _. count_of ps x.1 (tokens_after place x.0) >>= made counter)) (sym i.1)
-            (alone-then (λ (a : Reading). ⊤) (Gives n other) (room_for_loop x.1) (λ _. count_of ps x.1 (tokens_after place x.0) >>= made (Some i.0)) (any-room x.1)
+            (alone-then (λ (a : Reading). ⊤) (Gives n other) (room_for_loop x.1) (λ _. count_of ps x.1 (tokens_after place x.0) >>= made (Some i.0)) (no-matter (room_for_loop x.1))
             (λ a _. subst (λ r. Alone (Gives n other) (r >>= made (Some i.0))) (sym (ap (count_of ps x.1) after-one ∙ number-count ps x.1 n line q.third q.last)) (counted i.0 i.2 (nat_le n count_limit))))
 
   -- the tokens of a row, and the names with them

@@ -19,7 +19,8 @@ use Rattle.redcode_text.proofs.ForLaws.AlikeReadings.{AreCounters}
 use Rattle.redcode_text.proofs.ForLaws.CountedHeads.{IsLetters, behind-name, letters, raw-name}
 use Rattle.redcode_text.proofs.ForLaws.HeadLines.{is_code}
 use Rattle.redcode_text.proofs.ForLaws.KeptNames.{KeepNames, named-with, with-keeps}
-use Rattle.redcode_text.proofs.ForLaws.LoneLoops.{Alone, alone-then, alone-weaker, number-scan, number_token, put-alone}
+use Rattle.redcode_text.proofs.ForLaws.Alone.{Alone, alone-then, alone-weaker}
+use Rattle.redcode_text.proofs.ForLaws.LoneLoops.{number-scan, number_token, put-alone}
 use Rattle.redcode_text.proofs.ForLaws.RenamedScans.{behind-token, word-ascii, word-shows}
 use Rattle.redcode_text.proofs.ForLaws.RenamedWords.{raw-taken}
 use Rattle.redcode_text.proofs.ForLaws.TokensRead.{begins}

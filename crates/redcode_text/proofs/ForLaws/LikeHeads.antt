@@ -12,23 +12,16 @@ use Rattle.redcode_text.specs.Equates.{substitution}
 use Rattle.redcode_text.specs.Expansion.{Head, as_count, count_of, counter_name, has_label, loop_limit, room_for_loop}
 use Rattle.redcode_text.specs.Expression.{kinds, value_of}
 use Rattle.redcode_text.specs.Laws.{IsRenaming}
-use Rattle.redcode_text.specs.Lines.{Predefined, Reading, WithTokens, name_at, name_in_front, predefined_value, tokens_after, tokens_before, with_current_line}
+use Rattle.redcode_text.specs.Lines.{Predefined, Reading, WithTokens, name_at, predefined_value, tokens_after, tokens_before, with_current_line}
 use Rattle.redcode_text.specs.Tokens.{without_line}
 use Rattle.redcode_text.proofs.ForLaws.Agreement.{AgreeOption, Pairwise, pairwise-both}
+use Rattle.redcode_text.proofs.ForLaws.Alone.{headed}
 use Rattle.redcode_text.proofs.ForLaws.AlikeValues.{value-like}
 use Rattle.redcode_text.proofs.ForLaws.Follows.{Follows, both-follows, follows-limit, follows-ok, follows-same, follows-then, implies-itself, le-met}
 use Rattle.redcode_text.proofs.ForLaws.LikeLines.{after-placed, before-placed, front-alike}
 use Rattle.redcode_text.proofs.ForLaws.LikeReadings.{Likeness, Reads, RowRead, grows-changed, index-alike, predefined-test, value-test}
 use Rattle.redcode_text.proofs.ForLaws.Likeness.{LikeKind, LikeToken, LikeTokens, Sides}
 use Rattle.redcode_text.proofs.ForLaws.Replacements.{replaced-alike}
-
--- a head, from its tokens on
-abbrev pub headed : Predefined → ℕ → WithTokens → Result Head TextProblem
-headed ps at r =
-    name_in_front (kinds (tokens_before at r.0)) >>= λ counter.
-    room_for_loop r.1 >>= λ _.
-    count_of ps r.1 (tokens_after at r.0) >>= λ count.
-    Ok (record { counter = counter_name r.1 counter; count = count; reading = record (r.1) { equate_grows = false } })
 
 module _ (l : Likeness) where
   -- two heads of one counter and one count, behind alike readings

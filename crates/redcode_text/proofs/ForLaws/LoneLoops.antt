@@ -17,41 +17,23 @@ use Rattle.redcode_text.specs.declared.token.Token.{Token}
 use Rattle.redcode_text.specs.declared.token.TokenKind.{TokenKind}
 use Rattle.redcode_text.specs.declared.token.TokenKind.TheVariants.{Number}
 use Rattle.redcode_text.specs.Equates.{limit}
-use Rattle.redcode_text.specs.Expansion.{Head, as_count, count_limit, count_of, counter_name, for_word_at, head_line, rof_line, room_for_loop, loop_limit}
+use Rattle.redcode_text.specs.Expansion.{Head, as_count, count_limit, count_of, counter_name, for_word_at, head_line, rof_line, room_for_loop}
 use Rattle.redcode_text.specs.Expression.{kinds, tree_within, value_of}
 use Rattle.redcode_text.specs.Lines.{Predefined, Reading, WithTokens, before_comment, line_read, name_in_front, row_tokens, tokens_after, tokens_before}
 use Rattle.redcode_text.specs.Source.{SourceRow, ForLine, line_kind}
 use Rattle.redcode_text.specs.Tokens.{Found, OpenLoop, Scanned, begins_name, begins_word, is_counter, is_letter, is_word_byte, name_found, number_found, number_kind, round_of, scan_from, sign_token, token_at, tokens, with_room, with_token, word_found, word_len, word_token}
+use Rattle.redcode_text.proofs.ForLaws.Alone.{Alone, alone-then, alone-weaker, headed, no-matter}
 use Rattle.redcode_text.proofs.ForLaws.AlikeNames.{Grown, grown-itself}
 use Rattle.redcode_text.proofs.ForLaws.AlikeReadings.{AreCounters, ReadAlike, name_for_name, reading-grown}
 use Rattle.redcode_text.proofs.ForLaws.AlikeTokens.{SameScanned, scan-alike}
 use Rattle.redcode_text.proofs.ForLaws.Follows.{Follows}
 use Rattle.redcode_text.proofs.ForLaws.HeadLines.{code-whole, is_code}
-use Rattle.redcode_text.proofs.ForLaws.LikeHeads.{headed}
 use Rattle.redcode_text.proofs.ForLaws.LikeReadings.{counts-alike, grows-changed}
 use Rattle.redcode_text.proofs.ForLaws.Simulations.{IsCounter}
 use Rattle.redcode_text.proofs.ForLaws.TokensRead.{are_digits, ascii-byte, begins, decimal-is, digits-are-word, no-joins, not-blank, whole-word}
 use Rattle.redcode_text.proofs.Joins.{joined-none}
 
 -- ---- one result
-
--- where it is a value, this holds of it
-abbrev pub Alone : {A E : Type 0} → (A → Type 0) → Result A E → Type 0
-Alone P (Ok a) = P a
-Alone P (Err e) = ⊤
-
-pub alone-then : {A B E : Type 0} (P : A → Type 0) (Q : B → Type 0) (r : Result A E) (f : A → Result B E) → Alone P r
-    → ((a : A) → P a → Alone Q (f a)) → Alone Q (r >>= f)
-alone-then P Q (Ok a) f h k = k a h
-alone-then P Q (Err e) f h k = tt
-
-pub alone-made : {A E : Type 0} (P : A → Type 0) (a : A) (r : Result A E) → Alone P r → r ≡ Ok a → P a
-alone-made P a (Ok x) h e = let same : x ≡ a = cc in subst P same h
-alone-made P a (Err f) h e = cc
-
-pub alone-weaker : {A E : Type 0} (P Q : A → Type 0) (r : Result A E) → Alone P r → ((a : A) → P a → Q a) → Alone Q r
-alone-weaker P Q (Ok a) h k = k a h
-alone-weaker P Q (Err e) h k = tt
 
 pub alone-own : {A E : Type 0} (R : A → A → Type 0) (r : Result A E) → Follows false R r r → Alone (λ a. R a a) r
 alone-own R (Ok a) h = let v = h.value a refl in let same : v.0 ≡ a = cc in subst (R a) same v.2
@@ -100,11 +82,6 @@ module _ (st other : Reading) (r : ReadAlike st other) where
         q,
       )
       go (Err e) g q = tt
-
--- any tokens
-pub no-matter : (x : Result Scanned TextProblem) → Alone (λ (s : Scanned). ⊤) x
-no-matter (Ok s) = tt
-no-matter (Err e) = tt
 
 pub lone-rof : (row : SourceRow) (st other : Reading) → ReadAlike st other → Alone (λ (a : Reading). ReadAlike a other) (rof_line row st)
 lone-rof row st other r =
@@ -281,13 +258,6 @@ number-count ps st n line from to = refl
 abbrev IsLoneHead : ℕ → Reading → Head → Type 0
 IsLoneHead n other h = (h.counter ≡ None) × (h.count ≡ n) × ReadAlike h.reading other
 
-pub any-room : (st : Reading) → Alone (λ (a : Reading). ⊤) (room_for_loop st)
-any-room st = go (nat_le loop_limit (length st.loops))
-  where
-    go : (c : Bool) → Alone (λ (a : Reading). ⊤) (elim c as (λ _. Result Reading TextProblem) [ true ↦ Err TooLong | false ↦ Ok st ])
-    go true = tt
-    go false = tt
-
 headed-alone : (ps : Predefined) (line at n : ℕ) (other : Reading) (x : WithTokens) → ReadAlike x.1 other → IsForTokens line at n x.0
     → Alone (IsLoneHead n other) (headed ps at x)
 headed-alone ps line at n other x r q =
@@ -299,7 +269,7 @@ headed-alone ps line at n other x r q =
     subst (λ r. Alone (IsLoneHead n other) (r >>= λ counter. room_for_loop x.1 >>= λ _. count_of ps x.1 (tokens_after at x.0) >>= made
     counter)) (sym none)
     (alone-then (λ (a : Reading). ⊤) (IsLoneHead n other) (room_for_loop x.1) (λ _. count_of ps x.1 (tokens_after at x.0) >>= made None)
-    (any-room x.1)
+    (no-matter (room_for_loop x.1))
     (λ a _. subst (λ r. Alone (IsLoneHead n other) (r >>= made None)) (sym count) (go (nat_le n count_limit))))
   where
     go : (c : Bool) → Alone (IsLoneHead n other) ((elim c as (λ _. Result ℕ TextProblem)

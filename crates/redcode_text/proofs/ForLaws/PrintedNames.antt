@@ -9,13 +9,14 @@ use Rattle.redcode_text.specs.declared.fault.TextProblem.{TextProblem}
 use Rattle.redcode_text.specs.declared.fault.TextProblem.TheVariants.{BadToken, Duplicate, TooLong, UnclosedFor, RofAlone}
 use Rattle.redcode_text.specs.declared.token.Token.{Token}
 use Rattle.redcode_text.specs.Expression.{kinds}
-use Rattle.redcode_text.specs.Expansion.{Head, ProgramValue, count_of, counter_name, expansion, flat, for_word_at, head_line, in_round, nothing_read, program_of, rof_line, room_for_loop, rounds, unpaired_line}
+use Rattle.redcode_text.specs.Expansion.{Head, ProgramValue, expansion, flat, head_line, in_round, nothing_read, program_of, rof_line, rounds, unpaired_line}
 use Rattle.redcode_text.specs.Lines.{Reading, Step, Parts, Predefined, WithTokens, assert_line, before_comment, before_first, behind_last, comment_line, directive_value, each_line, equated, is_equate, is_label, is_predefined, line_read, name_in_front, operation_lines, ordinary_line, ordinary_with, parts_of, parts_read, plain_line, printable, row_tokens, tokens_after, tokens_before, tokens_counted, tokens_line, unless_empty, unless_ended, with_line}
 use Rattle.redcode_text.specs.Equates.{limit}
 use Rattle.redcode_text.specs.Programs.{IsPrinted}
 use Rattle.redcode_text.specs.Source as source
 use Rattle.redcode_text.specs.Source.{SourceRow, Items, Plain, Loop, LineKind, RofLine, ForLine, EquLine, OtherLine, directive_text, directive_text_at, has_directive_word, is_comment, line_kind, tree_of, without_blanks}
 use Rattle.redcode_text.specs.Tokens.{Scanned, at_line, tokens}
+use Rattle.redcode_text.proofs.ForLaws.Alone.{Alone, head-alone}
 use Rattle.redcode_text.proofs.Printing.{all-printed, is-printed}
 
 -- ---- names
@@ -159,36 +160,10 @@ rof-keeps row st p = go (line_read st) (line-keeps st p)
 -- ---- loops
 
 abbrev HeadKeeps : {E : Type 0} → Result Head E → Type 0
-HeadKeeps (Ok h) = ArePrinted h.reading
-HeadKeeps (Err e) = ⊤
-
-head-bind : {A : Type 0} (r : Result A TextProblem) (g : A → Result Head TextProblem) → ((a : A) → HeadKeeps (g a)) → HeadKeeps (r >>= g)
-head-bind (Ok a) g h = h a
-head-bind (Err e) g h = tt
+HeadKeeps r = Alone (λ (h : Head). ArePrinted h.reading) r
 
 head-keeps : (ps : Predefined) (row : SourceRow) (st : Reading) → ArePrinted st → HeadKeeps (head_line ps row st)
-head-keeps ps row st p = go (line_read st) (line-keeps st p)
-  where
-    rest : WithTokens → Result Head TextProblem
-    rest r =
-        name_in_front (kinds (tokens_before (for_word_at row) r.0)) >>= λ counter.
-        room_for_loop r.1 >>= λ _.
-        count_of ps r.1 (tokens_after (for_word_at row) r.0) >>= λ count.
-        Ok (record { counter = counter_name r.1 counter; count = count; reading = record (r.1) { equate_grows = false } })
-
-    rest-keeps : (r : WithTokens) → ArePrinted r.1 → HeadKeeps (rest r)
-    rest-keeps r q =
-        head-bind (name_in_front (kinds (tokens_before (for_word_at row) r.0))) _ (λ counter.
-        head-bind (room_for_loop r.1) _ (λ _.
-        head-bind (count_of ps r.1 (tokens_after (for_word_at row) r.0)) _ (λ count. q)))
-
-    in-row : (a : Reading) → ArePrinted a → (r : Result Scanned TextProblem) → HeadKeeps ((r >>= λ s. Ok (s.tokens, record a { names = s.names; tokens_read = a.tokens_read + length s.tokens })) >>= rest)
-    in-row a q (Ok s) = rest-keeps (s.tokens, record a { names = s.names; tokens_read = a.tokens_read + length s.tokens }) q
-    in-row a q (Err e) = tt
-
-    go : (r : Result Reading TextProblem) → Keeps r → HeadKeeps (r >>= row_tokens row 0 >>= rest)
-    go (Ok a) q = in-row a q (tokens a.loops row.number (row.at + 0) (limit - a.tokens_read) a.names (before_comment (drop 0 row.bytes)))
-    go (Err e) q = tt
+head-keeps ps row st p = head-alone ps row st ArePrinted (λ a names n q. q) (λ a q. q) (line-keeps st p)
 
 -- ---- the whole
 

@@ -8,8 +8,9 @@ use Rattle.redcode_text.specs.Expansion.{for_word_at, head_line, rof_line}
 use Rattle.redcode_text.specs.Laws.{IsRenaming, JoinsAreRenamed, renamed_comment, renamed_line, renamed_text}
 use Rattle.redcode_text.specs.Lines.{Predefined, Reading, assert_line, before_comment, comment_line, plain_line, row_tokens, tokens_line}
 use Rattle.redcode_text.specs.Source.{SourceRow, LineKind, RofLine, ForLine, EquLine, OtherLine, directive_text_at, has_directive_word, is_comment, line_kind}
+use Rattle.redcode_text.proofs.ForLaws.Alone.{headed}
 use Rattle.redcode_text.proofs.ForLaws.Follows.{Follows, follows-ok, follows-then}
-use Rattle.redcode_text.proofs.ForLaws.LikeHeads.{LikeHead, grows-no-more, headed, headed-alike}
+use Rattle.redcode_text.proofs.ForLaws.LikeHeads.{LikeHead, grows-no-more, headed-alike}
 use Rattle.redcode_text.proofs.ForLaws.LikeLines.{LikeLines, assert-alike, plain-alike, said, said-alike, tokens-line-alike}
 use Rattle.redcode_text.proofs.ForLaws.LikeReadings.{line-read-alike}
 use Rattle.redcode_text.proofs.ForLaws.Likeness.{AnyPlace, Sides}
@@ -37,7 +38,6 @@ module _ (ps : Predefined) (rename : List ℕ → List ℕ) (r : IsRenaming ps r
   code-row row like s plain =
       record {
         number = s.number;
-        plain = plain;
         bytes = s.bytes ∙ ap (λ t. elim t as (λ _. List ℕ) [ true ↦ renamed_comment rename row.bytes | false ↦ renamed_text rename row.bytes ]) plain;
         joins = s.joins;
       }

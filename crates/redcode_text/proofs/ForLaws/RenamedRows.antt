@@ -7,7 +7,7 @@ use Rattle.std.proofs.lemmas.List.{append-nil}
 use Rattle.redcode_text.specs.Equates.{limit}
 use Rattle.redcode_text.specs.Laws.{IsRenaming, JoinsAreRenamed, renamed_from, renamed_text}
 use Rattle.redcode_text.specs.Lines.{Predefined, Reading, WithTokens, before_comment, row_tokens}
-use Rattle.redcode_text.specs.Source.{SourceRow, blank_len, is_comment}
+use Rattle.redcode_text.specs.Source.{SourceRow, blank_len}
 use Rattle.redcode_text.specs.Tokens.{is_word_byte, scan_from, tokens}
 use Rattle.redcode_text.proofs.ForLaws.Agreement.{BothGive, pairwise-length}
 use Rattle.redcode_text.proofs.ForLaws.Follows.{Follows, both-follows, follows-ok, follows-then}
@@ -97,10 +97,9 @@ module _ (ps : Predefined) (rename : List ℕ → List ℕ) (r : IsRenaming ps r
         tokens = k.tokens;
       }))
 
-  -- a row that is no comment, and the row renamed
+  -- a row, and the row renamed as what is no comment
   pub record SameCode (row like : SourceRow) : Type 0 where
     pub number : row.number ≡ like.number
-    pub plain : is_comment row.bytes ≡ false
     pub bytes : like.bytes ≡ renamed_text rename row.bytes
     pub joins : JoinsAreRenamed rename row.bytes
 

@@ -1,66 +1,27 @@
 -- Trees that are alike, where a loop may be written out in the second, are read to readings that are alike.
-use Rattle.std.proofs.Common.{◌≡◌, ◌∙◌, refl, ap, sym, subst, ℕ, zero, suc, ◌+◌, ◌^◌, ◌<◌, Bool, true, false, List, [], ◌∷◌, length, drop, ◌-◌, inl, inr, Option, Result, Ok, Err}
-use Rattle.std.specs.Prelude.{⊤}
+use Rattle.std.proofs.Common.{◌≡◌, ◌∙◌, refl, ap, sym, subst, ℕ, zero, suc, ◌+◌, ◌^◌, ◌<◌, Bool, true, false, List, [], ◌∷◌, inl, inr, Option, Result, Ok, Err}
 use Rattle.redcode_text.specs.Results.{◌>>=◌}
 use Rattle.redcode_text.specs.declared.fault.TextFault.{TextFault}
 use Rattle.redcode_text.specs.declared.fault.TextProblem.{TextProblem}
 use Rattle.redcode_text.specs.declared.fault.TextProblem.TheVariants.{UnclosedFor, RofAlone}
-use Rattle.redcode_text.specs.Equates.{limit}
-use Rattle.redcode_text.specs.Expansion.{Head, count_of, counter_name, flat, for_word_at, head_line, in_round, rof_line, room_for_loop, rounds}
-use Rattle.redcode_text.specs.Expression.{kinds}
-use Rattle.redcode_text.specs.Lines.{Reading, Predefined, WithTokens, before_comment, line_read, name_in_front, plain_line, row_tokens, tokens_after, tokens_before, unless_ended}
+use Rattle.redcode_text.specs.Expansion.{Head, flat, head_line, in_round, rof_line, rounds}
+use Rattle.redcode_text.specs.Lines.{Reading, Predefined, plain_line, unless_ended}
 use Rattle.redcode_text.specs.Source as source
 use Rattle.redcode_text.specs.Source.{SourceRow, Items, Nothing, Plain, Loop, LoneRof}
-use Rattle.redcode_text.specs.Tokens.{Scanned, at_line, tokens}
+use Rattle.redcode_text.specs.Tokens.{at_line}
 use Rattle.redcode_text.proofs.ForLaws.BehindEnd.{unpaired-refused}
+use Rattle.redcode_text.proofs.ForLaws.Alone.{alone-made, head-alone}
 use Rattle.redcode_text.proofs.Kept.{Kept, line-kept, loops_of, plain-kept, rof-ended}
 use Rattle.redcode_text.proofs.ForLaws.Simulations.{IsCounter, IsSimulation}
 use Rattle.redcode_text.proofs.ForLaws.WrittenTrees.{AreCopies, RowsWritten, TreesAlike, onto}
 
 -- ---- a head ends nothing
 
-abbrev HeadGoesOn : Bool → Result Head TextProblem → Type 0
-HeadGoesOn t (Ok h) = h.reading.ended ≡ t
-HeadGoesOn t (Err e) = ⊤
-
-on-bind : {A : Type 0} (t : Bool) (r : Result A TextProblem) (g : A → Result Head TextProblem) → ((a : A) → HeadGoesOn t (g a))
-    → HeadGoesOn t (r >>= g)
-on-bind t (Ok a) g h = h a
-on-bind t (Err e) g h = tt
-
-head-goes-on : (ps : Predefined) (row : SourceRow) (st : Reading) → HeadGoesOn st.ended (head_line ps row st)
-head-goes-on ps row st = go (line_read st) (line-kept (λ a. a.ended) st refl)
-  where
-    rest : WithTokens → Result Head TextProblem
-    rest r =
-        name_in_front (kinds (tokens_before (for_word_at row) r.0)) >>= λ counter.
-        room_for_loop r.1 >>= λ _.
-        count_of ps r.1 (tokens_after (for_word_at row) r.0) >>= λ count.
-        Ok (record { counter = counter_name r.1 counter; count = count; reading = record (r.1) { equate_grows = false } })
-
-    rest-on : (r : WithTokens) → r.1.ended ≡ st.ended → HeadGoesOn st.ended (rest r)
-    rest-on r e =
-        on-bind st.ended (name_in_front (kinds (tokens_before (for_word_at row) r.0))) _ (λ counter.
-        on-bind st.ended (room_for_loop r.1) _ (λ _.
-        on-bind st.ended (count_of ps r.1 (tokens_after (for_word_at row) r.0)) _ (λ count. e)))
-
-    in-row : (a : Reading) → a.ended ≡ st.ended → (r : Result Scanned TextProblem)
-        → HeadGoesOn st.ended ((r >>= λ s. Ok (s.tokens, record a { names = s.names; tokens_read = a.tokens_read + length s.tokens })) >>= rest)
-    in-row a e (Ok s) = rest-on (s.tokens, record a { names = s.names; tokens_read = a.tokens_read + length s.tokens }) e
-    in-row a e (Err p) = tt
-
-    go : (r : Result Reading TextProblem) → Kept (λ a. a.ended) st.ended r → HeadGoesOn st.ended (r >>= row_tokens row 0 >>= rest)
-    go (Ok a) k = in-row a k (tokens a.loops row.number (row.at + 0) (limit - a.tokens_read) a.names (before_comment (drop 0 row.bytes)))
-    go (Err e) k = tt
-
 head-ended : (ps : Predefined) (row : SourceRow) (st : Reading) (h : Head) → head_line ps row st ≡ Ok h → h.reading.ended ≡ st.ended
-head-ended ps row st h is = go (head_line ps row st) (head-goes-on ps row st) is
-  where
-    go : (r : Result Head TextProblem) → HeadGoesOn st.ended r → r ≡ Ok h → h.reading.ended ≡ st.ended
-    go (Ok k) kept e = let same : h ≡ k = cc in ap (λ x. x.reading.ended) same ∙ kept
-    go (Err p) kept e = cc
+head-ended ps row st h is =
+    alone-made (λ (h : Head). h.reading.ended ≡ st.ended) h (head_line ps row st)
+    (head-alone ps row st (λ (a : Reading). a.ended ≡ st.ended) (λ a names n e. e) (λ a e. e) (line-kept (λ (a : Reading). a.ended) st refl)) is
 
--- what a step keeps, of what it gives
 kept-of : {X : Type 0} (f : Reading → X) (x : X) (r : Result Reading TextProblem) (a : Reading) → Kept f x r → r ≡ Ok a → f a ≡ x
 kept-of f x (Ok b) a kept e = let same : a ≡ b = cc in ap f same ∙ kept
 kept-of f x (Err p) a kept e = cc

@@ -7,13 +7,10 @@ use Rattle.std.proofs.lemmas.Bool.{and_parts}
 use Rattle.std.proofs.lemmas.Bool.Decides.{nat_tests}
 use Rattle.std.proofs.lemmas.Slice.Eq.{bytes_eq-Decides}
 use Rattle.redcode_text.specs.Laws.{are_its_joins, begins_and, has_its_joins, written_from, written_joins, written_word}
-use Rattle.redcode_text.specs.Tokens.{begins_word, is_blank, is_letter, is_word_byte, parts_at_joins, word_len}
+use Rattle.redcode_text.specs.Tokens.{begins_word, is_letter, is_word_byte, parts_at_joins, word_len}
 use Rattle.redcode_text.proofs.ForLaws.TokensRead.{decimal-is}
 use Rattle.redcode_text.proofs.ForLaws.RenamedWords.{raw-taken, raw_of, rest-dropped, rest_of}
 use Rattle.redcode_text.proofs.ForLaws.WrittenWords.{front-word, joins-digits, joins-end, one-part, written-counter, written-is}
-
-pub either-word : (b : ℕ) (t : Bool) → (is_word_byte b || ((b == 38) && t)) ≡ true → is_blank b ≡ false
-either-word b t e = grind (arith, nat_tests, e)
 
 pub either-ascii : (b : ℕ) (t : Bool) → (is_word_byte b || ((b == 38) && t)) ≡ true → is_ascii b ≡ true
 either-ascii b t e = grind (arith, nat_tests, e)

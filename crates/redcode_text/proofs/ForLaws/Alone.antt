@@ -1,0 +1,54 @@
+-- What holds of a result where it is a value.
+use Rattle.std.proofs.Common.{◌≡◌, ◌+◌, ◌-◌, ℕ, false, List, length, drop, subst, Result, Ok, Err}
+use Rattle.std.specs.Prelude.{⊤}
+use Rattle.redcode_text.specs.Results.{◌>>=◌}
+use Rattle.redcode_text.specs.declared.fault.TextProblem.{TextProblem}
+use Rattle.redcode_text.specs.Equates.{limit}
+use Rattle.redcode_text.specs.Expansion.{Head, count_of, counter_name, for_word_at, head_line, room_for_loop}
+use Rattle.redcode_text.specs.Expression.{kinds}
+use Rattle.redcode_text.specs.Lines.{Predefined, Reading, WithTokens, before_comment, line_read, name_in_front, row_tokens, tokens_after, tokens_before}
+use Rattle.redcode_text.specs.Source.{SourceRow}
+use Rattle.redcode_text.specs.Tokens.{tokens}
+
+-- where it is a value, this holds of it
+abbrev pub Alone : {A E : Type 0} → (A → Type 0) → Result A E → Type 0
+Alone P (Ok a) = P a
+Alone P (Err e) = ⊤
+
+pub alone-then : {A B E : Type 0} (P : A → Type 0) (Q : B → Type 0) (r : Result A E) (f : A → Result B E) → Alone P r
+    → ((a : A) → P a → Alone Q (f a)) → Alone Q (r >>= f)
+alone-then P Q (Ok a) f h k = k a h
+alone-then P Q (Err e) f h k = tt
+
+pub alone-made : {A E : Type 0} (P : A → Type 0) (a : A) (r : Result A E) → Alone P r → r ≡ Ok a → P a
+alone-made P a (Ok x) h e = let same : x ≡ a = cc in subst P same h
+alone-made P a (Err f) h e = cc
+
+pub alone-weaker : {A E : Type 0} (P Q : A → Type 0) (r : Result A E) → Alone P r → ((a : A) → P a → Q a) → Alone Q r
+alone-weaker P Q (Ok a) h k = k a h
+alone-weaker P Q (Err e) h k = tt
+
+pub no-matter : {A E : Type 0} (r : Result A E) → Alone (λ (a : A). ⊤) r
+no-matter (Ok a) = tt
+no-matter (Err e) = tt
+
+-- a head, from its tokens on
+abbrev pub headed : Predefined → ℕ → WithTokens → Result Head TextProblem
+headed ps at r =
+    name_in_front (kinds (tokens_before at r.0)) >>= λ counter.
+    room_for_loop r.1 >>= λ _.
+    count_of ps r.1 (tokens_after at r.0) >>= λ count.
+    Ok (record { counter = counter_name r.1 counter; count = count; reading = record (r.1) { equate_grows = false } })
+
+-- what holds of a reading, whatever its names, its tokens and EQU lines add, holds of it behind a head
+pub head-alone : (ps : Predefined) (row : SourceRow) (st : Reading) (P : Reading → Type 0) → ((a : Reading) (names : List (List ℕ)) (n : ℕ) → P a → P (record a { names = names; tokens_read = n }))
+    → ((a : Reading) → P a → P (record a { equate_grows = false })) → Alone P (line_read st) → Alone (λ (h : Head). P h.reading) (head_line ps row st)
+head-alone ps row st P more grows read =
+    let Q : WithTokens → Type 0 = λ x. P x.1 in
+    let R : Head → Type 0 = λ h. P h.reading in
+    alone-then Q R (line_read st >>= row_tokens row 0) (headed ps (for_word_at row))
+    (alone-then P Q (line_read st) (row_tokens row 0) read
+    (λ a p. alone-then (λ _. ⊤) Q (tokens a.loops row.number (row.at + 0) (limit - a.tokens_read) a.names (before_comment (drop 0 row.bytes))) _ (no-matter _) (λ s _. more a s.names (a.tokens_read + length s.tokens) p)))
+    (λ x p. alone-then (λ _. ⊤) R (name_in_front (kinds (tokens_before (for_word_at row) x.0))) _ (no-matter _)
+    (λ counter _. alone-then (λ _. ⊤) R (room_for_loop x.1) _ (no-matter _)
+    (λ _ _. alone-then (λ _. ⊤) R (count_of ps x.1 (tokens_after (for_word_at row) x.0)) _ (no-matter _) (λ count _. grows x.1 p))))
