@@ -7,14 +7,14 @@ use Rattle.mars_cell.specs.Warriors.{WarriorValue}
 use Rattle.mars_match.specs.Rounds.{placed_for}
 use Rattle.mars_match.specs.declared.fault.MatchFault.{MatchFault}
 use Rattle.mars_match.specs.declared.fault.MatchFault.TheVariants as fight
-use Rattle.mars_c.specs.Asked.{AreTerms}
+use Rattle.mars_match.specs.declared.setup.Setup.{Setup}
+use Rattle.mars_c.specs.Settings.{IsSetup}
 use Rattle.mars_c.specs.Battles.{begun, placed_in}
 use Rattle.mars_c.specs.Contests.{AreLoads, Reads}
 use Rattle.mars_c.specs.Refusals.{Fails, RefusesEntry, fight_refusal}
 use Rattle.mars_c.specs.declared.faults.CallRefusal.{CallRefusal}
 use Rattle.mars_c.specs.declared.faults.CallRefusal.TheVariants.{OutOfMemory}
 use Rattle.mars_c.specs.declared.settings.MarsSettings.{MarsSettings}
-use Rattle.mars_c.specs.declared.settings.Terms.{Terms}
 
 -- load files that are read take as many bytes as their lengths come to
 read_bytes : (p : Parameters) (bytes ns : List ℕ) (ws : List WarriorValue) (rest : List ℕ) → Reads p bytes ns ws rest → length bytes ≡ sum ns + length rest
@@ -50,12 +50,12 @@ pub memory : (s : MarsSettings) (text : List ℕ) (count : ℕ) (loads lengths :
 memory s text count loads lengths fault refusal is wants = subst (RefusesEntry s text count loads lengths) (sym (is ∙ ap fight_refusal wants)) tt
 
 -- a fault of what load files are to do, or want of memory
-pub fails : {X : Type 0} (s : MarsSettings) (text : List ℕ) (count : ℕ) (loads lengths : List ℕ) (fought : Terms → List WarriorValue → Result X MatchFault)
-    (t : Terms) (ws : List WarriorValue) (fault : MatchFault) (refusal : CallRefusal)
-    → AreTerms s text t → AreLoads t.params loads lengths ws → (fight_refusal fault ≡ OutOfMemory) ⊎ (fought t ws ≡ Err fault) → refusal ≡ fight_refusal fault
+pub fails : {X : Type 0} (s : MarsSettings) (text : List ℕ) (count : ℕ) (loads lengths : List ℕ) (fought : Setup → List WarriorValue → Result X MatchFault)
+    (setup : Setup) (ws : List WarriorValue) (fault : MatchFault) (refusal : CallRefusal)
+    → IsSetup s text setup → AreLoads setup.params loads lengths ws → (fight_refusal fault ≡ OutOfMemory) ⊎ (fought setup ws ≡ Err fault) → refusal ≡ fight_refusal fault
     → RefusesEntry s text count loads lengths refusal ⊎ Fails s text loads lengths fought refusal
-fails s text count loads lengths fought t ws fault refusal terms read (inl memory) is = inl (subst (RefusesEntry s text count loads lengths) (sym (is ∙ memory)) tt)
-fails s text count loads lengths fought t ws fault refusal terms read (inr told) is = inr (t, ws, fault, terms, read, told, is)
+fails s text count loads lengths fought setup ws fault refusal made read (inl memory) is = inl (subst (RefusesEntry s text count loads lengths) (sym (is ∙ memory)) tt)
+fails s text count loads lengths fought setup ws fault refusal made read (inr told) is = inr (setup, ws, fault, made, read, told, is)
 
 -- want of memory in a fight
 pub memory_or : {A : Type 0} (fault : MatchFault) → (fault ≡ fight.OutOfMemory) ⊎ A → (fight_refusal fault ≡ OutOfMemory) ⊎ A
@@ -67,9 +67,9 @@ pub placed_fails : (p : Parameters) (w : ℕ) (fixed : Option ℕ) (k seed : ℕ
 placed_fails p w fixed zero seed fault told = rw told refl
 placed_fails p w fixed (suc k) seed fault told = rw told refl
 
-pub begun_fails : (t : Terms) (ws : List WarriorValue) (round : ℕ) (fault : MatchFault)
-    → placed_in t.params (length ws) t.plan.fixed round t.plan.seed ≡ Err fault → begun t ws round ≡ Err fault
-begun_fails t ws round fault told = rw told refl
+pub begun_fails : (setup : Setup) (ws : List WarriorValue) (round : ℕ) (fault : MatchFault)
+    → placed_in setup.params (length ws) setup.plan.fixed round setup.plan.seed ≡ Err fault → begun setup ws round ≡ Err fault
+begun_fails setup ws round fault told = rw told refl
 
 pub not_placed : (p : Parameters) (w : ℕ) (fixed : Option ℕ) (k seed : ℕ) (all : Result (List ℕ) MatchFault) (fault : MatchFault) → placed_in p w fixed k seed ≡ all
     → (fault ≡ fight.OutOfMemory) ⊎ (placed_for p w fixed seed ≡ Err fault) → (fault ≡ fight.OutOfMemory) ⊎ (all ≡ Err fault)

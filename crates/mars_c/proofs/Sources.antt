@@ -12,7 +12,7 @@ use Rattle.redcode_asm.specs.SourceLines.{assembled_lines, program_lines, source
 use Rattle.redcode_asm.specs.declared.fault.AsmFault.{AsmFault}
 use Rattle.redcode_asm.specs.declared.fault.AsmProblem.{AsmProblem}
 use Rattle.redcode_asm.specs.declared.fault.AsmProblem.TheVariants.{Text, Operation, Operand, Expression, AssertFailed, BadOrigin, Empty, TooLong, OutOfMemory}
-use Rattle.mars_c.specs.Asked.{asked}
+use Rattle.mars_c.specs.Settings.{parameters_in}
 use Rattle.mars_c.specs.Refusals.{RefusesSource, refusal_at}
 use Rattle.mars_c.specs.declared.settings.MarsSettings.{MarsSettings}
 
@@ -38,7 +38,7 @@ lines_fail p rounds warriors source fault told =
 
 -- so both refuse a source for the same fault
 pub refuses : {X : Type 0} (s : MarsSettings) (p : Parameters) (warriors : ℕ) (source : List ℕ) (problem : AsmProblem) (fault : AsmFault) (made : Result X AsmFault)
-    → checked_parameters (asked s) ≡ Ok p → FailsAt problem fault made → (made ≡ Err fault → assembly p s.rounds warriors source ≡ Err fault)
+    → checked_parameters (parameters_in s) ≡ Ok p → FailsAt problem fault made → (made ≡ Err fault → assembly p s.rounds warriors source ≡ Err fault)
     → RefusesSource s warriors source (refusal_at problem fault)
 refuses s p warriors source OutOfMemory fault made checked told fails = tt
 refuses s p warriors source (Text problem) fault made checked told fails = (p, checked, fails told)

@@ -7,15 +7,15 @@ use Rattle.mars_core.specs.Turn.{after_turns}
 use Rattle.mars_match.specs.Battles.{started}
 use Rattle.mars_match.specs.Rounds.{placed_for}
 use Rattle.mars_match.specs.declared.fault.MatchFault.{MatchFault}
+use Rattle.mars_match.specs.declared.setup.Setup.{Setup}
 use Rattle.redcode_text.specs.Results.{◌>>=◌}
 use Rattle.mars_session.specs.Script.{SessionState}
 use Rattle.mars_app.specs.Debugger.Transcript.{Completes}
 use Rattle.mars_app.specs.Debugging.{session_at}
 use Rattle.mars_match.specs.Placement.{FitsTwo}
-use Rattle.mars_c.specs.Asked.{AreTerms}
+use Rattle.mars_c.specs.Settings.{IsSetup}
 use Rattle.mars_c.specs.Contests.{AreLoads}
 use Rattle.mars_c.specs.declared.settings.MarsSettings.{MarsSettings}
-use Rattle.mars_c.specs.declared.settings.Terms.{Terms}
 
 -- the starts of a round: each one before it has drawn its own
 abbrev pub placed_in : Parameters → ℕ → Option ℕ → ℕ → ℕ → Result (List ℕ) MatchFault
@@ -23,19 +23,19 @@ placed_in p w fixed zero seed = placed_for p w fixed seed >>= λ placed. Ok plac
 placed_in p w fixed (suc k) seed = placed_for p w fixed seed >>= λ placed. placed_in p w fixed k placed.1
 
 -- the battle of a round, as it starts, or the first fault
-abbrev pub begun : Terms → List WarriorValue → ℕ → Result State MatchFault
-begun t ws round = placed_in t.params (length ws) t.plan.fixed round t.plan.seed >>= λ starts. started t.params ws starts round
+abbrev pub begun : Setup → List WarriorValue → ℕ → Result State MatchFault
+begun setup ws round = placed_in setup.params (length ws) setup.plan.fixed round setup.plan.seed >>= λ starts. started setup.params ws starts round
 
 -- how the battle of a round starts
-abbrev pub IsRound : Terms → List WarriorValue → ℕ → State → Type 0
-IsRound t ws round s = (starts : List ℕ) × (placed_in t.params (length ws) t.plan.fixed round t.plan.seed ≡ Ok starts)
-    × (started t.params ws starts round ≡ Ok s)
+abbrev pub IsRound : Setup → List WarriorValue → ℕ → State → Type 0
+IsRound setup ws round s = (starts : List ℕ) × (placed_in setup.params (length ws) setup.plan.fixed round setup.plan.seed ≡ Ok starts)
+    × (started setup.params ws starts round ≡ Ok s)
 
 -- the battle of a round of these load files, as it starts
 abbrev pub IsStart : MarsSettings → List ℕ → List ℕ → ℕ → State → Type 0
-IsStart s loads lengths round start = (t : Terms) × (ws : List WarriorValue)
-    × AreTerms s (codes "0") t × AreLoads t.params loads lengths ws × FitsTwo t.params (length ws) t.plan.fixed × (round < s.rounds)
-    × IsRound t ws round start
+IsStart s loads lengths round start = (setup : Setup) × (ws : List WarriorValue)
+    × IsSetup s (codes "0") setup × AreLoads setup.params loads lengths ws × FitsTwo setup.params (length ws) setup.plan.fixed × (round < s.rounds)
+    × IsRound setup ws round start
 
 -- how many places a history may keep
 abbrev pub IsHistory : ℕ → Type 0

@@ -8,15 +8,15 @@ use Rattle.mars_match.specs.Populations.{population_of}
 use Rattle.mars_match.specs.Rounds.{table_of}
 use Rattle.mars_match.specs.Tables.{RowValue}
 use Rattle.mars_match.specs.declared.fault.MatchFault.{MatchFault}
-use Rattle.mars_match.specs.declared.populations.Sum.{Sum}
+use Rattle.mars_match.specs.declared.setup.Setup.{Setup}
+use Rattle.mars_match.specs.declared.table.Sum.{Sum}
 use Rattle.mars_cell.specs.ParameterFaults.{checked_parameters}
 use Rattle.redcode_asm.specs.LoadFiles.{assembled_load}
 use Rattle.redcode_asm.specs.SourceLines.{source_lines}
 use Rattle.mars_match.specs.Placement.{FitsTwo}
-use Rattle.mars_c.specs.Asked.{AreTerms, asked}
+use Rattle.mars_c.specs.Settings.{IsSetup, parameters_in}
 use Rattle.mars_c.specs.declared.rows.MarsRow.{MarsRow}
 use Rattle.mars_c.specs.declared.settings.MarsSettings.{MarsSettings}
-use Rattle.mars_c.specs.declared.settings.Terms.{Terms}
 
 -- the numbers of a row
 abbrev pub plain_row : RowValue → MarsRow
@@ -35,15 +35,15 @@ AreLoads p bytes lengths ws = Reads p bytes lengths ws []
 
 -- the rows of a match of these load files
 abbrev pub IsMatch : MarsSettings → List ℕ → List ℕ → List ℕ → List RowValue → Type 0
-IsMatch s text loads lengths rows = (t : Terms) × (ws : List WarriorValue)
-    × AreTerms s text t × AreLoads t.params loads lengths ws × FitsTwo t.params (length ws) t.plan.fixed
-    × (table_of t.params ws t.plan.formula t.plan.fixed t.plan.rounds t.plan.seed ≡ Ok rows)
+IsMatch s text loads lengths rows = (setup : Setup) × (ws : List WarriorValue)
+    × IsSetup s text setup × AreLoads setup.params loads lengths ws × FitsTwo setup.params (length ws) setup.plan.fixed
+    × (table_of setup.params ws setup.plan.formula setup.plan.fixed setup.plan.rounds setup.plan.seed ≡ Ok rows)
 
 -- the rows of a league of these load files, which has no position
 abbrev pub IsLeague : MarsSettings → List ℕ → List ℕ → List ℕ → List RowValue → Type 0
-IsLeague s text loads lengths rows = (t : Terms) × (ws : List WarriorValue)
-    × AreTerms s text t × AreLoads t.params loads lengths ws × (t.plan.fixed ≡ None)
-    × (league_of t.params ws t.plan.formula None t.plan.rounds t.plan.seed ≡ Ok rows)
+IsLeague s text loads lengths rows = (setup : Setup) × (ws : List WarriorValue)
+    × IsSetup s text setup × AreLoads setup.params loads lengths ws × (setup.plan.fixed ≡ None)
+    × (league_of setup.params ws setup.plan.formula None setup.plan.rounds setup.plan.seed ≡ Ok rows)
 
 -- the rows of the caller hold those of a match, or of a league
 abbrev pub HoldsMatch : MarsSettings → List ℕ → List ℕ → List ℕ → List MarsRow → Type 0
@@ -54,7 +54,7 @@ HoldsLeague s text loads lengths place = (rows : List RowValue) × IsLeague s te
 
 -- the load file of a source
 abbrev pub IsLoadFile : MarsSettings → ℕ → List ℕ → List ℕ → Type 0
-IsLoadFile s warriors source text = (p : Parameters) × (checked_parameters (asked s) ≡ Ok p) × (assembled_load p s.rounds warriors source ≡ Ok text)
+IsLoadFile s warriors source text = (p : Parameters) × (checked_parameters (parameters_in s) ≡ Ok p) × (assembled_load p s.rounds warriors source ≡ Ok text)
 
 -- the buffer begins with a text of this length, and goes on as it was
 abbrev pub BeginsWith : List ℕ → ℕ → List ℕ → List ℕ → Type 0
@@ -74,7 +74,7 @@ OverflowsLoadFile s warriors source count buffer = (text : List ℕ) × IsLoadFi
 
 -- where the instructions of a source stand in it
 abbrev pub AreLines : MarsSettings → ℕ → List ℕ → List ℕ → Type 0
-AreLines s warriors source text = (p : Parameters) × (checked_parameters (asked s) ≡ Ok p) × (source_lines p s.rounds warriors source ≡ Ok text)
+AreLines s warriors source text = (p : Parameters) × (checked_parameters (parameters_in s) ≡ Ok p) × (source_lines p s.rounds warriors source ≡ Ok text)
 
 -- the buffer holds that, or it is longer than the buffer
 abbrev pub HoldsLines : MarsSettings → ℕ → List ℕ → ℕ → List ℕ → List ℕ → Type 0
@@ -84,8 +84,8 @@ abbrev pub OverflowsLines : MarsSettings → ℕ → List ℕ → ℕ → List �
 OverflowsLines s warriors source count buffer = (text : List ℕ) × AreLines s warriors source text × Overflows text count buffer
 
 -- the sums of a population, in which so many candidates come before the opponents
-abbrev pub population : Terms → ℕ → List WarriorValue → Result (List Sum) MatchFault
-population t candidates ws = population_of t.params t.plan.formula t.plan.fixed t.plan.rounds t.plan.seed (drop candidates ws) (take candidates ws)
+abbrev pub population : Setup → ℕ → List WarriorValue → Result (List Sum) MatchFault
+population setup candidates ws = population_of setup.params setup.plan.formula setup.plan.fixed setup.plan.rounds setup.plan.seed (drop candidates ws) (take candidates ws)
 
 -- the numbers of a sum
 abbrev pub plain_sum : Sum → MarsRow
@@ -93,6 +93,6 @@ plain_sum sum = record { points = sum.points; wins = sum.wins; ties = sum.ties; 
 
 -- the rows of the caller hold the sums of as many candidates
 abbrev pub HoldsSums : MarsSettings → List ℕ → List ℕ → List ℕ → List MarsRow → Type 0
-HoldsSums s text loads lengths place = (t : Terms) × (ws : List WarriorValue) × (sums : List Sum)
-    × AreTerms s text t × AreLoads t.params loads lengths ws × FitsTwo t.params 2 t.plan.fixed
-    × (population t (length place) ws ≡ Ok sums) × (place ≡ map plain_sum sums)
+HoldsSums s text loads lengths place = (setup : Setup) × (ws : List WarriorValue) × (sums : List Sum)
+    × IsSetup s text setup × AreLoads setup.params loads lengths ws × FitsTwo setup.params 2 setup.plan.fixed
+    × (population setup (length place) ws ≡ Ok sums) × (place ≡ map plain_sum sums)

@@ -33,8 +33,9 @@ use Rattle.mars_match.specs.Rounds.{table_of}
 use Rattle.mars_match.specs.declared.fault.MatchFault.TheVariants as fight
 use Rattle.mars_match.specs.declared.placement.PlaceFault.TheVariants.{NoRoom}
 use Rattle.mars_match.specs.declared.placement.PlaceFault.TheVariants as place
+use Rattle.mars_match.specs.declared.setup.Setup.{Setup}
 use Rattle.mars_match.specs.Examples.Placements.{sizes}
-use Rattle.mars_c.specs.Asked.{asked}
+use Rattle.mars_c.specs.Settings.{parameters_in}
 use Rattle.mars_c.specs.Battles.{begun, placed_in}
 use Rattle.mars_c.specs.Cells.{plain_cell}
 use Rattle.mars_c.specs.Codes.{fault_of}
@@ -46,10 +47,9 @@ use Rattle.mars_c.specs.States.{counts_of, fits_in, plain_standing}
 use Rattle.mars_c.specs.declared.faults.CallRefusal.TheVariants.{Assembly, Battle, Load, OutOfMemory, Placement, Score}
 use Rattle.mars_c.specs.declared.ranges.SettingsFault.TheVariants.{Lengths, Position, Rounds, Seed}
 use Rattle.mars_c.specs.declared.settings.MarsSettings.{MarsSettings}
-use Rattle.mars_c.specs.declared.settings.Terms.{Terms}
 
 -- a limit of 0 is the core size, and each other number its own
-pub settings_are_parameters : asked (record { core = 8000; processes = 64; cycles = 80000; read_limit = 0; write_limit = 300; longest = 100; distance = 200; rounds = 1; seed = 2; position = 3 })
+pub settings_are_parameters : parameters_in (record { core = 8000; processes = 64; cycles = 80000; read_limit = 0; write_limit = 300; longest = 100; distance = 200; rounds = 1; seed = 2; position = 3 })
     ≡ record { core_size = 8000; processes = 64; cycles = 80000; read_limit = 8000; write_limit = 300; max_length = 100; distance = 200 }
 settings_are_parameters = refl
 
@@ -152,7 +152,7 @@ pub rows_begin_there : AreRows (λ s. s.turns) (lone of_eight (eight []) (6 ∷ 
 rows_begin_there = record { many = refl; written = turn_told; kept = row_stays }
 
 -- one round of one cycle in a core of four cells, by a formula
-abbrev by_formula : List ℕ → Terms
+abbrev by_formula : List ℕ → Setup
 by_formula text = record {
   params = sizes 4 2;
   plan = record {
@@ -231,16 +231,16 @@ pub seeds_are_judged : IsOutside (nano 1 0 0) 2 [] [] Seed × IsOutside (nano 1 
 seeds_are_judged = (λ s. omega (arith, s), λ s. omega (arith, s), λ outside. outside (omega arith, omega arith), λ outside. outside (omega arith, omega arith))
 
 -- what fits the settings fits their parameters
-fits_two : (position : ℕ) (p : Parameters) → checked_parameters (asked (nano 1 1 position)) ≡ Ok p → FitsTwo (asked (nano 1 1 position)) 2 (Some position) → FitsTwo p 2 (Some position)
-fits_two position p checked fixed = let same : asked (nano 1 1 position) ≡ p = cc in subst (λ p. FitsTwo p 2 (Some position)) same fixed
+fits_two : (position : ℕ) (p : Parameters) → checked_parameters (parameters_in (nano 1 1 position)) ≡ Ok p → FitsTwo (parameters_in (nano 1 1 position)) 2 (Some position) → FitsTwo p 2 (Some position)
+fits_two position p checked fixed = let same : parameters_in (nano 1 1 position) ≡ p = cc in subst (λ p. FitsTwo p 2 (Some position)) same fixed
 
 -- the second of two warriors stands from 5 to 75; a third has no position, and 0 is none
 pub positions_are_judged : IsOutside (nano 1 1 4) 2 [] [] Position × IsOutside (nano 1 1 76) 2 [] [] Position × IsOutside (nano 1 1 5) 3 [] [] Position
     × (IsOutside (nano 1 1 5) 2 [] [] Position → ⊥) × (IsOutside (nano 1 1 75) 2 [] [] Position → ⊥) × (IsOutside (nano 1 1 0) 3 [] [] Position → ⊥)
 positions_are_judged = (
-  (asked (nano 1 1 4), refl, λ fixed. omega (arith, fixed.1)),
-  (asked (nano 1 1 76), refl, λ fixed. omega (arith, fixed.2)),
-  (asked (nano 1 1 5), refl, λ fixed. omega (arith, fixed.0)),
+  (parameters_in (nano 1 1 4), refl, λ fixed. omega (arith, fixed.1)),
+  (parameters_in (nano 1 1 76), refl, λ fixed. omega (arith, fixed.2)),
+  (parameters_in (nano 1 1 5), refl, λ fixed. omega (arith, fixed.0)),
   λ outside. outside.2 (fits_two 5 outside.0 outside.1 (refl, omega arith, omega arith)),
   λ outside. outside.2 (fits_two 75 outside.0 outside.1 (refl, omega arith, omega arith)),
   λ outside. outside.2 tt,

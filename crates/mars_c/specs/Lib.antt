@@ -1,5 +1,5 @@
 -- What a reader of the contracts has to believe, in this order; Examples has worked examples of it, and Code serves the proofs alone.
-pub mod Asked
+pub mod Settings
 pub mod Battles
 pub mod Cells
 pub mod Code

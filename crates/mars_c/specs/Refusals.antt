@@ -13,12 +13,13 @@ use Rattle.mars_match.specs.Rounds.{table_of}
 use Rattle.mars_match.specs.declared.fault.MatchFault.{MatchFault}
 use Rattle.mars_match.specs.declared.fault.MatchFault.TheVariants as fight
 use Rattle.mars_match.specs.declared.placement.PlaceFault.TheVariants as place
+use Rattle.mars_match.specs.declared.setup.Setup.{Setup}
 use Rattle.redcode_asm.specs.Formula.{formula_of}
 use Rattle.redcode_asm.specs.Assembly.{assembly}
 use Rattle.redcode_asm.specs.declared.fault.AsmFault.{AsmFault}
 use Rattle.redcode_asm.specs.declared.fault.AsmProblem.{AsmProblem}
 use Rattle.redcode_asm.specs.declared.fault.AsmProblem.TheVariants as problem
-use Rattle.mars_c.specs.Asked.{AreRounds, AreTerms, IsSeed, asked, position_of}
+use Rattle.mars_c.specs.Settings.{AreRounds, IsSeed, IsSetup, parameters_in, position_of}
 use Rattle.mars_c.specs.Battles.{IsHistory, begun}
 use Rattle.mars_c.specs.Codes.{fault_of}
 use Rattle.mars_c.specs.Contests.{AreLoads, Reads, population}
@@ -28,7 +29,6 @@ use Rattle.mars_c.specs.declared.faults.CallRefusal.TheVariants.{OutOfMemory, Se
 use Rattle.mars_c.specs.declared.ranges.SettingsFault.{SettingsFault}
 use Rattle.mars_c.specs.declared.ranges.SettingsFault.TheVariants.{Rounds, Seed, Position, Warriors, Lengths, History, Rows, Round}
 use Rattle.mars_c.specs.declared.settings.MarsSettings.{MarsSettings}
-use Rattle.mars_c.specs.declared.settings.Terms.{Terms}
 
 -- the refusal of a source with such a problem
 abbrev pub refusal_at : AsmProblem → AsmFault → CallRefusal
@@ -38,8 +38,8 @@ refusal_at other fault = Assembly fault
 -- the parameters are refused, or the source is, for this fault
 abbrev pub RefusesSource : MarsSettings → ℕ → List ℕ → CallRefusal → Type 0
 RefusesSource s warriors source OutOfMemory = ⊤
-RefusesSource s warriors source (OfParameters fault) = checked_parameters (asked s) ≡ Err fault
-RefusesSource s warriors source (Assembly fault) = (p : Parameters) × (checked_parameters (asked s) ≡ Ok p) × (assembly p s.rounds warriors source ≡ Err fault)
+RefusesSource s warriors source (OfParameters fault) = checked_parameters (parameters_in s) ≡ Err fault
+RefusesSource s warriors source (Assembly fault) = (p : Parameters) × (checked_parameters (parameters_in s) ≡ Ok p) × (assembly p s.rounds warriors source ≡ Err fault)
 RefusesSource s warriors source other = ⊥
 
 -- a caller is told of one of some refusals
@@ -55,7 +55,7 @@ IsUnread p bytes lengths index fault = (ws : List WarriorValue) × (rest : List 
 abbrev pub IsOutside : MarsSettings → ℕ → List ℕ → List ℕ → SettingsFault → Type 0
 IsOutside s warriors loads lengths Rounds = AreRounds s.rounds → ⊥
 IsOutside s warriors loads lengths Seed = IsSeed s.seed → ⊥
-IsOutside s warriors loads lengths Position = (p : Parameters) × (checked_parameters (asked s) ≡ Ok p) × (FitsTwo p warriors (position_of s.position) → ⊥)
+IsOutside s warriors loads lengths Position = (p : Parameters) × (checked_parameters (parameters_in s) ≡ Ok p) × (FitsTwo p warriors (position_of s.position) → ⊥)
 IsOutside s warriors loads lengths Lengths = sum lengths ≢ length loads
 IsOutside s warriors loads lengths other = ⊥
 
@@ -63,9 +63,9 @@ IsOutside s warriors loads lengths other = ⊥
 abbrev pub RefusesEntry : MarsSettings → List ℕ → ℕ → List ℕ → List ℕ → CallRefusal → Type 0
 RefusesEntry s text warriors loads lengths OutOfMemory = ⊤
 RefusesEntry s text warriors loads lengths (Settings fault) = IsOutside s warriors loads lengths fault
-RefusesEntry s text warriors loads lengths (OfParameters fault) = checked_parameters (asked s) ≡ Err fault
+RefusesEntry s text warriors loads lengths (OfParameters fault) = checked_parameters (parameters_in s) ≡ Err fault
 RefusesEntry s text warriors loads lengths (Formula fault) = formula_of text ≡ Err fault
-RefusesEntry s text warriors loads lengths (Load index fault) = (p : Parameters) × (checked_parameters (asked s) ≡ Ok p) × IsUnread p loads lengths index fault
+RefusesEntry s text warriors loads lengths (Load index fault) = (p : Parameters) × (checked_parameters (parameters_in s) ≡ Ok p) × IsUnread p loads lengths index fault
 RefusesEntry s text warriors loads lengths other = ⊥
 
 -- the refusal of a fight with such a fault
@@ -78,9 +78,9 @@ fight_refusal (fight.Battle fault) = Battle fault
 fight_refusal (fight.Score fault) = Score fault
 
 -- what these load files are to do, by what the settings come to, fails
-abbrev pub Fails : {X : Type 0} → MarsSettings → List ℕ → List ℕ → List ℕ → (Terms → List WarriorValue → Result X MatchFault) → CallRefusal → Type 0
-Fails s text loads lengths fought refusal = (t : Terms) × (ws : List WarriorValue) × (fault : MatchFault)
-    × AreTerms s text t × AreLoads t.params loads lengths ws × (fought t ws ≡ Err fault) × (refusal ≡ fight_refusal fault)
+abbrev pub Fails : {X : Type 0} → MarsSettings → List ℕ → List ℕ → List ℕ → (Setup → List WarriorValue → Result X MatchFault) → CallRefusal → Type 0
+Fails s text loads lengths fought refusal = (setup : Setup) × (ws : List WarriorValue) × (fault : MatchFault)
+    × IsSetup s text setup × AreLoads setup.params loads lengths ws × (fought setup ws ≡ Err fault) × (refusal ≡ fight_refusal fault)
 
 -- how many warriors a battle has
 abbrev pub AreWarriors : ℕ → Type 0
@@ -92,17 +92,17 @@ Misses fault Fits refusal = (refusal ≡ Settings fault) × (Fits → ⊥)
 
 -- a match of these load files fails, or a league, or the start of a round's battle
 abbrev pub FailsMatch : MarsSettings → List ℕ → List ℕ → List ℕ → CallRefusal → Type 0
-FailsMatch s text loads lengths = Fails s text loads lengths (λ t ws. table_of t.params ws t.plan.formula t.plan.fixed t.plan.rounds t.plan.seed)
+FailsMatch s text loads lengths = Fails s text loads lengths (λ setup ws. table_of setup.params ws setup.plan.formula setup.plan.fixed setup.plan.rounds setup.plan.seed)
 
 abbrev pub FailsLeague : MarsSettings → List ℕ → List ℕ → List ℕ → CallRefusal → Type 0
-FailsLeague s text loads lengths = Fails s text loads lengths (λ t ws. league_of t.params ws t.plan.formula t.plan.fixed t.plan.rounds t.plan.seed)
+FailsLeague s text loads lengths = Fails s text loads lengths (λ setup ws. league_of setup.params ws setup.plan.formula setup.plan.fixed setup.plan.rounds setup.plan.seed)
 
 abbrev pub FailsRound : MarsSettings → List ℕ → List ℕ → ℕ → CallRefusal → Type 0
-FailsRound s loads lengths round = Fails s (codes "0") loads lengths (λ t ws. begun t ws round)
+FailsRound s loads lengths round = Fails s (codes "0") loads lengths (λ setup ws. begun setup ws round)
 
 -- a population of so many candidates fails: by its first match that does, or whose row makes a sum that doesn't fit
 abbrev pub FailsPopulation : MarsSettings → List ℕ → List ℕ → List ℕ → ℕ → CallRefusal → Type 0
-FailsPopulation s text loads lengths rows = Fails s text loads lengths (λ t ws. population t rows ws)
+FailsPopulation s text loads lengths rows = Fails s text loads lengths (λ setup ws. population setup rows ws)
 
 -- a match of these load files, with so many rows, isn't fought
 abbrev pub RefusesMatch : MarsSettings → List ℕ → List ℕ → List ℕ → ℕ → CallRefusal → Type 0

@@ -2,17 +2,17 @@
 use Rattle.std.specs.Prelude.{◌≡◌, ◌≤◌, ◌==◌, ℕ, if◌then◌else◌, List, None, Ok, Option, Some}
 use Rattle.mars_cell.specs.Parameters.{Parameters}
 use Rattle.mars_cell.specs.ParameterFaults.{checked_parameters}
+use Rattle.mars_match.specs.declared.setup.Setup.{Setup}
 use Rattle.redcode_asm.specs.Formula.{formula_of}
 use Rattle.mars_c.specs.declared.settings.MarsSettings.{MarsSettings}
-use Rattle.mars_c.specs.declared.settings.Terms.{Terms}
 
 -- a limit of 0 is the core size
 abbrev pub limit_of : ℕ → ℕ → ℕ
 limit_of limit core = if limit == 0 then core else limit
 
 -- the parameters of settings
-abbrev pub asked : MarsSettings → Parameters
-asked s = record {
+abbrev pub parameters_in : MarsSettings → Parameters
+parameters_in s = record {
   core_size = s.core;
   processes = s.processes;
   cycles = s.cycles;
@@ -34,11 +34,11 @@ abbrev pub IsSeed : ℕ → Type 0
 IsSeed seed = (1 ≤ seed) × (seed ≤ 2147483646)
 
 -- what settings and a formula come to
-pub record AreTerms (s : MarsSettings) (text : List ℕ) (t : Terms) : Type 0 where
-  pub params : checked_parameters (asked s) ≡ Ok t.params
-  pub formula : formula_of text ≡ Ok t.plan.formula
-  pub rounds : t.plan.rounds ≡ s.rounds
-  pub seed : t.plan.seed ≡ s.seed
-  pub fixed : t.plan.fixed ≡ position_of s.position
+pub record IsSetup (s : MarsSettings) (text : List ℕ) (setup : Setup) : Type 0 where
+  pub params : checked_parameters (parameters_in s) ≡ Ok setup.params
+  pub formula : formula_of text ≡ Ok setup.plan.formula
+  pub rounds : setup.plan.rounds ≡ s.rounds
+  pub seed : setup.plan.seed ≡ s.seed
+  pub fixed : setup.plan.fixed ≡ position_of s.position
   pub rounds_allowed : AreRounds s.rounds
   pub seed_allowed : IsSeed s.seed

@@ -6,13 +6,13 @@ ghost use Rattle.mars_c.specs.Refusals.{AreWarriors, RefusesDebugging, RefusesRo
 ghost use Rattle.mars_core.specs.Limits.{most_warriors};
 
 use crate::faults::{CallRefusal, refused_fight};
-use crate::loading::{Entry, enter};
+use crate::loading::{Entry, LoadFiles, enter};
 use crate::ranges::SettingsFault;
-use crate::settings::{MarsSettings, Terms, warriors_fault};
+use crate::settings::{MarsSettings, warriors_fault};
 use mars_app::debug;
 use mars_cell::Warrior;
 use mars_core::Battle;
-use mars_match::{MatchFault, round_starts};
+use mars_match::{MatchFault, Setup};
 use mars_session::{RingTape, Session};
 use std::alloc::Global;
 
@@ -22,48 +22,47 @@ const LONGEST_HISTORY: u32 = 1_000_000;
 /// Where the warriors of a round are laid, by the seeds that the rounds before leave.
 fn starts_in(
     alloc: Global,
-    terms: &Terms,
+    setup: &Setup,
     warriors: u32,
     round: u32,
 ) -> Result<Vec<u32>, MatchFault>
     requires some { 1 ≤ warriors }
     requires few { warriors ≤ most_warriors }
-    requires position { FitsTwo terms.now.params warriors terms.now.plan.fixed }
+    requires position { FitsTwo setup.now.params warriors setup.now.plan.fixed }
     ensures many { IfOk result (λ starts. vec_len starts ≡ warriors) }
-    ensures value { IfOk result (λ starts. placed_in terms.now.params warriors terms.now.plan.fixed round terms.now.plan.seed
+    ensures value { IfOk result (λ starts. placed_in setup.now.params warriors setup.now.plan.fixed round setup.now.plan.seed
         ≡ Ok starts.items) }
     ensures fault { IfErr result (λ fault. (fault ≡ MatchFault.OutOfMemory)
-        ⊎ (placed_in terms.now.params warriors terms.now.plan.fixed round terms.now.plan.seed ≡ Err fault)) }
+        ⊎ (placed_in setup.now.params warriors setup.now.plan.fixed round setup.now.plan.seed ≡ Err fault)) }
 {
-    let fixed = terms.plan.fixed;
-    let mut seed = terms.plan.seed;
+    let mut seed = setup.plan.seed;
     for before in 0..round {
-        let (_starts, left) = round_starts(alloc, &terms.params, warriors, fixed, seed)?;
+        let (_starts, left) = setup.round_starts(alloc, warriors, seed)?;
         seed = left;
     }
-    let (starts, _left) = round_starts(alloc, &terms.params, warriors, fixed, seed)?;
+    let (starts, _left) = setup.round_starts(alloc, warriors, seed)?;
     Ok(starts)
 }
 
 /// The battle of a round.
 fn round_battle(
     alloc: Global,
-    terms: &Terms,
+    setup: &Setup,
     mut warriors: Vec<Warrior>,
     round: u32,
 ) -> Result<Battle, MatchFault>
     requires some { 1 ≤ vec_len warriors }
     requires few { vec_len warriors ≤ most_warriors }
-    requires position { FitsTwo terms.now.params (vec_len warriors) terms.now.plan.fixed }
-    ensures round { IfOk result (IsRound terms.now warriors.items round) }
-    ensures fault { IfErr result (λ fault. (fight_refusal fault ≡ CallRefusal.OutOfMemory) ⊎ (begun terms.now warriors.items round ≡ Err fault)) }
+    requires position { FitsTwo setup.now.params (vec_len warriors) setup.now.plan.fixed }
+    ensures round { IfOk result (IsRound setup.now warriors.items round) }
+    ensures fault { IfErr result (λ fault. (fight_refusal fault ≡ CallRefusal.OutOfMemory) ⊎ (begun setup.now warriors.items round ≡ Err fault)) }
 {
     let count = warriors.len();
-    let mut starts = starts_in(alloc, terms, count as u32, round)?;
+    let mut starts = starts_in(alloc, setup, count as u32, round)?;
     let first = round as usize % count;
     starts.rotate_left(first);
     warriors.rotate_left(first);
-    match Battle::new(alloc, &terms.params, &warriors, &starts) {
+    match Battle::new(alloc, &setup.params, &warriors, &starts) {
         Ok(battle) => Ok(battle),
         Err(fault) => Err(MatchFault::Battle(fault)),
     }
@@ -73,21 +72,20 @@ fn round_battle(
 pub fn start_of(
     alloc: Global,
     settings: &MarsSettings,
-    loads: &[u8],
-    lengths: &[usize],
+    loads: LoadFiles<'_>,
     round: u32,
 ) -> Result<Battle, CallRefusal>
-    requires some { 1 ≤ length lengths.now }
-    requires few { length lengths.now ≤ most_warriors }
-    ensures start { IfOk result (IsStart settings.now loads.now lengths.now round) }
-    ensures refused { IfErr result (RefusesRound settings.now loads.now lengths.now round) }
+    requires some { 1 ≤ length loads.lengths.now }
+    requires few { length loads.lengths.now ≤ most_warriors }
+    ensures start { let l = loads.entry in IfOk result (IsStart settings.now l.loads.now l.lengths.now round) }
+    ensures refused { let l = loads.entry in IfErr result (RefusesRound settings.now l.loads.now l.lengths.now round) }
 {
-    let Entry { terms, warriors } = enter(alloc, settings, b"0", loads, lengths, lengths.len())?;
-    if round >= terms.plan.rounds {
+    let Entry { setup, warriors } = enter(alloc, settings, b"0", loads, loads.lengths.len())?;
+    if round >= setup.plan.rounds {
         return Err(CallRefusal::Settings(SettingsFault::Round));
     }
-    let battle = round_battle(alloc, &terms, warriors, round);
-    drop(terms);
+    let battle = round_battle(alloc, &setup, warriors, round);
+    drop(setup);
     match battle {
         Ok(battle) => Ok(battle),
         Err(fault) => Err(refused_fight(fault)),
@@ -145,23 +143,36 @@ fn led(alloc: Global, battle: Battle, history: u32, lines: &[u8]) -> Option<Batt
     }
 }
 
-/// The battle of a round of load files, where the debugger's lines lead it.
+/// A round of load files, and the debugger's lines that lead its battle on, over a history of so many places.
+#[derive(Clone, Copy)]
+pub struct LedRound<'l> {
+    pub loads: LoadFiles<'l>,
+    pub round: u32,
+    pub history: u32,
+    pub lines: &'l [u8],
+}
+
+/// The battle of a round, where the debugger's lines lead it.
 pub fn battle_of(
     alloc: Global,
     settings: &MarsSettings,
-    loads: &[u8],
-    lengths: &[usize],
-    round: u32,
-    history: u32,
-    lines: &[u8],
+    asked: LedRound<'_>,
 ) -> Result<Battle, CallRefusal>
-    ensures led { IfOk result (IsAsked settings.now loads.now lengths.now round history lines.now) }
-    ensures refused { IfErr result (RefusesDebugging settings.now loads.now lengths.now round history) }
+    ensures led { let a = asked.entry in IfOk result
+        (IsAsked settings.now a.loads.loads.now a.loads.lengths.now a.round a.history a.lines.now) }
+    ensures refused { let a = asked.entry in IfErr result
+        (RefusesDebugging settings.now a.loads.loads.now a.loads.lengths.now a.round a.history) }
 {
-    if let Some(fault) = asked_fault(lengths.len(), history) {
+    let LedRound {
+        loads,
+        round,
+        history,
+        lines,
+    } = asked;
+    if let Some(fault) = asked_fault(loads.lengths.len(), history) {
         return Err(CallRefusal::Settings(fault));
     }
-    let battle = start_of(alloc, settings, loads, lengths, round)?;
+    let battle = start_of(alloc, settings, loads, round)?;
     match led(alloc, battle, history, lines) {
         Some(battle) => Ok(battle),
         None => Err(CallRefusal::OutOfMemory),
@@ -172,17 +183,15 @@ pub fn battle_of(
 pub fn state_of(
     alloc: Global,
     settings: &MarsSettings,
-    loads: &[u8],
-    lengths: &[usize],
-    round: u32,
-    history: u32,
-    lines: &[u8],
+    asked: LedRound<'_>,
     turns: u32,
 ) -> Result<Battle, CallRefusal>
-    ensures played { IfOk result (IsPlayed settings.now loads.now lengths.now round history lines.now turns) }
-    ensures refused { IfErr result (RefusesDebugging settings.now loads.now lengths.now round history) }
+    ensures played { let a = asked.entry in IfOk result
+        (IsPlayed settings.now a.loads.loads.now a.loads.lengths.now a.round a.history a.lines.now turns) }
+    ensures refused { let a = asked.entry in IfErr result
+        (RefusesDebugging settings.now a.loads.loads.now a.loads.lengths.now a.round a.history) }
 {
-    let mut battle = battle_of(alloc, settings, loads, lengths, round, history, lines)?;
+    let mut battle = battle_of(alloc, settings, asked)?;
     battle.run(turns);
     Ok(battle)
 }

@@ -5,7 +5,7 @@ ghost use Rattle.mars_c.specs.Contests.{HoldsLeague, HoldsMatch, IsLeague, IsMat
 ghost use Rattle.mars_c.specs.Refusals.{FailsLeague, FailsMatch, RefusesEntry, RefusesLeague, RefusesMatch};
 
 use crate::faults::{CallRefusal, refused_fight};
-use crate::loading::enter;
+use crate::loading::{LoadFiles, enter};
 use crate::ranges::SettingsFault;
 use crate::rows::{MarsRow, give_rows};
 use crate::settings::{MarsSettings, warriors_fault};
@@ -20,20 +20,14 @@ fn match_table(
     alloc: Global,
     settings: &MarsSettings,
     formula: &[u8],
-    loads: &[u8],
-    lengths: &[usize],
+    loads: LoadFiles<'_>,
 ) -> Result<Table, CallRefusal>
-    ensures table { IfOk result (λ table. IsMatch settings.now formula.now loads.now lengths.now table.rows.items) }
-    ensures refused { IfErr result (λ refusal. RefusesEntry settings.now formula.now (length lengths.now) loads.now lengths.now refusal
-        ⊎ FailsMatch settings.now formula.now loads.now lengths.now refusal) }
+    ensures table { let l = loads.entry in IfOk result (λ table. IsMatch settings.now formula.now l.loads.now l.lengths.now table.rows.items) }
+    ensures refused { let l = loads.entry in IfErr result (λ refusal. RefusesEntry settings.now formula.now (length l.lengths.now) l.loads.now l.lengths.now refusal
+        ⊎ FailsMatch settings.now formula.now l.loads.now l.lengths.now refusal) }
 {
-    let entry = enter(alloc, settings, formula, loads, lengths, lengths.len())?;
-    let table = rounds(
-        alloc,
-        &entry.terms.params,
-        &entry.warriors,
-        &entry.terms.plan,
-    );
+    let entry = enter(alloc, settings, formula, loads, loads.lengths.len())?;
+    let table = rounds(alloc, &entry.setup, &entry.warriors);
     drop(entry);
     match table {
         Ok(table) => Ok(table),
@@ -46,22 +40,16 @@ fn league_table(
     alloc: Global,
     settings: &MarsSettings,
     formula: &[u8],
-    loads: &[u8],
-    lengths: &[usize],
+    loads: LoadFiles<'_>,
 ) -> Result<Table, CallRefusal>
-    requires { length lengths.now ≤ most_of_league }
-    ensures table { IfOk result (λ table. IsLeague settings.now formula.now loads.now lengths.now table.rows.items) }
-    ensures refused { IfErr result (λ refusal. RefusesEntry settings.now formula.now 0 loads.now lengths.now refusal
-        ⊎ FailsLeague settings.now formula.now loads.now lengths.now refusal) }
+    requires { length loads.lengths.now ≤ most_of_league }
+    ensures table { let l = loads.entry in IfOk result (λ table. IsLeague settings.now formula.now l.loads.now l.lengths.now table.rows.items) }
+    ensures refused { let l = loads.entry in IfErr result (λ refusal. RefusesEntry settings.now formula.now 0 l.loads.now l.lengths.now refusal
+        ⊎ FailsLeague settings.now formula.now l.loads.now l.lengths.now refusal) }
 {
     // A league has no position: one is judged as if there were no warriors.
-    let entry = enter(alloc, settings, formula, loads, lengths, 0)?;
-    let table = league(
-        alloc,
-        &entry.terms.params,
-        &entry.warriors,
-        &entry.terms.plan,
-    );
+    let entry = enter(alloc, settings, formula, loads, 0)?;
+    let table = league(alloc, &entry.setup, &entry.warriors);
     drop(entry);
     match table {
         Ok(table) => Ok(table),
@@ -74,21 +62,20 @@ pub fn match_into(
     alloc: Global,
     settings: &MarsSettings,
     formula: &[u8],
-    loads: &[u8],
-    lengths: &[usize],
+    loads: LoadFiles<'_>,
     place: &mut [MarsRow],
 ) -> Result<(), CallRefusal>
-    ensures ok { OnOk result (HoldsMatch settings.now formula.now loads.now lengths.now place.new) }
+    ensures ok { let l = loads.entry in OnOk result (HoldsMatch settings.now formula.now l.loads.now l.lengths.now place.new) }
     ensures err { OnErr result (place.new ≡ place.old) }
-    ensures refused { IfErr result (RefusesMatch settings.now formula.now loads.now lengths.now (length place.old)) }
+    ensures refused { let l = loads.entry in IfErr result (RefusesMatch settings.now formula.now l.loads.now l.lengths.now (length place.old)) }
 {
-    if let Some(fault) = warriors_fault(lengths.len()) {
+    if let Some(fault) = warriors_fault(loads.lengths.len()) {
         return Err(CallRefusal::Settings(fault));
     }
-    if place.len() != lengths.len() {
+    if place.len() != loads.lengths.len() {
         return Err(CallRefusal::Settings(SettingsFault::Rows));
     }
-    let table = match_table(alloc, settings, formula, loads, lengths)?;
+    let table = match_table(alloc, settings, formula, loads)?;
     match give_rows(alloc, &table.rows, place) {
         Ok(()) => Ok(()),
         Err(fault) => Err(refused_fight(fault)),
@@ -100,21 +87,20 @@ pub fn league_into(
     alloc: Global,
     settings: &MarsSettings,
     formula: &[u8],
-    loads: &[u8],
-    lengths: &[usize],
+    loads: LoadFiles<'_>,
     place: &mut [MarsRow],
 ) -> Result<(), CallRefusal>
-    ensures ok { OnOk result (HoldsLeague settings.now formula.now loads.now lengths.now place.new) }
+    ensures ok { let l = loads.entry in OnOk result (HoldsLeague settings.now formula.now l.loads.now l.lengths.now place.new) }
     ensures err { OnErr result (place.new ≡ place.old) }
-    ensures refused { IfErr result (RefusesLeague settings.now formula.now loads.now lengths.now (length place.old)) }
+    ensures refused { let l = loads.entry in IfErr result (RefusesLeague settings.now formula.now l.loads.now l.lengths.now (length place.old)) }
 {
-    if lengths.len() > MOST_OF_A_LEAGUE {
+    if loads.lengths.len() > MOST_OF_A_LEAGUE {
         return Err(CallRefusal::Settings(SettingsFault::Warriors));
     }
-    if place.len() != lengths.len() {
+    if place.len() != loads.lengths.len() {
         return Err(CallRefusal::Settings(SettingsFault::Rows));
     }
-    let table = league_table(alloc, settings, formula, loads, lengths)?;
+    let table = league_table(alloc, settings, formula, loads)?;
     match give_rows(alloc, &table.rows, place) {
         Ok(()) => Ok(()),
         Err(fault) => Err(refused_fight(fault)),

@@ -5,6 +5,7 @@ ghost use Rattle.mars_c.specs.Refusals.{RefusesDebugging};
 
 use crate::battles::{asked_fault, debugged, start_of};
 use crate::faults::CallRefusal;
+use crate::loading::LoadFiles;
 use crate::settings::MarsSettings;
 use std::alloc::Global;
 
@@ -12,18 +13,17 @@ use std::alloc::Global;
 pub fn transcript(
     alloc: Global,
     settings: &MarsSettings,
-    loads: &[u8],
-    lengths: &[usize],
+    loads: LoadFiles<'_>,
     history: u32,
     lines: &[u8],
 ) -> Result<Vec<u8>, CallRefusal>
-    ensures told { IfOk result (λ text. Debugs settings.now loads.now lengths.now history lines.now text.items) }
-    ensures refused { IfErr result (RefusesDebugging settings.now loads.now lengths.now 0 history) }
+    ensures told { let l = loads.entry in IfOk result (λ text. Debugs settings.now l.loads.now l.lengths.now history lines.now text.items) }
+    ensures refused { let l = loads.entry in IfErr result (RefusesDebugging settings.now l.loads.now l.lengths.now 0 history) }
 {
-    if let Some(fault) = asked_fault(lengths.len(), history) {
+    if let Some(fault) = asked_fault(loads.lengths.len(), history) {
         return Err(CallRefusal::Settings(fault));
     }
-    let battle = start_of(alloc, settings, loads, lengths, 0)?;
+    let battle = start_of(alloc, settings, loads, 0)?;
     let mut transcript = Vec::new(alloc);
     match debugged(alloc, battle, history, lines, &mut transcript) {
         Some(session) => drop(session),

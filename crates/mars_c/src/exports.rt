@@ -1,25 +1,26 @@
 //! What C calls.
-ghost use Rattle.std.specs.Prelude.{◌≡◌, ◌≢◌, ◌≤◌, IfErr, IfOk, false, length, true};
-ghost use Rattle.mars_c.specs.Contests.{AreLines, BeginsWith, HoldsLeague, HoldsLines, HoldsLoadFile, HoldsMatch, HoldsSums, IsLoadFile, Overflows, OverflowsLines, OverflowsLoadFile};
+ghost use Rattle.std.specs.Prelude.{◌≡◌, ◌≢◌, ◌≤◌, false, length, true};
+ghost use Rattle.mars_c.specs.Contests.{BeginsWith, HoldsLeague, HoldsLines, HoldsLoadFile, HoldsMatch, HoldsSums, Overflows, OverflowsLines, OverflowsLoadFile};
 ghost use Rattle.mars_c.specs.Debugging.{HoldsRows, HoldsState, HoldsTranscript, OverflowsState, OverflowsTranscript};
 ghost use Rattle.mars_c.specs.Refusals.{RefusesDebugging, RefusesLeague, RefusesMatch, RefusesPopulation, RefusesSource, Tells};
 ghost use Rattle.mars_c.specs.Records.{turn_row};
 ghost use Rattle.mars_c.specs.States.{AreKept};
 ghost use Rattle.mars_c.specs.Touches.{touched_row};
 
-use crate::battles::{battle_of, state_of};
+use crate::assembling::{lines, load_file};
+use crate::battles::{LedRound, battle_of, state_of};
 use crate::cells::MarsCell;
 use crate::contests::{league_into, match_into};
 use crate::debugging::transcript;
-use crate::faults::{CallRefusal, MarsFault, given, refused_source, told};
+use crate::faults::{CallRefusal, MarsFault, given, told};
+use crate::loading::LoadFiles;
 use crate::playing::give_rows_of_turns;
 use crate::population::population_into;
 use crate::records::MarsRecord;
 use crate::rows::MarsRow;
-use crate::settings::{MarsSettings, parameters};
-use crate::states::{MarsDeath, MarsStanding, give_state};
+use crate::settings::MarsSettings;
+use crate::states::{MarsDeath, MarsStanding, parts_of};
 use crate::touches::MarsTouched;
-use redcode_asm::{assemble_load, source_lines};
 use std::alloc::Global;
 
 /// Writes a text to the front of a buffer, where it fits. Tells its length, and whether it fits.
@@ -43,46 +44,6 @@ fn answer(place: &mut MarsFault, fault: MarsFault) -> u32
 {
     *place = fault;
     place.code
-}
-
-/// The load file of a source.
-fn load_file(
-    alloc: Global,
-    settings: &MarsSettings,
-    warriors: u32,
-    source: &[u8],
-) -> Result<Vec<u8>, CallRefusal>
-    ensures made { IfOk result (λ text. IsLoadFile settings.now warriors source.now text.items) }
-    ensures refused { IfErr result (RefusesSource settings.now warriors source.now) }
-{
-    let params = match parameters(settings) {
-        Ok(params) => params,
-        Err(fault) => return Err(CallRefusal::Parameters(fault)),
-    };
-    match assemble_load(alloc, source, &params, settings.rounds, warriors) {
-        Ok(text) => Ok(text),
-        Err(fault) => Err(refused_source(fault)),
-    }
-}
-
-/// Where the instructions of a source stand in it.
-fn lines(
-    alloc: Global,
-    settings: &MarsSettings,
-    warriors: u32,
-    source: &[u8],
-) -> Result<Vec<u8>, CallRefusal>
-    ensures made { IfOk result (λ text. AreLines settings.now warriors source.now text.items) }
-    ensures refused { IfErr result (RefusesSource settings.now warriors source.now) }
-{
-    let params = match parameters(settings) {
-        Ok(params) => params,
-        Err(fault) => return Err(CallRefusal::Parameters(fault)),
-    };
-    match source_lines(alloc, source, &params, settings.rounds, warriors) {
-        Ok(text) => Ok(text),
-        Err(fault) => Err(refused_source(fault)),
-    }
 }
 
 /// The version: 1,000 for each major one, and the minor one. It is MARS_VERSION of `include/mars.h`.
@@ -161,7 +122,7 @@ pub extern "C" fn mars_match(
     ensures kept { result ≢ 0 → rows.new ≡ rows.old }
     ensures few { result ≤ 9 }
 {
-    match match_into(alloc, settings, formula, loads, lengths, rows) {
+    match match_into(alloc, settings, formula, LoadFiles { loads, lengths }, rows) {
         Ok(()) => answer(fault, given(true)),
         Err(refusal) => answer(fault, told(refusal)),
     }
@@ -184,7 +145,7 @@ pub extern "C" fn mars_league(
     ensures kept { result ≢ 0 → rows.new ≡ rows.old }
     ensures few { result ≤ 9 }
 {
-    match league_into(alloc, settings, formula, loads, lengths, rows) {
+    match league_into(alloc, settings, formula, LoadFiles { loads, lengths }, rows) {
         Ok(()) => answer(fault, given(true)),
         Err(refusal) => answer(fault, told(refusal)),
     }
@@ -207,7 +168,7 @@ pub extern "C" fn mars_population(
     ensures kept { result ≢ 0 → rows.new ≡ rows.old }
     ensures few { result ≤ 9 }
 {
-    match population_into(alloc, settings, formula, loads, lengths, rows) {
+    match population_into(alloc, settings, formula, LoadFiles { loads, lengths }, rows) {
         Ok(()) => answer(fault, given(true)),
         Err(refusal) => answer(fault, told(refusal)),
     }
@@ -233,7 +194,13 @@ pub extern "C" fn mars_debug(
     ensures kept { result ≢ 0 → buffer.new ≡ buffer.old }
     ensures few { result ≤ 10 }
 {
-    match transcript(alloc, settings, loads, lengths, history, lines) {
+    match transcript(
+        alloc,
+        settings,
+        LoadFiles { loads, lengths },
+        history,
+        lines,
+    ) {
         Ok(text) => answer(fault, given(give_text(&text, buffer, length))),
         Err(refusal) => answer(fault, told(refusal)),
     }
@@ -261,7 +228,13 @@ pub extern "C" fn mars_record(
     ensures uncounted { result ≢ 0 → count.new ≡ count.old }
     ensures few { result ≤ 9 }
 {
-    match battle_of(alloc, settings, loads, lengths, round, history, lines) {
+    let asked = LedRound {
+        loads: LoadFiles { loads, lengths },
+        round,
+        history,
+        lines,
+    };
+    match battle_of(alloc, settings, asked) {
         Ok(battle) => {
             give_rows_of_turns(battle, first, rows, count);
             answer(fault, given(true))
@@ -292,7 +265,13 @@ pub extern "C" fn mars_touched(
     ensures uncounted { result ≢ 0 → count.new ≡ count.old }
     ensures few { result ≤ 9 }
 {
-    match battle_of(alloc, settings, loads, lengths, round, history, lines) {
+    let asked = LedRound {
+        loads: LoadFiles { loads, lengths },
+        round,
+        history,
+        lines,
+    };
+    match battle_of(alloc, settings, asked) {
         Ok(battle) => {
             give_rows_of_turns(battle, first, rows, count);
             answer(fault, given(true))
@@ -328,15 +307,20 @@ pub extern "C" fn mars_state(
     ensures kept { result ≢ 0 → AreKept cells.old cells.new counts.old counts.new processes.old processes.new deaths.old deaths.new }
     ensures few { result ≤ 10 }
 {
-    match state_of(
-        alloc, settings, loads, lengths, round, history, lines, turns,
-    ) {
-        Ok(battle) => {
-            match give_state(alloc, &battle, cells, counts, processes, deaths, standing) {
-                Some(fits) => answer(fault, given(fits)),
-                None => answer(fault, told(CallRefusal::OutOfMemory)),
+    let asked = LedRound {
+        loads: LoadFiles { loads, lengths },
+        round,
+        history,
+        lines,
+    };
+    match state_of(alloc, settings, asked, turns) {
+        Ok(battle) => match parts_of(alloc, &battle) {
+            Some(parts) => {
+                *standing = parts.standing;
+                answer(fault, given(parts.give(cells, counts, processes, deaths)))
             }
-        }
+            None => answer(fault, told(CallRefusal::OutOfMemory)),
+        },
         Err(refusal) => answer(fault, told(refusal)),
     }
 }

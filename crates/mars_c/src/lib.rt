@@ -5,6 +5,7 @@
 //! may call at once, each with values of its own. The header is `include/mars.h`.
 #![tactic(auto)]
 
+mod assembling;
 mod battles;
 mod cells;
 mod contests;

@@ -4,7 +4,7 @@ ghost use Rattle.mars_c.specs.Contests.{HoldsSums};
 ghost use Rattle.mars_c.specs.Refusals.{RefusesPopulation};
 
 use crate::faults::{CallRefusal, refused_fight};
-use crate::loading::enter;
+use crate::loading::{LoadFiles, enter};
 use crate::ranges::SettingsFault;
 use crate::rows::{MarsRow, give_sums};
 use crate::settings::MarsSettings;
@@ -17,21 +17,19 @@ pub fn population_into(
     alloc: Global,
     settings: &MarsSettings,
     formula: &[u8],
-    loads: &[u8],
-    lengths: &[usize],
+    loads: LoadFiles<'_>,
     place: &mut [MarsRow],
 ) -> Result<(), CallRefusal>
-    ensures ok { OnOk result (HoldsSums settings.now formula.now loads.now lengths.now place.new) }
+    ensures ok { let l = loads.entry in OnOk result (HoldsSums settings.now formula.now l.loads.now l.lengths.now place.new) }
     ensures err { OnErr result (place.new ≡ place.old) }
-    ensures refused { IfErr result (RefusesPopulation settings.now formula.now loads.now lengths.now (length place.old)) }
+    ensures refused { let l = loads.entry in IfErr result (RefusesPopulation settings.now formula.now l.loads.now l.lengths.now (length place.old)) }
 {
-    if place.len() > lengths.len() {
+    if place.len() > loads.lengths.len() {
         return Err(CallRefusal::Settings(SettingsFault::Rows));
     }
-    let entry = enter(alloc, settings, formula, loads, lengths, 2)?;
+    let entry = enter(alloc, settings, formula, loads, 2)?;
     let (candidates, opponents) = entry.warriors.split_at(place.len());
-    let (params, plan) = (&entry.terms.params, &entry.terms.plan);
-    let sums = match population(alloc, params, candidates, opponents, plan) {
+    let sums = match population(alloc, &entry.setup, candidates, opponents) {
         Ok(sums) => sums,
         Err(fault) => return Err(refused_fight(fault)),
     };

@@ -3,14 +3,14 @@ ghost use Rattle.std.specs.Prelude.{◌≡◌, ◌≤◌, ℕ, IfErr, IfOk, IfSo
 ghost use Rattle.mars_cell.specs.ParameterFaults.{checked_parameters};
 ghost use Rattle.mars_core.specs.Limits.{most_warriors};
 ghost use Rattle.mars_match.specs.Placement.{FitsTwo};
-ghost use Rattle.mars_c.specs.Asked.{AreRounds, AreTerms, IsSeed, asked, limit_of, position_of};
+ghost use Rattle.mars_c.specs.Settings.{AreRounds, IsSeed, IsSetup, limit_of, parameters_in, position_of};
 ghost use Rattle.mars_c.specs.Refusals.{AreWarriors, IsOutside, RefusesEntry};
 
 use crate::faults::CallRefusal;
 use crate::ranges::SettingsFault;
 use mars_cell::{ParamFault, Params};
 use mars_core::MOST_WARRIORS;
-use mars_match::{GREATEST_SEED, Plan};
+use mars_match::{GREATEST_SEED, Plan, Setup};
 use redcode_asm::{Formula, FormulaFault};
 use std::alloc::Global;
 
@@ -44,13 +44,6 @@ pub struct MarsSettings {
     pub position: u32,
 }
 
-/// What settings and a formula come to.
-#[derive(Drop)]
-pub struct Terms {
-    pub params: Params,
-    pub plan: Plan,
-}
-
 /// A limit: 0 is the core size.
 fn limit(limit: u32, core: u32) -> u32
     ensures { result ≡ limit_of limit core }
@@ -60,7 +53,7 @@ fn limit(limit: u32, core: u32) -> u32
 
 /// The parameters of settings.
 pub fn parameters(settings: &MarsSettings) -> Result<Params, ParamFault>
-    ensures { result ≡ checked_parameters (asked settings.now) }
+    ensures { result ≡ checked_parameters (parameters_in settings.now) }
 {
     let core = settings.core;
     Params::new(
@@ -109,7 +102,7 @@ fn position(
 ) -> Result<Option<u32>, SettingsFault>
     ensures fits { IfOk result (λ fixed. FitsTwo params.now warriors fixed) }
     ensures value { IfOk result (λ fixed. fixed ≡ position_of settings.now.position) }
-    ensures outside { (loads lengths : List ℕ) → checked_parameters (asked settings.now) ≡ Ok params.now
+    ensures outside { (loads lengths : List ℕ) → checked_parameters (parameters_in settings.now) ≡ Ok params.now
         → IfErr result (IsOutside settings.now warriors loads lengths) }
 {
     let position = settings.position;
@@ -124,14 +117,14 @@ fn position(
 }
 
 /// What settings and a formula come to, for battles of so many warriors.
-pub fn make_terms(
+pub fn make_setup(
     alloc: Global,
     settings: &MarsSettings,
     formula: &[u8],
     warriors: usize,
-) -> Result<Terms, CallRefusal>
+) -> Result<Setup, CallRefusal>
     ensures fits { IfOk result (λ t. FitsTwo t.params warriors t.plan.fixed) }
-    ensures terms { IfOk result (λ t. AreTerms settings.now formula.now t) }
+    ensures setup { IfOk result (λ t. IsSetup settings.now formula.now t) }
     ensures refused { (loads lengths : List ℕ) → IfErr result (RefusesEntry settings.now formula.now warriors loads lengths) }
 {
     let params = match parameters(settings) {
@@ -151,7 +144,7 @@ pub fn make_terms(
         Err(FormulaFault::Expression(fault)) => return Err(CallRefusal::Formula(fault)),
     };
     let (rounds, seed) = (settings.rounds, settings.seed);
-    Ok(Terms {
+    Ok(Setup {
         params,
         plan: Plan {
             rounds,

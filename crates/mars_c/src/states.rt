@@ -1,9 +1,9 @@
 //! Where a battle stands, as numbers.
-ghost use Rattle.std.specs.Prelude.{◌≡◌, ◌≢◌, ◌++◌, ◌≤◌, ◌&&◌, drop, if◌then◌else◌, IfSome, nat_le, OnSome, Some, length, map, true, vec_len};
+ghost use Rattle.std.specs.Prelude.{◌≡◌, ◌≢◌, ◌++◌, ◌≤◌, ◌&&◌, drop, if◌then◌else◌, IfSome, nat_le, OnSome, length, map, true, vec_len};
 ghost use Rattle.std.specs.List.{concat};
-ghost use Rattle.mars_core.specs.State.{queue_of};
-ghost use Rattle.mars_core.specs.Turn.{after_turns};
+ghost use Rattle.mars_core.specs.State.{State, queue_of};
 ghost use Rattle.mars_c.specs.Cells.{plain_cell};
+ghost use Rattle.mars_c.specs.Code.{AreParts};
 ghost use Rattle.mars_c.specs.States.{AreKept, Holds, counts_of, fits_in, plain_death, plain_standing};
 
 use crate::cells::MarsCell;
@@ -36,9 +36,10 @@ pub struct MarsStanding {
     pub deaths: usize,
 }
 
-/// What there is of a battle, as numbers.
+/// Where a battle stands, and what there is of it, as numbers.
 #[derive(Drop)]
 pub struct StateParts {
+    pub standing: MarsStanding,
     cells: Vec<MarsCell>,
     counts: Vec<usize>,
     processes: Vec<u32>,
@@ -122,17 +123,16 @@ fn plain_deaths(alloc: Global, deaths: &[Death]) -> Option<Vec<MarsDeath>>
     Some(plain)
 }
 
-/// What there is of a battle.
-fn parts_of(alloc: Global, battle: &Battle) -> Option<StateParts>
-    ensures cells { IfSome result (λ parts. parts.cells.items ≡ map plain_cell battle.now.core) }
-    ensures counts { IfSome result (λ parts. parts.counts.items ≡ counts_of battle.now.queues) }
-    ensures processes { IfSome result (λ parts. parts.processes.items ≡ concat battle.now.queues) }
-    ensures deaths { IfSome result (λ parts. parts.deaths.items ≡ map plain_death battle.now.deaths) }
+/// Where a battle stands, and what there is of it.
+pub fn parts_of(alloc: Global, battle: &Battle) -> Option<StateParts>
+    ensures { IfSome result (AreParts battle.now) }
 {
+    let processes = processes_of(alloc, battle)?;
     Some(StateParts {
+        standing: standing_of(battle, processes.len()),
         cells: cells_of(alloc, battle)?,
         counts: process_counts(alloc, battle)?,
-        processes: processes_of(alloc, battle)?,
+        processes,
         deaths: plain_deaths(alloc, battle.deaths())?,
     })
 }
@@ -160,47 +160,38 @@ fn put<T: Copy>(values: &[T], buffer: &mut [T])
     buffer[..values.len()].copy_from_slice(values);
 }
 
-/// Whether buffers of these lengths are long enough for what there is of a battle.
-fn fit(parts: &StateParts, cells: usize, counts: usize, processes: usize, deaths: usize) -> bool
-    ensures { result ≡ (nat_le (vec_len parts.now.cells) cells && nat_le (vec_len parts.now.counts) counts
-        && nat_le (vec_len parts.now.processes) processes && nat_le (vec_len parts.now.deaths) deaths) }
-{
-    parts.cells.len() <= cells
-        && parts.counts.len() <= counts
-        && parts.processes.len() <= processes
-        && parts.deaths.len() <= deaths
-}
-
-/// Gives to the caller where a battle stands, and what there is of it, where that fits the buffers. Tells whether it does;
-/// nothing where memory is wanting.
-pub fn give_state(
-    alloc: Global,
-    battle: &Battle,
-    cells: &mut [MarsCell],
-    counts: &mut [usize],
-    processes: &mut [u32],
-    deaths: &mut [MarsDeath],
-    standing: &mut MarsStanding,
-) -> Option<bool>
-    ensures fits { IfSome result (λ fits. fits ≡ fits_in battle.now (length cells.old) (length counts.old) (length processes.old) (length deaths.old)) }
-    ensures held { result ≡ Some true → Holds battle.now cells.old cells.new counts.old counts.new processes.old processes.new deaths.old deaths.new }
-    ensures kept { result ≢ Some true → AreKept cells.old cells.new counts.old counts.new processes.old processes.new deaths.old deaths.new }
-    ensures standing { OnSome result (standing.new ≡ plain_standing battle.now) }
-{
-    let parts = parts_of(alloc, battle)?;
-    *standing = standing_of(battle, parts.processes.len());
-    if !fit(
-        &parts,
-        cells.len(),
-        counts.len(),
-        processes.len(),
-        deaths.len(),
-    ) {
-        return Some(false);
+impl StateParts {
+    /// Whether buffers of these lengths are long enough.
+    fn fit(&self, cells: usize, counts: usize, processes: usize, deaths: usize) -> bool
+        ensures { result ≡ (nat_le (vec_len self.now.cells) cells && nat_le (vec_len self.now.counts) counts
+            && nat_le (vec_len self.now.processes) processes && nat_le (vec_len self.now.deaths) deaths) }
+    {
+        self.cells.len() <= cells
+            && self.counts.len() <= counts
+            && self.processes.len() <= processes
+            && self.deaths.len() <= deaths
     }
-    put(&parts.cells, cells);
-    put(&parts.counts, counts);
-    put(&parts.processes, processes);
-    put(&parts.deaths, deaths);
-    Some(true)
+
+    /// Gives to the caller what there is of a battle, where that fits the buffers. Tells whether it does.
+    pub fn give(
+        &self,
+        cells: &mut [MarsCell],
+        counts: &mut [usize],
+        processes: &mut [u32],
+        deaths: &mut [MarsDeath],
+    ) -> bool
+        ensures fits { (s : State) → AreParts s self.now → result ≡ fits_in s (length cells.old) (length counts.old) (length processes.old) (length deaths.old) }
+        ensures held { (s : State) → AreParts s self.now → result ≡ true
+            → Holds s cells.old cells.new counts.old counts.new processes.old processes.new deaths.old deaths.new }
+        ensures kept { result ≢ true → AreKept cells.old cells.new counts.old counts.new processes.old processes.new deaths.old deaths.new }
+    {
+        if !self.fit(cells.len(), counts.len(), processes.len(), deaths.len()) {
+            return false;
+        }
+        put(&self.cells, cells);
+        put(&self.counts, counts);
+        put(&self.processes, processes);
+        put(&self.deaths, deaths);
+        true
+    }
 }

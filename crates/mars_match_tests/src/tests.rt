@@ -11,7 +11,7 @@ mod placement;
 mod results;
 
 use mars_cell::{Params, Warrior, WriteFault, read_cell};
-use mars_match::{MatchFault, Plan, Table, fight, rounds, write_results};
+use mars_match::{MatchFault, Plan, Row, Setup, Sum, Table, fight, rounds, write_results};
 use redcode_asm::Formula;
 use std::alloc::Global;
 use std::io;
@@ -61,23 +61,35 @@ impl Write for Narrow {
     }
 }
 
-/// What a writer with so much room took of the results, and whether they were written.
-fn written(
-    alloc: Global,
-    table: &Table,
-    sorted: bool,
-    size: usize,
-    room: usize,
-    idles: bool,
-) -> (Vec<u8>, Result<(), WriteFault>) {
-    let mut writer = Narrow {
+/// A writer with so much room.
+fn writer_of(alloc: Global, size: usize, room: usize, idles: bool) -> Narrow {
+    Narrow {
         bytes: Vec::new(alloc),
         size,
         room,
         idles,
-    };
+    }
+}
+
+/// What a writer took of the results, and whether they were written.
+fn written(table: &Table, sorted: bool, mut writer: Narrow) -> (Vec<u8>, Result<(), WriteFault>) {
     let done = write_results(table, sorted, &mut writer);
     (writer.bytes, done)
+}
+
+/// A row of points, and of wins, ties and losses.
+fn row(name: &str, author: &str, points: i64, counts: [u64; 3]) -> Row
+    requires name { IsName name.now }
+    requires author { IsName author.now }
+{
+    let [wins, ties, losses] = counts;
+    let sum = Sum {
+        points,
+        wins,
+        ties,
+        losses,
+    };
+    Row::new(name, author, sum)
 }
 
 const LEAGUE: &str = "  points   wins   ties losses  warrior
@@ -154,17 +166,20 @@ type Plans = (u32, u32, Option<u32>, &'static str);
 /// What a match or a league comes to: the lines of its results behind their heading, in load order, or its fault.
 type Outcome = Result<&'static str, MatchFault>;
 
-/// The plan that these make, where there is memory.
-fn plan_of(alloc: Global, plans: Plans) -> Option<Plan>
-    ensures { IfSome result (λ plan. plan.fixed ≡ plans.entry.2) }
+/// The setup of these parameters and this plan, where there is memory.
+fn setup_of(alloc: Global, params: &Params, plans: Plans) -> Option<Setup>
+    ensures { IfSome result (λ setup. (setup.params ≡ params.now) × (setup.plan.fixed ≡ plans.entry.2)) }
 {
     let (count, seed, fixed, text) = plans;
     let formula = Formula::new(alloc, text.as_bytes()).ok()?;
-    Some(Plan {
-        rounds: count,
-        seed,
-        fixed,
-        formula,
+    Some(Setup {
+        params: *params,
+        plan: Plan {
+            rounds: count,
+            seed,
+            fixed,
+            formula,
+        },
     })
 }
 
@@ -178,9 +193,9 @@ fn held(
     if !fits_two(params, warriors.len(), plans.2) {
         return None;
     }
-    let plan = plan_of(alloc, plans)?;
-    let table = rounds(alloc, params, warriors, &plan);
-    drop(plan);
+    let setup = setup_of(alloc, params, plans)?;
+    let table = rounds(alloc, &setup, warriors);
+    drop(setup);
     Some(table)
 }
 
@@ -190,7 +205,7 @@ const BY_DEFAULT: &str = "(W*W-1)/S";
 
 /// The results of a table are the heading and these lines.
 fn check_lines(rt: &impl Abort, alloc: Global, table: &Table, lines: &str) {
-    let (text, done) = written(alloc, table, false, 1000, 1000, false);
+    let (text, done) = written(table, false, writer_of(alloc, 1000, 1000, false));
     assert_eq!(rt; done, Ok(()));
     let (heading, rest) = text.as_slice().split_at(HEADING.len().min(text.len()));
     assert_eq!(rt; heading, HEADING.as_bytes());

@@ -15,8 +15,7 @@ fn check_fight(
     alloc: Global,
     warriors: &[Warrior],
     starts: &[u32],
-    round: u32,
-    expected: &[bool],
+    (round, expected): (u32, &[bool]),
 ) -> Result<(), Fail> {
     let params = sizes(8, 1)?;
     let alive = fought(alloc, &params, warriors, starts, round)
@@ -34,8 +33,8 @@ fn check_fights(
     starts: &[u32],
     rounds: &[(u32, &[bool])],
 ) -> Result<(), Fail> {
-    for (round, expected) in rounds {
-        check_fight(rt, alloc, warriors, starts, *round, expected)?;
+    for round in rounds {
+        check_fight(rt, alloc, warriors, starts, *round)?;
     }
     Ok(())
 }

@@ -3,7 +3,7 @@ ghost use Rattle.std.specs.Prelude.{◌-◌, Some};
 
 use super::{
     BY_DEFAULT, DEAD, ONE_ROUND, Outcome, Plans, STAY, check_outcome, fits_two, imp_and_stay,
-    one_cell, one_cells, plan_of, sizes,
+    one_cell, one_cells, setup_of, sizes,
 };
 use mars_cell::{Params, Warrior};
 use mars_match::{MatchFault, PlaceFault, Table, league};
@@ -22,9 +22,9 @@ fn league_held(
     if warriors.len() > 65536 || !fits_two(params, warriors.len(), plans.2) {
         return None;
     }
-    let plan = plan_of(alloc, plans)?;
-    let table = league(alloc, params, warriors, &plan);
-    drop(plan);
+    let setup = setup_of(alloc, params, plans)?;
+    let table = league(alloc, &setup, warriors);
+    drop(setup);
     Some(table)
 }
 

@@ -18,8 +18,7 @@ fn check_match(
     alloc: Global,
     params: &Params,
     warriors: &[Warrior],
-    plan: Plans,
-    expected: Outcome,
+    (plan, expected): (Plans, Outcome),
 ) {
     let table = held(alloc, params, warriors, plan);
     check_outcome(rt, alloc, &table, expected);
@@ -32,14 +31,8 @@ fn several_matches(rt: HostRuntime) -> Result<(), Fail> {
     let warriors = imp_and_stay(rt.alloc())?;
     let expected =
         "       1      0      1      0  Imp by Dewdney\n       1      0      1      0  Stay by Anonymous\n";
-    check_match(
-        &rt,
-        rt.alloc(),
-        &params,
-        warriors.as_slice(),
-        ONE_ROUND,
-        Ok(expected),
-    );
+    let one = (ONE_ROUND, Ok(expected));
+    check_match(&rt, rt.alloc(), &params, warriors.as_slice(), one);
     drop(warriors);
     Ok(())
 }
@@ -77,8 +70,8 @@ fn check_score(
 ) -> Result<(), Fail> {
     let params = sizes(8000, 100)?;
     let warriors = one_cells(alloc, 8000, texts)?;
-    let plan = (1, 7, None, BY_DEFAULT);
-    check_match(rt, alloc, &params, warriors.as_slice(), plan, Ok(lines));
+    let one = ((1, 7, None, BY_DEFAULT), Ok(lines));
+    check_match(rt, alloc, &params, warriors.as_slice(), one);
     drop(warriors);
     Ok(())
 }
@@ -102,18 +95,11 @@ fn exact_sums(rt: HostRuntime) -> Result<(), Fail> {
     let duel = one_cells(rt.alloc(), 8, &["MOV.I $1, $4", STAY])?;
     let expected =
         "6917529027641081856      2      2      0  Test by \n-6917529027641081856      0      2      2  Test by \n";
-    let four = (4, 0, Some(4), OPPOSITE);
-    let three = (3, 0, Some(4), OPPOSITE);
     let range = Err(MatchFault::Score(ExprFault::Range));
-    check_match(
-        &rt,
-        rt.alloc(),
-        &params,
-        duel.as_slice(),
-        four,
-        Ok(expected),
-    );
-    check_match(&rt, rt.alloc(), &params, duel.as_slice(), three, range);
+    let four = ((4, 0, Some(4), OPPOSITE), Ok(expected));
+    let three = ((3, 0, Some(4), OPPOSITE), range);
+    check_match(&rt, rt.alloc(), &params, duel.as_slice(), four);
+    check_match(&rt, rt.alloc(), &params, duel.as_slice(), three);
     drop(duel);
     Ok(())
 }
@@ -161,7 +147,8 @@ fn check_refused_matches(rt: &impl Abort, alloc: Global, all: &[Warrior]) -> Res
         if *count > all.len() {
             return Err("count".into());
         }
-        check_match(rt, alloc, &params, &all[..*count], *plan, Err(*fault));
+        let refused = (*plan, Err(*fault));
+        check_match(rt, alloc, &params, &all[..*count], refused);
     }
     Ok(())
 }

@@ -3,9 +3,11 @@
 ghost use Rattle.std.specs.Prelude.{◌≡◌, ◌≤◌, IfOk, None, length};
 
 use super::{BY_DEFAULT, DEAD, STAY, fought, sizes};
-use mars_cell::{Params, Warrior, read_cell};
+use mars_cell::{Warrior, read_cell};
 use mars_core::BattleFault;
-use mars_match::{MatchFault, PlaceFault, Plan, Sum, Table, league, place, population, rounds};
+use mars_match::{
+    MatchFault, PlaceFault, Plan, Setup, Sum, Table, league, place, population, rounds,
+};
 use redcode_asm::Formula;
 use std::alloc::Global;
 use std::process::Abort;
@@ -45,18 +47,22 @@ fn warriors_of(alloc: Global, texts: &[&str]) -> Result<Vec<Warrior>, Fail> {
 }
 
 /// So many rounds with the first seed, anywhere, with a second try.
-fn plan(alloc: Global, count: u32) -> Result<Plan, Fail>
-    ensures { IfOk result (λ plan. plan.fixed ≡ None) }
+fn setup_of(alloc: Global, count: u32) -> Result<Setup, Fail>
+    ensures { IfOk result (λ setup. setup.plan.fixed ≡ None) }
 {
+    let params = sizes(8000, 100)?;
     let formula = match Formula::new(alloc, BY_DEFAULT.as_bytes()) {
         Ok(formula) => formula,
         Err(_) => Formula::new(alloc, BY_DEFAULT.as_bytes())?,
     };
-    Ok(Plan {
-        rounds: count,
-        seed: 1,
-        fixed: None,
-        formula,
+    Ok(Setup {
+        params,
+        plan: Plan {
+            rounds: count,
+            seed: 1,
+            fixed: None,
+            formula,
+        },
     })
 }
 
@@ -114,16 +120,15 @@ fn a_round_is_fought(rt: HostRuntime) -> Result<(), Fail> {
 fn table_of_rounds(
     rt: &impl Abort,
     alloc: Global,
-    params: &Params,
+    setup: &Setup,
     warriors: &[Warrior],
-    plan: &Plan,
 ) -> Result<Table, MatchFault>
-    requires { plan.now.fixed ≡ None }
+    requires { setup.now.plan.fixed ≡ None }
 {
-    match rounds(alloc, params, warriors, plan) {
+    match rounds(alloc, setup, warriors) {
         Err(fault) => {
             assert!(rt; is_of_memory(fault));
-            rounds(alloc, params, warriors, plan)
+            rounds(alloc, setup, warriors)
         }
         Ok(table) => Ok(table),
     }
@@ -133,17 +138,16 @@ fn table_of_rounds(
 fn table_of_league(
     rt: &impl Abort,
     alloc: Global,
-    params: &Params,
+    setup: &Setup,
     warriors: &[Warrior],
-    plan: &Plan,
 ) -> Result<Table, MatchFault>
-    requires plan { plan.now.fixed ≡ None }
+    requires fixed { setup.now.plan.fixed ≡ None }
     requires warriors { length warriors.now ≤ 65536 }
 {
-    match league(alloc, params, warriors, plan) {
+    match league(alloc, setup, warriors) {
         Err(fault) => {
             assert!(rt; is_of_memory(fault));
-            league(alloc, params, warriors, plan)
+            league(alloc, setup, warriors)
         }
         Ok(table) => Ok(table),
     }
@@ -157,13 +161,12 @@ fn check_sums(rt: &impl Abort, table: &Result<Table, MatchFault>, expected: [(i6
 }
 
 fn check_match(rt: &impl Abort, alloc: Global, warriors: &[Warrior]) -> Result<(), Fail> {
-    let params = sizes(8000, 100)?;
-    let plan = plan(alloc, 3)?;
-    let table = table_of_rounds(rt, alloc, &params, warriors, &plan);
+    let setup = setup_of(alloc, 3)?;
+    let table = table_of_rounds(rt, alloc, &setup, warriors);
     let expected = [(12, [0, 3, 0]), (12, [0, 3, 0]), (0, [0, 0, 3])];
     check_sums(rt, &table, expected);
     drop(table);
-    drop(plan);
+    drop(setup);
     Ok(())
 }
 
@@ -179,13 +182,12 @@ fn check_league(rt: &impl Abort, alloc: Global, warriors: &[Warrior]) -> Result<
     if warriors.len() > 65536 {
         return Err("warriors".into());
     }
-    let params = sizes(8000, 100)?;
-    let plan = plan(alloc, 1)?;
-    let table = table_of_league(rt, alloc, &params, warriors, &plan);
+    let setup = setup_of(alloc, 1)?;
+    let table = table_of_league(rt, alloc, &setup, warriors);
     let expected = [(4, [1, 1, 0]), (4, [1, 1, 0]), (0, [0, 0, 2])];
     check_sums(rt, &table, expected);
     drop(table);
-    drop(plan);
+    drop(setup);
     Ok(())
 }
 
@@ -201,17 +203,16 @@ fn a_league_is_fought(rt: HostRuntime) -> Result<(), Fail> {
 fn sums_of_two(
     rt: &impl Abort,
     alloc: Global,
-    params: &Params,
+    setup: &Setup,
     warriors: &[Warrior],
-    plan: &Plan,
 ) -> Result<Vec<Sum>, MatchFault>
-    requires { plan.now.fixed ≡ None }
+    requires { setup.now.plan.fixed ≡ None }
 {
     let (candidates, opponents) = warriors.split_at(warriors.len().min(2));
-    match population(alloc, params, candidates, opponents, plan) {
+    match population(alloc, setup, candidates, opponents) {
         Err(fault) => {
             assert!(rt; is_of_memory(fault));
-            population(alloc, params, candidates, opponents, plan)
+            population(alloc, setup, candidates, opponents)
         }
         Ok(sums) => Ok(sums),
     }
@@ -234,13 +235,12 @@ const OF_TWO: [Sum; 2] = [
 ];
 
 fn check_population(rt: &impl Abort, alloc: Global, warriors: &[Warrior]) -> Result<(), Fail> {
-    let params = sizes(8000, 100)?;
-    let plan = plan(alloc, 1)?;
-    match sums_of_two(rt, alloc, &params, warriors, &plan) {
+    let setup = setup_of(alloc, 1)?;
+    match sums_of_two(rt, alloc, &setup, warriors) {
         Ok(sums) => assert_eq!(rt; sums.as_slice(), OF_TWO.as_slice()),
         Err(fault) => assert!(rt; false, "{fault}"),
     }
-    drop(plan);
+    drop(setup);
     Ok(())
 }
 

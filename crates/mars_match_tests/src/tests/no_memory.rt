@@ -1,9 +1,9 @@
 //! Calls that take no memory. Each test makes its objects, asks for memory once more, and holds whether that and all that
 //! comes after it is refused or not: checks/memory refuses all requests from each on. Where the objects themselves
 //! are refused, there is nothing to show. The calls of the crates below stand here too.
-use super::{BY_DEFAULT, LEAGUE, Narrow};
+use super::{BY_DEFAULT, LEAGUE, Narrow, row};
 use mars_cell::{Mode, Modifier, Op, Params, Warrior, WriteFault, default_modifier, read_cell};
-use mars_match::{Row, Table, write_results};
+use mars_match::{Table, write_results};
 use redcode_asm::Formula;
 use redcode_text::ExprFault;
 use std::alloc::Global;
@@ -18,9 +18,9 @@ fn ask(alloc: Global) {
 fn league_table(alloc: Global) -> Option<Table> {
     let mut rows = Vec::with_capacity(alloc, 3).ok()?;
     for row in [
-        Row::new("Imp", "Dewdney", 4, 1, 1, 0),
-        Row::new("Stay", "Anonymous", 4, 1, 1, 0),
-        Row::new("Dead", "Anonymous", 0, 0, 0, 2),
+        row("Imp", "Dewdney", 4, [1, 1, 0]),
+        row("Stay", "Anonymous", 4, [1, 1, 0]),
+        row("Dead", "Anonymous", 0, [0, 0, 2]),
     ] {
         rows.push(row).ok()?;
     }

@@ -1,23 +1,16 @@
 //! The text of results, and writers that fail.
 ghost use Rattle.std.specs.Prelude.{◌-◌};
 
-use super::{LEAGUE, written};
+use super::{LEAGUE, Narrow, row, writer_of, written};
 use mars_cell::WriteFault;
-use mars_match::{Row, Table};
+use mars_match::Table;
 use std::alloc::Global;
 use std::process::Abort;
 use std::test::Fail;
 
-/// A writer with room for all, which takes so many bytes at a time, takes these results.
-fn check_results(
-    rt: &impl Abort,
-    alloc: Global,
-    table: &Table,
-    sorted: bool,
-    size: usize,
-    expected: &str,
-) {
-    let (text, done) = written(alloc, table, sorted, size, 1000, false);
+/// A writer with room for all takes these results.
+fn check_results(rt: &impl Abort, table: &Table, sorted: bool, writer: Narrow, expected: &str) {
+    let (text, done) = written(table, sorted, writer);
     assert_eq!(rt; done, Ok(()));
     assert_eq!(rt; text.as_slice(), expected.as_bytes());
 }
@@ -26,9 +19,9 @@ fn check_results(
 fn texts_of_results(rt: HostRuntime) -> Result<(), Fail> {
     let alloc = rt.alloc();
     let rows = vec![in alloc;
-        Row::new("Dead", "Anonymous", 0, 0, 0, 2),
-        Row::new("Imp", "Dewdney", 4, 1, 1, 0),
-        Row::new("Stay", "Anonymous", 4, 1, 1, 0),
+        row("Dead", "Anonymous", 0, [0, 0, 2]),
+        row("Imp", "Dewdney", 4, [1, 1, 0]),
+        row("Stay", "Anonymous", 4, [1, 1, 0]),
     ]?;
     let table = Table { rows };
     let loaded = "  points   wins   ties losses  warrior
@@ -36,8 +29,14 @@ fn texts_of_results(rt: HostRuntime) -> Result<(), Fail> {
        4      1      1      0  Imp by Dewdney
        4      1      1      0  Stay by Anonymous
 ";
-    check_results(&rt, alloc, &table, true, 1000, LEAGUE);
-    check_results(&rt, alloc, &table, false, 7, loaded);
+    check_results(
+        &rt,
+        &table,
+        true,
+        writer_of(alloc, 1000, 1000, false),
+        LEAGUE,
+    );
+    check_results(&rt, &table, false, writer_of(alloc, 7, 1000, false), loaded);
     drop(table);
     Ok(())
 }
@@ -46,14 +45,14 @@ fn texts_of_results(rt: HostRuntime) -> Result<(), Fail> {
 fn wide_results(rt: HostRuntime) -> Result<(), Fail> {
     let alloc = rt.alloc();
     let rows = vec![in alloc;
-        Row::new("A", "", i64::MIN, 1000000, 0, 0),
-        Row::new("B", "C", 123456789, 0, 0, u64::MAX),
+        row("A", "", i64::MIN, [1000000, 0, 0]),
+        row("B", "C", 123456789, [0, 0, u64::MAX]),
     ]?;
     let table = Table { rows };
     let wide = "  points   wins   ties losses  warrior
 123456789      0      0 18446744073709551615  B by C
 -9223372036854775808 1000000      0      0  A by \n";
-    check_results(&rt, alloc, &table, true, 1000, wide);
+    check_results(&rt, &table, true, writer_of(alloc, 1000, 1000, false), wide);
     drop(table);
     Ok(())
 }
@@ -67,11 +66,11 @@ fn check_failing(
 ) {
     let all = LEAGUE.as_bytes();
     for room in 0..all.len() {
-        let (text, done) = written(alloc, table, sorted, size, room, idles);
+        let (text, done) = written(table, sorted, writer_of(alloc, size, room, idles));
         assert_eq!(rt; done, Err(WriteFault), "room for {room}");
         assert_eq!(rt; text.as_slice(), &all[..room], "room for {room}");
     }
-    let (text, done) = written(alloc, table, sorted, size, all.len(), idles);
+    let (text, done) = written(table, sorted, writer_of(alloc, size, all.len(), idles));
     assert_eq!(rt; done, Ok(()));
     assert_eq!(rt; text.as_slice(), all);
 }
@@ -80,9 +79,9 @@ fn check_failing(
 fn failing_writers(rt: HostRuntime) -> Result<(), Fail> {
     let alloc = rt.alloc();
     let rows = vec![in alloc;
-        Row::new("Imp", "Dewdney", 4, 1, 1, 0),
-        Row::new("Stay", "Anonymous", 4, 1, 1, 0),
-        Row::new("Dead", "Anonymous", 0, 0, 0, 2),
+        row("Imp", "Dewdney", 4, [1, 1, 0]),
+        row("Stay", "Anonymous", 4, [1, 1, 0]),
+        row("Dead", "Anonymous", 0, [0, 0, 2]),
     ]?;
     let table = Table { rows };
     check_failing(&rt, alloc, &table, (1000, false, false));

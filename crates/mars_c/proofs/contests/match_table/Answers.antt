@@ -8,15 +8,15 @@ use Rattle.mars_c.proofs.contests.match_table.Goals as goal
 pub returns-in_err-entry-clause-refused : goal.returns-in_err-entry-clause-refused
 returns-in_err-entry-clause-refused c =
     let refusal = c.in_err-entry.field-0.0 in
-    let told : RefusesEntry c.args.settings.now c.args.formula.now (length c.args.lengths.now) c.args.loads.now c.args.lengths.now refusal
-    ⊎ FailsMatch c.args.settings.now c.args.formula.now c.args.loads.now c.args.lengths.now refusal = inl c.in_err-entry.ensures.refused in search rules
+    let told : RefusesEntry c.args.settings.now c.args.formula.now (length c.args.loads.lengths.now) c.args.loads.loads.now c.args.loads.lengths.now refusal
+    ⊎ FailsMatch c.args.settings.now c.args.formula.now c.args.loads.loads.now c.args.loads.lengths.now refusal = inl c.in_err-entry.ensures.refused in search rules
 
 pub returns-in-Err-clause-refused : goal.returns-in-Err-clause-refused
 returns-in-Err-clause-refused c =
-    let t = c.in_ok-entry.entry.terms in
+    let setup = c.in_ok-entry.entry.setup in
     let ws = c.in_ok-entry.entry.warriors.items in
     let fault = c.in-Err.fault in
-    let told : (fault ≡ fight.OutOfMemory) ⊎ (table_of t.params ws t.plan.formula t.plan.fixed t.plan.rounds t.plan.seed ≡ Err fault) = search rules in
-    fails c.args.settings.now c.args.formula.now (length c.args.lengths.now) c.args.loads.now c.args.lengths.now
-    (λ t ws. table_of t.params ws t.plan.formula t.plan.fixed t.plan.rounds t.plan.seed) t ws fault c.refused_fight.result
-    c.in_ok-entry.ensures.terms c.in_ok-entry.ensures.loads (memory_or fault told) c.refused_fight.ensures
+    let told : (fault ≡ fight.OutOfMemory) ⊎ (table_of setup.params ws setup.plan.formula setup.plan.fixed setup.plan.rounds setup.plan.seed ≡ Err fault) = search rules in
+    fails c.args.settings.now c.args.formula.now (length c.args.loads.lengths.now) c.args.loads.loads.now c.args.loads.lengths.now
+    (λ setup ws. table_of setup.params ws setup.plan.formula setup.plan.fixed setup.plan.rounds setup.plan.seed) setup ws fault c.refused_fight.result
+    c.in_ok-entry.ensures.setup c.in_ok-entry.ensures.loads (memory_or fault told) c.refused_fight.ensures

@@ -1,5 +1,5 @@
 use Rattle.std.proofs.Common.{◌∙◌, sym}
-use Rattle.mars_c.proofs.settings.make_terms.Goals as goal
+use Rattle.mars_c.proofs.settings.make_setup.Goals as goal
 
 pub returns-in-Some-clause-refused : goal.returns-in-Some-clause-refused
 returns-in-Some-clause-refused c = λ loads lengths. c.in-Some.ensures.outside c.args.warriors loads lengths

@@ -1,7 +1,7 @@
 use Rattle.std.proofs.Common.{◌∙◌, sym}
 use Rattle.redcode_asm.specs.SourceLines.{source_lines}
 use Rattle.mars_c.proofs.Sources.{lines_fail, refuses}
-use Rattle.mars_c.proofs.exports.lines.Goals as goal
+use Rattle.mars_c.proofs.assembling.lines.Goals as goal
 
 pub returns-in-Err-source_lines-clause-refused : goal.returns-in-Err-source_lines-clause-refused
 returns-in-Err-source_lines-clause-refused c =

@@ -1,7 +1,7 @@
 use Rattle.std.proofs.Common.{◌∙◌, sym}
 use Rattle.redcode_asm.specs.LoadFiles.{assembled_load}
 use Rattle.mars_c.proofs.Sources.{load_fails, refuses}
-use Rattle.mars_c.proofs.exports.load_file.Goals as goal
+use Rattle.mars_c.proofs.assembling.load_file.Goals as goal
 
 pub returns-in-Err-assemble_load-clause-refused : goal.returns-in-Err-assemble_load-clause-refused
 returns-in-Err-assemble_load-clause-refused c =
