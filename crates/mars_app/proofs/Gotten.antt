@@ -79,9 +79,5 @@ pub text_or_none : (r : Option (Bor Text)) (other : Bor Text) (o : Option Text) 
 text_or_none (Some t) other o is = ap (λ given. unwrap_or given other.now) is
 text_or_none None other o is = ap (λ given. unwrap_or given other.now) is
 
-pub texts_or_none : (r : Option (Bor (List (Bor Text)))) (o : Option (List Text)) → option_map (λ s. map (λ v. v.now) s.now) r ≡ o
-    → unwrap_or (option_map (λ s. map (λ v. v.now) s.now) r) [] ≡ unwrap_or o []
-texts_or_none r o is = ap (λ given. unwrap_or given []) is
-
 pub all_taken : (names : List (Bor Text)) (n : ℕ) → length names ≤ n → map (λ (name : Bor Text). name.now) (take n names) ≡ map (λ (name : Bor Text). name.now) names
 all_taken names n all = ap (map (λ (name : Bor Text). name.now)) (take_all n names all)

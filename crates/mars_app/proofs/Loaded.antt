@@ -10,13 +10,6 @@ use Rattle.mars_app.specs.Faults.{FailsToLoad, FirstFails}
 use Rattle.mars_app.specs.declared.fault.RunFault.{RunFault}
 use Rattle.mars_app.specs.Loading.{file_named, IsLoaded, AreLoaded}
 
-module _ (files : List (String Global × Vec ℕ Global)) (name : List ℕ) (i : ℕ) (d : String Global × Vec ℕ Global) (inside : i < length files) where
-  pub named_here : bytes_eq (string_bytes (get_or files i d).0) name ≡ true → file_named (drop i files) name ≡ Some (get_or files i d).1.items
-  named_here e = rw (drop_more files i d inside, e) refl
-
-  pub named_later : bytes_eq (string_bytes (get_or files i d).0) name ≡ false → file_named (drop (i + 1) files) name ≡ file_named (drop i files) name
-  named_later e = rw (drop_more files i d inside, e) refl
-
 module _ (known : List ℕ → Option (List ℕ)) (p : Parameters) (rounds count : ℕ) where
   loaded_push : (names : List (List ℕ)) (ws : List WarriorValue) (name : List ℕ) (w : WarriorValue) → AreLoaded known p rounds count names ws
       → IsLoaded known p rounds count name w → AreLoaded known p rounds count (names ++ name ∷ []) (ws ++ w ∷ [])

@@ -37,13 +37,6 @@ module _ (fault : RunFault) where
   pub BreaksOff-after : (a b c : Option (List ℕ)) (x y z : List ℕ) → Appends a b x → BreaksOff fault b c y → BreaksOff fault a c (x ++ (y ++ z))
   BreaksOff-after a b c x y z before cut = BreaksOff-back a b c x (y ++ z) before (BreaksOff-front b c y z cut)
 
-  -- it broke off in the text of an element
-  pub flat_map_breaks : {X : Type 0} (f : X → List ℕ) (xs : List X) (i : ℕ) (d : X) → i < length xs → (a b c : Option (List ℕ)) (text : List ℕ) →
-      BreaksOff fault b c text → Appends a b (flat_map f (take i xs)) → text ≡ f (get_or xs i d) → BreaksOff fault a c (flat_map f xs)
-  flat_map_breaks f xs i d inside a b c text broken before e =
-      let r = flat_map-around f xs i d inside in
-      rw r (BreaksOff-after a b c (flat_map f (take i xs)) (f (get_or xs i d)) _ before (rw e at broken))
-
 -- all of a text went out, and then memory was wanting
 pub whole_breaks : (fault : RunFault) (a b : Option (List ℕ)) (x : List ℕ) → fault ≡ OutOfMemory → Appends a b x → BreaksOff fault a b x
 whole_breaks fault a b x e w =

@@ -67,10 +67,6 @@ pub placed_fails : (p : Parameters) (w : ℕ) (fixed : Option ℕ) (k seed : ℕ
 placed_fails p w fixed zero seed fault told = rw told refl
 placed_fails p w fixed (suc k) seed fault told = rw told refl
 
-pub begun_fails : (setup : Setup) (ws : List WarriorValue) (round : ℕ) (fault : MatchFault)
-    → placed_in setup.params (length ws) setup.plan.fixed round setup.plan.seed ≡ Err fault → begun setup ws round ≡ Err fault
-begun_fails setup ws round fault told = rw told refl
-
 pub not_placed : (p : Parameters) (w : ℕ) (fixed : Option ℕ) (k seed : ℕ) (all : Result (List ℕ) MatchFault) (fault : MatchFault) → placed_in p w fixed k seed ≡ all
     → (fault ≡ fight.OutOfMemory) ⊎ (placed_for p w fixed seed ≡ Err fault) → (fault ≡ fight.OutOfMemory) ⊎ (all ≡ Err fault)
 not_placed p w fixed k seed all fault same (inl memory) = inl memory

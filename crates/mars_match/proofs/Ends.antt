@@ -48,10 +48,6 @@ pub unless_ok : {A : Type 0} (f : Option BattleFault) (a b : A) → unless f a �
 unless_ok None a b e = (refl, cc)
 unless_ok (Some f) a b e = absurd (cc)
 
-pub unless_err : {A B : Type 0} (f : Option BattleFault) (a : A) (b : B) (e : MatchFault) → unless f a ≡ Err e → unless f b ≡ Err e
-unless_err None a b x e = absurd (cc)
-unless_err (Some f) a b x e = cc
-
 pub fought_from_started : (p : Parameters) (warriors : List WarriorValue) (starts : List ℕ) (k : ℕ) (s : State) → started p warriors starts k ≡ Ok s → fought p warriors starts k ≡ Ok (in_load_order (k % length warriors) (end_of s))
 unfolding survivors_of_round
 fought_from_started p warriors starts k s e =

@@ -6,8 +6,8 @@ use Rattle.std.proofs.lemmas.List.{get_or-set_same, get_or-set_other, get_or_rea
 use Rattle.mars_core.specs.State.{State}
 use Rattle.mars_core.specs.Shape.{SameShape}
 use Rattle.mars_session.specs.declared.snapshots.Snapshot.{Snapshot}
-use Rattle.mars_session.specs.History.{position_of, following, marked, append, back, step_forward, forward}
-use Rattle.mars_session.specs.Code.Whole.{place_of, nowhere, snapshot_at, turns_at, before_of, after_of, whole_history, IsWhole, IsGrown}
+use Rattle.mars_session.specs.History.{position_of, following, marked, append, back, forward}
+use Rattle.mars_session.specs.Code.Whole.{nowhere, snapshot_at, turns_at, before_of, after_of, whole_history, IsWhole, IsGrown}
 
 before_length : (ks : List Snapshot) (n : ℕ) → length (before_of ks n) ≡ n
 before_length ks zero = refl
@@ -71,11 +71,6 @@ whole_append ks at len s l =
     let same : snapshot_at (set ks (at + 1) kept) at ≡ snapshot_at ks at = get_or-set_other ks (at + 1) at kept nowhere (omega arith) in
     rw (get_or-set_same ks (at + 1) kept nowhere l, none, add-one at)
     (rw (rw (add-one at) at same, before_same ks (set ks (suc at) kept) at (λ k m. get_or-set_other ks (suc at) k kept nowhere (omega arith))) refl)
-
--- the next place
-forward_from : (ks : List Snapshot) (at n : ℕ) → step_forward (before_of ks at) (place_of (snapshot_at ks at)) (after_of ks (at + 1) (suc n))
-    ≡ record { before = before_of ks (suc at); present = place_of (snapshot_at ks (at + 1)); after = after_of ks (at + 1 + 1) n }
-forward_from ks at n = refl
 
 pub whole_forward : (ks : List Snapshot) (at len : ℕ) → at + 1 < len → whole_history ks (at + 1) len ≡ forward (whole_history ks at len)
 whole_forward ks at len l =

@@ -22,11 +22,6 @@ pub turns_until_more : (done : State → Bool) (n : ℕ) (s : State) → 0 < n �
 turns_until_more done zero s h e = absurd (omega arith)
 turns_until_more done (suc n) s h e = rw (e, sub-one) refl
 
--- none is made where none is left
-pub turns_until_none : (done : State → Bool) (n : ℕ) (s : State) → n ≤ 0 → turns_until done n s ≡ []
-turns_until_none done zero s h = refl
-turns_until_none done (suc n) s h = absurd (omega arith)
-
 -- none is made where the state is done
 pub turns_until_done : (done : State → Bool) (n : ℕ) (s : State) → done s ≡ true → turns_until done n s ≡ []
 turns_until_done done zero s h = refl

@@ -1,6 +1,5 @@
 -- What the moves by one place keep.
-use Rattle.std.proofs.Common.{◌≡◌, ℕ, zero, suc, ◌+◌, ◌-◌, ◌<◌, ◌≤◌, List, [], ◌∷◌, length, Some, None, refl, ap, sym, ◌∙◌, arith, if◌then◌else◌, ◌≢◌, eq-eqb}
-use Rattle.std.proofs.Common.{ne_eqb}
+use Rattle.std.proofs.Common.{◌≡◌, ℕ, zero, suc, ◌+◌, ◌<◌, ◌≤◌, List, [], ◌∷◌, length, Some, None, refl, ap, sym, ◌∙◌, arith, eq-eqb}
 use Rattle.mars_session.specs.History.{Place, History, position_of, following, last_of, step_back, back, step_forward, forward, marked_before, undo, marked_after, redo, rewound_from, rewound, first_at_turn_from, first_at_turn, last_place, last_turns}
 
 -- as parts: before, present, after
@@ -17,13 +16,6 @@ rewound_step_forward before p (a ∷ after) = refl
 
 pub rewound_forward : (h : History) → rewound (forward h) ≡ rewound h
 rewound_forward h = rewound_step_forward h.before h.present h.after
-
-position_step_back : (before : List Place) (p : Place) (after : List Place) → position_of (step_back before p after) ≡ length before - 1
-position_step_back [] p after = refl
-position_step_back (b ∷ before) p after = omega arith
-
-pub position_back : (h : History) → position_of (back h) ≡ position_of h - 1
-position_back h = position_step_back h.before h.present h.after
 
 position_step_forward : (before : List Place) (p : Place) (after : List Place) → 0 < length after → position_of (step_forward before p after) ≡ length before + 1
 position_step_forward before p [] h = absurd (omega arith)
@@ -76,19 +68,6 @@ rewound_again h = rewound_at_first (rewound h) (rewound_first h.before h.present
 pub position_rewound : (h : History) → position_of (rewound h) ≡ 0
 position_rewound h = ap length (rewound_first h.before h.present h.after)
 
--- the place at position 0 is the first one
-pub at_first : (h k : History) → rewound h ≡ rewound k → position_of h ≡ 0 → h ≡ rewound k
-at_first h k e n = same_place h (rewound k) (e ∙ sym (rewound_at_first (rewound k) (rewound_first k.before k.present k.after))) (n ∙ sym (position_rewound k))
-
--- undo looks at the place before
-undo_from : (before : List Place) (p : Place) (after : List Place) → 0 < length before
-    → marked_before before p after ≡ (if (step_back before p after).present.mark then Some (step_back before p after) else undo (step_back before p after))
-undo_from [] p after h = absurd (omega arith)
-undo_from (b ∷ before) p after h = refl
-
-pub undo_more : (h : History) → 0 < position_of h → undo h ≡ (if (back h).present.mark then Some (back h) else undo (back h))
-undo_more h = undo_from h.before h.present h.after
-
 undo_nothing : (before : List Place) (p : Place) (after : List Place) → length before ≤ 0 → marked_before before p after ≡ None
 undo_nothing [] p after h = refl
 undo_nothing (b ∷ before) p after h = absurd (omega arith)
@@ -96,30 +75,12 @@ undo_nothing (b ∷ before) p after h = absurd (omega arith)
 pub undo_none : (h : History) → position_of h ≤ 0 → undo h ≡ None
 undo_none h = undo_nothing h.before h.present h.after
 
--- redo looks at the place after
-redo_from : (before : List Place) (p : Place) (after : List Place) → 0 < length after
-    → marked_after before p after ≡ (if (step_forward before p after).present.mark then Some (step_forward before p after) else redo (step_forward before p after))
-redo_from before p [] h = absurd (omega arith)
-redo_from before p (a ∷ after) h = refl
-
-pub redo_more : (h : History) → 0 < following h → redo h ≡ (if (forward h).present.mark then Some (forward h) else redo (forward h))
-redo_more h = redo_from h.before h.present h.after
-
 redo_nothing : (before : List Place) (p : Place) (after : List Place) → length after ≤ 0 → marked_after before p after ≡ None
 redo_nothing before p [] h = refl
 redo_nothing before p (a ∷ after) h = absurd (omega arith)
 
 pub redo_none : (h : History) → following h ≤ 0 → redo h ≡ None
 redo_none h = redo_nothing h.before h.present h.after
-
--- goto looks at the present place, and then at those after it
-turned_more_from : (t : ℕ) (before : List Place) (p : Place) (after : List Place) → 0 < length after → p.state.turns ≢ t
-    → first_at_turn_from t before p after ≡ first_at_turn t (step_forward before p after)
-turned_more_from t before p [] h n = absurd (omega arith)
-turned_more_from t before p (a ∷ after) h n = rw (ne_eqb p.state.turns t n) refl
-
-pub turned_more : (t : ℕ) (h : History) → 0 < following h → h.present.state.turns ≢ t → first_at_turn t h ≡ first_at_turn t (forward h)
-turned_more t h = turned_more_from t h.before h.present h.after
 
 turned_here_from : (t : ℕ) (before : List Place) (p : Place) (after : List Place) → p.state.turns ≡ t
     → first_at_turn_from t before p after ≡ Some (record { before = before; present = p; after = after })
@@ -129,32 +90,9 @@ turned_here_from t before p (a ∷ after) e = rw (eq-eqb p.state.turns t e) refl
 pub turned_here : (t : ℕ) (h : History) → h.present.state.turns ≡ t → first_at_turn t h ≡ Some h
 turned_here t h = turned_here_from t h.before h.present h.after
 
-turned_none_from : (t : ℕ) (before : List Place) (p : Place) (after : List Place) → length after ≤ 0 → p.state.turns ≢ t
-    → first_at_turn_from t before p after ≡ None
-turned_none_from t before p [] h n = rw (ne_eqb p.state.turns t n) refl
-turned_none_from t before p (a ∷ after) h n = absurd (omega arith)
-
-pub turned_none : (t : ℕ) (h : History) → following h ≤ 0 → h.present.state.turns ≢ t → first_at_turn t h ≡ None
-turned_none t h = turned_none_from t h.before h.present h.after
-
--- the last place
-last_from : (before : List Place) (p : Place) (after : List Place) → last_turns (step_forward before p after) ≡ (last_place p after).state.turns
-last_from before p [] = refl
-last_from before p (a ∷ after) = refl
-
-pub last_forward : (h : History) → last_turns (forward h) ≡ last_turns h
-last_forward h = last_from h.before h.present h.after
-
 last_rewound_place : (before : List Place) (p : Place) (after : List Place) → last_turns (rewound_from before p after) ≡ (last_place p after).state.turns
 last_rewound_place [] p after = refl
 last_rewound_place (b ∷ before) p after = last_rewound_place before b (p ∷ after)
 
 pub last_turns_rewound : (h : History) → last_turns (rewound h) ≡ last_turns h
 last_turns_rewound h = last_rewound_place h.before h.present h.after
-
-last_here_from : (p : Place) (after : List Place) → length after ≤ 0 → (last_place p after).state.turns ≡ p.state.turns
-last_here_from p [] h = refl
-last_here_from p (a ∷ after) h = absurd (omega arith)
-
-pub last_here : (h : History) → following h ≤ 0 → last_turns h ≡ h.present.state.turns
-last_here h = last_here_from h.present h.after

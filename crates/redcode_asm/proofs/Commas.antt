@@ -1,7 +1,6 @@
 -- Tokens up to the first comma.
-use Rattle.std.proofs.Common.{◌≡◌, ℕ, suc, ◌+◌, ◌<◌, ◌≤◌, List, [], ◌∷◌, ◌++◌, take, drop, length, Bool, true, false, refl, ap, sym, ◌∙◌, ◌==◌, ◌||◌, if◌then◌else◌, Result, Err, arith, add-one, get_or}
-use Rattle.std.proofs.Math.Seq.{drop-cons}
-use Rattle.std.proofs.lemmas.List.{take_more, append_assoc, append-nil, drop_all, take-append-drop}
+use Rattle.std.proofs.Common.{◌≡◌, ℕ, ◌≤◌, List, [], ◌∷◌, ◌++◌, take, drop, length, Bool, true, false, refl, ap, sym, ◌∙◌, ◌==◌, ◌||◌, if◌then◌else◌, Result, Err, arith}
+use Rattle.std.proofs.lemmas.List.{drop_all, take-append-drop}
 use Rattle.std.specs.List.{list_any, onto_first}
 use Rattle.mars_cell.specs.declared.instruction.Op.{Op}
 use Rattle.redcode_asm.specs.declared.fault.AsmProblem.{AsmProblem}
@@ -27,24 +26,8 @@ pub parts-whole : (ts : List Token) → parts_at_commas ts ≡ prepend [] (parts
 parts-whole [] = refl
 parts-whole (t ∷ ts) = whole-by (is_comma t.kind) t (parts_at_commas ts)
 
-prepend-next : (ts : List Token) (t : Token) (ps : List (List Token)) → prepend (ts ++ t ∷ []) ps ≡ prepend ts (onto_first t ps)
-prepend-next ts t [] = refl
-prepend-next ts t (p ∷ ps) = ap (λ front. front ∷ ps) (append_assoc ts (t ∷ []) p)
-
 pub parts-first : (t : Token) (ts : List Token) (b : Bool) → is_comma t.kind ≡ b → parts_at_commas (t ∷ ts) ≡ parts_by b t (parts_at_commas ts)
 parts-first t ts b e = ap (λ b. parts_by b t (parts_at_commas ts)) e
-
--- at a comma
-pub parts-comma : (ts : List Token) (i : ℕ) (d : Token) → i < length ts → is_comma (get_or ts i d).kind ≡ true → prepend (take i ts) (parts_at_commas (drop i ts)) ≡ take i ts ∷ parts_at_commas (drop (i + 1) ts)
-parts-comma ts i d inside comma =
-    rw (drop-cons ts i d inside, add-one i)
-    (ap (prepend (take i ts)) (parts-first (get_or ts i d) (drop (suc i) ts) true comma) ∙ ap (λ front. front ∷ parts_at_commas (drop (suc i) ts)) (append-nil (take i ts)))
-
--- at another token
-pub parts-next : (ts : List Token) (i : ℕ) (d : Token) → i < length ts → is_comma (get_or ts i d).kind ≡ false → prepend (take i ts) (parts_at_commas (drop i ts)) ≡ prepend (take (i + 1) ts) (parts_at_commas (drop (i + 1) ts))
-parts-next ts i d inside other =
-    rw (drop-cons ts i d inside, take_more ts i d inside, add-one i)
-    (ap (prepend (take i ts)) (parts-first (get_or ts i d) (drop (suc i) ts) false other) ∙ sym (prepend-next (take i ts) (get_or ts i d) (parts_at_commas (drop (suc i) ts))))
 
 -- at the end
 pub parts-end : (ts : List Token) (i : ℕ) → length ts ≤ i → prepend (take i ts) (parts_at_commas (drop i ts)) ≡ ts ∷ []

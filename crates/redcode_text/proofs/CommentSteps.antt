@@ -5,7 +5,7 @@ use Rattle.std.specs.Prelude.{codes}
 use Rattle.std.specs.List.{starts_with}
 use Rattle.std.specs.Str.{str_to_ascii_lowercase}
 use Rattle.redcode_text.specs.declared.fault.TextProblem.{TextProblem}
-use Rattle.redcode_text.specs.Code.Comments.{Said, assert_at, assert_or_nothing, author_or, author_said, name_or, printed_value, said, said_line, text_found, with_author_text, with_name_text}
+use Rattle.redcode_text.specs.Code.Comments.{Said, assert_at, assert_or_nothing, author_or, author_said, name_or, printed_value, said, said_line, text_found, with_name_text}
 use Rattle.redcode_text.specs.Lines.{Reading, assert_line, comment_line, directive_value, unless_empty}
 use Rattle.redcode_text.specs.Source.{SourceRow, blank_len, directive_text, directive_text_at, ends_word, has_directive_word, without_blanks}
 
@@ -74,12 +74,3 @@ empty (b ∷ bs) old n e h = let z : n ≡ 0 = eqb-true n 0 h in absurd (omega (
 module _ (st : Reading) (text value : List ℕ) (n : ℕ) (is : printed_value text ≡ value) (len : n ≡ length value) where
   pub name-given : (n == 0) ≡ false → with_name_text text st ≡ record st { name = value }
   name-given h = ap (λ l. record st { name = l }) (ap (λ l. unless_empty l st.name) is ∙ given value st.name n len h)
-
-  pub name-kept : (n == 0) ≡ true → with_name_text text st ≡ st
-  name-kept h = ap (λ l. record st { name = l }) (ap (λ l. unless_empty l st.name) is ∙ empty value st.name n len h)
-
-  pub author-given : (n == 0) ≡ false → with_author_text text st ≡ record st { author = value }
-  author-given h = ap (λ l. record st { author = l }) (ap (λ l. unless_empty l st.author) is ∙ given value st.author n len h)
-
-  pub author-kept : (n == 0) ≡ true → with_author_text text st ≡ st
-  author-kept h = ap (λ l. record st { author = l }) (ap (λ l. unless_empty l st.author) is ∙ empty value st.author n len h)

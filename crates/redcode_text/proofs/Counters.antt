@@ -26,9 +26,6 @@ module _ (names : List (List ℕ)) (name : List ℕ) where
   each-kept (l ∷ ls) there =
       λ i. record { counter = counter-kept l.counter (there 0 l (omega arith)) i; round = l.round } ∷ each-kept ls (λ k d less. there (suc k) d (omega (arith, less))) i
 
-  pub there-kept : (ls : List code.OpenLoop) → AreThere names ls → AreThere (with_name names name) ls
-  there-kept ls there k d less n is = there-more n (there k d less n is)
-
 -- the same the other way round
 there-reversed : (names : List (List ℕ)) (ls : List code.OpenLoop) → AreThere names ls → AreThere names (reverse ls)
 there-reversed names ls there k d less =

@@ -4,9 +4,7 @@ use Rattle.std.proofs.lemmas.List.{get_or_default}
 use Rattle.redcode_text.specs.Results.{◌>>=◌}
 use Rattle.redcode_text.specs.declared.source.row.SourceRow as code
 use Rattle.redcode_text.specs.Code.Pairs.{here_from, EndsAt}
-use Rattle.redcode_text.proofs.PairSteps.{for-at, paired-drop}
-use Rattle.redcode_text.specs.declared.source.row.LineKind as code_kind
-use Rattle.redcode_text.specs.declared.source.row.LineKind.TheVariants as line
+use Rattle.redcode_text.proofs.PairSteps.{for-at}
 use Rattle.redcode_text.specs.declared.fault.TextFault.{TextFault}
 use Rattle.redcode_text.specs.declared.fault.TextProblem.{TextProblem}
 use Rattle.redcode_text.specs.declared.fault.TextProblem.TheVariants.{NotAscii, BadToken, UnclosedFor, RofAlone, BadCount, LabelInCount, Duplicate, EquDepth, TooLong, Expression, OutOfMemory}
@@ -14,9 +12,8 @@ use Rattle.redcode_text.specs.Expansion.{Head, flat, head_line, in_round, rof_li
 use Rattle.redcode_text.specs.Lines.{Predefined, Reading, plain_line, unless_ended}
 use Rattle.redcode_text.specs.Code.Loops.{IsFor, IsPlain, one_loop}
 use Rattle.redcode_text.specs.Outcomes.{FailsAt}
-use Rattle.redcode_text.specs.Code.Kinds.{kind_of}
 use Rattle.redcode_text.specs.Code.Rows.{row_of}
-use Rattle.redcode_text.specs.Source.{Items, Nothing, Plain, Loop, SourceRow, EquLine, OtherLine, line_kind}
+use Rattle.redcode_text.specs.Source.{Items, Nothing, Loop, SourceRow}
 use Rattle.redcode_text.specs.Tokens.{OpenLoop, at_line}
 use Rattle.redcode_text.proofs.Kept.{Kept, rof-ended}
 
@@ -199,17 +196,6 @@ pub loop-done-at : (ps : Predefined) (rows : List code.SourceRow) (i j at : ℕ)
 loop-done-at ps rows i j at r s st h a b hi hj is ends ri si e t n w = loop-done ps (row_of r) (here_from rows (i + 1)) (row_of s) st h a b (λ a. unless_ended a (flat ps (here_from rows (j + 1)))) (flat ps (here_from rows i) st) (loop-of ps rows i j at r s st hi hj is ends ri si) e t n w
 
 -- ---- a plain row at a place
-
-pub plain-at : (rows : List code.SourceRow) (i : ℕ) (d : code.SourceRow) (kind : code_kind.LineKind) → i < length rows → kind_of kind ≡ line_kind (row_of (get_or rows i d)).bytes
-    → ((at : ℕ) → kind ≡ line.For at → ⊥) → (kind ≡ line.Rof → ⊥) → IsPlain rows i
-plain-at rows i d line.Rof h is no-for no-rof = absurd (no-rof refl)
-plain-at rows i d (line.For at) h is no-for no-rof = absurd (no-for at refl)
-plain-at rows i d (line.Equ at) h is no-for no-rof = λ e. ap (λ p. p.here) (paired-drop rows i d (EquLine at) h is) ∙ ap (λ row. Plain (row_of row) (here_from rows (i + 1))) (get_or_default rows i d e h)
-plain-at rows i d line.Other h is no-for no-rof = λ e. ap (λ p. p.here) (paired-drop rows i d OtherLine h is) ∙ ap (λ row. Plain (row_of row) (here_from rows (i + 1))) (get_or_default rows i d e h)
-
-pub row-done : (ps : Predefined) (rows : List code.SourceRow) (i : ℕ) (d : code.SourceRow) (st a : Reading) → IsPlain rows i → at_line (row_of (get_or rows i d)).number (plain_line ps (row_of (get_or rows i d)) st) ≡ Ok a
-    → flat ps (here_from rows i) st ≡ unless_ended a (flat ps (here_from rows (i + 1)))
-row-done ps rows i d st a is h = ap (λ items. flat ps items st) (is d) ∙ ap (λ r. r >>= λ a. unless_ended a (flat ps (here_from rows (i + 1)))) h
 
 pub row-fails : (ps : Predefined) (rows : List code.SourceRow) (i : ℕ) (d : code.SourceRow) (st : Reading) (fault : TextFault) → IsPlain rows i → FailsAt fault.problem fault (at_line (row_of (get_or rows i d)).number (plain_line ps (row_of (get_or rows i d)) st))
     → FailsAt fault.problem fault (flat ps (here_from rows i) st)

@@ -55,15 +55,6 @@ one-more old names keys new i d inside h e n =
     ∙ more keys (old ++ take i names) (get_or names i d) h n
     ∙ ap (λ l. has l n) (append_assoc old (take i names) (get_or names i d ∷ []) ∙ ap (λ l. old ++ l) (sym (take_more names i d inside)))
 
--- one line more, with its labels
-pub line-more : {X : Type 0} (labels : X → List ℕ) (old new : List ℕ) (lines : List X) (line : X) → AreLabels labels old lines → HasSame new (old ++ labels line) → AreLabels labels new (lines ++ line ∷ [])
-line-more labels old new lines line known same n =
-    same n
-    ∙ list_any-append (λ m. m == n) old (labels line)
-    ∙ ap (λ b. b || has (labels line) n) (known n)
-    ∙ ap (λ b. list_any (λ l. has (labels l) n) lines || b) (either-none (has (labels line) n))
-    ∙ sym (list_any-append (λ l. has (labels l) n) lines (line ∷ []))
-
 any-map : {X Y : Type 0} (p : Y → Bool) (f : X → Y) (xs : List X) → list_any (λ x. p (f x)) xs ≡ list_any p (map f xs)
 any-map p f [] = refl
 any-map p f (x ∷ xs) = ap (λ b. p (f x) || b) (any-map p f xs)

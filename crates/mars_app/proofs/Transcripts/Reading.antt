@@ -145,9 +145,6 @@ module _ (core : ℕ) where
 
   -- ---- several bytes
 
-  pub goes_through_none : (a : LineBuffer) (t : SessionState) (v : Option (List ℕ)) → GoesThrough core [] a t v a t v
-  goes_through_none a t v s bytes text r = ([], Appends-nil v, rw (append-nil bytes, append-nil text) r)
-
   pub goes_through_both : (x y : List ℕ) (a b c : LineBuffer) (t u m : SessionState) (v w z : Option (List ℕ))
       → GoesThrough core x a t v b u w → GoesThrough core y b u w c m z → GoesThrough core (x ++ y) a t v c m z
   goes_through_both x y a b c t u m v w z first second s bytes text r =

@@ -10,10 +10,6 @@ use Rattle.mars_app.specs.Code.Waiting.{Waits}
 pub first_waits : (a : Option (List ℕ)) (text : List ℕ) → Waits a a text text
 first_waits a text = ([], refl, Appends-nil a)
 
--- what waits goes out
-pub sent_all : (a b c : Option (List ℕ)) (waiting text : List ℕ) → Appends b c waiting → Waits a b waiting text → Appends a c text
-sent_all a b c waiting text more waits = rw waits.1 (Appends-trans a b c waits.0 waiting waits.2 more)
-
 -- a beginning of what waits goes out
 pub sent_part : (a b c : Option (List ℕ)) (waiting text : List ℕ) → CutShort b c waiting → Waits a b waiting text → CutShort a c text
 sent_part a b c waiting text cut waits = rw waits.1 (CutShort-back a b c waits.0 waiting waits.2 cut)
@@ -21,7 +17,3 @@ sent_part a b c waiting text cut waits = rw waits.1 (CutShort-back a b c waits.0
 -- nothing waits any more
 pub none_waits : (a b : Option (List ℕ)) (text : List ℕ) → Appends a b text → Waits a b [] text
 none_waits a b text sent = (text, sym (append-nil text), sent)
-
--- more waits
-pub more_waits : (a b : Option (List ℕ)) (waiting text line : List ℕ) → Waits a b waiting text → Waits a b (waiting ++ line) (text ++ line)
-more_waits a b waiting text line waits = (waits.0, ap (λ t. t ++ line) waits.1 ∙ append_assoc waits.0 waiting line, waits.2)

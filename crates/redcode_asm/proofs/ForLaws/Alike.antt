@@ -15,7 +15,7 @@ use Rattle.redcode_text.specs.Expression.{kinds, value_of}
 use Rattle.redcode_text.specs.Equates.{substitution}
 use Rattle.redcode_text.specs.Tokens.{without_line}
 use Rattle.redcode_text.proofs.CallerLemmas.{BothGive, Pairwise, length-kinds, replaced-like}
-use Rattle.redcode_asm.specs.Assembly.{cell_from, expressed, is_comma, is_dot, mode_of, modifier_first, modifier_in, operand_value, parts_at_commas, replaced, split_mode, split_modifier, texted}
+use Rattle.redcode_asm.specs.Assembly.{cell_from, expressed, is_comma, mode_of, modifier_first, modifier_in, operand_value, parts_at_commas, replaced, split_mode, texted}
 use Rattle.redcode_asm.specs.declared.fault.AsmProblem.{AsmProblem}
 use Rattle.redcode_asm.proofs.ForLaws.Parts.{AreAsEmpty, pairwise-made}
 
@@ -124,17 +124,3 @@ module _ (names : List (List ℕ)) where
           let same : (Some m, ts) ≡ r = cc in
           record { rest = us; is = ap (λ q. Ok (q.0, us)) same; like = ap (λ q. kinds q.1) (sym same) ∙ l }
       go (Err f) l g = cc
-
-  pub modifier-like : (ts us : List Token) (r : Option Modifier × List Token) → kinds ts ≡ kinds us → split_modifier names ts ≡ Ok r → IsLike r.0 r.1 (split_modifier names us)
-  modifier-like [] [] r e h = let same : (None, []) ≡ r = cc in record { rest = []; is = ap (λ q. Ok (q.0, [])) same; like = ap (λ q. kinds q.1) (sym same) }
-  modifier-like [] (u ∷ us) r e h = absurd (omega (arith, length-kinds [] (u ∷ us) e))
-  modifier-like (t ∷ ts) [] r e h = absurd (omega (arith, length-kinds (t ∷ ts) [] e))
-  modifier-like (t ∷ ts) (u ∷ us) r e h =
-      let first : t.kind ≡ u.kind = cc in
-      let rest : kinds ts ≡ kinds us = cc in
-      subst (λ k. IsLike r.0 r.1 (elim (is_dot k) as (λ _. Result (Option Modifier × List Token) AsmProblem) [ true ↦ modifier_first names us | false ↦ Ok (None, u ∷ us) ])) first (go (is_dot t.kind) rest h)
-    where
-      go : (b : Bool) → kinds ts ≡ kinds us → elim b as (λ _. Result (Option Modifier × List Token) AsmProblem) [ true ↦ modifier_first names ts | false ↦ Ok (None, t ∷ ts) ] ≡ Ok r
-          → IsLike r.0 r.1 (elim b as (λ _. Result (Option Modifier × List Token) AsmProblem) [ true ↦ modifier_first names us | false ↦ Ok (None, u ∷ us) ])
-      go true l g = first-like ts us r l g
-      go false l g = let same : (None, t ∷ ts) ≡ r = cc in record { rest = u ∷ us; is = ap (λ q. Ok (q.0, u ∷ us)) same; like = ap (λ q. kinds q.1) (sym same) ∙ e }

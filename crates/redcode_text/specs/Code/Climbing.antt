@@ -102,11 +102,6 @@ IsNoOpen [] = Unit {0}
 IsNoOpen (Value v s ∷ stack) = Unit {0}
 IsNoOpen (Open from to ∷ stack) = ⊥
 
--- what the code returns and leaves is what reading gives
-abbrev pub GivesReduced : List Token → Result ℤ ExprFault → List Pending → Result (ℤ × List Waiting) ExprFault → Type 0
-GivesReduced ts (Ok v) stack read = read ≡ Ok (v, waiting_all ts stack)
-GivesReduced ts (Err e) stack read = read ≡ Err e
-
 -- what the code holds before the token at a place
 abbrev pub seen : List Token → ℕ → Progress → State
 seen ts at r = record { stack = waiting_all ts r.stack; signs = kinds (slice_range ts r.first_sign at); value = r.value; after = r.after_operand }

@@ -1,10 +1,8 @@
 -- The open loops as the code holds them: a counter is an index among the names.
-use Rattle.std.specs.Prelude.{ℕ, ◌<◌, pos, List, [], ◌∷◌, length, map, reverse, Option, Some, None, option_map}
+use Rattle.std.specs.Prelude.{ℕ, ◌<◌, List, [], ◌∷◌, length, map, reverse, Option, None, option_map}
 use Rattle.std.specs.List.{All}
 use Rattle.std.specs.Option.{ForSome}
 use Rattle.redcode_text.specs.declared.lexer.open_loops.OpenLoop as code
-use Rattle.redcode_text.specs.declared.token.TokenKind.{TokenKind}
-use Rattle.redcode_text.specs.declared.token.TokenKind.TheVariants.{Number, Name}
 use Rattle.redcode_text.specs.Lines.{name_at}
 use Rattle.redcode_text.specs.Tokens.{OpenLoop}
 
@@ -26,8 +24,3 @@ AreThere names loops = All (λ l. IsThere names l.counter) loops
 abbrev pub innermost_counter : List OpenLoop → Option (List ℕ)
 innermost_counter [] = None
 innermost_counter (l ∷ ls) = l.counter
-
--- what a name is that may be a counter, which then has this round
-abbrev pub round_or_name : Option ℕ → ℕ → TokenKind
-round_or_name (Some round) n = Number (pos round)
-round_or_name None n = Name n
