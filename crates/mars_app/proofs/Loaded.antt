@@ -1,14 +1,13 @@
 -- Files in memory, and warriors file by file.
-use Rattle.std.proofs.Common.{◌≡◌, ◌∙◌, ap, sym, arith, refl, ℕ, ◌+◌, ◌<◌, List, [], ◌∷◌, ◌++◌, length, take, drop, get_or, map, Option, Some, String, Vec, true, false}
+use Rattle.std.proofs.Common.{◌≡◌, ◌∙◌, ap, sym, arith, refl, ℕ, ◌+◌, ◌<◌, List, [], ◌∷◌, ◌++◌, length, take, drop, get_or, map, Option, String}
 use Rattle.std.proofs.lemmas.List.{drop_more, map-append, take-append-drop, take_more}
 use Rattle.std.specs.Global.{Global}
 use Rattle.std.specs.Prelude.{string_bytes}
-use Rattle.std.specs.Str.{bytes_eq}
 use Rattle.mars_cell.specs.Parameters.{Parameters}
 use Rattle.mars_cell.specs.Warriors.{WarriorValue}
 use Rattle.mars_app.specs.Faults.{FailsToLoad, FirstFails}
 use Rattle.mars_app.specs.declared.fault.RunFault.{RunFault}
-use Rattle.mars_app.specs.Loading.{file_named, IsLoaded, AreLoaded}
+use Rattle.mars_app.specs.Loading.{IsLoaded, AreLoaded}
 
 module _ (known : List ℕ → Option (List ℕ)) (p : Parameters) (rounds count : ℕ) where
   loaded_push : (names : List (List ℕ)) (ws : List WarriorValue) (name : List ℕ) (w : WarriorValue) → AreLoaded known p rounds count names ws

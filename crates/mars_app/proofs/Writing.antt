@@ -1,13 +1,12 @@
 -- What several writes, one after the other, did, where a text broke off.
 -- Want of memory and a failed write have one statement (`BreaksOff`), and three lemmas: broken in the first of two texts, in the second, in a list.
-use Rattle.std.proofs.Common.{◌≡◌, ℕ, ◌+◌, ◌<◌, List, ◌++◌, length, take, get_or, Option, Result, Ok, Err, IfErr, inl, inr, arith, length-append}
-use Rattle.std.specs.List.{flat_map}
+use Rattle.std.proofs.Common.{◌≡◌, ℕ, ◌+◌, List, ◌++◌, length, take, Option, Result, Ok, Err, IfErr, inl, inr, arith, length-append}
 use Rattle.std.proofs.Math.Seq.{take-append-add}
 use Rattle.std.proofs.lemmas.List.{take-append-le, take_all}
 use Rattle.std.proofs.KnownBytes.{Appends-trans}
 use Rattle.std.specs.Io.KnownBytes.{Appends}
 use Rattle.mars_cell.specs.Output.{CutShort}
-use Rattle.mars_cell.proofs.CallerLemmas.{CutShort-back, CutShort-front, flat_map-around}
+use Rattle.mars_cell.proofs.CallerLemmas.{CutShort-back, CutShort-front}
 use Rattle.mars_app.specs.Contests.{BreaksOff}
 use Rattle.mars_app.specs.declared.fault.RunFault.{RunFault}
 use Rattle.mars_app.specs.declared.fault.RunFault.TheVariants.{Output, OutOfMemory}

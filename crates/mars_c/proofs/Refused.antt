@@ -9,7 +9,7 @@ use Rattle.mars_match.specs.declared.fault.MatchFault.{MatchFault}
 use Rattle.mars_match.specs.declared.fault.MatchFault.TheVariants as fight
 use Rattle.mars_match.specs.declared.setup.Setup.{Setup}
 use Rattle.mars_c.specs.Settings.{IsSetup}
-use Rattle.mars_c.specs.Battles.{begun, placed_in}
+use Rattle.mars_c.specs.Battles.{placed_in}
 use Rattle.mars_c.specs.Contests.{AreLoads, Reads}
 use Rattle.mars_c.specs.Refusals.{Fails, RefusesEntry, fight_refusal}
 use Rattle.mars_c.specs.declared.faults.CallRefusal.{CallRefusal}

@@ -1,6 +1,6 @@
 -- Text that waits to be written.
-use Rattle.std.proofs.Common.{◌∙◌, ℕ, List, [], ◌++◌, Option, ap, sym, refl, append-nil, append_assoc}
-use Rattle.std.proofs.KnownBytes.{Appends-nil, Appends-trans}
+use Rattle.std.proofs.Common.{ℕ, List, [], Option, sym, refl, append-nil}
+use Rattle.std.proofs.KnownBytes.{Appends-nil}
 use Rattle.std.specs.Io.KnownBytes.{Appends}
 use Rattle.mars_cell.specs.Output.{CutShort}
 use Rattle.mars_cell.proofs.CallerLemmas.{CutShort-back}
