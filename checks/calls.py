@@ -1,5 +1,5 @@
 #!/usr/bin/env python3
-"""Prints each public call with its contract: the table behind docs/carry/THEOREMS.md.
+"""Prints each public call with its contract: the table behind docs/dev/THEOREMS.md.
 
 usage: checks/calls.py [CRATE..]
 

@@ -23,7 +23,7 @@ INSTALLED = [
     *("bin/corewar", "bin/mars", "include/mars.h", "lib/libmars.a", "lib/libmars.so", "lib/libmars.so.1"),
     *("lib/pkgconfig/mars.pc", "lib/python3/dist-packages/corewar/pages/templates/replay.html.j2"),
     *("share/bash-completion/completions/corewar", "share/bash-completion/completions/mars"),
-    *("share/doc/mars/README.md", "share/doc/mars/docs/play/TUTORIAL.md", "share/doc/mars/examples/rust/src/main.rs"),
+    *("share/doc/mars/README.md", "share/doc/mars/docs/user/TUTORIAL.md", "share/doc/mars/examples/rust/src/main.rs"),
     *("share/man/man1/corewar-why.1", "share/man/man1/corewar.1", "share/man/man1/mars.1"),
 ]
 ZSH = ["share/zsh/site-functions/_corewar", "share/zsh/site-functions/_mars"]
@@ -229,7 +229,7 @@ def test_page_of_mars_has_the_words() -> None:
 def test_page_of_mars_has_the_commands_and_faults() -> None:
     """Each command of the debugger, refusal and fault of the documents is in the page."""
     text = page_text()
-    using, language = ((TOP / "docs" / "play" / name).read_text() for name in ("USING.md", "LANGUAGE.md"))
+    reference, language = ((TOP / "docs" / "user" / name).read_text() for name in ("REFERENCE.md", "LANGUAGE.md"))
     tables = using[using.index("## The commands") : using.index("## What a source can cost")]
     rows = re.findall(r"^\| (`[a-z].*?`) \|", tables[: tables.index("| Refusal |")], re.M)
     names = [name for row in rows for name in re.findall(r"`([^`]+)`", row)]

@@ -50,7 +50,7 @@ Commands of the debugger, one a line:
 Status: 0 done, 1 a fault of input or files, 2 a fault of the words.
 
 Example: mars -r 100 -b -o imp.red dwarf.red
-More in README.md and docs/play/USING.md.
+More in README.md and docs/user/REFERENCE.md.
 ";
 
 #[test]
