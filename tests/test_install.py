@@ -230,7 +230,7 @@ def test_page_of_mars_has_the_commands_and_faults() -> None:
     """Each command of the debugger, refusal and fault of the documents is in the page."""
     text = page_text()
     reference, language = ((TOP / "docs" / "user" / name).read_text() for name in ("REFERENCE.md", "LANGUAGE.md"))
-    tables = using[using.index("## The commands") : using.index("## What a source can cost")]
+    tables = reference[reference.index("## The commands") : reference.index("## What a source can cost")]
     rows = re.findall(r"^\| (`[a-z].*?`) \|", tables[: tables.index("| Refusal |")], re.M)
     names = [name for row in rows for name in re.findall(r"`([^`]+)`", row)]
     refusals = re.findall(r"`(\d+ [A-Z]\w+[ CFL]*)`", tables)
