@@ -4,7 +4,8 @@
 #   make uninstall    takes them away
 #   make man          the man pages, in build/man
 #   make packages     the Debian packages `mars` and `corewar`, in build
-#   make check        the merge gate
+#   make wheel        a Python wheel of `corewar` that contains the library, for x86-64 Linux and Python 3.11 or later, in build
+#   make check        everything that CI runs
 #
 # DESTDIR stands before PREFIX where a package is made. Nothing is proved here: what isn't built is told.
 PREFIX = /usr/local
@@ -27,7 +28,11 @@ package = $(to)/lib/python3/dist-packages
 # Copies files and folders, read from the folder $(1), to the folder $(2), without what was made in them.
 copy = mkdir -p $(2) && tar -c -C $(1) --mode=u=rwX,go=rX --exclude=__pycache__ --exclude=target --exclude=Cargo.lock $(3) | tar -x -C $(2) --no-same-owner
 
-.PHONY: all install uninstall man completion packages check
+# Copies the licences of the toolchain's libraries that are linked in, and the kit's own if it has one, to the folder $(1).
+licences = mkdir -p $(1); set -e; for library in $(LIBRARIES); do for file in "$$(dirname "$$(rt doc)")"/rattle/$$library/LICENSE*; do \
+	cp "$$file" $(1)/$$library-$${file\#\#*/}; done; done$(if $(wildcard LICENSE*),; cp $(wildcard LICENSE*) $(1))
+
+.PHONY: all install uninstall man completion packages wheel check
 
 all: man completion
 
@@ -77,11 +82,17 @@ packages: $(PROGRAM) $(LIBRARY)
 	cp -R packaging/debian build/package
 	printf 'mars ($(VERSION)) unstable; urgency=medium\n\n  * Packed from the kit.\n\n -- %s  %s\n' \
 		"$$(sed -n 's/^Maintainer: //p' packaging/debian/control)" "$(DATE)" >build/package/debian/changelog
-# The licences of the toolchain's libraries that are inside, and the kit's own where there is one.
-	set -e; for library in $(LIBRARIES); do for file in "$$(dirname "$$(rt doc)")"/rattle/$$library/LICENSE*; do \
-		cp "$$file" build/package/licences/$$library-$${file##*/}; done; done
-	$(if $(wildcard LICENSE*),cp $(wildcard LICENSE*) build/package/licences)
+	$(call licences,build/package/licences)
 	cd build/package && dpkg-buildpackage -b -us -uc
+
+# Built from a copy, since setuptools leaves folders in its source; building it again gives the same bytes.
+wheel: $(LIBRARY)
+	rm -rf build/wheel
+	$(call copy,.,build/wheel/kit,pyproject.toml setup.py README.md python include build/libmars.so.1)
+	$(call licences,build/wheel/kit/licences)
+	SOURCE_DATE_EPOCH=$$(git -c safe.directory='*' log -1 --format=%ct 2>/dev/null || date +%s) \
+		/usr/bin/python3 -m pip wheel --no-deps --no-build-isolation --no-cache-dir -q -w build build/wheel/kit
+	rm -r build/wheel
 
 check:
 	checks/run

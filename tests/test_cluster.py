@@ -3,6 +3,8 @@ from __future__ import annotations
 
 import json
 import os
+import re
+import shutil
 import signal
 import subprocess
 import sys
@@ -110,6 +112,19 @@ def test_a_worker_without_the_package(run: Run, start: Start, scheduler: tuple[s
     assert (
         told.stderr.removeprefix(ABSENT) == "corewar: a worker doesn't have this package: No module named 'corewar'\n"
     )
+
+
+def test_a_worker_of_another_version(run: Run, start: Start, scheduler: tuple[str, Any], tmp_path: Path) -> None:
+    kit = tmp_path / "kit"
+    shutil.copytree(TOP / "python", kit / "python")
+    package = kit / "python" / "corewar" / "__init__.py"
+    package.write_text(re.sub('__version__ = ".*"', '__version__ = "0.9"', package.read_text()))
+    for name in ("build", "include"):
+        (kit / name).symlink_to(TOP / name)
+    worker(start, scheduler[0], path=str(kit / "python"))
+    told = run("league", "--scheduler", scheduler[0], *FILES, cwd=EXAMPLES)
+    assert told.returncode == 1
+    assert told.stderr.removeprefix(ABSENT).startswith("corewar: a worker has corewar 0.9, library ")
 
 
 def test_no_scheduler_and_no_package(run: Run) -> None:

@@ -23,6 +23,6 @@ from .model.warriors import Warrior
 __version__ = "1.2"
 
 __all__ = [
-    *("History", "Match", "Row", "State", "assemble", "debug", "league", "match", "population", "record", "state"),
-    *("touched", "Limit", "read", "cell_text", "Fault", "FileFault", "Refused", "HILLS", "Settings", "Warrior"),
-]
+    "HILLS", "Fault", "FileFault", "History", "Limit", "Match", "Refused", "Row", "Settings", "State", "Warrior",
+    "assemble", "cell_text", "debug", "league", "match", "population", "read", "record", "state", "touched",
+]  # fmt: skip

@@ -1,9 +1,9 @@
 """The library for C as its header declares it: its types as those of NumPy, and its calls.
 
-The library is the file that MARS_LIBRARY names, else build/libmars.so of the checkout that this file stands in, else
-lib/libmars.so.1 of the folder that the package is installed below, or of the system; the header is the file that
-MARS_HEADER names, else include/mars.h of the same folders. A call lets other threads run, and two threads may call at
-once.
+The library is the file that MARS_LIBRARY names; otherwise the first of these that exists: libmars.so.1 beside this
+file (in a wheel), build/libmars.so of the checkout that contains this file, lib/libmars.so.1 of the prefix in which
+the package is installed, or of the system. The header is the file that MARS_HEADER names; otherwise mars.h beside this
+file, or include/mars.h of the same folders. A call releases the interpreter lock, and several threads may call at once.
 """
 from __future__ import annotations
 
@@ -50,11 +50,13 @@ def library() -> tuple[Any, Any]:
 @lru_cache(maxsize=None)
 def opened() -> tuple[Any, Any]:
     """The types of the header, and the library."""
-    built = [CHECKOUT / "build" / "libmars.so", *(folder / "lib" / "libmars.so.1" for folder in INSTALLED)]
+    below = [folder / "lib" / "libmars.so.1" for folder in INSTALLED]
+    built = [HERE.parent / "libmars.so.1", CHECKOUT / "build" / "libmars.so", *below]
     shared = found("MARS_LIBRARY", built)
     if shared is None:
         raise NoLibrary("libmars.so isn't found: scripts/library builds it, and MARS_LIBRARY names it")
-    header = found("MARS_HEADER", [folder / "include" / "mars.h" for folder in (CHECKOUT, *INSTALLED)])
+    headers = [folder / "include" / "mars.h" for folder in (CHECKOUT, *INSTALLED)]
+    header = found("MARS_HEADER", [HERE.parent / "mars.h", *headers])
     if header is None:
         raise NoLibrary("mars.h isn't found: `make install` installs it, and MARS_HEADER names it")
     ffi = cffi.FFI()

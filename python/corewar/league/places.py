@@ -12,6 +12,7 @@ from typing import Any
 
 import numpy as np
 
+from ..engine.binding import library
 from ..model.faults import Refused
 from ..model.warriors import Warrior
 from .contest import Contest, Counts, Matches, Pairs, Rows, fight
@@ -70,9 +71,20 @@ def threads(matches: Matches, jobs: int) -> Iterator[Place]:
         pool.shutdown(wait=False, cancel_futures=True)
 
 
-def fight_there(contest: Contest, loads: dict[int, bytes], pairs: Pairs) -> Counts | str:
-    """The counts of a bundle, on a worker; a fault as text, since that can be sent."""
+def versions() -> str:
+    """Returns the versions of the package and of the library in this process."""
+    from .. import __version__
+
+    return f"corewar {__version__}, library {library()[1].mars_version()}"
+
+
+def fight_there(wanted: str, contest: Contest, loads: dict[int, bytes], pairs: Pairs) -> Counts | str:
+    """Returns the counts of a bundle, on a worker; an error as text, since text can be sent. A worker with other
+    versions runs nothing, because its results would be stored for good.
+    """
     try:
+        if versions() != wanted:
+            return f"a worker has {versions()}, but this league is run by {wanted}"
         return fight(contest, {number: Warrior(load) for number, load in loads.items()}, pairs)
     except Refused as fault:
         return str(fault)
@@ -129,9 +141,10 @@ def cluster(matches: Matches, address: str) -> Iterator[Place]:
     def submit(rows: Rows) -> Future[Any]:
         pairs = matches.pairs[rows]
         loads = {number: matches.warriors[number].load for number in np.unique(pairs).tolist()}
-        handed_out: Future[Any] = executor.submit(fight_there, matches.contest, loads, pairs)
+        handed_out: Future[Any] = executor.submit(fight_there, wanted, matches.contest, loads, pairs)
         return handed_out
 
+    wanted = versions()
     with client:
         executor, look = client.get_executor(pure=False), teller_of_absence(client)
         look()

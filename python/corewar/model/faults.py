@@ -1,6 +1,8 @@
 """What can't be done, and why."""
 from __future__ import annotations
 
+from typing import Any
+
 EXPRESSIONS = ["Syntax", "Unknown", "DivideByZero", "Range", "Depth"]
 PROBLEMS = "NotAscii BadToken UnclosedFor RofAlone BadCount LabelInCount Duplicate EquDepth TooLong Expression".split()
 # What each answer of the library but 0 is called, and its numbers from 1 on.
@@ -41,6 +43,10 @@ class Fault(Refused):
         told = [numbered(names, number), numbered(PROBLEMS, problem), numbered(EXPRESSIONS, expression)]
         super().__init__(where + " ".join([*head, *filter(None, told)]))
 
+    def __reduce__(self) -> tuple[Any, ...]:
+        # A pool of processes hangs if an exception cannot be unpickled.
+        return Fault, (self.code, self.number, self.problem, self.expression, self.line, self.warrior)
+
 
 class FileFault(Refused):
     """A fault of one file: the fault, the name of the file, and its text where that was read."""
@@ -48,6 +54,9 @@ class FileFault(Refused):
     def __init__(self, file: str, fault: Fault | str, text: bytes = b"") -> None:
         super().__init__(f"{file}: {fault}")
         self.file, self.fault, self.text = file, fault, text
+
+    def __reduce__(self) -> tuple[Any, ...]:
+        return FileFault, (self.file, self.fault, self.text)
 
 
 def named(names: list[str], number: int) -> str:

@@ -1,0 +1,37 @@
+"""Builds what pyproject.toml cannot express: a wheel with libmars.so.1 and mars.h, which any Python on x86-64 Linux calls by cffi."""
+import shutil
+from pathlib import Path
+
+from setuptools import Distribution, setup
+from setuptools.command.build_py import build_py
+from wheel.bdist_wheel import bdist_wheel
+
+INSIDE = ["build/libmars.so.1", "include/mars.h"]
+
+
+class BuildPackage(build_py):
+    """Copies the library and its header into the package."""
+
+    def run(self):
+        super().run()
+        for name in INSIDE:
+            if not Path(name).is_file():
+                raise SystemExit(f"{name} is not built; scripts/library proves and builds it")
+            shutil.copy(name, Path(self.build_lib, "corewar", "engine"))
+
+
+class Wheel(bdist_wheel):
+    """Tags the wheel by the library, which requires glibc 2.14 and no particular Python."""
+
+    def get_tag(self):
+        return "py3", "none", "manylinux_2_17_x86_64.manylinux2014_x86_64"
+
+
+class Binary(Distribution):
+    """A package with compiled content."""
+
+    def has_ext_modules(self):
+        return True
+
+
+setup(cmdclass={"build_py": BuildPackage, "bdist_wheel": Wheel}, distclass=Binary)

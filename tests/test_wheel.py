@@ -1,0 +1,96 @@
+"""Tests the wheel: it installs into a fresh virtual environment and runs there from any folder."""
+from __future__ import annotations
+
+import pickle
+import subprocess
+from collections.abc import Iterator
+from pathlib import Path
+
+import corewar
+import pytest
+from conftest import EXAMPLES, TOP
+from counting import skip
+from test_install import made
+
+WHEEL = TOP / "build" / f"corewar-{corewar.__version__}-py3-none-manylinux_2_17_x86_64.manylinux2014_x86_64.whl"
+# A user's script with two mistakes that its types show: a warrior that is text, and a field that a row does not have.
+MISTAKEN = """\
+import corewar
+
+imp = corewar.assemble("MOV 0, 1")
+corewar.match([imp, "MOV 0, 1"])
+print(corewar.match([imp])[0].score)
+"""
+
+
+@pytest.fixture(scope="module")
+def environment(tmp_path_factory: pytest.TempPathFactory) -> Iterator[Path]:
+    """A virtual environment with the wheel, whose other packages are Debian's."""
+    for module, package in (("ensurepip", "venv"), ("pip", "pip"), ("setuptools", "setuptools"), ("wheel", "wheel")):
+        code = f"import importlib.util, sys; sys.exit(importlib.util.find_spec('{module}') is None)"
+        if subprocess.run(["/usr/bin/python3", "-c", code]).returncode:
+            skip("the wheel", f"there is no module {module}", f"python3-{package}")
+    made("wheel")
+    folder = tmp_path_factory.mktemp("venv")
+    for words in (
+        ["/usr/bin/python3", "-m", "venv", "--system-site-packages", folder],
+        [folder / "bin" / "pip", "install", "-q", "--no-index", "--no-deps", WHEEL],
+    ):
+        done = subprocess.run(list(map(str, words)), capture_output=True, text=True)
+        assert done.returncode == 0, done.stderr
+    yield folder
+
+
+def started(environment: Path, *words: object, given: str = "", folder: object = "/") -> str:
+    """What a program of the environment prints in a folder, with exit status 0 and no error."""
+    command = [str(environment / "bin" / str(words[0])), *map(str, words[1:])]
+    variables = {"PATH": "/usr/bin:/bin", "HOME": str(environment), "NO_COLOR": "1"}
+    done = subprocess.run(command, input=given, cwd=str(folder), env=variables, capture_output=True, text=True)
+    assert (done.stderr, done.returncode) == ("", 0)
+    return done.stdout
+
+
+def test_it_is_the_same_again() -> None:
+    if not WHEEL.is_file():
+        made("wheel")
+    first = WHEEL.read_bytes()
+    made("wheel")
+    assert first == WHEEL.read_bytes()
+
+
+def test_it_calls_its_own_library(environment: Path) -> None:
+    code = "import corewar.engine.binding as b; b.library(); print(b.HERE.parent, open('/proc/self/maps').read())"
+    told = started(environment, "python", "-c", code)
+    assert told.startswith(f"{environment}/lib/") and f"{told.split()[0]}/libmars.so.1\n" in told
+
+
+def test_commands_run_from_any_folder(environment: Path, tmp_path: Path) -> None:
+    files = [EXAMPLES / "dwarf.red", EXAMPLES / "imp.red"]
+    fought = started(environment, "corewar", "fight", "-r", "10", *files)
+    assert [row.split()[:4] for row in fought.splitlines()[-2:]] == [["16", "3", "7", "0"], ["7", "0", "7", "3"]]
+    league = started(environment, "corewar", "league", "--results", tmp_path / "hill.sqlite", *files, folder=tmp_path)
+    assert "Dwarf by A. K. Dewdney" in league
+    assert "Imp died" in started(environment, "corewar", "why", *files).replace("dies", "died")
+    assert "turn 3" in started(environment, "corewar", "debug", *files, given="step 3\n")
+
+
+def test_types_reach_the_user(environment: Path, tmp_path: Path) -> None:
+    pytest.importorskip("mypy", reason="package mypy")
+    script = tmp_path / "script.py"
+    script.write_text(MISTAKEN)
+    words = ["/usr/bin/python3", "-m", "mypy", "--strict", "--cache-dir", str(tmp_path), str(script)]
+    words += ["--python-executable", str(environment / "bin" / "python")]
+    done = subprocess.run(words, capture_output=True, text=True, cwd=tmp_path)
+    wrong = [line.split(":")[1] for line in done.stdout.splitlines() if ": error: " in line]
+    assert wrong == ["4", "5"], done.stdout
+
+
+def test_errors_survive_a_pool_of_processes() -> None:
+    """A pool hangs if an exception that a worker raised cannot be read back."""
+    with pytest.raises(corewar.Fault) as raised:
+        corewar.assemble("MOV 0, 1\nFOO 1")
+    with pytest.raises(corewar.FileFault) as missing:
+        corewar.read("none.red")
+    for one in (raised.value, missing.value):
+        again = pickle.loads(pickle.dumps(one))
+        assert (type(again), str(again), vars(again).keys()) == (type(one), str(one), vars(one).keys())
