@@ -3,14 +3,18 @@ import os
 import re
 import shutil
 import subprocess
+import tempfile
 
 from machine import at_a_time, toolchain
 from program import BUILT as PROGRAM_FILE, CRATE, TOP
 from rooms import all_below, crate_lines, make_room
+from webassembly import keeping_toolchain
 
 # The lines of crates.txt of the program and of the library for C, and what is built of them.
 PROGRAM, LIBRARY = CRATE, "mars_c staticlib"
 ARCHIVE = os.path.join(TOP, "crates", "mars_c", "out", "libmars_c.a")
+# The module that the archive is compiled from.
+MODULE = os.path.join(TOP, "crates", "mars_c", "out", "module.bc")
 BUILT = {PROGRAM: PROGRAM_FILE, LIBRARY: ARCHIVE}
 # Marks what crates state where a start that was stopped, or still goes on, has left it.
 MARK = "of-a-first-start"
@@ -122,11 +126,15 @@ class FromNothing:
             self.build(name, ["--jobs", str(jobs), "--statements", "-o", made])
             return
         os.makedirs(os.path.dirname(made), exist_ok=True)
-        words = ["--toolchain", f"{self.kit}/toolchain", "--jobs"]
+        tools = f"{self.kit}/toolchain"
         if name == LIBRARY:
-            self.build(name, [*words, str(jobs), "--crate-type", "staticlib", "-o", made])
+            if os.path.exists(MODULE):
+                os.remove(MODULE)
+            with tempfile.TemporaryDirectory() as room:
+                keeping = keeping_toolchain(tools, os.path.join(room, "toolchain"), MODULE)
+                self.build(name, ["--toolchain", keeping, "--jobs", str(jobs), "--crate-type", "staticlib", "-o", made])
         else:
-            self.build(name, [*words, "1", "-o", f"{made}.o"])
+            self.build(name, ["--toolchain", tools, "--jobs", "1", "-o", f"{made}.o"])
             self.link(f"{made}.o", made)
 
     def build(self, name, words):
