@@ -68,7 +68,7 @@ install: $(PROGRAM) $(LIBRARY) man completion
 	install -D -m 644 packaging/completion/mars.bash $(bash)/mars
 	install -D -m 644 build/completion/corewar.bash $(bash)/corewar
 	install -D -m 644 -t $(zsh) packaging/completion/_mars build/completion/_corewar
-	$(call copy,.,$(documents),--exclude=mars.1 README.md docs examples)
+	$(call copy,.,$(documents),--exclude=mars.1 README.md CHANGELOG.md docs examples)
 
 uninstall:
 	rm -f $(to)/bin/mars $(to)/bin/corewar $(to)/lib/libmars.so $(to)/lib/libmars.so.1 $(to)/lib/libmars.a

@@ -78,8 +78,8 @@ def test_causes(text: str, fault: str, expected: str) -> None:
 
 def test_each_fault_has_a_meaning() -> None:
     """Those that the documents tell; each is read back from a line, whatever stands before it."""
-    document = (TOP / "docs" / "play" / "LANGUAGE.md").read_text()
-    table = document[document.index("## Faults") : document.index("## Differences")]
+    document = (TOP / "docs" / "user" / "LANGUAGE.md").read_text()
+    table = document[document.index("## Errors") : document.index("## Differences")]
     names = [line.split("`")[1] for line in table.splitlines() if line.startswith("| `")]
     kinds = {
         kind for name in names for kind in ([name] if name[-2:] != " F" else [name[:-1] + one for one in EXPRESSION])
@@ -102,7 +102,7 @@ def test_each_fault_of_the_library_is_known() -> None:
 
 
 def test_words_are_the_languages() -> None:
-    document = (TOP / "docs" / "play" / "LANGUAGE.md").read_text()
+    document = (TOP / "docs" / "user" / "LANGUAGE.md").read_text()
     assert all(word in document for word in [*OPERATIONS, *PREDEFINED]) and all(
         f"`{word}`" in document for word in MODIFIERS
     )

@@ -230,12 +230,12 @@ def test_page_of_mars_has_the_commands_and_faults() -> None:
     """Each command of the debugger, refusal and fault of the documents is in the page."""
     text = page_text()
     reference, language = ((TOP / "docs" / "user" / name).read_text() for name in ("REFERENCE.md", "LANGUAGE.md"))
-    tables = reference[reference.index("## The commands") : reference.index("## What a source can cost")]
+    tables = reference[reference.index("## Debugger commands") : reference.index("## What a source can cost")]
     rows = re.findall(r"^\| (`[a-z].*?`) \|", tables[: tables.index("| Refusal |")], re.M)
     names = [name for row in rows for name in re.findall(r"`([^`]+)`", row)]
     refusals = re.findall(r"`(\d+ [A-Z]\w+[ CFL]*)`", tables)
     faults = re.findall(r"`(mars: [^`]*)`", tables)
     assert (len(names), len(faults) > 10, len(refusals) > 10) == (15, True, True)
-    of_sources = re.findall(r"^\| `(\d [^`]*?)(?: F)?` \|", language[language.index("## Faults") :], re.M)
+    of_sources = re.findall(r"^\| `(\d [^`]*?)(?: F)?` \|", language[language.index("## Errors") :], re.M)
     plain = [re.sub(r"^[14] (Text|Expression) (?=\d)", "", fault) for fault in of_sources]
     assert plain and not [name for name in (*names, *refusals, *faults, *plain) if name not in text]

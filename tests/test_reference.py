@@ -1,0 +1,25 @@
+"""Tests that the tables of options in the reference are those of the programs' own help."""
+from __future__ import annotations
+
+import subprocess
+from pathlib import Path
+
+from conftest import TOP
+from counting import PROGRAM
+
+SCRIPT = TOP / "scripts" / "reference"
+
+
+def test_tables_are_current() -> None:
+    done = subprocess.run([SCRIPT, "--check", PROGRAM], capture_output=True, text=True)
+    assert (done.stdout, done.stderr, done.returncode) == ("", "", 0)
+
+
+def test_a_difference_is_found(tmp_path: Path) -> None:
+    """Another help of `mars` fails the check, which shows the option."""
+    program = tmp_path / "mars"
+    program.write_text("#!/bin/sh\necho '  -r <N>  Something else [default: 7]'\n")
+    program.chmod(0o755)
+    done = subprocess.run([SCRIPT, "--check", program], capture_output=True, text=True)
+    assert done.returncode == 1 and "+| `-r N` | Something else | 7 |\n" in done.stdout
+    assert done.stderr == "reference: the tables differ from the help; run scripts/reference\n"
