@@ -5,10 +5,6 @@ parts: "documents" and "messages", which have none of these forms, and "comments
 """
 import ast, io, re, tokenize
 
-# The nouns that may come before "where", which is kept for places.
-PLACES = "place places entry cell cells address addresses line point folder file page".split()
-NOT_A_PLACE = "".join(f"(?<!\\b{noun} )" for noun in PLACES)
-
 # Each form, with what to write for it.
 FORMS = {
     r"want of memory|memory is wanting": "out of memory",
@@ -35,7 +31,8 @@ FORMS = {
     r"of the processors|processor (?:seconds?|minutes?)": "CPU time",
     r"the gate": "CI",
     r"blanks?": "space, whitespace",
-    NOT_A_PLACE + r"where": "if, when",
+    # Only the forms that can't mean a place.
+    r"where (?:nothing|none|no|nobody|there (?:is|are|was|were)|(?:it|that|this) isn't|the answer)": "if, when",
 }
 FORM = re.compile("|".join(rf"(?P<f{number}>\b(?:{form})\b)" for number, form in enumerate(FORMS)), re.I)
 WANTED = list(FORMS.values())
