@@ -77,7 +77,7 @@ class Teller:
         if len(queued):
             return "then at " + " and ".join(self.where(int(address)) for address in queued)
         left = len(self.history.block_of(turn).queue(int(record["warrior"]), turn))
-        return f"its process ends, {left} left" if left else "it dies"
+        return f"its process dies, {left} left" if left else "the warrior dies"
 
     def turn(self, turn: int) -> str:
         """A turn in one line: who executed what, which cells changed, and where the process went."""
@@ -102,7 +102,7 @@ class Teller:
         dead = self.history.ending.deaths["warrior"]
         living = [name for number, name in enumerate(self.names) if number not in dead]
         verb = "lives" if len(living) == 1 else "live"
-        return f"the battle is over: {joined(living)} {verb}" if living else "the battle is over: none lives"
+        return f"the battle is over: {joined(living)} {verb}" if living else "the battle is over: no survivors"
 
     def standing(self, turn: int) -> Iterator[str]:
         """Whether each warrior lives."""

@@ -64,7 +64,7 @@ class History:
             if named and named in warrior.files:
                 return number
         told = ", ".join(f"{number} {name}" for number, name in enumerate(self.names))
-        raise Refused(f"`{named}` is no warrior: {told}")
+        raise Refused(f"no warrior `{named}`; the warriors are {told}")
 
     @property
     def end(self) -> int:
@@ -83,7 +83,7 @@ class History:
     def block(self, turn: int) -> Block:
         """The block in which the battle stands after a turn, and after the edits that were made behind it."""
         if not 0 <= turn <= self.end:
-            raise IndexError(f"the battle has turn 0 to turn {self.end}")
+            raise IndexError(f"the battle has turns 0 to {self.end}")
         segment = self._segment(turn)
         skipped = (turn - segment.first) // BLOCK * BLOCK
         return self._blocks(segment.lines, segment.first, skipped, min(BLOCK, segment.last - segment.first - skipped))

@@ -69,9 +69,9 @@ class Assembler:
                 load, fault = self._pipe.recv()
             except (EOFError, OSError):
                 self.end()
-                raise Overrun(f"more than {self.limit.seconds} s of a processor") from None
+                raise Overrun(f"assembling takes more than {self.limit.seconds} s of CPU time") from None
         if fault and fault[0] == MEMORY:
-            raise Overrun(f"more than {self.limit.megabytes} MB of memory")
+            raise Overrun(f"assembling takes more than {self.limit.megabytes} MB of memory")
         if fault:
             raise Fault(*fault)
         return bytes(load)

@@ -10,6 +10,7 @@ from urllib.parse import quote
 from ..battle.history import History, distinct
 from ..engine.calls import Match
 from ..league.table import League
+from ..model.settings import label
 from ..pictures.shades import mixed
 from .render import render, write_page
 from .replay import page_of
@@ -39,11 +40,11 @@ class Pages:
             "seed": contest.seed,
             "position": contest.position,
         }
-        told = [f"{name.replace('_', ' ')} {value:,}" for name, value in numbers.items() if value]
+        told = [f"{label(name)} {value:,}" for name, value in numbers.items() if value]
         page = render(
             "league.html.j2",
             rows=[{**row, "title": title} for row, title in zip(league.rows, league.titles())],
-            settings=[*told, f"points {contest.formula}"],
+            settings=[*told, f"score {contest.formula}"],
             lines=self.lines() if len(league.order) <= LARGEST_MATRIX else [],
             is_linked=bool(self.folders),
         )
