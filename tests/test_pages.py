@@ -124,8 +124,7 @@ def test_rounds(run: Run, tmp_path: Path) -> None:
     assert lines[3].startswith("    0 win  loss     7798  corewar debug -r 3 ")
     assert lines[4].startswith("    1 ") and "--round 1" in lines[4]
     table = run("fight", "-r", 3, "@dwarf", "@imp").stdout.splitlines()
-    wins, ties, losses = table[1].split()[1:4]
-    assert f"warrior 0: {wins} wins, {ties} ties, {losses} losses" in lines
+    assert table[1].split()[1:4] == ["2", "1", "0"] and "warrior 0: 2 wins, 1 tie, 0 losses" in lines
     index = (tmp_path / "match" / "index.html").read_text()
     assert all(f'href="round-{number}.html"' in index for number in range(3))
 

@@ -7,6 +7,7 @@ from threading import Thread
 import click
 
 from ..analysis.captions import command
+from ..analysis.telling import counted
 from ..battle.rounds import rounds_of, sums
 from ..engine.calls import Match, Row, match
 from ..model.warriors import printable
@@ -81,7 +82,7 @@ def rounds(asked: Asked, pages: str | None) -> None:
         if pages:
             written.write_round(one)
     for number, (wins, ties, losses) in enumerate(sums(outcomes)):
-        click.echo(f"warrior {number}: {wins} wins, {ties} ties, {losses} losses")
+        click.echo(f"warrior {number}: {counted(wins, 'win')}, {counted(ties, 'tie')}, {counted(losses, 'loss')}")
     if pages:
         written.write_index()
         click.echo(f"{printable(pages)}: {len(outcomes)} pages")

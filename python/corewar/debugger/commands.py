@@ -8,7 +8,7 @@ from typing import NoReturn
 import numpy as np
 
 from ..analysis.causes import cause_told, change_told, death_told
-from ..analysis.telling import processes
+from ..analysis.telling import counted
 from ..battle.conditions import Condition, search
 from ..model.faults import Refused
 from ..model.settings import whole
@@ -222,7 +222,7 @@ def spawn(session: Session, rest: str) -> Iterator[str]:
     warrior, address = session.warrior(name), session.address(where)
     count = len(session.history.block(session.turn).queue(warrior, session.turn))
     if not 0 < count < session.history.fight.settings.processes:
-        why = f"has {processes(count)}, the maximum" if count else "is dead"
+        why = f"has {counted(count, 'process')}, the maximum" if count else "is dead"
         raise Refused(f"cannot add a process: {session.names[warrior]} {why}")
     session.edit(f"spawn {warrior} {address}")
     yield from queue(session, name)

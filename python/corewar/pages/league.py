@@ -7,6 +7,7 @@ from pathlib import Path
 from typing import Any
 from urllib.parse import quote
 
+from ..analysis.telling import counted
 from ..battle.history import History, distinct
 from ..engine.calls import Match
 from ..league.table import League
@@ -65,7 +66,8 @@ class Pages:
 
     def cell(self, one: int, other: int, counts: list[int], colour: list[int]) -> dict[str, Any]:
         wins, ties, losses = counts
-        told = f"{wins} wins, {ties} ties, {losses} losses against {self.league.warriors[other].called}"
+        told = f"{counted(wins, 'win')}, {counted(ties, 'tie')}, {counted(losses, 'loss')} against "
+        told += self.league.warriors[other].called
         ink = "#000" if sum(colour) > 3 * 130 else "#fff"
         is_linked = (min(one, other), max(one, other)) in self.folders
         link = quote(os.fsencode(self.replay(one, other))) if is_linked else ""

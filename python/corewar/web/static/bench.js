@@ -563,7 +563,7 @@ class League {
     const counts = this.against[who][other];
     if (!counts) return make("td", {textContent: who === other ? "·" : ""});
     const [, wins, ties, losses] = counts, [first, second] = [Math.min(who, other), Math.max(who, other)].map(at => this.sources[at]);
-    const title = `${wins} wins, ${ties} ties, ${losses} losses against ${this.sources[other].name}; click to show round 0`;
+    const title = `${count(wins, "win")}, ${count(ties, "tie")}, ${count(losses, "loss")} against ${this.sources[other].name}; click to show round 0`;
     const made = make("td", {}, make("button", {textContent: wins, title, onclick: () => this.time.fight([first, second], 0)}));
     const share = (wins - losses) / (wins + ties + losses), colour = share < 0 ? "200,30,30" : "30,80,200";
     made.style.background = `rgba(${colour},${Math.abs(share) * .5})`;
