@@ -1,13 +1,13 @@
-# Installs what is proved and built, takes it away again, and packs it for Debian.
+# Installs and uninstalls the built kit, and makes Debian packages.
 #
 #   make install      program, library, package, man pages, completion, documents and examples below PREFIX
-#   make uninstall    takes them away
+#   make uninstall    removes them
 #   make man          the man pages, in build/man
 #   make packages     the Debian packages `mars` and `corewar`, in build
 #   make wheel        a Python wheel of `corewar` that contains the library, for x86-64 Linux and Python 3.11 or later, in build
-#   make check        everything that CI runs
+#   make check        all checks of CI
 #
-# DESTDIR stands before PREFIX where a package is made. Nothing is proved here: what isn't built is told.
+# DESTDIR is put before PREFIX when a package is made. Nothing is proved here; files that are not built are reported.
 PREFIX = /usr/local
 ZSH = $(PREFIX)/share/zsh/site-functions
 
@@ -16,7 +16,7 @@ VERSION := $(shell sed -n 's/^__version__ = "\(.*\)"/\1/p' python/corewar/__init
 DATE = $(shell git -c safe.directory='*' log -1 --format=%cD 2>/dev/null || date -R)
 PROGRAM = crates/mars/out/mars
 LIBRARY = build/libmars.so.1 build/libmars.a
-# The libraries of the toolchain that the crates stand on.
+# The libraries of the toolchain that the crates use.
 LIBRARIES := $(shell sed -n 's/^\w* *\w*: *//p' crates.txt | tr ' ' '\n' | sort -u | grep -vxF "$$(sed -n 's/^\(\w*\).*:.*/\1/p' crates.txt)")
 COREWAR = PYTHONDONTWRITEBYTECODE=1 PYTHONPATH=python /usr/bin/python3 -P
 
@@ -25,7 +25,7 @@ bash = $(to)/share/bash-completion/completions
 zsh = $(DESTDIR)$(ZSH)
 documents = $(to)/share/doc/mars
 package = $(to)/lib/python3/dist-packages
-# Copies files and folders, read from the folder $(1), to the folder $(2), without what was made in them.
+# Copies files and folders from the folder $(1) to the folder $(2), without generated files.
 copy = mkdir -p $(2) && tar -c -C $(1) --mode=u=rwX,go=rX --exclude=__pycache__ --exclude=target --exclude=Cargo.lock $(3) | tar -x -C $(2) --no-same-owner
 
 # Copies the licences of the toolchain's libraries that are linked in, and the kit's own if it has one, to the folder $(1).
@@ -37,10 +37,10 @@ licences = mkdir -p $(1); set -e; for library in $(LIBRARIES); do for file in "$
 all: man completion
 
 $(PROGRAM):
-	@echo "$@ isn't built: ./mars --help proves and builds it" >&2; exit 1
+	@echo "$@ is not built; prove and build it with ./mars --help" >&2; exit 1
 
 $(LIBRARY):
-	@echo "$@ isn't built: scripts/library proves and builds it" >&2; exit 1
+	@echo "$@ is not built; prove and build it with scripts/library" >&2; exit 1
 
 man:
 	rm -rf build/man
@@ -51,7 +51,7 @@ man:
 completion:
 	mkdir -p build/completion
 	_COREWAR_COMPLETE=bash_source $(COREWAR) -m corewar >build/completion/corewar.bash
-# A function that zsh loads by itself completes when it is loaded, too.
+# A function that zsh loads on demand also has to complete when it is loaded.
 	_COREWAR_COMPLETE=zsh_source $(COREWAR) -m corewar | sed 's/^compdef _corewar_completion corewar;/_corewar_completion "$$@"/' >build/completion/_corewar
 
 install: $(PROGRAM) $(LIBRARY) man completion

@@ -1,18 +1,18 @@
 ;redcode
 ;name Stranger
 ;author The Core War kit
-; Boots: copies its six working cells far away, goes there, and leaves what is here as a decoy, for scanners to bomb. What
-; works far away is a stone that throws two bombs in each round of its loop.
-; Shows FOR without a counter, which writes a line several times.
+; Boots: copies its six working cells far away, jumps there, and leaves the original as a decoy for scanners to bomb. The
+; copy is a stone that throws two bombs in each iteration of its loop.
+; Shows FOR without a counter, which repeats a line.
 ;assert CORESIZE == 8000
 
 far     EQU     3941
-step    EQU     3048            ; eight divides it and the core: 1000 places for each of both bombs, none of its own cells
+step    EQU     3048            ; a multiple of eight, as is the core: each bomb has 1000 targets, none of its own cells
 
-        FOR     6               ; the last cell first: both pointers are lowered, and the cell is copied
+        FOR     6               ; last cell first: decrements both pointers and copies the cell
         MOV     <from, <to
         ROF
-        JMP     @to             ; to the first cell of the copy
+        JMP     @to             ; jumps to the first cell of the copy
 
 from    DAT     0, last - from
 to      DAT     0, far + 6
@@ -23,8 +23,8 @@ to      DAT     0, far + 6
 
 stone   MOV     bomb, *aim
         MOV     bomb, @aim
-        ADD.F   bomb, aim       ; the bomb is also how far the next ones fly
+        ADD.F   bomb, aim       ; the bomb is also the step to the next targets
         JMP     stone
 aim     DAT     #4002, #3
 bomb    DAT     #step, #step
-last    END                     ; a label on the line of END stands for the cell behind
+last    END                     ; a label on the line of END is the address after the last cell

@@ -1,7 +1,7 @@
 ;redcode
 ;name Broom
 ;author The Core War kit
-; Sweeps: writes empty cells over all that follows, up to itself.
+; A core clear: overwrites the whole core with empty cells, up to itself.
 
 sweep   MOV     dust, >front
         JMP     sweep

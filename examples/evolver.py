@@ -1,10 +1,10 @@
 #!/usr/bin/python3
 """Evolves a warrior for the nano settings against a few opponents, and prints its load file.
 
-usage: examples/evolver.py [SECONDS [SEED]]      60 seconds and seed 1 if left out
+usage: examples/evolver.py [SECONDS [SEED]]      [default: 60 seconds, seed 1]
 
-It needs the package `corewar` with its library (scripts/setup and scripts/library make both). In each generation the best warriors stay, children of theirs with changed cells take the place of the others, and one call
-fights all of them against all opponents.
+It requires the package `corewar` with its library; run scripts/setup and scripts/library first. In each generation the best warriors stay
+and the others are replaced by children of the best with changed cells. One call runs all matches of a generation.
 """
 import os
 import random
@@ -16,7 +16,7 @@ sys.path.insert(0, os.path.join(os.path.dirname(os.path.realpath(__file__)), "..
 try:
     import corewar  # noqa: E402
 except ImportError as fault:
-    sys.exit(f"evolver: {fault}: scripts/setup installs what the package corewar stands on")
+    sys.exit(f"evolver: {fault}; install the dependencies of corewar with scripts/setup")
 
 NANO = corewar.HILLS["nano"]
 
@@ -39,7 +39,7 @@ def cell(dice):
 
 
 def child(dice, one, other):
-    """Cells of two parents, of which some are put in, taken away or replaced."""
+    """Cells of two parents, some of them inserted, removed or replaced."""
     cells = one[: dice.randrange(len(one) + 1)] + other[dice.randrange(len(other)) :] if dice.randrange(3) == 0 else list(one)
     for _ in range(dice.choice([1, 1, 2])):
         place = dice.randrange(len(cells) + 1)
@@ -53,7 +53,7 @@ def warrior(cells):
 
 @dataclass
 class Candidate:
-    """Cells, and the points of each generation that they have fought in."""
+    """Cells, and their points in each generation."""
     cells: list
     points: list
 
@@ -62,7 +62,7 @@ class Candidate:
 
 
 def fight(candidates, opponents, seed):
-    """Lets all candidates fight all opponents, in one call; the best on the mean come first."""
+    """Runs the matches of all candidates against all opponents, and sorts the candidates by their mean points."""
     rows = corewar.population([warrior(one.cells) for one in candidates], opponents, rounds=ROUNDS, seed=seed, settings=NANO)
     for one, row in zip(candidates, rows):
         one.points.append(row.points)
@@ -70,13 +70,13 @@ def fight(candidates, opponents, seed):
 
 
 def measure(cells, opponents):
-    """The points a round of cells in many rounds that no generation has fought."""
+    """Returns the points per round, in many rounds that no generation has played."""
     row = corewar.population([warrior(cells)], opponents, rounds=2000, seed=1_000_000_007, settings=NANO)[0]
     return row.points / (2000 * len(opponents))
 
 
 def given():
-    """The seconds and the seed of the words."""
+    """Returns the seconds and the seed of the arguments."""
     words = sys.argv[1:]
     if {"-h", "--help"} & set(words):
         sys.exit(print(__doc__.strip()))
@@ -96,9 +96,9 @@ def main():
         fight(candidates, opponents, count)
         best = candidates[:BEST]
         if count & (count - 1) == 0:
-            print(f"generation {count}: {measure(best[0].cells, opponents):.2f} points a round", file=sys.stderr)
+            print(f"generation {count}: {measure(best[0].cells, opponents):.2f} points per round", file=sys.stderr)
         candidates = best + [Candidate(child(dice, dice.choice(best).cells, dice.choice(best).cells), []) for _ in range(SIZE - BEST)]
-    print(f"after {count} generations: {measure(candidates[0].cells, opponents):.2f} points a round", file=sys.stderr)
+    print(f"after {count} generations: {measure(candidates[0].cells, opponents):.2f} points per round", file=sys.stderr)
     print(warrior(candidates[0].cells), end="")
 
 

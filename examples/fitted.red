@@ -1,8 +1,8 @@
 ;redcode
 ;name Tailor
 ;author The Core War kit
-; A stone whose step is fitted to the core. An EQU chooses it by the size, since a comparison is 1 where it holds and 0
-; where it doesn't; asserts refuse the warrior where it has no step, and where the step would bring it back to itself.
+; A stone whose step is fitted to the core. An EQU selects the step by the core size, since a true comparison is 1 and a
+; false one 0. Asserts reject the warrior if there is no step for the core, or if the step would lead back to the warrior.
 ;assert CORESIZE == 800 || CORESIZE == 8000 || CORESIZE == 55440
 ;assert MAXLENGTH >= 6 && MINDISTANCE >= MAXLENGTH
 
@@ -11,8 +11,8 @@ step    EQU     ((CORESIZE == 800) * 248 + (CORESIZE == 8000) * 3048 + (CORESIZE
 
 stone   MOV     bomb, *aim
         MOV     bomb, @aim
-        ADD.F   bomb, aim       ; the bomb is also how far the next ones fly
+        ADD.F   bomb, aim       ; the bomb is also the step to the next targets
         JMP     stone
-aim     DAT     #CORESIZE / 2 + 2, #3   ; 2 and 3 cells behind, and so 6 and 5 before: never one of its own six
+aim     DAT     #CORESIZE / 2 + 2, #3   ; 2 and 3 cells after, and so 6 and 5 before: never one of its own six
 bomb    DAT     #step, #step
         END     stone

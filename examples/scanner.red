@@ -1,7 +1,7 @@
 ;redcode
 ;name Lookout
 ;author The Core War kit
-; A scanner: compares two cells, goes on while they are equal, and throws bombs at both where they differ.
+; A scanner: compares pairs of cells while they are equal, and throws bombs at both cells if they differ.
 
 gap     EQU     7               ; between the two cells
 hop     EQU     (2 * gap)       ; from one pair to the next

@@ -1,9 +1,9 @@
 ;redcode
 ;name Silk
 ;author The Core War kit
-; A paper that splits to its copies before they are there: each copy is written just before its processes read it.
-; Shows EQU of several lines: `weave two` is the line MOV and then `SPL @0, two`, since what stands behind the name goes
-; behind its last line.
+; A paper that splits to its copies before they exist: each copy is written just before its processes execute it.
+; Shows an EQU of several lines: `weave two` is the line MOV and then `SPL @0, two`, since the text after the name is
+; added to the last line.
 ;assert MAXPROCESSES >= 8
 
 one     EQU     3620

@@ -1,19 +1,18 @@
 /* The Core War kit as a library: an assembler, matches, leagues, populations, the debugger, and records of turns.
  *
- * Each call answers 0 where it has done what it was asked for, else one of the numbers of MARS_DONE and so on; the same
- * number, and more, stands in *fault. Where the answer isn't 0, rows and buffers are as they were. A mistake has the same number
- * in each call, and of several the first is told: how many warriors, rows and places of the history there are; the parameters;
- * rounds, seed and position; the formula; the load files in order, and what is left over of their bytes; the round; then what
- * only the fight shows.
+ * Each call returns 0 (MARS_DONE) if it succeeds. Otherwise it returns the number of an error, stores this number with details in
+ * *fault, and leaves rows and buffers unchanged. An error has the same number in every call. If there are several errors, the first
+ * one in this order is returned: the numbers of warriors, of rows and of places of the history; the parameters; rounds, seed and
+ * position; the formula; the load files in order, and bytes left over after them; the round; then errors that only the match shows.
  *
- * Nothing outlives a call and nothing is shared: threads may call at once, each with rows, buffers and faults of its own.
- * Memory comes from malloc and goes back to free within the call; these and realloc are of one allocator, and align as C asks.
- * 64 KiB of stack are enough for a call: none that was tried took more than 40. No call is made from a signal handler, or from the
+ * Nothing outlives a call and nothing is shared, so several threads may call at once, each with its own rows, buffers and faults.
+ * A call gets its memory from malloc and realloc and frees all of it; these calls must belong to one allocator and align as C requires.
+ * A stack of 64 KiB is sufficient: no measured call used more than 40 KiB. Do not call the library from a signal handler, or in the
  * forked child of a process with threads.
  *
- * The caller owes that each pointer leads to as many readable (const) or writable values as the length behind it says, aligned as
- * C aligns their type, and that what is written overlaps nothing else that is handed in. A pointer with the length 0 may be null;
- * no other one is. What is written needn't hold anything before.
+ * The caller guarantees that each pointer is valid for as many readable (const) or writable values as the length after it says, that it
+ * is aligned for its type, and that output overlaps no other argument. A pointer with the length 0 may be null; no other pointer may
+ * be. Output need not be initialised.
  */
 #ifndef MARS_H
 #define MARS_H
@@ -32,11 +31,11 @@ extern "C" {
 /* The version of the library that is called. */
 uint32_t mars_version(void);
 
-/* What calls answer, and what `number` in a fault is then. */
+/* The results of calls, each with the meaning of `number` in a fault. */
 enum {
     MARS_DONE = 0,
     MARS_OUT_OF_MEMORY = 1,
-    /* 1 rounds, 2 seed, 3 position, 4 how many warriors, 5 lengths and load files differ, 6 history, 7 how many rows, 8 round */
+    /* 1 rounds, 2 seed, 3 position, 4 number of warriors, 5 lengths and load files differ, 6 history, 7 number of rows, 8 round */
     MARS_SETTINGS = 2,
     /* 1 CoreSize, 2 Processes, 3 Cycles, 4 Limit, 5 Length, 6 Distance */
     MARS_PARAMETERS = 3,
@@ -56,29 +55,29 @@ enum {
     MARS_ROOM = 10
 };
 
-/* How contests are held. */
+/* The settings of a match. */
 typedef struct {
-    uint32_t core;        /* cells, 1 to 1048576 */
-    uint32_t processes;   /* of a warrior, 1 to 65536 */
-    uint32_t cycles;      /* of a round, 1 to 10000000 */
+    uint32_t core;        /* core size in cells, 1 to 1048576 */
+    uint32_t processes;   /* maximum number of processes of a warrior, 1 to 65536 */
+    uint32_t cycles;      /* maximum number of cycles of a round, 1 to 10000000 */
     uint32_t read_limit;  /* cells, 1 to the core size; 0 is the core size */
     uint32_t write_limit; /* cells, 1 to the core size; 0 is the core size */
-    uint32_t longest;     /* cells of a warrior, 1 to the core size */
-    uint32_t distance;    /* cells between first cells, from `longest` to the core size */
-    uint32_t rounds;      /* of a match, 1 to 100000 */
-    uint32_t seed;        /* of the first round's positions, 1 to 2147483646 */
-    uint32_t position;    /* of the second of two warriors in each round, from `distance` to the core size less it; 0: drawn */
+    uint32_t longest;     /* maximum length of a warrior in cells, 1 to the core size */
+    uint32_t distance;    /* minimum distance between first cells, from `longest` to the core size */
+    uint32_t rounds;      /* number of rounds of a match, 1 to 100000 */
+    uint32_t seed;        /* seed for the positions of the first round, 1 to 2147483646 */
+    uint32_t position;    /* address of the second of two warriors in each round, from `distance` to the core size minus it; 0: drawn */
 } MarsSettings;
 
-/* How a warrior fared. */
+/* The result of a warrior. */
 typedef struct {
-    int64_t points;  /* by the formula */
-    uint64_t wins;   /* rounds survived alone */
+    int64_t points;  /* sum of its scores by the formula */
+    uint64_t wins;   /* rounds survived as the only warrior */
     uint64_t ties;   /* rounds survived with others */
     uint64_t losses; /* rounds not survived */
 } MarsRow;
 
-/* A cell of the core. The numbers of its parts count from 0:
+/* A cell of the core. Opcode, modifier and modes are indices, from 0, in these lists:
  * op        DAT MOV ADD SUB MUL DIV MOD JMP JMZ JMN DJN SEQ SNE SLT SPL NOP
  * modifier  A B AB BA F X I
  * mode      # $ * @ { < } > */
@@ -87,53 +86,53 @@ typedef struct {
     uint8_t modifier;
     uint8_t a_mode;
     uint8_t b_mode;
-    uint32_t a; /* both numbers are addresses, relative to the cell, from 0 to the core size less 1 */
+    uint32_t a; /* both numbers are addresses relative to the cell, from 0 to the core size minus 1 */
     uint32_t b;
 } MarsCell;
 
-/* A write of a cell. A turn that raises, lowers or copies to the same cell more than once has a write for each time. */
+/* A write of a cell. A turn that increments, decrements or overwrites the same cell several times has a write for each time. */
 typedef struct {
     uint32_t address;
     MarsCell before;
-    MarsCell after; /* may be the same */
+    MarsCell after; /* may be equal to `before` */
 } MarsChange;
 
-/* What a turn did; what doesn't apply is 0. Warriors count from 0, in the order of their turns: in round K that is load file K
- * modulo the warriors, then those behind it, then those before it. */
+/* The record of a turn; fields that do not apply are 0. Warriors are numbered from 0 in the order of their turns: in round K these are
+ * load file K modulo the number of warriors, then those after it, then those before it. */
 typedef struct {
-    uint32_t warrior;     /* whose turn it was */
-    uint32_t address;     /* where its process stood */
-    uint32_t next;        /* whose turn is next */
-    uint32_t cycle;       /* how many cycles are complete then */
-    uint32_t died;        /* 1 where the warrior died */
-    uint32_t changes;     /* how many writes of cells, 0 to 3 */
-    uint32_t queued;      /* how many processes were queued, 0 to 2 */
+    uint32_t warrior;     /* warrior of the turn */
+    uint32_t address;     /* address of the process that was executed */
+    uint32_t next;        /* warrior whose turn is next */
+    uint32_t cycle;       /* number of cycles completed after the turn */
+    uint32_t died;        /* 1 if the warrior died */
+    uint32_t changes;     /* number of writes, 0 to 3 */
+    uint32_t queued;      /* number of processes that were queued, 0 to 2 */
     MarsChange change[3]; /* the writes, in the order of execution */
-    uint32_t process[2];  /* where the processes stand that were queued */
+    uint32_t process[2];  /* addresses of the processes that were queued */
 } MarsRecord;
 
-/* The cells that a turn reads or writes: the instruction; for A those by which an indirect mode goes, by the read limit and by the
- * write limit, and the one that is copied; the same for B; and the one that B leads to for writing. They are named whatever the
- * opcode makes of them, and a cell may come more than once. */
+/* The cells that a turn reads or writes: the instruction; for A the cells that an indirect mode uses, within the read limit and within
+ * the write limit, and the one that is copied; the same for B; and the target of B for writing. They are listed whether the opcode
+ * uses them or not, and a cell may be listed several times. */
 typedef struct {
-    uint32_t count;      /* how many addresses there are, 4 to 8 */
-    uint32_t address[8]; /* in this order; what doesn't apply is 0 */
+    uint32_t count;      /* number of addresses, 4 to 8 */
+    uint32_t address[8]; /* in this order; unused ones are 0 */
 } MarsTouched;
 
-/* A death: which warrior, and how many turns had been made by all then, its last one among them. */
+/* A death: the warrior, and the number of turns that all warriors had executed, including its last one. */
 typedef struct {
     uint32_t warrior;
     uint32_t turns;
 } MarsDeath;
 
-/* Where a battle stands. */
+/* The state of a battle. */
 typedef struct {
-    uint32_t turns;   /* that were made by all warriors together */
-    uint32_t cycle;   /* how many cycles are complete */
-    uint32_t next;    /* whose turn is next */
-    uint32_t over;    /* 1 where no turn is left */
-    size_t processes; /* of all warriors together */
-    size_t deaths;
+    uint32_t turns;   /* number of turns that all warriors have executed together */
+    uint32_t cycle;   /* number of completed cycles */
+    uint32_t next;    /* warrior whose turn is next */
+    uint32_t over;    /* 1 if no turn is left */
+    size_t processes; /* number of processes of all warriors together */
+    size_t deaths;    /* number of deaths */
 } MarsStanding;
 
 /* Why a call wasn't done; what doesn't apply is 0. */
@@ -148,69 +147,68 @@ typedef struct {
 } MarsFault;
 
 /* Assembles a source to a load file of version 2, into the front of the buffer. *length is its length in bytes, also where the
- * answer is MARS_ROOM. `warriors` is what WARRIORS stands for, and settings->rounds what ROUNDS does; seed and position aren't
- * looked at. */
+ * call returns MARS_ROOM. `warriors` is the value of WARRIORS, and settings->rounds that of ROUNDS. Seed and position are ignored. */
 uint32_t mars_assemble(const MarsSettings *settings, uint32_t warriors,
                        const uint8_t *source, size_t source_length,
                        uint8_t *buffer, size_t buffer_length, size_t *length, MarsFault *fault);
 
-/* Tells where the instructions of a source stand in it: the buffer begins with a line for each cell of its warrior, in order. It has
- * the number of the instruction's line, from 1, in decimal, then each of its labels behind a blank, then LF. A line of a loop comes
- * once for each round, joins and counters are done, and an instruction of an EQU name has the line where the name stands as operation.
- * A label on a line that is no instruction is that of the next one, if there is one. Arguments and answers are those of mars_assemble;
+/* Maps the cells of a warrior to the lines of its source. The buffer begins with a line of text for each cell, in order: the decimal
+ * number of the line in the source, from 1, then each of its labels after a space, then LF. A line in a loop occurs once per iteration,
+ * with joins and counters replaced. An instruction from an EQU name has the line that uses the name as its operation. A label on a
+ * line without an instruction belongs to the next instruction, if there is one. Arguments and results are those of mars_assemble;
  * *length is the length of the text. Since version 1001. */
 uint32_t mars_lines(const MarsSettings *settings, uint32_t warriors,
                     const uint8_t *source, size_t source_length,
                     uint8_t *buffer, size_t buffer_length, size_t *length, MarsFault *fault);
 
-/* Fights a match of 1 to 16 warriors. Their load files lie one behind the other in `loads`, `lengths` has the bytes of each, and
- * there is a row for each, in the same order. `formula` is what a survivor gets, as "(W*W-1)/S". */
+/* Runs a match of 1 to 16 warriors. `loads` has their load files, one after the other, `lengths` has the length of each in bytes, and
+ * there is a row for each, in the same order. `formula` is the score of each survivor, such as "(W*W-1)/S", with W warriors and S
+ * survivors. */
 uint32_t mars_match(const MarsSettings *settings, const uint8_t *formula, size_t formula_length,
                     const uint8_t *loads, size_t loads_length, const size_t *lengths, size_t warriors,
                     MarsRow *rows, size_t row_count, MarsFault *fault);
 
-/* Fights a league of up to 65536 warriors: a match of every two. There is a row for each, and no position; one warrior, or none,
- * fights nothing. */
+/* Runs a league of up to 65536 warriors: a match of every two. There is a row for each warrior, and no position. With one warrior, or
+ * none, there are no matches. */
 uint32_t mars_league(const MarsSettings *settings, const uint8_t *formula, size_t formula_length,
                      const uint8_t *loads, size_t loads_length, const size_t *lengths, size_t warriors,
                      MarsRow *rows, size_t row_count, MarsFault *fault);
 
-/* Fights a match of each candidate with each opponent, the candidate first. The first `row_count` warriors are the candidates,
- * the others the opponents; each row is the sum of a candidate's rows. Each load file is read once. */
+/* Runs a match of each candidate with each opponent; the candidate is the first warrior. The first `row_count` load files are candidates,
+ * the others are opponents. Each row is the sum of a candidate's rows. Each load file is read once. */
 uint32_t mars_population(const MarsSettings *settings, const uint8_t *formula, size_t formula_length,
                          const uint8_t *loads, size_t loads_length, const size_t *lengths, size_t warriors,
                          MarsRow *rows, size_t row_count, MarsFault *fault);
 
-/* Debugs the battle of the first round: `lines` are what the debugger reads, and the buffer gets what it answers. `history` is
- * how many places can be gone back, 1 to 1000000; 160 bytes are asked of malloc for each at once, and touched as turns are made.
- * `rounds` is judged, though one round is debugged. *length is the length of the answers, also where the answer is MARS_ROOM. */
+/* Debugs the battle of the first round: `lines` has the debugger's commands, and the buffer gets its replies. `history` is the size of
+ * the history in places, 1 to 1000000; 160 bytes for each place are allocated at once, and touched as turns are executed. `rounds` is
+ * checked, although only one round is debugged. *length is the length of the replies, also if the call returns MARS_ROOM. */
 uint32_t mars_debug(const MarsSettings *settings,
                     const uint8_t *loads, size_t loads_length, const size_t *lengths, size_t warriors,
                     uint32_t history, const uint8_t *lines, size_t lines_length,
                     uint8_t *buffer, size_t buffer_length, size_t *length, MarsFault *fault);
 
-/* Records turns. The battle of a round, from 0 to the rounds less 1, is debugged by the lines, as mars_debug does; what the
- * debugger answers is dropped. From where the lines lead it (none: from its start) it is played on: the first `first` turns aren't
- * recorded, and then row k gets turn first + k, counted from 0, as long as there are rows and turns. *count is how many turns
- * there are from `first` on to the end, so as many rows are written as the lesser of *count and row_count; the others stay as they
- * were. With no row it tells that alone. Where the answer isn't 0, *count is as it was, too. */
+/* Records turns. First the battle of a round, from 0 to the number of rounds minus 1, is debugged by the lines, as mars_debug does,
+ * without replies. From there the battle continues: `first` turns are not recorded, and then row k gets turn first + k, counted from 0,
+ * while there are rows and turns. *count is the number of turns from `first` to the end, so min(*count, row_count) rows are written;
+ * the others stay unchanged. Without rows only *count is written. If the call does not return 0, *count is unchanged, too. */
 uint32_t mars_record(const MarsSettings *settings,
                      const uint8_t *loads, size_t loads_length, const size_t *lengths, size_t warriors,
                      uint32_t round, uint32_t history, const uint8_t *lines, size_t lines_length,
                      uint32_t first, MarsRecord *rows, size_t row_count, size_t *count, MarsFault *fault);
 
-/* Tells which cells turns read or write: the same battle and the same turns, and a row for each as mars_record has. Since version
+/* Lists the cells that turns read or write, with the same arguments as mars_record and a row for each of the same turns. Since version
  * 1002. */
 uint32_t mars_touched(const MarsSettings *settings,
                       const uint8_t *loads, size_t loads_length, const size_t *lengths, size_t warriors,
                       uint32_t round, uint32_t history, const uint8_t *lines, size_t lines_length,
                       uint32_t first, MarsTouched *rows, size_t row_count, size_t *count, MarsFault *fault);
 
-/* Shows where the same battle stands `turns` turns further on, or at its end, where there are fewer: each cell of the core; how
- * many processes each warrior has; where these stand, one queue behind the other, the front of each first; and the deaths in
- * order. Each buffer begins with these, and goes on as it was. There are as many cells as the core has, as many counts as
- * warriors, at most as many deaths; processes and deaths are counted in *standing, also where the answer is MARS_ROOM, which comes
- * where one of the buffers is too short. */
+/* Writes the state of the same battle after another `turns` turns, or at its end if fewer are left: the cells of the core; the number
+ * of processes of each warrior; the addresses of these processes, one queue after the other, the front of each first; and the deaths in
+ * order. Each buffer begins with its values; the rest of it is unchanged. The number of cells is the core size, that of counts is the
+ * number of warriors, and there are at most as many deaths. *standing has the numbers of processes and deaths, also if the call
+ * returns MARS_ROOM because a buffer is too short. */
 uint32_t mars_state(const MarsSettings *settings,
                     const uint8_t *loads, size_t loads_length, const size_t *lengths, size_t warriors,
                     uint32_t round, uint32_t history, const uint8_t *lines, size_t lines_length, uint32_t turns,

@@ -9,7 +9,7 @@ BUILT = os.path.join(TOP, "crates", CRATE, "out", CRATE)
 
 
 class NoProgram(Exception):
-    """There is no program to run; its text says which was asked for."""
+    """There is no program to run; the text names it."""
 
 
 def find_program(given=None):
@@ -17,5 +17,5 @@ def find_program(given=None):
     known = (path for path in (BUILT, shutil.which("mars")) if path and os.path.isfile(path))
     program = given or next(known, BUILT)
     if not os.path.isfile(program) or not os.access(program, os.X_OK):
-        raise NoProgram(f"no program: {program}" + ("" if given else "; `./mars --help` proves and builds it"))
+        raise NoProgram(f"{program}: no such program" + ("" if given else "; prove and build it with `./mars --help`"))
     return os.path.abspath(program)

@@ -1,4 +1,4 @@
-"""Tells on standard error how far a start is, and about how long it takes still."""
+"""Reports the progress of a build on standard error, with the remaining time."""
 import json
 import shutil
 import sys
@@ -58,7 +58,7 @@ class Progress:
         if time.monotonic() - self.told >= (1 if self.is_terminal else SILENCE):
             seconds = time.monotonic() - self.begun
             parts = [f"mars: {len(self.proved)} of {self.count} crates proved in {clock(seconds)}", *self.time_left(seconds)]
-            self.tell(f"{', '.join(parts)}; {' and '.join(at_work)} under way")
+            self.tell(f"{', '.join(parts)}; proving {' and '.join(at_work)}")
 
     def time_left(self, seconds):
         left = self.reckoning.left(self.proved, seconds) if self.reckoning else 0

@@ -23,10 +23,10 @@ MEMORY_OF_A_JOB = 3_300_000_000
 
 
 class NotProved(Exception):
-    """A crate isn't proved; what the prover said."""
+    """A crate could not be proved; `said` is the output of the prover."""
 
     def __init__(self, name, said):
-        super().__init__(f"{crate_of(name)} isn't proved")
+        super().__init__(f"cannot prove {crate_of(name)}")
         self.said = said
 
 

@@ -56,7 +56,7 @@ def test_faults(run: Run) -> None:
         done = run("challenge", *files)
         assert (done.returncode, done.stdout) == (1, "") and "broken.red: line 1: 2 Operation" in done.stderr
     done = run("challenge", "stay.red")
-    assert done.returncode == 2 and "at least two files are asked for" in done.stderr
+    assert done.returncode == 2 and "expected at least two files" in done.stderr
 
 
 def test_results_are_kept(run: Run, tmp_path: Path) -> None:
@@ -66,4 +66,4 @@ def test_results_are_kept(run: Run, tmp_path: Path) -> None:
     assert told.returncode == 0
     assert run("challenge", "--sum", *words).stdout == "      24      8      0      0        0  sum of 2\n"
     turned = run("challenge", "--results", "kept.sqlite", "-r", 4, "late.red", "stay.red")
-    assert turned.stderr.startswith("corewar: 1 of 1 matches are kept the other way round alone")
+    assert turned.stderr.startswith("corewar: 1 of 1 matches are stored only with the warriors in the other order")

@@ -19,7 +19,7 @@ from conftest import ENVIRONMENT, EXAMPLES, TOP, Run, begin
 pytest.importorskip("distributed", reason="package python3-distributed")
 
 FILES = sorted(path.name for path in EXAMPLES.glob("*.red"))[:8]
-ABSENT = "corewar: no worker is there: the matches wait for one\n"
+ABSENT = "corewar: the scheduler has no workers; waiting for one\n"
 # A league of some examples that takes a worker some seconds.
 LONG = 400
 Start = Callable[..., "subprocess.Popen[bytes]"]
@@ -110,7 +110,8 @@ def test_a_worker_without_the_package(run: Run, start: Start, scheduler: tuple[s
     told = run("league", "--scheduler", scheduler[0], *FILES, cwd=EXAMPLES)
     assert told.returncode == 1
     assert (
-        told.stderr.removeprefix(ABSENT) == "corewar: a worker doesn't have this package: No module named 'corewar'\n"
+        told.stderr.removeprefix(ABSENT)
+        == "corewar: this package is not installed on a worker: No module named 'corewar'\n"
     )
 
 

@@ -55,10 +55,10 @@ def test_moves() -> None:
     ):
         execute(session, line)
         assert session.turn == turn, line
-    assert refused(session, "until 5") == "behind turn 7798 no cycle 5 is completed"
+    assert refused(session, "until 5") == "cycle 5 is not completed after turn 7798"
     assert execute(session, "goto end")[-1] == "the battle is over: Dwarf lives"
-    assert refused(session, "goto 7799") == "the battle has turn 0 to turn 7798"
-    assert refused(session, "step imp") == "Imp has no turn behind turn 7798"
+    assert refused(session, "goto 7799") == "the battle has turns 0 to 7798"
+    assert refused(session, "step imp") == "Imp has no turn after turn 7798"
 
 
 def test_searches_go_both_ways() -> None:
@@ -67,17 +67,17 @@ def test_searches_go_both_ways() -> None:
     assert execute(session, "c changes 1300..1400 by imp")[0] == "changes 1300..1400 by Imp:" and session.turn == 2
     assert execute(session, "c dies imp")[0] == "dies Imp:" and session.turn == 7798
     assert execute(session, "rc at 0")[1].startswith("turn 7794: Imp") and session.turn == 7794
-    assert refused(session, "continue").startswith("there is no break")
-    assert execute(session, "b changes 3") == ["break 0: changes 3 (bomb)"]
-    assert execute(session, "b dies Imp") == ["break 0: changes 3 (bomb)", "break 1: dies Imp"]
+    assert refused(session, "continue").startswith("no breakpoint is set")
+    assert execute(session, "b changes 3") == ["breakpoint 0: changes 3 (bomb)"]
+    assert execute(session, "b dies Imp") == ["breakpoint 0: changes 3 (bomb)", "breakpoint 1: dies Imp"]
     execute(session, "goto 0")
     assert execute(session, "c")[0] == "changes 3 (bomb):"
-    assert refused(session, "delete") == "there is no break ``: delete takes a number, or `all`"
-    assert execute(session, "d 0") == ["break 0: dies Imp"]
+    assert refused(session, "delete") == "no breakpoint ``; expected a number or `all`"
+    assert execute(session, "d 0") == ["breakpoint 0: dies Imp"]
     assert execute(session, "d all") == []
     assert refused(session, "rc dies imp") == "not found before turn 1"
-    assert refused(session, "c dies nobody") == "`nobody` is no warrior: 0 Dwarf, 1 Imp"
-    assert refused(session, "break sees 3").startswith("a condition is at, changes or reads A")
+    assert refused(session, "c dies nobody") == "no warrior `nobody`; the warriors are 0 Dwarf, 1 Imp"
+    assert refused(session, "break sees 3").startswith("expected a condition: at, changes or reads A")
     assert execute(session, "c reads bomb")[:2] == [
         "reads 3 (bomb):",
         "turn 3: Dwarf at 1: MOV.I $2, @2; reads 3 (bomb); 7: DAT.F $0, $0 -> DAT.F #0, #4; then at 2",
@@ -92,8 +92,8 @@ def test_edits_make_futures() -> None:
     assert execute(session, "edit 0 jmp 2") == ["0 (loop): ADD.AB #4, $3 -> JMP.B $2, $0"]
     assert session.history.end == 160000
     assert execute(session, "futures") == [
-        "  0: as it was; 7798 turns",
-        "> 1: behind turn 6: edit 0 JMP.B $2, $0; 160000 turns",
+        "  0: no edits; 7798 turns",
+        "> 1: after turn 6: edit 0 JMP.B $2, $0; 160000 turns",
     ]
     assert execute(session, "spawn imp 100") == ["Imp: 1308 100"]
     assert execute(session, "move imp 1 200") == ["Imp: 1308 200"]
@@ -104,12 +104,13 @@ def test_edits_make_futures() -> None:
     execute(session, "undo")
     assert len(session.history.edits) == 5
     assert (
-        refused(session, "edit 8000 nop") == "`8000` is no address: a number below 8000, a label, or `.`, with +N or -N"
+        refused(session, "edit 8000 nop")
+        == "`8000` is not an address: a number below 8000, a label or `.`, with or without +N or -N"
     )
-    assert refused(session, "edit 0 mvo 1").startswith("`mvo 1` is no cell: ")
-    assert refused(session, "kill imp 3") == "Imp has no process 3: it has 1"
-    assert refused(session, "futures 9") == "there are the futures 0 to 5"
-    assert refused(session, "fill 5 3 nop") == "from 5 to 3 there are no 1 to 1000000 cells"
+    assert refused(session, "edit 0 mvo 1").startswith("`mvo 1` is not an instruction: ")
+    assert refused(session, "kill imp 3") == "Imp has no process 3; its number of processes is 1"
+    assert refused(session, "futures 9") == "no future 9; there are futures 0 to 5"
+    assert refused(session, "fill 5 3 nop") == "cannot fill 5 to 3: expected 1 to 1000000 cells"
 
 
 def test_what_is_told() -> None:
@@ -126,8 +127,8 @@ def test_what_is_told() -> None:
         "turn 7798: Imp at 5203: DAT.F #0, #-2800",
         "Cell 5203 was last changed in turn 7797:",
     ]
-    assert execute(session, "why dwarf") == ["Dwarf lives after turn 7798, the last one."]
-    assert execute(session, "changed 4") == ["Cell 4 wasn't changed since the start."]
+    assert execute(session, "why dwarf") == ["Dwarf is alive after turn 7798, the last one."]
+    assert execute(session, "changed 4") == ["Cell 4 has not changed since the start."]
     assert execute(session, "queue imp") == ["Imp:"]
     assert [line.split()[0] for line in execute(session, "list 7999 3")] == ["7999", "0", "1"]
 
@@ -138,8 +139,8 @@ def test_help_tells_each_command() -> None:
     assert all(one.usage in told for one in COMMANDS.values())
     assert execute(session, "help step")[0].startswith("step [N|W]")
     assert find_command("cont").name == "continue"
-    assert refused(session, "re") == "`re` is short for reverse-step, reverse-continue, redo"
-    assert refused(session, "frobnicate") == "`frobnicate` is no command: help tells them"
+    assert refused(session, "re") == "`re` can mean reverse-step, reverse-continue, redo"
+    assert refused(session, "frobnicate") == "unknown command `frobnicate`; `help` lists all commands"
     with pytest.raises(Left):
         execute(session, "quit")
 
@@ -148,7 +149,7 @@ def test_over_a_pipe(run: Run) -> None:
     done = run("debug", "@dwarf", "@imp", given="step\n\nbad\nundo\nlog kept\nstep 2\nlog\nquit\nstep\n")
     lines = done.stdout.splitlines()
     assert (done.returncode, done.stderr) == (0, "")
-    assert lines[0].startswith("turn 1: Dwarf") and lines[2] == "`bad` is no command: help tells them"
+    assert lines[0].startswith("turn 1: Dwarf") and lines[2] == "unknown command `bad`; `help` lists all commands"
     assert lines[-1] == "next: Dwarf at 1: MOV.I $2, @2    ; 10: MOV bomb, @bomb"
     again = run("debug", "@dwarf", "@imp", "--turn", 4, given="source kept\nsource nowhere\n")
     assert again.stdout.splitlines()[0].startswith("turn 6: Imp")
@@ -159,11 +160,11 @@ def test_deaths_and_cells_by_hand() -> None:
     """What an edit did is told as that, also before the first turn."""
     session = session_of("dwarf", "imp")
     execute(session, "kill imp 0")
-    assert execute(session, "why") == ["Imp was killed by hand behind turn 0."]
+    assert execute(session, "why") == ["Imp was killed by an edit after turn 0."]
     execute(session, "futures 0")
     execute(session, "goto 5")
     execute(session, "kill imp 0")
-    assert execute(session, "why imp") == ["Imp was killed by hand behind turn 5."]
+    assert execute(session, "why imp") == ["Imp was killed by an edit after turn 5."]
     execute(session, "futures 0")
     execute(session, "goto 7797")
     execute(session, "edit . jmp 0")
@@ -200,7 +201,7 @@ def test_at_a_terminal(tmp_path: object) -> None:
     words = ["debug", str(EXAMPLES / "dwarf.red"), str(EXAMPLES / "imp.red")]
     environment = {**os.environ, "XDG_STATE_HOME": str(tmp_path), "TERM": "xterm"}
     with pexpect.spawn(str(top / "corewar"), words, env=environment, timeout=20, encoding="utf-8") as child:
-        child.expect("Dwarf against Imp; help tells the commands")
+        child.expect("Dwarf against Imp; `help` lists the commands")
         child.expect("turn 0>")
         child.send("step\r")
         child.expect("ADD.AB")

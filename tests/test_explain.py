@@ -1,4 +1,4 @@
-"""explain: the causes of faults that happen, what pMARS reads otherwise, and sources that are mended."""
+"""explain: the causes of errors that happen, what pMARS reads differently, and sources that are fixed."""
 from __future__ import annotations
 
 import subprocess
@@ -9,7 +9,7 @@ import pytest
 from conftest import TOP, Run
 
 from corewar.engine.calls import load_file
-from corewar.explain import mend, read_faults, read_otherwise, told, told_of
+from corewar.explain import fix, read_faults, read_otherwise, told, told_of
 from corewar.explain.meanings import EXPRESSION, KINDS
 from corewar.explain.source import MODIFIERS, OPERATIONS, PREDEFINED
 from corewar.model.faults import ASSEMBLY, FORMULA, PROBLEMS, Fault
@@ -18,28 +18,40 @@ from corewar.model.settings import Settings
 # A source, the fault that the library finds in it, and what has to be said of it.
 SOURCES = [
     # Misspelt opcodes, also where another line has the fault.
-    ("MVO #1, 2\n", "line 1: 2 Operation", "`MVO` is read as a label: is MOV meant?"),
-    ("go MVO bomb, 2\nbomb dat 0\n", "line 2: 1 Text 7 Duplicate", "In line 1 `MVO` is read as a label: is MOV meant?"),
-    ("go mov 0, 1\nJPM go\n", "line 2: 1 Text 7 Duplicate", "`JPM` is read as a label: is JMP meant?"),
-    ("ldp 0, 1\n", "line 1: 2 Operation", "P-space and the like are left out."),
-    ("mov.q 0, 1\n", "line 1: 2 Operation", "`.q` is no modifier: there are A, B, AB, BA, F, X, I."),
-    ("i FOR 3\nmov.i 0, i\nROF\n", "line 2: 2 Operation", "`i` is the counter of the loop of line 1"),
+    ("MVO #1, 2\n", "line 1: 2 Operation", "`MVO` is read as a label; did you mean `MOV`?"),
+    (
+        "go MVO bomb, 2\nbomb dat 0\n",
+        "line 2: 1 Text 7 Duplicate",
+        "In line 1, `MVO` is read as a label; did you mean `MOV`?",
+    ),
+    ("go mov 0, 1\nJPM go\n", "line 2: 1 Text 7 Duplicate", "`JPM` is read as a label; did you mean `JMP`?"),
+    ("ldp 0, 1\n", "line 1: 2 Operation", "P-space and other extensions are not supported."),
+    ("mov.q 0, 1\n", "line 1: 2 Operation", "`.q` is not a modifier; the modifiers are A, B, AB, BA, F, X, I."),
+    ("i FOR 3\nmov.i 0, i\nROF\n", "line 2: 2 Operation", "`i` is the counter of the loop in line 1"),
     ("A FOR 3\nmov.A 0, A\nROF\n", "line 2: 2 Operation", "write `.a`"),
     ("x EQU 3\nx dat 0\n", "line 2: 2 Operation", "`x` is the EQU name of line 1"),
     # Names that aren't defined.
-    ("loop mov 0, 1\njmp lop\n", "line 2: 4 Expression 2 Unknown", "`lop` isn't defined. Is `loop` (line 1) meant?"),
-    ("Bomb dat 0\nmov bomb, 1\n", "line 2: 4 Expression 2 Unknown", "case counts. Is `Bomb` (line 1) meant?"),
-    ("dat CORSIZE\n", "line 1: 4 Expression 2 Unknown", "Is `CORESIZE` meant?"),
-    ("x EQU zzz+1\nmov x, 1\n", "line 2: 4 Expression 2 Unknown", "`zzz` isn't defined: no line has it"),
-    ("go dat 0\n;assert go == 0\n", "line 2: 4 Expression 2 Unknown", "`go` is a label: an assert knows"),
-    (";assert PSPACESIZE\ndat 0\n", "line 1: 4 Expression 2 Unknown", "P-space is left out"),
-    ("go dat 0\n;REDCODE-94\njmp go\n", "line 3: 4 Expression 2 Unknown", "the `;redcode` of line 2 is ignored."),
-    ("jmp go\nEND\ngo dat 0\n", "line 1: 4 Expression 2 Unknown", "the END of line 2 stops reading."),
+    (
+        "loop mov 0, 1\njmp lop\n",
+        "line 2: 4 Expression 2 Unknown",
+        "`lop` is not defined; did you mean `loop` (line 1)?",
+    ),
+    (
+        "Bomb dat 0\nmov bomb, 1\n",
+        "line 2: 4 Expression 2 Unknown",
+        "(names are case-sensitive); did you mean `Bomb` (line 1)?",
+    ),
+    ("dat CORSIZE\n", "line 1: 4 Expression 2 Unknown", "did you mean `CORESIZE`?"),
+    ("x EQU zzz+1\nmov x, 1\n", "line 2: 4 Expression 2 Unknown", "`zzz` is not defined: no line has it"),
+    ("go dat 0\n;assert go == 0\n", "line 2: 4 Expression 2 Unknown", "`go` is a label; an assert can use only"),
+    (";assert PSPACESIZE\ndat 0\n", "line 1: 4 Expression 2 Unknown", "P-space is not supported"),
+    ("go dat 0\n;REDCODE-94\njmp go\n", "line 3: 4 Expression 2 Unknown", "the `;redcode` in line 2 is ignored."),
+    ("jmp go\nEND\ngo dat 0\n", "line 1: 4 Expression 2 Unknown", "reading stops at the END in line 2."),
     ("mov dat, 1\n", "line 1: 4 Expression 2 Unknown", "`dat` is an opcode"),
     (
         "go FOR 3\ndat 0\nROF\nEND go\n",
         "line 4: 4 Expression 2 Unknown",
-        "`go` before the FOR of line 1 is its counter",
+        "`go` is the counter of the FOR in line 1",
     ),
     # What is missing, and what isn't Redcode.
     ("mov 0 1\n", "line 1: 4 Expression 1 Syntax", "A comma may be missing between `0` and `1`."),
@@ -47,23 +59,23 @@ SOURCES = [
     ("mov (1, 2\n", "line 1: 4 Expression 1 Syntax", "Parentheses: 1 opened, 0 closed."),
     ("MOV 0, 1 // the imp\n", "line 1: 4 Expression 1 Syntax", "A comment begins with `;`."),
     ("// a bomber\nmov 0, 1\n", "line 1: 2 Operation", "A comment begins with `;`."),
-    ("mod MOV 0, 1\n", "line 1: 4 Expression 1 Syntax", "`mod` is an opcode, so no label"),
-    ("my-loop MOV 0, 1\n", "line 1: 2 Operation", "A name has no `-`: write `my_loop`."),
+    ("mod MOV 0, 1\n", "line 1: 4 Expression 1 Syntax", "`mod` is an opcode and cannot be a label"),
+    ("my-loop MOV 0, 1\n", "line 1: 2 Operation", "A name cannot contain `-`; write `my_loop`."),
     # Duplicates.
-    ("a dat 0\na dat 0\n", "line 2: 1 Text 7 Duplicate", "`a` stands in line 1 already."),
-    ("a EQU 1\na EQU 2\n", "line 2: 1 Text 7 Duplicate", "`a` stands in line 1 already."),
+    ("a dat 0\na dat 0\n", "line 2: 1 Text 7 Duplicate", "`a` is already defined in line 1."),
+    ("a EQU 1\na EQU 2\n", "line 2: 1 Text 7 Duplicate", "`a` is already defined in line 1."),
     ("copy\ndat 0\ncopy EQU mov 0, 1\n", "line 3: 1 Text 7 Duplicate", "Line 1 uses `copy` before this EQU"),
-    ("wait wait, <1\n", "line 1: 1 Text 7 Duplicate", "`wait` stands twice in this line"),
+    ("wait wait, <1\n", "line 1: 1 Text 7 Duplicate", "`wait` is in this line twice"),
     ("CORESIZE dat 0\n", "line 1: 1 Text 7 Duplicate", "`CORESIZE` is predefined"),
     ("i FOR 2\nx dat 0\nROF\n", "line 2: 1 Text 7 Duplicate", "write `x&i`"),
     # Not ASCII, and too long.
     ("mov 0, \u2018a\n", "line 1: 1 Text 1 NotAscii", "Column 8 has `\u2018`, left single quotation mark"),
     ("\ufeffmov 0, 1\n", "line 1: 1 Text 1 NotAscii", "The file begins with a byte order mark"),
-    ("dat 0\n" * 101, "line 101: 8 TooLong", "give a greater `-l`"),
+    ("dat 0\n" * 101, "line 101: 8 TooLong", "increase `-l`"),
     # Faults of which the text shows no cause: what they mean.
-    ("mov 0, 1.5\n", "line 1: 4 Expression 1 Syntax", "Something is missing in the expression"),
+    ("mov 0, 1.5\n", "line 1: 4 Expression 1 Syntax", "The expression is incomplete"),
     ("i FOR 2\nx&j dat 0\nROF\n", "line 2: 1 Text 2 BadToken", "`&` joins the counter of an open loop"),
-    ("FOR 1/0\ndat 0\nROF\n", "line 1: 1 Text 10 Expression 3 DivideByZero", "A division, or a remainder, by zero."),
+    ("FOR 1/0\ndat 0\nROF\n", "line 1: 1 Text 10 Expression 3 DivideByZero", "A division or remainder by zero."),
     ("; nothing\n", "line 0: 7 Empty", "No line that is read has an opcode"),
 ]
 
@@ -113,21 +125,21 @@ def test_standard_input(run: Run, tmp_path: Path) -> None:
     line = "league: mars: slip.red: line 3: 1 Text 7 Duplicate"
     shown = (
         f"{line}\n     2 |         JMP     go\n>    3 | bomb    DAT     #0, #0\n"
-        "In line 1 `MVO` is read as a label: is MOV meant?\n"
+        "In line 1, `MVO` is read as a label; did you mean `MOV`?\n"
     )
     assert run("explain", given=f"a table\n{line}\n").stdout == shown
     told = run("explain", "slip.red")
-    assert (told.returncode, told.stdout) == (0, shown.replace("league: mars: ", ""))
+    assert (told.returncode, told.stdout) == (1, shown.replace("league: mars: ", ""))
     told = run("why", "slip.red")
     assert told.returncode == 1 and told.stderr == (
-        "corewar: slip.red: line 3: 1 Text 7 Duplicate\n  In line 1 `MVO` is read as a label: is MOV meant?\n"
+        "corewar: slip.red: line 3: 1 Text 7 Duplicate\n  In line 1, `MVO` is read as a label; did you mean `MOV`?\n"
     )
     gone = "mars: none.red: line 7: 4 Expression 2 Unknown"
     assert run("explain", given=gone).stdout == (
-        f"{gone}\nA name stands for nothing: no label, EQU name or predefined name is called so.\n"
+        f"{gone}\nA name is undefined: it is not a label, an EQU name or a predefined name.\n"
     )
-    nothing = run("explain", given="no fault\n")
-    assert (nothing.returncode, nothing.stderr) == (1, "corewar: no line tells a fault\n")
+    nothing = run("explain", given="no error\n")
+    assert (nothing.returncode, nothing.stderr) == (1, "corewar: no error message found in the input\n")
     large = run("explain", given=f"{gone}\n" * 30000)
     assert (large.returncode, large.stderr) == (1, "corewar: -: too large\n")
 
@@ -135,11 +147,11 @@ def test_standard_input(run: Run, tmp_path: Path) -> None:
 def test_files(run: Run, tmp_path: Path) -> None:
     (tmp_path / "long.red").write_text("dat 0\n" * 101)
     (tmp_path / "bad.load").write_text("MOV 0\n")
-    assert run("explain", "@dwarf", "@imp").stdout.count("no fault") == 2
-    assert "give a greater `-l`" in run("explain", "long.red").stdout
-    assert run("explain", "-l", 101, "-d", 101, "long.red").stdout == "long.red: no fault\n"
+    assert run("explain", "@dwarf", "@imp").stdout.count(": no error\n") == 2
+    assert "increase `-l`" in run("explain", "long.red").stdout
+    assert run("explain", "-l", 101, "-d", 101, "long.red").stdout == "long.red: no error\n"
     assert run("explain", "bad.load").stdout.startswith(
-        "bad.load: line 1: load 1 Syntax\n>    1 | MOV 0\nThis line isn't of the"
+        "bad.load: line 1: load 1 Syntax\n>    1 | MOV 0\nThis line is not valid in a load file"
     )
     missing = run("explain", "none.red")
     assert (missing.returncode, missing.stderr) == (1, "corewar: none.red: No such file or directory\n")
@@ -162,23 +174,23 @@ def test_pmars(run: Run, tmp_path: Path) -> None:
     (tmp_path / "other.red").write_text(OTHERWISE)
     lines = run("explain", "--pmars", "other.red").stdout.splitlines()
     expected = ["line 1: pMARS obeys `; name`", "line 3: pMARS takes `start`", "line 4: pMARS reads `DAT #0, 1`"]
-    expected += ["line 6: pMARS joins `i`", "line 7: pMARS reads `.i` as a modifier"]
+    expected += ["line 6: pMARS joins the counter `i`", "line 7: pMARS reads `.i` as a modifier"]
     assert len(lines) == 5 and all(line.startswith(f"other.red: {told}") for line, told in zip(lines, expected))
-    assert run("explain", "--pmars", "@dwarf").stdout.endswith("dwarf.red: pMARS reads it as this kit does.\n")
+    assert run("explain", "--pmars", "@dwarf").stdout.endswith("dwarf.red: pMARS reads it in the same way.\n")
     assert read_otherwise(b"i FOR 2\nmov.I 0, i\nROF\nx equ 2\n") == []
     assert run("explain", "--pmars").returncode == 2
 
 
-def test_mend(run: Run, tmp_path: Path) -> None:
-    """A counter that is spelt like a modifier of its loop gets another name; comments and other loops stay."""
+def test_fix(run: Run, tmp_path: Path) -> None:
+    """A counter with the name of a modifier of its loop is renamed; comments and other loops stay."""
     source = b"i_ dat 0, i_\ni FOR 2\nmov.i 0, i ; i\nx&i jmp x&i, i_\nROF\ni FOR 2\ny&i dat i\nROF\n"
     (tmp_path / "scan.red").write_bytes(source)
-    mended = run("explain", "--mend", "scan.red").stdout.encode()
-    assert mended == source.replace(b"i FOR 2\nmov.i 0, i ;", b"i__ FOR 2\nmov.i 0, i__ ;").replace(
+    fixed = run("explain", "--fix", "scan.red").stdout.encode()
+    assert fixed == source.replace(b"i FOR 2\nmov.i 0, i ;", b"i__ FOR 2\nmov.i 0, i__ ;").replace(
         b"x&i jmp x&i", b"x&i__ jmp x&i__"
     )
-    assert load_file(mended) == load_file(source.replace(b"mov.i", b"mov.I"))
-    assert mend(b"i FOR 2\r\nmov.I 0, i\r\nROF") == b"i FOR 2\r\nmov.I 0, i\r\nROF"
+    assert load_file(fixed) == load_file(source.replace(b"mov.i", b"mov.I"))
+    assert fix(b"i FOR 2\r\nmov.I 0, i\r\nROF") == b"i FOR 2\r\nmov.I 0, i\r\nROF"
 
 
 def test_it_is_soon_there() -> None:
@@ -210,8 +222,8 @@ def test_it_is_soon_there() -> None:
 def test_faults_of_all_commands_are_explained(run: Run) -> None:
     """Settings that don't go together are told with what to do."""
     told = run("why", "-l", 200, "@imp")
-    assert told.returncode == 1 and told.stderr.splitlines()[0] == "corewar: parameters 6 Distance"
-    assert "give `-d`" in told.stderr.splitlines()[1]
+    assert told.returncode == 2 and told.stderr.splitlines()[0] == "corewar: parameters 6 Distance"
+    assert "set `-d`" in told.stderr.splitlines()[1]
     program = subprocess.run([TOP / "crates/mars/out/mars", "-l", "200", "x"], capture_output=True, text=True)
     assert run("explain", given=program.stderr).stdout.splitlines()[1] == told.stderr.splitlines()[1].strip()
     assert Settings().longest == 100
@@ -222,11 +234,15 @@ def test_words_of_mars(run: Run) -> None:
     program, imp = TOP / "crates" / "mars" / "out" / "mars", str(TOP / "examples" / "imp.red")
     cases = [
         ("-r", "requires an argument"),
-        ("-r -10 W", "-10 is not in the range 1<=x<=100000"),
+        ("-r -10 W", "expected a number from 1 to 100000, not `-10`"),
         ("", "Missing argument"),
     ]
-    cases += [("--see 3 W", "No such option: --see"), ("-k W", "No such option: -k"), ("-s 1048577 W", "1<=x<=1048576")]
-    cases += [("-r 1e3 W", "'1e3' is not a valid integer range"), ("-b=1 W", "No such option")]
+    cases += [
+        ("--see 3 W", "No such option: --see"),
+        ("-k W", "No such option: -k"),
+        ("-s 1048577 W", "from 1 to 1048576"),
+    ]
+    cases += [("-r 1e3 W", "expected a number from 1 to 100000, not `1e3`"), ("-b=1 W", "No such option")]
     cases += [
         (words, "")
         for words in ("-br10 W", "-r=10 W", "-r +10 W", "-ob W", "W -b", "-- W", "--seed=3 W", "--score=S W W")
@@ -237,4 +253,4 @@ def test_words_of_mars(run: Run) -> None:
         assert (done.stderr == "mars: bad words\n") == bool(wrong), text
         explained = run("explain", "mars", *words)
         assert explained.returncode == (2 if wrong else 0) and wrong in explained.stderr, text
-        assert wrong or explained.stdout.startswith("Each word is right alone.")
+        assert wrong or explained.stdout.startswith("Each argument is valid by itself.")

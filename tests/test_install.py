@@ -130,7 +130,7 @@ def test_what_is_not_built_is_told(tmp_path: Path) -> None:
     done = make("install", f"PREFIX={tmp_path}/prefix", "LIBRARY=none.a")
     assert (done.returncode, done.stderr.splitlines()[0]) == (
         2,
-        "none.a isn't built: scripts/library proves and builds it",
+        "none.a is not built; prove and build it with scripts/library",
     )
     assert not (tmp_path / "prefix").exists()
 

@@ -176,7 +176,7 @@ def test_pages(run: Run, folder: Path) -> None:
     assert "<canvas" in (folder / "web" / "late-same" / "round-0.html").read_text()
     assert [path.name for path in (folder / "web").iterdir() if path.is_dir()] == ["late-same"]
     told = run("league", "--pages", "web", "--page-pairs", "same,none", *LAST_FIRST)
-    assert told.returncode == 2 and "same,none doesn't name two of the files" in told.stderr
+    assert told.returncode == 2 and "expected two of the files, as in dwarf,imp, not `same,none`" in told.stderr
 
 
 def test_faults_of_files(run: Run, folder: Path) -> None:
@@ -187,10 +187,10 @@ def test_faults_of_files(run: Run, folder: Path) -> None:
     assert done.returncode == 1 and rows(done.stdout) == own_rows(folder, "-o -r 2 stay.red dead.red late.red")
     assert done.stderr.splitlines() == [
         "corewar: broken.red: line 1: 2 Operation",
-        "  `mvo` is read as a label: is MOV meant?",
+        "  `mvo` is read as a label; did you mean `MOV`?",
         "corewar: none.red: No such file or directory",
         "corewar: alone.red: line 1: 5 AssertFailed",
-        "  The value of this `;assert` is 0: the warrior isn't made for these settings.",
+        "  The value of this `;assert` is 0: the warrior was not written for these settings.",
         "corewar: /dev/zero: too large",
     ]
 
@@ -198,22 +198,22 @@ def test_faults_of_files(run: Run, folder: Path) -> None:
 @pytest.mark.parametrize(
     "words, status, told",
     [
-        ("-r 0", 2, "0 is not in the range 1<=x<=100000"),
-        ("-F 50", 1, "corewar: settings 3 Position"),
-        ("-l 200", 1, "corewar: parameters 6 Distance"),
-        ("--score X", 1, "corewar: formula 1 Expression 2 Unknown"),
+        ("-r 0", 2, "expected a number from 1 to 100000, not `0`"),
+        ("-F 50", 2, "corewar: settings 3 Position"),
+        ("-l 200", 2, "corewar: parameters 6 Distance"),
+        ("--score X", 2, "corewar: formula 1 Expression 2 Unknown"),
         ("-s 199", 1, "corewar: placement 1 NoRoom"),
         ("--score 1/(S-1)", 1, "corewar: score 3 DivideByZero"),
         ("--score 9223372036854775807 same.red", 1, "corewar: score 4 Range"),
-        ("--jobs 0", 2, "0 is not in the range x>=1"),
-        ("--results none/file", 2, "there is no folder none"),
-        ("-o none/file", 2, "there is no folder none"),
-        ("--picture m.gif", 2, "its name ends in .png, .svg or .pdf"),
-        ("--picture none/m.svg", 2, "there is no folder none"),
+        ("--jobs 0", 2, "expected a number of 1 or more, not `0`"),
+        ("--results none/file", 1, "corewar: none: no such folder"),
+        ("-o none/file", 1, "corewar: none: no such folder"),
+        ("--picture m.gif", 2, "expected a name that ends in .png, .svg or .pdf"),
+        ("--picture none/m.svg", 1, "corewar: none: no such folder"),
         ("--results broken.red", 1, "corewar: broken.red: file is not a database"),
-        ("--scheduler here", 2, "it is HOST:PORT, as in first.lan:8786"),
-        ("--scheduler tls://first.lan:1", 2, "it is HOST:PORT, as in first.lan:8786"),
-        ("--page-pairs stay,dead", 2, "--page-pairs goes with --pages"),
+        ("--scheduler here", 2, "expected HOST:PORT, as in first.lan:8786"),
+        ("--scheduler tls://first.lan:1", 2, "expected HOST:PORT, as in first.lan:8786"),
+        ("--page-pairs stay,dead", 2, "--page-pairs requires --pages"),
         ("--format yaml", 2, "'yaml' is not one of 'table', 'csv', 'json', 'matrix'"),
     ],
 )
@@ -224,7 +224,7 @@ def test_faults_of_words(run: Run, folder: Path, words: str, status: int, told: 
 
 def test_two_files_are_asked_for(run: Run, folder: Path) -> None:
     done = run("league", "stay.red")
-    assert done.returncode == 2 and "at least two files are asked for" in done.stderr
+    assert done.returncode == 2 and "expected at least two files" in done.stderr
 
 
 def test_no_file_has_a_warrior(run: Run, folder: Path) -> None:
@@ -241,7 +241,7 @@ def test_source_limit(run: Run, folder: Path) -> None:
     for limit, name, told in (("1", "slow.red", "more than 1 s"), ("60,200", "names.red", "more than 200 MB")):
         done = run("league", "--source-limit", limit, "-r", 4, "stay.red", name, "late.red")
         assert done.returncode == 1 and rows(done.stdout) == own_rows(folder, "-o -r 4 stay.red late.red")
-        assert done.stderr.startswith(f"corewar: {name}: {told} of ")
+        assert done.stderr.startswith(f"corewar: {name}: assembling takes {told} of ")
     words = "-c 10000000 -r 30 stay.red same.red"
     assert rows(run("league", "--source-limit", 1, *words.split()).stdout) == own_rows(folder, f"-o {words}")
 
@@ -277,7 +277,7 @@ def test_it_goes_on_where_it_was_ended(folder: Path) -> None:
         if how == signal.SIGINT:
             assert (
                 process.returncode == 130
-                and told == f"corewar: {kept} of 21 matches are kept: the same command goes on\n"
+                and told == f"corewar: {kept} of 21 matches stored; run the same command to continue\n"
             )
         before = kept
     both = [begin("league", *words) for _ in range(2)]
@@ -338,7 +338,7 @@ def test_a_kept_match_is_of_its_contest(folder: Path) -> None:
 def test_it_tells_what_is_kept_the_other_way_round(run: Run, folder: Path) -> None:
     run("league", "--results", "kept.sqlite", "stay.red", "dead.red", "late.red")
     told = run("league", "--results", "kept.sqlite", "dead.red", "stay.red", "late.red").stderr
-    assert told.startswith("corewar: 1 of 3 matches are kept the other way round alone")
+    assert told.startswith("corewar: 1 of 3 matches are stored only with the warriors in the other order")
     assert run("league", "--results", "kept.sqlite", "dead.red", "stay.red", "late.red").stderr == ""
 
 

@@ -24,11 +24,11 @@ turn 7796: Imp at 5202: MOV.I $0, $1
 def test_why(run: Run) -> None:
     assert run("why", "--turns", 1, "@dwarf", "@imp").stdout == DEATH
     assert run("why", "--turns", 1, "--of", "imp", "@dwarf", "@imp").stdout == DEATH
-    assert run("why", "--of", 0, "@dwarf", "@imp").stdout == "Dwarf lives after turn 7798, the last one.\n"
+    assert run("why", "--of", 0, "@dwarf", "@imp").stdout == "Dwarf is alive after turn 7798, the last one.\n"
     alone = run("why", "@imp")
-    assert alone.stdout == "Nobody died: the battle is over: Imp lives.\n"
+    assert alone.stdout == "No warrior died; the battle is over: Imp lives.\n"
     bad = run("why", "--of", "nobody", "@dwarf", "@imp")
-    assert bad.returncode == 2 and "`nobody` is no warrior: 0 Dwarf, 1 Imp" in bad.stderr
+    assert bad.returncode == 2 and "no warrior `nobody`; the warriors are 0 Dwarf, 1 Imp" in bad.stderr
 
 
 def test_why_tells_what_another_made(run: Run) -> None:
@@ -54,38 +54,42 @@ def test_trace(run: Run) -> None:
         "turn 2: Imp at 1305: MOV.I $0, $1\n    1306: DAT.F $0, $0 -> MOV.I $0, $1\n"
     )
     assert len([line for line in run("trace", "@dwarf", "@imp").stdout.splitlines() if line.startswith("turn")]) == 20
-    assert "the battle has turn 1 to turn 7798" in run("trace", "--from", 7799, "@dwarf", "@imp").stderr
+    assert "the battle has turns 1 to 7798" in run("trace", "--from", 7799, "@dwarf", "@imp").stderr
 
 
 def test_changed(run: Run) -> None:
     assert run("changed", "--cell", 5203, "--before", 7797, "@dwarf", "@imp").stdout.startswith(
         "Cell 5203 was last changed in turn 7796:\n"
     )
-    assert run("changed", "--cell", 4, "@dwarf", "@imp").stdout == "Cell 4 wasn't changed since the start.\n"
-    assert "is no label, and no address below 8000" in run("changed", "--cell", 8000, "@dwarf", "@imp").stderr
+    assert run("changed", "--cell", 4, "@dwarf", "@imp").stdout == "Cell 4 has not changed since the start.\n"
+    assert (
+        "`8000` is neither a label nor an address below 8000" in run("changed", "--cell", 8000, "@dwarf", "@imp").stderr
+    )
 
 
 def test_bad_words_and_faults(run: Run) -> None:
     """Which word is wrong is told; so is which file has a fault, and nothing is a traceback."""
     for words, told in (
-        (["why", "-r", "0", "@imp"], "0 is not in the range 1<=x<=100000"),
+        (["why", "-r", "0", "@imp"], "expected a number from 1 to 100000, not `0`"),
         (["why", "--hil", "nano", "@imp"], "No such option: --hil"),
         (["frobnicate"], "No such command 'frobnicate'"),
-        (["why"], "Missing argument 'FILES...'"),
-        (["why", "--source-limit", "0", "@imp"], "0 isn't S or S,MB"),
+        (["why"], "Missing argument 'FILE...'"),
+        (["why", "--source-limit", "0", "@imp"], "expected S or S,MB with numbers from 1 to 1000000, not `0`"),
     ):
         done = run(*words)
         assert done.returncode == 2 and told in done.stderr and "Traceback" not in done.stderr
     done = run("why", "nowhere.red")
     assert (done.returncode, done.stderr) == (1, "corewar: nowhere.red: No such file or directory\n")
     seventeen = run("why", *["@imp"] * 17)
-    assert seventeen.returncode == 1 and seventeen.stderr == "corewar: settings 4 Warriors\n"
+    assert seventeen.returncode == 2 and seventeen.stderr.startswith(
+        "corewar: settings 4 Warriors\n  A match has 1 to 16"
+    )
 
 
 def test_streams(run: Run) -> None:
     """A warrior may come from standard input; a full or closed output ends in a line, or in silence."""
     source = (EXAMPLES / "imp.red").read_text()
-    assert run("why", "-", given=source).stdout.startswith("Nobody died")
+    assert run("why", "-", given=source).stdout.startswith("No warrior died")
     with open("/dev/full", "w") as full:
         done = run("trace", "@dwarf", "@imp", stdout=full, capture_output=False, stderr=-1)
     assert done.returncode == 1 and done.stderr == "corewar: No space left on device\n"
@@ -108,7 +112,7 @@ def test_names_of_files_that_are_no_text(run: Run, tmp_path: Path) -> None:
     """A file's name stands in for a warrior's, with `?` for what a terminal or a page can't be given."""
     name = os.fsdecode(b"a\xff\x1b[31m.red")
     (tmp_path / name).write_text("mov 0, 1\n")
-    assert run("why", name).stdout == "Nobody died: the battle is over: a??[31m.red lives.\n"
+    assert run("why", name).stdout == "No warrior died; the battle is over: a??[31m.red lives.\n"
     assert run("page", "-o", "a.html", name).returncode == 0
     assert run("rounds", "--pages", "folder", name).returncode == 0
     assert "a??[31m.red by Anonymous" in run("fight", name).stdout
@@ -128,15 +132,15 @@ def test_numbers_and_names_that_none_has(run: Run) -> None:
     """Neither a number of thousands of digits nor an empty name of a file is a traceback, or is passed over."""
     long = "1" * 5000
     for words, told in (
-        (["why", "--of", long, "@imp"], "is no warrior"),
-        (["changed", "--cell", long, "@imp"], "is no label"),
-        (["picture", "--cells", f"0-{long}", "@imp"], "isn't A-B"),
-        (["why", "--source-limit", long, "@imp"], "isn't S or S,MB"),
-        (["debug", "--round", long[:30], "@imp"], "is not in the range"),
-        (["picture", "-o", "a.xyz", "@imp"], "its name ends in .png, .svg or .pdf"),
-        (["page", "-o", "", "@imp"], "a name is asked for"),
-        (["rounds", "--pages", "", "@imp"], "a name is asked for"),
-        (["league", "--results", "", "@imp", "@dwarf"], "a name is asked for"),
+        (["why", "--of", long, "@imp"], "no warrior `1111"),
+        (["changed", "--cell", long, "@imp"], "is neither a label"),
+        (["picture", "--cells", f"0-{long}", "@imp"], "expected A-B"),
+        (["why", "--source-limit", long, "@imp"], "expected S or S,MB"),
+        (["debug", "--round", long[:30], "@imp"], "expected a number from 0 to 99999"),
+        (["picture", "-o", "a.xyz", "@imp"], "expected a name that ends in .png, .svg or .pdf"),
+        (["page", "-o", "", "@imp"], "expected a name, not an empty argument"),
+        (["rounds", "--pages", "", "@imp"], "expected a name, not an empty argument"),
+        (["league", "--results", "", "@imp", "@dwarf"], "expected a name, not an empty argument"),
     ):
         done = run(*words)
         assert done.returncode == 2 and told in done.stderr and "Traceback" not in done.stderr, words

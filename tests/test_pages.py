@@ -75,8 +75,9 @@ def test_a_page_is_written(run: Run, tmp_path: Path) -> None:
     assert "Imp died in turn 7,798" in text and '<h1 id="title">Dwarf against Imp</h1>' in text
     again = run("page", "@dwarf", "@imp")
     assert (
-        again.returncode == 2
-        and "battle.html is there already: --force writes over it, -o names another" in again.stderr
+        again.returncode == 1
+        and again.stderr
+        == "corewar: battle.html: already exists; use --force to overwrite it or -o to name another file\n"
     )
     assert run("page", "@dwarf", "@imp", "--force", "--turns", 5).stdout == "battle.html: 5 frames\n"
 
@@ -96,7 +97,7 @@ def test_pictures_of_each_kind(run: Run, tmp_path: Path) -> None:
         done = run("picture", "-o", f"fight.{ending}", *words, "@dwarf", "@paper")
         assert (done.returncode, done.stdout) == (0, f"fight.{ending}: 23543 turns\n")
         assert (tmp_path / f"fight.{ending}").read_bytes().startswith(begin)
-    assert "isn't A-B, from 0 to 7999" in run("picture", "--cells", "9-8000", "@dwarf", "@imp").stderr
+    assert "expected A-B with addresses from 0 to 7999" in run("picture", "--cells", "9-8000", "@dwarf", "@imp").stderr
 
 
 def test_the_points_of_a_picture() -> None:
@@ -123,8 +124,7 @@ def test_rounds(run: Run, tmp_path: Path) -> None:
     assert lines[3].startswith("    0 win  loss     7798  corewar debug -r 3 ")
     assert lines[4].startswith("    1 ") and "--round 1" in lines[4]
     table = run("fight", "-r", 3, "@dwarf", "@imp").stdout.splitlines()
-    wins, ties, losses = table[1].split()[1:4]
-    assert f"warrior 0: {wins} wins, {ties} ties, {losses} losses" in lines
+    assert table[1].split()[1:4] == ["2", "1", "0"] and "warrior 0: 2 wins, 1 tie, 0 losses" in lines
     index = (tmp_path / "match" / "index.html").read_text()
     assert all(f'href="round-{number}.html"' in index for number in range(3))
 
@@ -151,7 +151,7 @@ def test_a_browser_replays(shown: Any) -> None:
     at("0")
     shown.find_element("css selector", "#deaths button").click()
     at("7,798")
-    assert text_of(shown, "where") == "The end" and text_of(shown, "outcome") == "Dwarf wins"
+    assert text_of(shown, "where") == "End of the battle" and text_of(shown, "outcome") == "Dwarf wins"
     keys = [Keys.HOME, Keys.ARROW_RIGHT, Keys.ARROW_RIGHT, Keys.ARROW_LEFT, Keys.END]
     for key, turn in zip(keys, ["0", "77", "155", "77", "7,798"]):
         ActionChains(shown).send_keys(key).perform()

@@ -106,9 +106,9 @@ def test_requests_that_are_none(site: Site) -> None:
     ):
         assert site.ask(path, body)[0] in (400, 409), path
     for path in ("battle", "overview", "turn/5", "cell/1/1", "search/dies/0/0/on", "replay.html"):
-        assert site.ask(path) == (409, b'{"fault": "this page has no battle: fight one"}'), path
+        assert site.ask(path) == (409, b'{"fault": "this page has no battle yet; press Fight"}'), path
     none = site.ask("fight", fight())
-    assert none == (409, b'{"fault": "1 to 16 sources fight: mark them in the list"}')
+    assert none == (409, b'{"fault": "expected 1 to 16 warriors; select them in the list"}')
     assert site.ask("fight", fight(*["imp"] * 17))[0] == 409
 
 
@@ -132,7 +132,7 @@ def test_each_tab_has_its_battle(site: Site) -> None:
         site.told("battle", desk="first")
         site.told("fight", fight("imp"), str(number))
     assert site.told("battle", desk="first") == first
-    assert site.ask("battle", desk="second") == (409, b'{"fault": "this page has no battle: fight one"}')
+    assert site.ask("battle", desk="second") == (409, b'{"fault": "this page has no battle yet; press Fight"}')
 
 
 def test_sources_are_those_that_are_there_now(site: Site) -> None:
@@ -153,7 +153,7 @@ def test_sources_are_saved_where_they_came_from(site: Site) -> None:
     assert ends in [one["text"] for one in site.told("sources")]
     (site.folder / "imp.red").write_text("changed")
     again = site.ask("save", {"name": "imp.red", "text": "lost?", "seen": saved["seen"]})
-    assert again[0] == 409 and b"changed by something else" in again[1]
+    assert again[0] == 409 and b"has changed on disk" in again[1]
     assert (site.folder / "imp.red").read_text() == "changed"
     for name in ("../out.red", "/etc/x.red", "x.txt", ""):
         assert site.ask("save", {"name": name, "text": "", "seen": ""})[0] == 409
@@ -201,13 +201,11 @@ def test_edits_make_futures(site: Site) -> None:
     assert edited["isOther"] and edited["answer"] == ["0 (loop): ADD.AB #4, $3 -> DAT.F $0, $0"]
     assert site.told("battle")["outcome"] == "Imp wins"
     assert [one["here"] for one in site.told("battle")["futures"]] == [False, True]
-    assert site.told("cell/0/200")["told"] == [
-        "Cell 0 was changed by hand behind turn 100: ADD.AB #4, $3 -> DAT.F $0, $0"
-    ]
+    assert site.told("cell/0/200")["told"] == ["Cell 0 was edited after turn 100: ADD.AB #4, $3 -> DAT.F $0, $0"]
     assert site.told("debug", {"line": "undo", "turn": 100})["isOther"]
     assert site.told("battle")["outcome"] == "Dwarf wins"
     assert site.told("debug", {"line": "nonsense", "turn": 0})["answer"] == [
-        "`nonsense` is no command: help tells them"
+        "unknown command `nonsense`; `help` lists all commands"
     ]
 
 
@@ -243,20 +241,20 @@ def text(browser: Any, name: str) -> str:
 
 
 def test_by_mouse(page: Any, site: Site) -> None:
-    """A fault is shown and mended, a fight is fought, a death and its cause looked at, a cell edited and the edit
+    """An error is shown and fixed, a fight is fought, a death and its cause looked at, a cell edited and the edit
     undone.
     """
     page.find_element("xpath", "//ul[@id='names']//button[text()='dwarf.red']").click()
     page.execute_script("bench.shelf.editor.setValue(bench.shelf.editor.getValue().replace('@bomb', '@bmob'))")
     until(page, "document.getElementById('fault').textContent.includes('bmob')")
-    assert "Is `bomb` (line 12) meant?" in text(page, "fault") and text(page, "saved") == "not saved"
+    assert "did you mean `bomb` (line 12)?" in text(page, "fault") and text(page, "saved") == "not saved"
     page.execute_script("bench.shelf.editor.setValue(bench.shelf.editor.getValue().replace('@bmob', '@bomb'))")
     until(page, "document.getElementById('fault').textContent === ''")
     page.find_element("id", "fight").click()
     until(page, "document.getElementById('outcome').textContent.startsWith('Dwarf wins')")
     page.find_element("css selector", "#deaths button").click()
     until(page, "bench.time.turn === 7798")
-    assert "it dies" in text(page, "told")
+    assert "the warrior dies" in text(page, "told")
     assert page.execute_script("return bench.time.kept") == 5203
     until(page, "document.getElementById('acts').textContent.includes('◀ changed in turn 7,797')")
     time.sleep(0.3)
@@ -290,7 +288,7 @@ def test_a_new_source(page: Any, site: Site) -> None:
         page.find_element("css selector", "#names input:not([type])").send_keys(Keys.CONTROL, "a", Keys.NULL, *keys)
 
     name("imp", Keys.ENTER)
-    assert text(page, "saved") == "imp.red is there already"
+    assert text(page, "saved") == "imp.red already exists"
     page.find_element("css selector", "#names input:not([type])").send_keys(Keys.ESCAPE)
     assert not page.find_elements("css selector", "#names input:not([type])")
     name("mine", Keys.ENTER)
@@ -381,7 +379,7 @@ def test_a_tab_that_is_loaded_anew(page: Any, site: Site) -> None:
     page.get(site.address)
     until(page, "bench.shelf?.shown")
     assert (
-        text(page, "outcome").startswith("Mark")
+        text(page, "outcome").startswith("Select")
         and page.execute_script("return document.getElementById('seed').value") == "1"
     )
     page.close()

@@ -1,4 +1,4 @@
-//! Links libmars.a: that of the folder MARS_LIB, else the one that `scripts/library` leaves in the kit's folder build/.
+//! Links libmars.a from the folder MARS_LIB, or from the folder build/, where `scripts/library` builds it.
 
 use std::{env, path::PathBuf};
 

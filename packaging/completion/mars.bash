@@ -1,4 +1,4 @@
-# Completion of the words of mars for bash.
+# Completion of the options of mars for bash.
 _mars() {
     local word=${COMP_WORDS[COMP_CWORD]} before=${COMP_WORDS[COMP_CWORD - 1]}
     COMPREPLY=()

@@ -1,4 +1,4 @@
-"""Core War over a proved machine: assembles warriors, fights matches, leagues and populations, and gives each turn.
+"""Core War on a verified simulator: assembles warriors, runs matches, leagues and populations, and records every turn.
 
     import corewar
     dwarf = corewar.read("dwarf.red")
@@ -8,7 +8,7 @@
     history = corewar.History(corewar.Match((dwarf, imp)))
     print(history.end, history.deaths(history.end))
 
-It calls the library that `scripts/library` builds, and needs Debian's python3-cffi and python3-numpy.
+The package calls the library that `scripts/library` builds, and requires cffi and NumPy.
 """
 from . import league as _league  # (loaded first, so that `corewar.league` stays the call below)
 from .battle.history import History
@@ -19,7 +19,7 @@ from .model.faults import Fault, FileFault, Refused
 from .model.settings import HILLS, Settings
 from .model.warriors import Warrior
 
-# The version of the kit: that of the package, the packages of Debian's, and the library (MARS_VERSION in its header).
+# The version of the kit: of this package, the Debian packages and the library (MARS_VERSION in its header).
 __version__ = "1.2"
 
 __all__ = [

@@ -74,7 +74,7 @@ dice = random.Random(1)
 @pytest.fixture(scope="module")
 def built(tmp_path_factory):
     """The folder with the library as it is built."""
-    assert os.path.isfile(ARCHIVE), "there is no archive: scripts/library proves and makes it"
+    assert os.path.isfile(ARCHIVE), "no archive of the library; run scripts/library"
     folder = str(tmp_path_factory.mktemp("built"))
     done = subprocess.run([f"{SCRIPTS}/library", "--archive", ARCHIVE, "--out", folder], capture_output=True, text=True)
     assert (done.returncode, done.stderr) == (0, "")
@@ -326,4 +326,4 @@ def test_script():
     library = [f"{SCRIPTS}/library"]
     assert subprocess.run([*library, "--none"], capture_output=True).returncode == 2
     done = subprocess.run([*library, "--archive", "none", "--out", "none"], capture_output=True, text=True)
-    assert done.stderr == "library: no archive: none\n"
+    assert done.stderr == "library: none: no such archive\n"

@@ -202,7 +202,7 @@ def test_failure(place):
     done = place.run("-b", "a.red", fails="mars_core")
     assert (
         done.returncode == 1
-        and "mars: mars_core isn't proved" in done.stderr
+        and "mars: cannot prove mars_core" in done.stderr
         and "no proof of mars_core" in done.stderr
     ), "a failed proof is told"
     assert ("mars" in place.proved(), done.stdout) == (False, ""), "nothing is built on it"
@@ -234,7 +234,7 @@ def test_stopped(place):
     assert place.interrupted("mars_core") == (
         True,
         "",
-        "mars: stopped; what is proved is kept",
+        "mars: stopped; the proved crates are stored",
         False,
     ), "Ctrl-C ends it in a line"
     before = len(place.proved())
@@ -255,7 +255,7 @@ def test_two_starts(place):
     second = subprocess.run(command, env=place.environment(), **how)
     assert (first.communicate()[0], second.stdout) == ("played a.red\n", "played a.red\n"), "both play"
     assert (
-        second.stderr == "mars: another start is under way here, and this one waits until it has ended\n"
+        second.stderr == "mars: waiting for another build in this folder to end\n"
     ), "the second one tells why it waits"
     assert len(place.proved()) == len({*place.proved()}), "each crate is proved once"
 
@@ -296,7 +296,7 @@ def test_terminal(place):
     told = os.read(mine, 100_000).decode().split("\r\n")
     first, last = told[0], told[-2]
     assert (
-        "this start proves 8 crates: 10 to 13 minutes on four processors" in first
+        "the program is proved before it is built: 8 crates, 10 to 13 minutes on four processors" in first
     ), "what a start takes is told first"
     assert last.rpartition("\r\033[K")[2].startswith("mars: proved 8 crates in 0 min "), "what it took at the end"
     assert (len(told), told[-1]) == (3, ""), "nothing else has a line of its own"
@@ -333,7 +333,7 @@ def test_progress(folder):
     one.go_on(["b", "c"])
     assert told == [
         "mars: proved a, 1 of 2 (0 min 0 s)",
-        "mars: 1 of 2 crates proved in 0 min 0 s; b and c under way",
+        "mars: 1 of 2 crates proved in 0 min 0 s; proving b and c",
     ], "each crate, and what goes on"
 
 

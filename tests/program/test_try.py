@@ -42,11 +42,11 @@ def test_words(tmp_path):
     ]
     assert words[1:] == ["try", *data, "--", "-b", "a.red", "file-x=y.red", "file-stdin", "none.red", "a.red"]
     assert status == 3
-    assert told.startswith("try: nothing is proved of what runs now.")
+    assert told.startswith("try: this runs the program unproved")
     assert tried(folder, "a.red", "more/a.red") == (
         1,
         [],
-        "try: two files would have the name a.red in the folder of the run\n",
+        "try: two files have the name a.red; rename one of them\n",
     )
     assert (tried(folder)[0], tried(folder, "--help")[0]) == (2, 0)
     os.remove(os.path.join(folder, "rt"))
@@ -57,7 +57,7 @@ def test_words(tmp_path):
         text=True,
         env={**os.environ, "PATH": "/usr/bin:/bin"},
     )
-    assert (done.returncode, done.stderr) == (1, "try: the command `rt` of the Rattle toolchain isn't on the path\n")
+    assert (done.returncode, done.stderr) == (1, "try: cannot find `rt` of the Rattle toolchain on the path\n")
 
 
 def test_run():

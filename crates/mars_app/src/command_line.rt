@@ -20,17 +20,17 @@ pub const LONGEST_HISTORY: u32 = 1_000_000;
 
 /// What stands below the words in the help.
 const AFTER_HELP: &str = "\
-At most one of -e, --league and --load is given; -F is for two files, and for no league.
+-e, --league and --load exclude each other. -F requires two warriors and no league.
 
-Commands of the debugger, one a line:
+Debugger commands, one per line:
   step, run N, until C, undo, redo, goto T
   edit A CELL, fill A B CELL, move W I A, kill W I, spawn W A
   list A N, queue W, show, quit
 
-Status: 0 done, 1 a fault of input or files, 2 a fault of the words.
+Exit status: 0 success, 1 error in input or files, 2 usage error.
 
 Example: mars -r 100 -b -o imp.red dwarf.red
-More in README.md and docs/user/REFERENCE.md.";
+See README.md and docs/user/REFERENCE.md; `corewar explain` explains errors.";
 
 /// What follows a word.
 #[derive(Clone, Copy)]
@@ -98,44 +98,44 @@ impl Word {
 /// A row for each word, in the order of the help.
 static WORDS: [Word; 18] = [
     Word {
-        heading: "Contest",
+        heading: "Match",
         name: "rounds",
         letter: Some('r'),
         value: Value::Number(MOST_ROUNDS),
         default: Some("1"),
-        help: "Rounds, 1 to 100000",
+        help: "Number of rounds, 1 to 100000",
     },
     Word {
-        heading: "Contest",
+        heading: "Match",
         name: "fixed",
         letter: Some('F'),
         value: Value::Number(LARGEST_CORE),
         default: None,
-        help: "Position of warrior 2, from the least distance to the core size less that",
+        help: "Position of warrior 2, from the minimum distance to the core size minus it",
     },
     Word {
-        heading: "Contest",
+        heading: "Match",
         name: "seed",
         letter: None,
         value: Value::Number(GREATEST_SEED),
         default: Some("1"),
-        help: "Seed of the positions, 1 to 2147483646",
+        help: "Seed for the starting positions, 1 to 2147483646",
     },
     Word {
-        heading: "Contest",
+        heading: "Match",
         name: "score",
         letter: None,
         value: Value::Formula,
         default: Some("(W*W-1)/S"),
-        help: "What a survivor gets, W being the warriors and S the survivors",
+        help: "Score of each survivor, with W warriors and S survivors",
     },
     Word {
-        heading: "Contest",
+        heading: "Match",
         name: "league",
         letter: None,
         value: Value::Flag(ArgAction::SetTrue),
         default: None,
-        help: "Every pair of warriors fights",
+        help: "Run a league: every pair of warriors plays a match",
     },
     Word {
         heading: "Core",
@@ -167,7 +167,7 @@ static WORDS: [Word; 18] = [
         letter: Some('l'),
         value: Value::Number(LARGEST_CORE),
         default: Some("100"),
-        help: "Longest warrior, 1 to the core size",
+        help: "Maximum length of a warrior, 1 to the core size",
     },
     Word {
         heading: "Core",
@@ -175,7 +175,7 @@ static WORDS: [Word; 18] = [
         letter: Some('d'),
         value: Value::Number(LARGEST_CORE),
         default: Some("100"),
-        help: "Least distance, from the longest warrior to the core size",
+        help: "Minimum distance, from the maximum length to the core size",
     },
     Word {
         heading: "Core",
@@ -183,7 +183,7 @@ static WORDS: [Word; 18] = [
         letter: None,
         value: Value::Number(LARGEST_CORE),
         default: None,
-        help: "How far is read, 1 to the core size [default: core size]",
+        help: "Read limit, 1 to the core size [default: core size]",
     },
     Word {
         heading: "Core",
@@ -191,7 +191,7 @@ static WORDS: [Word; 18] = [
         letter: None,
         value: Value::Number(LARGEST_CORE),
         default: None,
-        help: "How far is written, 1 to the core size [default: core size]",
+        help: "Write limit, 1 to the core size [default: core size]",
     },
     Word {
         heading: "Debugger",
@@ -199,7 +199,7 @@ static WORDS: [Word; 18] = [
         letter: Some('e'),
         value: Value::Flag(ArgAction::SetTrue),
         default: None,
-        help: "Debugs the battle of the first round by the commands of standard input",
+        help: "Debug the first round with commands from standard input",
     },
     Word {
         heading: "Debugger",
@@ -207,7 +207,7 @@ static WORDS: [Word; 18] = [
         letter: None,
         value: Value::Number(LONGEST_HISTORY),
         default: Some("200000"),
-        help: "Places that the history keeps, 1 to 1000000",
+        help: "Size of the debugger's history, 1 to 1000000 places",
     },
     Word {
         heading: "Output",
@@ -215,7 +215,7 @@ static WORDS: [Word; 18] = [
         letter: Some('b'),
         value: Value::Flag(ArgAction::SetTrue),
         default: None,
-        help: "No listing of the warriors",
+        help: "Omit the listing of the warriors",
     },
     Word {
         heading: "Output",
@@ -223,7 +223,7 @@ static WORDS: [Word; 18] = [
         letter: Some('o'),
         value: Value::Flag(ArgAction::SetTrue),
         default: None,
-        help: "Results sorted by points",
+        help: "Sort the results by points",
     },
     Word {
         heading: "Output",
@@ -231,7 +231,7 @@ static WORDS: [Word; 18] = [
         letter: None,
         value: Value::Flag(ArgAction::SetTrue),
         default: None,
-        help: "Writes the load file of the one warrior",
+        help: "Assemble one warrior and print its load file",
     },
     Word {
         heading: "Output",
@@ -239,7 +239,7 @@ static WORDS: [Word; 18] = [
         letter: None,
         value: Value::Flag(ArgAction::Help),
         default: None,
-        help: "Prints this help",
+        help: "Print this help",
     },
 ];
 
@@ -256,7 +256,7 @@ fn plain_command<'a>(alloc: Global) -> Command<'a>
 {
     Command::new(alloc, "mars")
         .about(
-            "Core War: fights matches and leagues of warriors, and debugs battles forwards and backwards",
+            "Core War: run matches and leagues of warriors, and debug battles forwards and backwards",
         )
         .after_help(AFTER_HELP)
         .no_binary_name(true)
@@ -281,7 +281,8 @@ fn files<'a>(alloc: Global) -> Arg<'a>
     ensures rule { rule_of result ≡ file_rule }
     ensures local { result.global ≡ false }
 {
-    Arg::new(alloc, "FILE").required(true).num_args(1..).help(
-        "1 to 16 warriors: sources of Redcode, and load files, whose names end in .load",
-    )
+    Arg::new(alloc, "FILE")
+        .required(true)
+        .num_args(1..)
+        .help("1 to 16 warriors: Redcode sources, or load files (.load)")
 }

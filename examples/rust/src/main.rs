@@ -1,5 +1,5 @@
-//! Fights a match of some rounds through libmars and writes its table: `fight ROUNDS FILE..`. A file whose name ends in `.load` is a
-//! load file, every other one a source.
+//! Runs a match through libmars and prints its results: `fight ROUNDS FILE..`. A file whose name ends in `.load` is a load file,
+//! every other file a source.
 
 mod mars;
 
@@ -8,7 +8,7 @@ use std::{env, error::Error, fs};
 
 const USAGE: &str = "usage: fight ROUNDS FILE..";
 
-/// The load file of a warrior's file.
+/// Returns the load file of a warrior's file.
 fn load_file(path: &str, settings: &Settings, warriors: usize) -> Result<Vec<u8>, Box<dyn Error>> {
     let bytes = fs::read(path).map_err(|fault| format!("{path}: {fault}"))?;
     if path.ends_with(".load") {

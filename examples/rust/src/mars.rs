@@ -1,11 +1,11 @@
-//! What of libmars this example calls; `include/mars.h` has all of it, with the units and ranges of each field.
+//! The calls of libmars that this example uses; see `include/mars.h` for all calls, with the units and ranges of each field.
 
 use std::{error::Error, fmt};
 
-/// The answer where a buffer is too short.
+/// The result of a call if a buffer is too short.
 const ROOM: u32 = 10;
 
-/// How contests are held. A limit of 0 is the core size, and a position of 0 is drawn.
+/// The settings of matches. A limit of 0 is the core size, and a position of 0 is drawn.
 #[repr(C)]
 #[derive(Clone, Copy, Debug)]
 pub struct Settings {
@@ -22,7 +22,7 @@ pub struct Settings {
 }
 
 impl Default for Settings {
-    /// Those of the program.
+    /// The defaults of the program.
     fn default() -> Self {
         Self {
             core: 8000,
@@ -39,7 +39,7 @@ impl Default for Settings {
     }
 }
 
-/// How a warrior fared.
+/// The result of a warrior.
 #[repr(C)]
 #[derive(Clone, Copy, Debug, Default, PartialEq, Eq)]
 pub struct Row {
@@ -49,7 +49,7 @@ pub struct Row {
     pub losses: u64,
 }
 
-/// Why a call wasn't done; what doesn't apply is 0.
+/// The error of a call; fields that do not apply are 0.
 #[repr(C)]
 #[derive(Clone, Copy, Debug, Default, PartialEq, Eq)]
 pub struct Fault {
@@ -57,7 +57,7 @@ pub struct Fault {
     pub number: u32,
     pub problem: u32,
     pub expression: u32,
-    /// Of a source or a load file, from 1.
+    /// The line of a source or a load file, from 1.
     pub line: u64,
     /// The index of a load file, from 0.
     pub warrior: u64,
@@ -105,11 +105,11 @@ extern "C" {
     ) -> u32;
 }
 
-/// The load file of a source; `warriors` is what WARRIORS stands for.
+/// Returns the load file of a source; `warriors` is the value of WARRIORS.
 pub fn assemble(source: &[u8], settings: &Settings, warriors: u32) -> Result<Vec<u8>, Fault> {
     let (mut buffer, mut length, mut fault) = (vec![0; 4096], 0, Fault::default());
     loop {
-        // The pointers lead to as many values as the lengths say, and what is written overlaps nothing.
+        // The pointers are valid for the given lengths, and the output overlaps nothing.
         let answer = unsafe {
             mars_assemble(
                 settings,
@@ -132,7 +132,7 @@ pub fn assemble(source: &[u8], settings: &Settings, warriors: u32) -> Result<Vec
     Ok(buffer)
 }
 
-/// A match of 1 to 16 load files: the row of each. The formula is what a survivor gets.
+/// Runs a match of 1 to 16 load files and returns the row of each. The formula is the score of a survivor.
 pub fn fight(loads: &[Vec<u8>], settings: &Settings, formula: &str) -> Result<Vec<Row>, Fault> {
     let lengths: Vec<usize> = loads.iter().map(Vec::len).collect();
     let (bytes, mut rows, mut fault) = (
@@ -140,7 +140,7 @@ pub fn fight(loads: &[Vec<u8>], settings: &Settings, formula: &str) -> Result<Ve
         vec![Row::default(); loads.len()],
         Fault::default(),
     );
-    // The pointers lead to as many values as the lengths say, and what is written overlaps nothing.
+    // The pointers are valid for the given lengths, and the output overlaps nothing.
     let answer = unsafe {
         mars_match(
             settings,

@@ -1,1 +1,1 @@
-"""Sentences over a battle in time: what a turn did, why a warrior died, who made a cell what it is."""
+"""Describes battles: what a turn did, why a warrior died, how a cell got its value."""

@@ -1,30 +1,30 @@
-"""What pictures and pages say of a battle: who fought, how it ended, and by which settings."""
+"""Captions of pictures and pages: the warriors of a battle, its outcome, its settings and its command line."""
 from __future__ import annotations
 
 import shlex
 
 from ..battle.history import History
-from ..model.settings import NUMBERS, Settings
+from ..model.settings import NUMBERS, Settings, label
 from .telling import joined
 
 
 def title(history: History) -> str:
-    """Who fought."""
+    """Returns the names of the warriors."""
     return " against ".join(history.names) if len(history.names) == 2 else ", ".join(history.names)
 
 
 def outcome(history: History) -> str:
-    """Who won."""
+    """Returns who won."""
     living = [name for number, name in enumerate(history.names) if history.death(number) is None]
     if not living:
-        return "Nobody lives"
+        return "No survivors"
     if len(living) == 1:
         return f"{living[0]} {'wins' if len(history.names) > 1 else 'lives'}"
-    return f"A tie of {joined(living)}"
+    return f"Tie between {joined(living)}"
 
 
 def fate(history: History, warrior: int) -> str:
-    """How the battle ends for a warrior."""
+    """Returns how the battle ends for a warrior."""
     death = history.death(warrior)
     if death is not None:
         return f"died in turn {death:,}"
@@ -34,16 +34,16 @@ def fate(history: History, warrior: int) -> str:
 
 
 def settings_told(history: History) -> list[str]:
-    """Each number by which the battle is fought, with its name, but for limits that are the core size."""
+    """The settings of the battle with their names, except for limits equal to the core size."""
     fight = history.fight
     numbers = {**vars(fight.settings), "seed": fight.seed, "position": fight.position, "round": history.round}
     if fight.position:
         del numbers["seed"]
-    return [f"{name.replace('_', ' ')} {value:,}" for name, value in numbers.items() if value or name == "round"]
+    return [f"{label(name)} {value:,}" for name, value in numbers.items() if value or name == "round"]
 
 
 def words(history: History) -> list[str]:
-    """The words of `corewar` that say which battle this is, with its files."""
+    """Returns the arguments of `corewar` that select this battle, with its files."""
     fight, given = history.fight, Settings()
     numbers = {**vars(fight.settings), "rounds": fight.rounds, "seed": fight.seed, "position": fight.position}
     usual = {**vars(given), "rounds": 1, "seed": 1, "position": 0}
@@ -56,5 +56,5 @@ def words(history: History) -> list[str]:
 
 
 def command(history: History, subcommand: str) -> str:
-    """The command line of a subcommand over this battle."""
+    """Returns the command line of a subcommand for this battle."""
     return shlex.join(["corewar", *subcommand.split(), *words(history)])

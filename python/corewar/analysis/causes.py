@@ -1,4 +1,4 @@
-"""Why a warrior died, and how a cell came about."""
+"""Why a warrior died, and how a cell got its value."""
 from __future__ import annotations
 
 from collections.abc import Iterator
@@ -10,26 +10,24 @@ from ..battle.history import History
 from ..model.cells import OPCODES
 from .telling import Teller
 
-# How many turns further back one is searched in which a warrior executed what another had made.
+# How many more turns are searched for one in which a warrior executed a cell of another.
 FAR = 500
 
 
 def change_told(teller: Teller, address: int, turn: int) -> list[str]:
-    """The last change of a cell up to a turn, by a turn or by hand."""
+    """Describes the last change of a cell up to a turn, by a turn or by an edit."""
     history = teller.history
     found, by_hand = last_change(history, address, turn), history.by_hand(address, turn)
     if by_hand and by_hand[0] >= (found or 0):
         behind, before, after = by_hand
-        return [
-            f"Cell {address} was changed by hand behind turn {behind}: {teller.cell(before)} -> {teller.cell(after)}"
-        ]
+        return [f"Cell {address} was edited after turn {behind}: {teller.cell(before)} -> {teller.cell(after)}"]
     if found is None:
-        return [f"Cell {address} wasn't changed since the start."]
+        return [f"Cell {address} has not changed since the start."]
     return [f"Cell {address} was last changed in turn {found}:", *teller.lines(found)]
 
 
 def cause_told(teller: Teller, address: int, turn: int) -> list[str]:
-    """How a cell came about up to a turn: its last change, and that of its opcode."""
+    """Describes how a cell got its value up to a turn: its last change, and the last change of its opcode."""
     history = teller.history
     found, became = last_change(history, address, turn), last_change(history, address, turn, "becomes")
     by_hand, told = history.by_hand(address, turn), change_told(teller, address, turn)
@@ -40,7 +38,7 @@ def cause_told(teller: Teller, address: int, turn: int) -> list[str]:
 
 
 def stranger(history: History, turn: int) -> int | None:
-    """The turn of another warrior that made what a turn executed, where another made it."""
+    """Returns the turn of another warrior that wrote the cell that a turn executed, if another wrote it."""
     record = history.record(turn)
     found = last_change(history, int(record["address"]), turn - 1)
     return found if found is not None and history.record(found)["warrior"] != record["warrior"] else None
@@ -54,7 +52,7 @@ def own_turns(history: History, warrior: int, turn: int) -> Iterator[int]:
 
 
 def executed_told(teller: Teller, turn: int, told: set[tuple[int, int]]) -> Iterator[str]:
-    """A turn, and the turn of another warrior that made what it executed, if there is one and it wasn't told yet."""
+    """Describes a turn, and the turn of another warrior that wrote the cell it executed, unless `told` has it."""
     history, made = teller.history, stranger(teller.history, turn)
     yield from teller.lines(turn)
     address = int(history.record(turn)["address"])
@@ -68,16 +66,16 @@ def executed_told(teller: Teller, turn: int, told: set[tuple[int, int]]) -> Iter
 
 
 def death_told(teller: Teller, warrior: int, count: int) -> Iterator[str]:
-    """Why a warrior died, and so many of its turns before that; where in none of them it executed what another had
-    made, the last one further back in which it did. The last process alone counts: others may have ended before.
+    """Explains why a warrior died, with `count` of its turns before that. If it executed no cell of another warrior in
+    them, the last earlier turn in which it did is added. Only the end of its last process is explained.
     """
     history, name = teller.history, teller.names[warrior]
     death = history.death(warrior)
     if death is None:
-        yield f"{name} lives after turn {history.end}, the last one."
+        yield f"{name} is alive after turn {history.end}, the last one."
         return
     if history.is_killed(warrior):
-        yield f"{name} was killed by hand behind turn {death}."
+        yield f"{name} was killed by an edit after turn {death}."
         return
     yield f"{name} died in turn {death}:"
     yield from teller.lines(death)
@@ -91,5 +89,5 @@ def death_told(teller: Teller, warrior: int, count: int) -> Iterator[str]:
     if not told and stranger(history, death) is None:
         strayed = next((turn for turn in turns[count:] if stranger(history, turn) is not None), None)
         if strayed is not None:
-            yield "Further back it executed what another had made:"
+            yield "Earlier it executed a cell that another warrior wrote:"
             yield from executed_told(teller, strayed, told)

@@ -1,4 +1,4 @@
-"""How a battle is told: warriors by name, addresses with labels, a turn in one line."""
+"""Describes a battle: warriors by name, addresses with labels, a turn in one line."""
 from __future__ import annotations
 
 from collections import Counter
@@ -10,26 +10,27 @@ from ..battle.history import History
 from ..battle.labels import Sources
 from ..model.cells import cell_text
 
-# So many of many texts are told.
+# How many of many texts are shown.
 FEW = 8
 
 
 def some(texts: Sequence[str]) -> str:
-    """The first ones of many texts, and how many more there are."""
+    """Returns the first ones of many texts, and how many more there are."""
     return ", ".join(texts[:FEW]) + (f" and {len(texts) - FEW} more" if len(texts) > FEW else "")
 
 
 def joined(names: Sequence[str]) -> str:
-    """Names as a sentence has them."""
+    """Joins names for a sentence."""
     return " and ".join([", ".join(names[:-1]), names[-1]] if len(names) > 1 else names)
 
 
-def processes(count: int) -> str:
-    return f"{count} process" + ("" if count == 1 else "es")
+def counted(count: int, noun: str) -> str:
+    """Returns a number with its noun, as in `1 loss` and `2 losses`."""
+    return f"{count} {noun}" + ("" if count == 1 else "es" if noun.endswith("s") else "s")
 
 
 class Teller:
-    """Tells turns and places of a history. `paint` gives a warrior's name its colour."""
+    """Describes turns and cells of a history. `paint` colours the name of a warrior."""
 
     def __init__(
         self, history: History, sources: Sources, paint: Callable[[int, str], str] = lambda _, text: text
@@ -41,7 +42,7 @@ class Teller:
         return cell_text(cell, self.history.core)
 
     def where(self, address: int) -> str:
-        """An address, with its label where it has one."""
+        """Returns an address, with its label if it has one."""
         label = self.sources.labels.get(address)
         return f"{address} ({label})" if label else str(address)
 
@@ -49,7 +50,7 @@ class Teller:
         return some([self.where(int(address)) for address in addresses])
 
     def head(self, turn: int) -> str:
-        """What a turn executed, and who; and what it read besides."""
+        """Describes what a turn executed, who, and what it read."""
         record = self.history.record(turn)
         name, where = self.names[record["warrior"]], self.where(int(record["address"]))
         told = f"turn {turn}: {name} at {where}: {self.cell(self.history.executed(turn))}"
@@ -57,13 +58,13 @@ class Teller:
         return f"{told}; reads {reads}" if reads else told
 
     def reads(self, turn: int) -> list[int]:
-        """The cells that a turn read, but for its own and those where its process went."""
+        """Returns the cells that a turn read, except its own and those where its process went."""
         record, reads = self.history.record(turn), self.history.block_of(turn).reads
         known, found = [record["address"], *record["process"][: record["queued"]]], reads.addresses[reads.of(turn)]
         return [address for address in dict.fromkeys(found.tolist()) if address not in known]
 
     def changes(self, turn: int) -> list[str]:
-        """What a turn changed."""
+        """Describes the changes of a turn."""
         changes = self.history.block_of(turn).changes
         found = (part[changes.of(turn)] for part in (changes.addresses, changes.before, changes.after))
         return [
@@ -71,24 +72,24 @@ class Teller:
         ]
 
     def went(self, turn: int) -> str:
-        """Where the process of a turn went."""
+        """Describes where the process of a turn went."""
         record = self.history.record(turn)
         queued = record["process"][: record["queued"]]
         if len(queued):
             return "then at " + " and ".join(self.where(int(address)) for address in queued)
         left = len(self.history.block_of(turn).queue(int(record["warrior"]), turn))
-        return f"its process ends, {left} left" if left else "it dies"
+        return f"its process dies, {left} left" if left else "the warrior dies"
 
     def turn(self, turn: int) -> str:
-        """A turn in one line: who executed what, which cells changed, and where the process went."""
+        """Describes a turn in one line: what was executed, which cells changed, and where the process went."""
         return "; ".join([self.head(turn), *self.changes(turn), self.went(turn)])
 
     def lines(self, turn: int) -> list[str]:
-        """A turn, and each cell that it changed in a line of its own."""
+        """Describes a turn, and each change in a line of its own."""
         return [self.head(turn), *(f"    {change}" for change in self.changes(turn))]
 
     def following(self, turn: int) -> str:
-        """What the turn behind a turn will execute; how the battle ended where there is none."""
+        """Describes what the next turn will execute, or how the battle ended."""
         history, address = self.history, self.history.head(turn)
         if address is None:
             return self.ending()
@@ -98,24 +99,24 @@ class Teller:
         return told.rstrip()
 
     def ending(self) -> str:
-        """How the battle ended."""
+        """Describes how the battle ended."""
         dead = self.history.ending.deaths["warrior"]
         living = [name for number, name in enumerate(self.names) if number not in dead]
         verb = "lives" if len(living) == 1 else "live"
-        return f"the battle is over: {joined(living)} {verb}" if living else "the battle is over: none lives"
+        return f"the battle is over: {joined(living)} {verb}" if living else "the battle is over: no survivors"
 
     def standing(self, turn: int) -> Iterator[str]:
-        """Whether each warrior lives."""
+        """Describes the state of each warrior."""
         for number, name in enumerate(self.names):
             death = self.history.death(number)
             if death is not None and death <= turn:
                 yield f"{name}: died in turn {death}"
             else:
-                yield f"{name}: {processes(len(self.history.block(turn).queue(number, turn)))}"
+                yield f"{name}: {counted(len(self.history.block(turn).queue(number, turn)), 'process')}"
 
     def cells(self, turn: int, first: int, count: int) -> Iterator[str]:
-        """Cells from an address on, each with its label, `>` where the next process stands, whose processes stand
-        there, and its line.
+        """Describes cells from an address on: `>` before the next one to execute, labels, processes, and lines of
+        sources.
         """
         history, cells, head = self.history, self.history.block(turn).cells(turn), self.history.head(turn)
         queues = [history.block(turn).queue(number, turn) for number in range(len(self.names))]
@@ -131,5 +132,5 @@ class Teller:
 
     @staticmethod
     def _standing(names: Sequence[str], times: Sequence[tuple[int, int]]) -> str:
-        """Whose processes stand at a cell, and how often."""
+        """Returns the warriors with processes at a cell, and how many."""
         return ", ".join(names[number] + (f" x {count}" if count > 1 else "") for number, count in times)

@@ -1,8 +1,7 @@
-"""A battle in time: any turn forwards and back, who changed a cell, and what edits by hand make of it.
+"""The history of a battle: the state after any turn, who changed a cell, and the effects of edits.
 
-The machine's records of turns are asked for in blocks, each with where the battle stands before it, so any state
-is that of a block and the writes and processes of some turns on, and a question about many turns is one look over
-an array. All of it is exact.
+The records of turns are read from the library in blocks, each with the state before it. A state is computed from that
+of a block and its records, and a question about many turns is answered by one operation on an array.
 """
 from __future__ import annotations
 
@@ -19,19 +18,19 @@ from ..model.faults import Refused
 from ..model.settings import whole
 from .blocks import Block
 
-# How many turns a block has, and how many blocks are kept: 5 to 13 MB each.
+# The number of turns of a block, and of blocks in the cache, 5 to 13 MB each.
 BLOCK, KEPT = 65_536, 24
-# The most turns that a line of the debugger makes.
+# The maximum number of turns of one debugger command.
 LONGEST_RUN = 1_000_000
-# Who a cell is of: a warrior's number, or one of these.
+# The owner of a cell: a warrior's number, or one of these.
 NOBODY, BY_HAND = 255, 254
 Owners = NDArray[np.uint8]
 
 
 @dataclass(frozen=True)
 class Segment:
-    """Turns with no edit among them: the debugger's lines that lead to where it starts, the turn behind which that
-    is, and its last turn.
+    """Turns without an edit among them: the debugger commands that lead to its start, the turn after which it starts,
+    and its last turn.
     """
 
     lines: tuple[str, ...]
@@ -40,8 +39,14 @@ class Segment:
 
 
 class History:
-    """The battle of a round from its start to its end, with the edits by hand that were made in it. It never changes:
-    an edit gives another history, which shares what lies before it.
+    """The battle of a round from its start to its end, with the edits made in it.
+
+    - `fight`: the match
+    - `round`: the round, from 0
+
+    Turns are numbered from 1; "after turn 0" is the start. Warriors are numbered from 0 in the order of their turns,
+    and `names` has their names, made distinct. A history never changes: an edit returns another history, which shares
+    the turns before it. The constructor runs the whole battle; it raises `Fault` if the match is invalid.
     """
 
     def __init__(self, fight: Match, round: int = 0) -> None:
@@ -53,7 +58,7 @@ class History:
         self._written: dict[int, tuple[Owners, NDArray[np.int64]]] = {}
 
     def warrior(self, named: str) -> int:
-        """A warrior by its number in the order of turns, by its name or by its file. Raises Refused."""
+        """Returns the number of the warrior with this number, name or file. Raises `Refused` if there is none."""
         number = whole(named)
         if number is not None and number < len(self.names):
             return number
@@ -64,36 +69,36 @@ class History:
             if named and named in warrior.files:
                 return number
         told = ", ".join(f"{number} {name}" for number, name in enumerate(self.names))
-        raise Refused(f"`{named}` is no warrior: {told}")
+        raise Refused(f"no warrior `{named}`; the warriors are {told}")
 
     @property
     def end(self) -> int:
-        """The last turn."""
+        """The number of the last turn."""
         return self.segments[-1].last
 
     @property
     def edits(self) -> tuple[tuple[int, str], ...]:
-        """The edits by hand, each a line of the debugger, with the turn behind which it was made."""
+        """The edits, each as the turn after which it was made and the debugger command."""
         return tuple((segment.first, segment.lines[-1]) for segment in self.segments[1:])
 
     def _segment(self, turn: int) -> Segment:
-        """The segment in which the battle stands after a turn, and after the edits that were made behind it."""
+        """Returns the segment of the state after a turn and after the edits made there."""
         return next(segment for segment in reversed(self.segments) if segment.first <= turn)
 
     def block(self, turn: int) -> Block:
-        """The block in which the battle stands after a turn, and after the edits that were made behind it."""
+        """Returns the block of the state after a turn and after the edits made there. Raises IndexError."""
         if not 0 <= turn <= self.end:
-            raise IndexError(f"the battle has turn 0 to turn {self.end}")
+            raise IndexError(f"the battle has turns 0 to {self.end}")
         segment = self._segment(turn)
         skipped = (turn - segment.first) // BLOCK * BLOCK
         return self._blocks(segment.lines, segment.first, skipped, min(BLOCK, segment.last - segment.first - skipped))
 
     def block_of(self, turn: int) -> Block:
-        """The block that has the record of a turn, from 1 on."""
+        """Returns the block with the record of a turn, from 1."""
         return self.block(turn - 1)
 
     def blocks(self, first: int = 0, last: int | None = None) -> Iterator[Block]:
-        """The blocks that have the turns behind `first`, up to `last` or the end."""
+        """Yields the blocks with the turns after `first`, up to `last` or the end."""
         turn, last = first, self.end if last is None else last
         while turn < last:
             block = self.block(turn)
@@ -101,7 +106,7 @@ class History:
             turn = block.last
 
     def blocks_back(self, last: int) -> Iterator[Block]:
-        """The blocks that have the turns up to `last`, the latest first."""
+        """Yields the blocks with the turns up to `last`, the latest first."""
         turn = last
         while turn > 0:
             block = self.block(turn - 1)
@@ -109,44 +114,44 @@ class History:
             turn = block.first
 
     def record(self, turn: int) -> np.void:
-        """The record of a turn, from 1 on, without its writes."""
+        """Returns the record of a turn, from 1, without its writes; the fields are those of `record`."""
         block = self.block_of(turn)
         made: np.void = block.records[turn - block.first - 1]
         return made
 
     def state(self, turn: int) -> State:
-        """Where the battle stands after a turn."""
+        """Returns the state after a turn. Raises `IndexError` if the battle has no such turn."""
         block = self.block(turn)
         queues = [block.queue(warrior, turn) for warrior in range(len(self.warriors))]
         over = turn == self.end
         return State(block.cells(turn), queues, self.deaths(turn), turn, block.cycle(turn), block.following(turn), over)
 
     def executed(self, turn: int) -> np.void:
-        """The cell that a turn executed, as it was before."""
+        """Returns the cell that a turn executed, as it was before the turn."""
         block = self.block_of(turn)
         return block.cell(int(self.record(turn)["address"]), turn - 1)
 
     def head(self, turn: int) -> int | None:
-        """Where the process stands that is executed next after a turn; None where the battle is over."""
+        """Returns the address that is executed next after a turn, or None if the battle is over."""
         block = self.block(turn)
         return None if turn == self.end else int(block.queue(block.following(turn), turn)[0])
 
     @cached_property
     def ending(self) -> State:
-        """Where the battle stands at its end."""
+        """The state at the end of the battle."""
         last = self.segments[-1]
         return state(self.fight, self.round, last.lines, last.last - last.first)
 
     def deaths(self, turn: int) -> NDArray[np.void]:
-        """The deaths up to a turn, in order, with the fields warrior and turns."""
+        """Returns the deaths up to a turn, in order, as an array with the fields warrior and turns."""
         return self.ending.deaths[self.ending.deaths["turns"] <= turn]
 
     def death(self, warrior: int) -> int | None:
-        """The turn in which a warrior dies."""
+        """Returns the turn in which a warrior dies, or None if it survives."""
         return next((int(turns) for number, turns in self.ending.deaths.tolist() if number == warrior), None)
 
     def is_killed(self, warrior: int) -> bool:
-        """Whether a warrior died by hand, and not in a turn of its own."""
+        """Returns whether a warrior was killed by an edit, and not in a turn of its own."""
         turn = self.death(warrior)
         if turn is None or turn == 0:
             return turn == 0
@@ -154,11 +159,14 @@ class History:
         return not record["died"] or int(record["warrior"]) != warrior
 
     def owners(self, turn: int) -> Owners:
-        """Of each cell who changed it last up to a turn, or was loaded there: a warrior's number, NOBODY or BY_HAND."""
+        """Returns the owner of each cell after a turn, the warrior that changed it last or was loaded there.
+
+        An owner is a warrior's number, 255 if no warrior owns the cell, or 254 if an edit changed it last.
+        """
         return self.written(turn)[0]
 
     def written(self, turn: int) -> tuple[Owners, NDArray[np.int64]]:
-        """Of each cell its owner, and the turn that changed it last; 0 where none did."""
+        """Returns the owner of each cell after a turn, as `owners`, and the turn that changed it last, or 0."""
         # The keys are listed at once: another thread may add some.
         near = max((at for at in [*self._written] if at <= turn), default=None)
         owners, turns = self._loaded() if near is None else self._written[near]
@@ -174,7 +182,7 @@ class History:
         return owners, turns
 
     def _loaded(self) -> tuple[Owners, NDArray[np.int64]]:
-        """Who was loaded to each cell, before the first turn."""
+        """Returns the owners and the turns of the start."""
         owners, start = np.full(self.core, NOBODY, np.uint8), state(self.fight, self.round)
         for number, warrior in enumerate(self.warriors):
             first = int(start.queues[number][0]) - warrior.origin
@@ -183,7 +191,7 @@ class History:
         return owners, np.zeros(self.core, np.int64)
 
     def changed_by_hand(self, turn: int) -> NDArray[np.intp]:
-        """The cells that the edits behind a turn left other than they were."""
+        """Returns the addresses of the cells that the edits after a turn changed."""
         before = self.segments[0] if turn == 0 else [segment for segment in self.segments if segment.first < turn][-1]
         if self._segment(turn) is before:
             return np.empty(0, np.intp)
@@ -191,8 +199,8 @@ class History:
         return np.flatnonzero(cells != self.block(turn).start.cells)
 
     def by_hand(self, address: int, turn: int) -> tuple[int, np.void, np.void] | None:
-        """The last change of a cell by hand up to a turn: the turn behind which it was made, the cell before and the
-        cell after.
+        """Returns the last change of a cell by an edit up to a turn, or None: the turn after which it was made, and the
+        cell before and after.
         """
         for one, other in reversed([*zip(self.segments, self.segments[1:])]):
             if other.first <= turn:
@@ -205,8 +213,9 @@ class History:
         return None
 
     def edited(self, turn: int, line: str) -> History:
-        """The history in which a line of the debugger edits the battle after a turn. What followed there is another
-        future.
+        """Returns the history in which a debugger command edits the battle after a turn.
+
+        - `line`: a command of `mars -e`, such as `edit 3 DAT.F $0, $0` or `kill 1 0`; one that is refused has no effect
         """
         segment = self._segment(turn)
         lines = (*segment.lines, *run_lines(turn - segment.first), line)
@@ -221,18 +230,18 @@ class History:
 
 
 def ask(fight: Match, round: int, lines: tuple[str, ...], first: int, skipped: int, count: int) -> Block:
-    """So many turns of a segment, without the first `skipped`, by the machine."""
+    """Reads `count` turns of a segment after the first `skipped` ones from the library."""
     turns = fight, round, lines, skipped
     return Block(first + skipped, state(*turns), record(*turns, count), partial(touched, *turns, count))
 
 
 def run_lines(turns: int) -> list[str]:
-    """The lines of the debugger that make so many turns."""
+    """Returns the debugger commands that execute a number of turns."""
     return [f"run {min(LONGEST_RUN, turns - made)}" for made in range(0, turns, LONGEST_RUN)]
 
 
 def distinct(names: list[str]) -> list[str]:
-    """Names that tell warriors apart: those of several have a number behind them that makes none of the others."""
+    """Returns distinct names: equal ones are followed by numbers, so that no two are the same."""
     made: list[str] = []
     for name in names:
         new, numbers = name, count(1)

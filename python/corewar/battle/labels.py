@@ -1,4 +1,4 @@
-"""The sources of a battle's warriors beside its core: which line made a cell, and the labels that stand there."""
+"""Maps the core of a battle to the sources of its warriors: the line of each loaded cell, and its labels."""
 from __future__ import annotations
 
 from collections import Counter
@@ -14,7 +14,7 @@ from .history import History
 
 @dataclass(frozen=True)
 class Line:
-    """The line of a source that made a cell: the warrior, the number of the line from 1, and its text but for a
+    """The line of a source that a cell comes from: the warrior, the number of the line from 1, and its text without a
     comment.
     """
 
@@ -24,7 +24,7 @@ class Line:
 
 
 class Sources:
-    """What the sources say of the cells that the warriors were loaded to. A load file has no lines and no labels."""
+    """The lines and labels of the cells where the warriors were loaded. A load file has neither."""
 
     def __init__(self, history: History) -> None:
         self.lines: dict[int, Line] = {}
@@ -40,14 +40,14 @@ class Sources:
                 self._labels += [(number, label, address) for label in labels]
 
     def told(self, address: int, cell: np.void) -> str:
-        """The number of the line that made a cell, and its text; that it was once so where another instruction stands
-        there now.
+        """Returns the number and the text of the line from which a cell was loaded, or "". It begins with `was` if the
+        cell has another opcode now.
         """
         line = self.lines.get(address)
         if line is None:
             return ""
-        once = "" if cell["op"] == self._loaded[address]["op"] else "once "
-        return f"; {once}{line.number}: {line.text}"
+        was = "" if cell["op"] == self._loaded[address]["op"] else "was "
+        return f"; {was}{line.number}: {line.text}"
 
     @staticmethod
     def _read(history: History, number: int) -> list[tuple[int, list[str]]]:
@@ -61,12 +61,12 @@ class Sources:
 
     @cached_property
     def addresses(self) -> dict[str, int]:
-        """The addresses of labels: `bomb` where one warrior has it, and `0.bomb` for that of warrior 0."""
+        """The addresses of labels: `0.bomb` for that of warrior 0, also `bomb` if only one warrior has it."""
         owners = Counter(label for _, label in {(number, label) for number, label, _ in self._labels})
         alone = {label: address for _, label, address in self._labels if owners[label] == 1}
         return {**alone, **{f"{number}.{label}": address for number, label, address in self._labels}}
 
     @cached_property
     def labels(self) -> dict[int, str]:
-        """The label of each address that has one, as short as it may be."""
+        """The label of each address that has one, in its shortest form."""
         return {address: label for label, address in reversed(self.addresses.items())}

@@ -8,17 +8,20 @@ import click
 
 from ..battle.history import History
 from ..battle.labels import Sources
+from .layout import Command, Number
 from .options import Asked, battle_options
 
+EXAMPLES = ["corewar debug dwarf.red imp.red", "printf 'continue dies imp\\nwhy\\n' | corewar debug dwarf.red imp.red"]
 
-@click.command()
+
+@click.command(cls=Command, examples=EXAMPLES)
 @battle_options(one_round=True)
-@click.option("--turn", type=click.IntRange(0), default=0, help="The turn to begin at.")
+@click.option("--turn", type=Number(0), default=0, show_default=True, help="Turn to start at, 0 or more")
 def debug(asked: Asked, turn: int) -> None:
-    """Debugs a battle at a prompt, forwards and back.
+    """Step through a battle, forwards and backwards.
 
-    At the prompt `help` tells the commands, `help COMMAND` one of them. Without a terminal the lines of standard
-    input are made.
+    At the prompt, `help` lists the commands and `help COMMAND` explains one. If standard input is not a terminal,
+    commands are read from it, one per line.
     """
     from ..debugger.prompt import is_terminal, run_lines, run_prompt
     from ..debugger.session import Session
@@ -28,5 +31,5 @@ def debug(asked: Asked, turn: int) -> None:
     if not is_terminal():
         run_lines(session, sys.stdin)
         return
-    click.echo(" against ".join(history.names) + "; help tells the commands")
+    click.echo(" against ".join(history.names) + "; `help` lists the commands")
     run_prompt(session, not os.environ.get("NO_COLOR"))

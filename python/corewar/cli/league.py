@@ -21,42 +21,59 @@ from ..league.results import Results
 from ..league.table import FORMATS, League
 from ..model.faults import FileFault
 from ..model.warriors import Warrior, printable
+from .layout import EXECUTION, STATUSES, Command, Number, Option
 from .options import Asked, Output, Picture, battle_options, with_options
 from .telling import tell, tell_fault
 
 ADDRESS = re.compile(r"(tcp://)?(\[[0-9a-fA-F:]+\]|[^\s/:\[\]]+):\d+")
-TURNED = "{} of {} matches are kept the other way round alone: those are other matches, so these are fought"
+TURNED = "{} of {} matches are stored only with the warriors in the other order; those are different matches"
+LEFT_OUT = f"{STATUSES}; 1 also if a file with an error was left out"
 
 
 def address(context: click.Context, param: click.Parameter, given: str | None) -> str | None:
     if given is not None and not ADDRESS.fullmatch(given):
-        raise click.BadParameter("it is HOST:PORT, as in first.lan:8786")
+        raise click.BadParameter("expected HOST:PORT, as in first.lan:8786")
     return given
 
 
 FILE = Output(dir_okay=False, writable=True)
 PLACE = [
-    click.option("--results", type=FILE, help="Keeps results here, and fights none that are here."),
+    click.option(
+        "--results",
+        cls=Option,
+        group=EXECUTION,
+        type=FILE,
+        help="Store results in this file; skip matches already in it",
+    ),
     click.option(
         "--jobs",
-        type=click.IntRange(1),
+        cls=Option,
+        group=EXECUTION,
+        type=Number(1),
         default=len(os.sched_getaffinity(0)),
-        help="Matches at a time; without it as many as there are processors.",
+        help="Number of parallel matches, 1 or more  [default: number of CPUs]",
     ),
-    click.option("--scheduler", callback=address, metavar="HOST:PORT", help="Fights on the workers of a Dask cluster."),
+    click.option(
+        "--scheduler",
+        cls=Option,
+        group=EXECUTION,
+        callback=address,
+        metavar="HOST:PORT",
+        help="Run the matches on the workers of a Dask cluster",
+    ),
 ]
 
 
 @dataclass(frozen=True)
 class Hall:
-    """Where matches are fought, and where their results are kept."""
+    """Where matches are run, and where their results are stored."""
 
     results: str | None
     jobs: int
     scheduler: str | None
 
     def fight(self, matches: Matches) -> None:
-        """Fights all that isn't kept, with a bar on a terminal."""
+        """Runs all matches that are not stored yet, with a bar on a terminal."""
         try:
             if not self.results:
                 self._fight(matches, lambda rows: None)
@@ -67,7 +84,7 @@ class Hall:
                     tell(TURNED.format(turned, len(matches)))
                 self._fight(matches, kept.keep)
         except KeyboardInterrupt:
-            done = f"{matches.is_fought.sum()} of {len(matches)} matches are kept: the same command goes on"
+            done = f"{matches.is_fought.sum()} of {len(matches)} matches stored; run the same command to continue"
             tell(done if self.results else "stopped")
             # A match that is under way isn't waited for.
             os._exit(130)
@@ -82,7 +99,7 @@ class Hall:
 
 @contextmanager
 def progress(matches: Matches) -> Iterator[Callable[[int], None]]:
-    """What is told of each number of matches that are fought: a bar on a terminal, nothing elsewhere."""
+    """Yields what reports a number of matches as run: with a bar on a terminal, otherwise not at all."""
     console = Console(stderr=True)
     if not console.is_terminal:
         yield lambda count: None
@@ -94,20 +111,20 @@ def progress(matches: Matches) -> Iterator[Callable[[int], None]]:
 
 
 def contest_options(command: Callable[..., Any]) -> Callable[..., Any]:
-    """Gives a command the options of a contest, its files and its place, as the arguments `asked` and `hall`."""
+    """Adds the options of a match, the files and the execution options, as the arguments `asked` and `hall`."""
 
     @battle_options()
     @wraps(command)
     def asking(asked: Asked, results: str | None, jobs: int, scheduler: str | None, **given: Any) -> Any:
         if len(asked.files) < 2:
-            raise click.UsageError("at least two files are asked for")
+            raise click.UsageError("expected at least two files")
         return command(asked, Hall(results, jobs, scheduler), **given)
 
     return with_options(*PLACE)(asking)
 
 
 def entered(asked: Asked) -> tuple[Contest, list[Warrior], list[FileFault]]:
-    """The contest, the warriors of the files, and the faults of those that have none, which are told."""
+    """The contest, the warriors of the files, and the errors of the files without one, which are reported."""
     contest = Contest(asked.settings, asked.rounds, asked.seed, asked.position, asked.formula)
     warriors, faults = enter(contest, asked.files, asked.limit)
     for fault in faults:
@@ -124,29 +141,56 @@ def write(text: str, output: str | None) -> None:
         click.echo(told, nl=False)
 
 
-@click.command()
+@click.command(
+    cls=Command,
+    examples=[
+        "corewar league -r 100 *.red",
+        "corewar league -r 100 --results league.sqlite --pages league *.red",
+    ],
+    statuses=LEFT_OUT,
+)
 @contest_options
 @click.option(
     "--order",
     type=click.Choice(["points", "files"]),
     default="points",
-    help="The most points first, or as the files stand.",
+    show_default=True,
+    help="Order of the rows: most points first, or as the files are given",
 )
-@click.option("--format", "form", type=click.Choice(list(FORMATS)), default="table", show_default=True)
-@click.option("-o", "--output", type=FILE, help="Writes the table there.")
 @click.option(
-    "--picture", type=Picture(dir_okay=False, writable=True), help="Draws who beats whom, as .png, .svg or .pdf."
+    "--format",
+    "form",
+    type=click.Choice(list(FORMATS)),
+    default="table",
+    show_default=True,
+    help="Format of the results",
 )
-@click.option("--pages", type=Output(file_okay=False), help="Writes index.html there, with table and matrix.")
-@click.option("--page-pairs", "named", multiple=True, metavar="A,B", help="Two files that have a replay, too.")
+@click.option("-o", "--output", type=FILE, help="Write the results to this file")
+@click.option(
+    "--picture",
+    type=Picture(dir_okay=False, writable=True),
+    help="Draw the results of all pairs; the name ends in .png, .svg or .pdf",
+)
+@click.option(
+    "--pages",
+    metavar="FOLDER",
+    type=Output(file_okay=False),
+    help="Write a page with the results, index.html, into this folder",
+)
+@click.option(
+    "--page-pairs",
+    "named",
+    multiple=True,
+    metavar="A,B",
+    help="Add a replay of two of the files to the pages; can be repeated",
+)
 def league(asked: Asked, hall: Hall, order: str, form: str, **files: Any) -> int:
-    """Fights a match of every two warriors.
+    """Run a league: every pair of warriors plays a match.
 
-    The file that stands earlier is the first warrior of a match. A file with a fault is told and left out; then the
-    status is 1.
+    The first warrior of a match is the one whose file is given earlier. A file with an error is reported and left out.
     """
     if files["named"] and not files["pages"]:
-        raise click.UsageError("--page-pairs goes with --pages")
+        raise click.UsageError("--page-pairs requires --pages")
     contest, warriors, faults = entered(asked)
     if not warriors:
         return 1
@@ -170,7 +214,9 @@ def pair_of(warriors: Sequence[Warrior], names: str) -> tuple[int, int]:
     """The two warriors that `A,B` names, by their files with or without folder and ending, in the order of files."""
     found = [number for name in names.split(",") for number, one in enumerate(warriors) if name in one.files]
     if len(found) != 2 or found[0] == found[1] or names.count(",") != 1:
-        raise click.BadParameter(f"{names} doesn't name two of the files, as in dwarf,imp", param_hint="--page-pairs")
+        raise click.BadParameter(
+            f"expected two of the files, as in dwarf,imp, not `{names}`", param_hint="--page-pairs"
+        )
     return min(found), max(found)
 
 
@@ -183,14 +229,19 @@ def write_pages(result: League, folder: str, pairs: list[tuple[int, int]]) -> No
         pages.write_replay(*pair)
 
 
-@click.command()
+@click.command(
+    cls=Command,
+    examples=["corewar challenge -r 100 mine.red hill/*.red", "corewar challenge --sum -r 100 mine.red hill/*.red"],
+    statuses=LEFT_OUT,
+)
 @contest_options
-@click.option("--sum", "only_sum", is_flag=True, help="Prints the line of sums alone.")
+@click.option("--sum", "only_sum", is_flag=True, help="Print only the sums")
 def challenge(asked: Asked, hall: Hall, only_sum: bool) -> int:
-    """Fights a match of the first file, a candidate, with each of the others, its opponents.
+    """Run a match of the first file against each of the others.
 
-    A line has the points, wins, ties and losses of the candidate, and the points of the opponent. The last one has the
-    sums. A file with a fault is told and left out; then the status is 1. The candidate's fault ends all.
+    Each row shows the points, wins, ties and losses of the first file, the points of its opponent, and the opponent.
+    The last row has the sums. An opponent with an error is reported and left out. If the first file has an error,
+    nothing is run.
     """
     contest, warriors, faults = entered(asked)
     if not warriors or any(fault.file == asked.files[0] for fault in faults):

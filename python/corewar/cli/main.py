@@ -9,29 +9,32 @@ from importlib import import_module
 import click
 
 from .. import __version__
-from ..model.faults import Refused
+from ..model.faults import FORMULA, PARAMETERS, SETTINGS, Fault, Refused
+from .layout import Command
 from .options import HELP
 from .telling import tell, tell_fault
 
-# Each subcommand, and the module of this folder that has it: what a command needs is imported where it is called.
-COMMANDS = {
-    "fight": "rounds",
-    "debug": "debugging",
-    "why": "looking",
-    "trace": "looking",
-    "changed": "looking",
-    "picture": "pictures",
-    "page": "pictures",
-    "rounds": "rounds",
-    "league": "league",
-    "challenge": "league",
-    "explain": "explaining",
-    "web": "workbench",
+# The commands by groups, each with its module in this folder, which is imported only when the command is used.
+GROUPS = {
+    "Play": {"fight": "rounds", "debug": "debugging", "web": "workbench"},
+    "Look": {
+        "why": "looking",
+        "trace": "looking",
+        "changed": "looking",
+        "rounds": "rounds",
+        "picture": "pictures",
+        "page": "pictures",
+        "explain": "explaining",
+    },
+    "Contests": {"league": "league", "challenge": "league"},
 }
+COMMANDS = {name: module for group in GROUPS.values() for name, module in group.items()}
+# Errors of the library that are usage errors, as in `mars`.
+USAGE = (SETTINGS, PARAMETERS, FORMULA)
 
 
-class Commands(click.Group):
-    """A group whose commands are imported where they are asked for."""
+class Commands(Command, click.Group):
+    """A group whose commands are imported when they are used, and listed by groups."""
 
     def list_commands(self, context: click.Context) -> list[str]:
         return list(COMMANDS)
@@ -42,15 +45,26 @@ class Commands(click.Group):
         found: click.Command = getattr(import_module(f".{COMMANDS[name]}", __package__), name)
         return found
 
+    def format_options(self, context: click.Context, formatter: click.HelpFormatter) -> None:
+        super().format_options(context, formatter)
+        width = formatter.width - 6 - max(map(len, COMMANDS))
+        for group, names in GROUPS.items():
+            found = [(name, self.get_command(context, name)) for name in names]
+            with formatter.section(group):
+                formatter.write_dl([(name, one.get_short_help_str(width).rstrip(".")) for name, one in found if one])
 
-@click.command(cls=Commands, context_settings=HELP)
-@click.version_option(__version__, prog_name="corewar")
+
+EXAMPLES = ["corewar fight -r 100 dwarf.red imp.red", "corewar why dwarf.red imp.red", "corewar COMMAND --help"]
+
+
+@click.command(cls=Commands, context_settings=HELP, examples=EXAMPLES)
+@click.version_option(__version__, prog_name="corewar", help="Print the version")
 def commands() -> None:
-    """Core War over a proved machine: fights, leagues, pictures, and a debugger that goes back and forth."""
+    """Run, debug and visualise Core War battles on a verified simulator."""
 
 
 def open_streams() -> None:
-    """A stream that was closed before the start is the null device, and what is no text in another one is `?`."""
+    """Opens the null device for each closed stream; the others replace bytes that are not text by `?`."""
     for name, mode in (("stdin", "r"), ("stdout", "w"), ("stderr", "w")):
         stream = getattr(sys, name)
         if stream is None:
@@ -60,9 +74,9 @@ def open_streams() -> None:
 
 
 def main() -> None:
-    """Runs the command. What can't be done is told in one line, and no traceback reaches a user."""
+    """Runs the command. Errors are reported in one line, and no traceback reaches a user."""
     open_streams()
-    # While all this was loaded Ctrl-C ended the process; from here on it is told.
+    # Until everything was loaded Ctrl-C ended the process; from here on it is reported.
     if signal.getsignal(signal.SIGINT) == signal.SIG_DFL:
         signal.signal(signal.SIGINT, signal.default_int_handler)
     try:
@@ -77,13 +91,13 @@ def main() -> None:
         sys.exit(130)
     except Refused as fault:
         tell_fault(fault)
-        sys.exit(1)
+        sys.exit(2 if isinstance(fault, Fault) and fault.code in USAGE else 1)
     except MemoryError:
         tell("out of memory")
         sys.exit(1)
     except OSError as fault:
         if not isinstance(fault, BrokenPipeError):
             tell(": ".join(str(part) for part in (fault.filename, fault.strerror) if part is not None))
-        # What standard output didn't take isn't tried again.
+        # What standard output didn't accept isn't written again at the end.
         os.dup2(os.open(os.devnull, os.O_WRONLY), sys.stdout.fileno())
         sys.exit(1)

@@ -1,30 +1,35 @@
-"""Which word of `mars` is wrong: the program itself says `bad words` and no more."""
+"""Finds the wrong argument of `mars`, which itself prints only `bad words`."""
 from __future__ import annotations
 
 import re
 
 import click
 
-from ..model.settings import MOST_WARRIORS, NUMBERS, Number
+from ..model.settings import MOST_WARRIORS, NUMBERS
+from .layout import Number
 
-NUMBERS_OF_MARS = [*NUMBERS.values(), Number("--history", "places of the history", 1, 1_000_000)]
-TOGETHER = f"""Each word is right alone. Together: 1 to {MOST_WARRIORS} files are asked for, and no word twice;
--e, --league and --load exclude one another; a league has two files at least, --load one, -F two, and goes from the
-least distance to the core size less that; a formula that begins with `-` is joined, as --score=-S."""
+NUMBERS_OF_MARS = {number.word: (number.least, number.greatest) for number in NUMBERS.values()} | {
+    "--history": (1, 1_000_000)
+}
+TOGETHER = f"""Each argument is valid by itself. Together they have to follow these rules:
+- There are 1 to {MOST_WARRIORS} files; --league requires at least two, -F exactly two and --load one.
+- No option is given twice.
+- -e, --league and --load exclude each other; -F excludes --league and --load.
+- A formula that begins with `-` is joined to its option, as in --score=-S."""
 MARS = click.Command(
     "mars",
     add_help_option=False,
     params=[
-        *(click.Option([one.word], type=click.IntRange(one.least, one.greatest)) for one in NUMBERS_OF_MARS),
+        *(click.Option([word], type=Number(*bounds)) for word, bounds in NUMBERS_OF_MARS.items()),
         click.Option(["--score"]),
         *(click.Option([word], is_flag=True) for word in ("-e", "-b", "-o", "--league", "--load", "--help")),
-        click.Argument(["files"], nargs=-1, required=True),
+        click.Argument(["files"], nargs=-1, required=True, metavar="FILE..."),
     ],
 )
 
 
 def judge(words: list[str]) -> str:
-    """What is to be said of words that are right, each by itself. Raises a fault of click for one that isn't."""
-    # What is joined to a short word by `=` click takes with the sign.
+    """Returns the rules for arguments that are valid by themselves. Raises an error of click if one is not."""
+    # Click would take the `=` that joins a value to a short option as a part of the value.
     MARS.make_context("mars", [re.sub(r"^(-\w)=", r"\1", word) for word in words])
     return TOGETHER

@@ -1,4 +1,4 @@
-"""The options that every command about battles takes, once: those of `mars`, and `--hill`, `--round`."""
+"""The options that all commands about battles share: those of `mars`, `--hill` and `--round`."""
 from __future__ import annotations
 
 import functools
@@ -11,7 +11,9 @@ import click
 
 from ..engine.calls import Match
 from ..engine.sources import Limit, read_warriors
+from ..model.faults import FileFault
 from ..model.settings import FORMULA, HILLS, NUMBERS, Settings, whole
+from .layout import CORE, MATCH, Number, Option
 
 PICTURES = (".png", ".svg", ".pdf")
 Decorator = Callable[[Callable[..., Any]], Callable[..., Any]]
@@ -20,7 +22,7 @@ HELP = {"help_option_names": ["-h", "--help"], "max_content_width": 120}
 
 @dataclass(frozen=True)
 class Asked:
-    """What the options of a command about battles come to."""
+    """The values of the options of a command about battles."""
 
     files: tuple[str, ...]
     settings: Settings
@@ -32,28 +34,28 @@ class Asked:
     limit: Limit
 
     def fight(self) -> Match:
-        """The match of the files, each of which is read once. Raises FileFault."""
+        """The match of the files. Each file is read once. Raises FileFault."""
         warriors = read_warriors(self.files, self.settings, self.rounds, self.limit)
         return Match(warriors, self.settings, self.seed, self.position, self.rounds)
 
 
 class Output(click.Path):
-    """A file or a folder that is written. Its name isn't empty, and that in which a file lies is there."""
+    """A file or a folder to write. Its name isn't empty, and the folder of a file exists."""
 
     def convert(self, value: Any, param: click.Parameter | None, context: click.Context | None) -> Any:
         if not value:
-            self.fail("a name is asked for", param, context)
+            self.fail("expected a name, not an empty argument", param, context)
         if self.file_okay and not Path(value).absolute().parent.is_dir():
-            self.fail(f"there is no folder {Path(value).parent}", param, context)
+            raise FileFault(str(Path(value).parent), "no such folder")
         return super().convert(value, param, context)
 
 
 class Picture(Output):
-    """A file that is a picture, of the kind that its name ends in."""
+    """A picture to write, of the kind that its name ends in."""
 
     def convert(self, value: Any, param: click.Parameter | None, context: click.Context | None) -> Any:
         if not str(value).endswith(PICTURES):
-            self.fail(f"its name ends in {', '.join(PICTURES[:-1])} or {PICTURES[-1]}", param, context)
+            self.fail(f"expected a name that ends in {', '.join(PICTURES[:-1])} or {PICTURES[-1]}", param, context)
         return super().convert(value, param, context)
 
 
@@ -67,12 +69,12 @@ class LimitType(click.ParamType):
             return value
         numbers = [whole(part) or 0 for part in str(value).split(",")]
         if not 1 <= len(numbers) <= 2 or not all(1 <= number <= 1_000_000 for number in numbers):
-            self.fail(f"{value} isn't S or S,MB, with numbers from 1 to 1000000", param, context)
+            self.fail(f"expected S or S,MB with numbers from 1 to 1000000, not `{value}`", param, context)
         return replace(Limit(), **dict(zip(("seconds", "megabytes"), numbers)))
 
 
 def with_options(*options: Decorator) -> Decorator:
-    """Gives a command these options, in this order."""
+    """Adds options to a command, in this order."""
 
     def decorate(command: Callable[..., Any]) -> Callable[..., Any]:
         for option in reversed(options):
@@ -82,50 +84,60 @@ def with_options(*options: Decorator) -> Decorator:
     return decorate
 
 
-def number_option(name: str, **how: Any) -> Decorator:
-    """The option of a number, with its range and what it means."""
+def number_option(name: str, group: str, **how: Any) -> Decorator:
+    """The option of a number, with its range."""
     number = NUMBERS[name]
     words = {number.word, f"--{name.replace('_', '-')}"}
-    kind = click.IntRange(number.least, number.greatest)
-    return click.option(
-        *sorted(words), name, type=kind, help=f"{number.meaning[0].upper()}{number.meaning[1:]}.", **how
-    )
+    text = f"{number.meaning[0].upper()}{number.meaning[1:]}, {number.range}"
+    kind = Number(number.least, number.greatest)
+    return click.option(*sorted(words), name, cls=Option, group=group, type=kind, help=text, **how)
 
 
-SETTINGS = [number_option(name) for name in vars(Settings())]
+def match_option(*words: str, **how: Any) -> Decorator:
+    return click.option(*words, cls=Option, group=MATCH, **how)
+
+
+SETTINGS = [number_option(name, CORE) for name in vars(Settings())]
 CONTEST = [
-    click.option(
+    match_option(
         "--hill",
         type=click.Choice(list(HILLS)),
         default="94nop",
         show_default=True,
-        help="The settings of a known hill.",
+        help="Settings of a known hill",
     ),
-    number_option("rounds", default=1, show_default=True),
-    number_option("seed", default=1, show_default=True),
-    number_option("position"),
-    click.option("--score", "formula", default=FORMULA, show_default=True, help="What a survivor gets."),
-    click.option(
+    number_option("rounds", MATCH, default=1, show_default=True),
+    number_option("seed", MATCH, default=1, show_default=True),
+    number_option("position", MATCH),
+    match_option(
+        "--score",
+        "formula",
+        metavar="FORMULA",
+        default=FORMULA,
+        show_default=True,
+        help="Score of each survivor, with W warriors and S survivors",
+    ),
+    match_option(
         "--source-limit",
         "limit",
         type=LimitType(),
         default=Limit(),
-        help="What a source may take, in seconds and megabytes; 10,1000.",
+        help="Limits for assembling a source: CPU seconds and megabytes  [default: 10,1000]",
     ),
 ]
-ROUND = click.option(
+LAST_ROUND = NUMBERS["rounds"].greatest - 1
+ROUND = match_option(
     "--round",
     "round_",
-    type=click.IntRange(0, NUMBERS["rounds"].greatest - 1),
+    type=Number(0, LAST_ROUND),
     default=0,
-    help="Which round of the match, from 0 on.",
+    show_default=True,
+    help=f"Round of the match to show, 0 to {LAST_ROUND}",
 )
 
 
 def battle_options(*, one_round: bool = False, needs_files: bool = True) -> Decorator:
-    """Gives a command the options of a contest and its files, as its argument `asked`; with `one_round` that of a
-    round, too.
-    """
+    """Adds the options of a match and the files, as the argument `asked`; with `one_round` also that of a round."""
 
     def decorate(command: Callable[..., Any]) -> Callable[..., Any]:
         @functools.wraps(command)
@@ -135,7 +147,9 @@ def battle_options(*, one_round: bool = False, needs_files: bool = True) -> Deco
             contest: dict[str, Any] = {name: given.pop(name) or 0 for name in ("rounds", "seed", "position", "formula")}
             return command(Asked(files, settings, round=round_, limit=limit, **contest), **given)
 
-        files = click.argument("files", nargs=-1, required=needs_files)
-        return with_options(*SETTINGS, *CONTEST, *([ROUND] if one_round else []), files)(asking)
+        files = click.argument(
+            "files", nargs=-1, required=needs_files, metavar="FILE..." if needs_files else "[FILE]..."
+        )
+        return with_options(*CONTEST, *([ROUND] if one_round else []), *SETTINGS, files)(asking)
 
     return decorate

@@ -7,15 +7,17 @@ from threading import Thread
 import click
 
 from ..analysis.captions import command
+from ..analysis.telling import counted
 from ..battle.rounds import rounds_of, sums
 from ..engine.calls import Match, Row, match
 from ..model.warriors import printable
+from .layout import Command
 from .options import Asked, Output, battle_options
 
 
 def rows_of(fought: Match, formula: str) -> list[Row]:
-    """The rows of a match, of which one call of the library fights all rounds. Ctrl-C doesn't wait for it, since it is
-    made by another thread.
+    """The rows of a match. One call of the library runs all rounds, in another thread, so that Ctrl-C doesn't wait for
+    it.
     """
     rows: Future[list[Row]] = Future()
 
@@ -31,10 +33,15 @@ def rows_of(fought: Match, formula: str) -> list[Row]:
     return rows.result()
 
 
-@click.command()
+@click.command(
+    cls=Command, examples=["corewar fight dwarf.red imp.red", "corewar fight -r 100 --hill 94x one.red two.red"]
+)
 @battle_options()
 def fight(asked: Asked) -> None:
-    """Fights a match, and writes its table: points, wins, ties and losses of each warrior."""
+    """Run a match and print its results.
+
+    Each row shows the points of a warrior, and the rounds that it won, tied and lost.
+    """
     fought = asked.fight()
     rows = rows_of(fought, asked.formula)
     click.echo("  points   wins   ties losses  warrior")
@@ -42,18 +49,27 @@ def fight(asked: Asked) -> None:
         click.echo(f"{row.points:8} {row.wins:6} {row.ties:6} {row.losses:6}  {printable(warrior.title)}")
 
 
-@click.command()
+@click.command(
+    cls=Command,
+    examples=["corewar rounds -r 10 dwarf.red imp.red", "corewar rounds -r 10 --pages match dwarf.red imp.red"],
+)
 @battle_options()
 @click.option(
-    "--pages", metavar="FOLDER", type=Output(file_okay=False), help="Writes a page for each round there, and an index."
+    "--pages",
+    metavar="FOLDER",
+    type=Output(file_okay=False),
+    help="Write a page for each round, and an index, into this folder",
 )
 def rounds(asked: Asked, pages: str | None) -> None:
-    """Tells how each round of a match ends, for the warriors in the order of the files, and the words that debug it."""
+    """Print the outcome of every round, with the command to debug it.
+
+    The outcomes are in the order of the files.
+    """
     fought = asked.fight()
     width = 5 * len(fought.warriors)
     for number, warrior in enumerate(fought.warriors):
         click.echo(f"warrior {number}: {printable(warrior.title)}")
-    click.echo(f"round {'outcome':{width}} {'turns':>7}  to debug it")
+    click.echo(f"round {'outcome':{width}} {'turns':>7}  command to debug it")
     if pages:
         from ..pages.match import Pages
 
@@ -66,7 +82,7 @@ def rounds(asked: Asked, pages: str | None) -> None:
         if pages:
             written.write_round(one)
     for number, (wins, ties, losses) in enumerate(sums(outcomes)):
-        click.echo(f"warrior {number}: {wins} wins, {ties} ties, {losses} losses")
+        click.echo(f"warrior {number}: {counted(wins, 'win')}, {counted(ties, 'tie')}, {counted(losses, 'loss')}")
     if pages:
         written.write_index()
         click.echo(f"{printable(pages)}: {len(outcomes)} pages")

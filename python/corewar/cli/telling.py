@@ -1,4 +1,4 @@
-"""What commands say of faults, on standard error."""
+"""Reports errors on standard error."""
 from __future__ import annotations
 
 import click
@@ -9,12 +9,12 @@ from ..model.warriors import printable
 
 
 def tell(text: str) -> None:
-    """Writes lines to standard error."""
+    """Writes lines to standard error, after the name of the command."""
     click.echo("\n".join(f"corewar: {printable(line)}" for line in text.split("\n")), err=True)
 
 
 def tell_fault(refused: Refused) -> None:
-    """Tells what can't be done, and behind a fault of the machine what it means."""
+    """Reports an error, and what it means if it is one of the library."""
     tell(str(refused))
     fault, source = (refused.fault, refused.text) if isinstance(refused, FileFault) else (refused, b"")
     if isinstance(fault, Fault):

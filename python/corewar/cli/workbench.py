@@ -7,31 +7,40 @@ from pathlib import Path
 import click
 
 from ..engine.binding import CHECKOUT, INSTALLED
-from ..model.faults import Refused
+from ..model.faults import FileFault, Refused
+from .layout import Command, Number
 from .options import Output
 
-# Where examples lie: those of the checkout, or those that are installed.
+# The folders of examples: that of the checkout, and those that may be installed.
 EXAMPLES = [CHECKOUT / "examples", *(folder / "share" / "doc" / "mars" / "examples" for folder in INSTALLED)]
 
 
-@click.command()
-@click.option("--port", type=click.IntRange(0, 65535), default=0, help="The port; a free one without it.")
-@click.option("--browser/--no-browser", default=True, help="Whether the browser is opened.")
-@click.option(
-    "--results", type=Output(dir_okay=False), help="Keeps the results of leagues here, as `corewar league` does."
+@click.command(
+    cls=Command,
+    examples=["corewar web", "corewar web --port 8080 --no-browser warriors/"],
+    statuses="1 error in input or files, 2 usage error, 130 stopped with Ctrl-C",
 )
-@click.argument("files", nargs=-1, type=click.Path(exists=True))
+@click.option("--port", type=Number(0, 65535), default=0, help="Port to serve on, 0 to 65535  [default: a free one]")
+@click.option("--browser/--no-browser", default=True, show_default=True, help="Open the browser, or only serve")
+@click.option(
+    "--results", type=Output(dir_okay=False), help="Store results of leagues in this file; skip matches already in it"
+)
+@click.argument("files", nargs=-1, metavar="[FILE]...")
 def web(port: int, browser: bool, results: str | None, files: tuple[str, ...]) -> None:
-    """Opens the workbench: editor, fight, the core in time, the debugger and a league, in a page of the browser.
+    """Open the workbench in a browser.
 
-    FILES are sources, or folders of them; without any those of the current folder. It serves this machine alone.
+    The workbench has an editor, a view of the core, the debugger and leagues. FILE is a source or a folder of sources;
+    without any, the current folder is used. Only this machine can connect to the workbench.
     """
     from ..web.bench import Bench, Folder, sources_of
     from ..web.server import serve
 
+    for name in files:
+        if not Path(name).exists():
+            raise FileFault(name, "No such file or directory")
     folder = Folder(
         [Path(name) for name in files or (".",)], sources_of([path for path in EXAMPLES if path.is_dir()][:1])
     )
     if not folder.all():
-        raise Refused("there is no source: a file or a folder with files that end in .red is asked for")
+        raise Refused("no source found; expected files or folders with files that end in .red")
     asyncio.run(serve(Bench(folder, results), port, browser, click.echo))

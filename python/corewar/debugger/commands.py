@@ -1,4 +1,4 @@
-"""The commands of the debugger: a table by name, each with its words, what it does, short names, and its function."""
+"""The commands of the debugger: a table by name, each with its arguments, help, short names and function."""
 from __future__ import annotations
 
 from collections.abc import Callable, Iterable, Iterator
@@ -8,26 +8,25 @@ from typing import NoReturn
 import numpy as np
 
 from ..analysis.causes import cause_told, change_told, death_told
-from ..analysis.telling import processes
+from ..analysis.telling import counted
 from ..battle.conditions import Condition, search
 from ..model.faults import Refused
 from ..model.settings import whole
 from .session import MOST_FILLED, Session
 
 Act = Callable[[Session, str], Iterable[str]]
-# How many cells `list` shows, and how many around each warrior's next process; how many turns of a dead warrior `why`
-# tells.
+# How many cells `list` shows, also around each warrior's next process, and how many turns before a death `why` shows.
 CELLS, AROUND, TURNS = 11, 7, 4
 
 
 class Left(Exception):
-    """The user leaves."""
+    """The user quits."""
 
 
 @dataclass(frozen=True)
 class Command:
-    """A command: its function takes the session and the rest of the line, and gives what it tells. An empty line
-    makes one that repeats again.
+    """A command: its function takes the session and the rest of the line, and returns the lines to show. An empty line
+    repeats a command that `repeats`.
     """
 
     usage: str
@@ -56,12 +55,12 @@ def command(usage: str, told: str, *short: str, repeats: bool = False) -> Callab
 
 
 def find_command(word: str) -> Command:
-    """The command of a name, of a short one, or of the first letters of one."""
+    """Finds a command by its name, a short name, or the first letters of its name. Raises Refused."""
     found = [one for one in COMMANDS.values() if word == one.name or word in one.short]
     found = found or [one for one in COMMANDS.values() if one.name.startswith(word)]
     if len(found) != 1:
         told = ", ".join(one.name for one in found)
-        raise Refused(f"`{word}` is short for {told}" if found else f"`{word}` is no command: help tells them")
+        raise Refused(f"`{word}` can mean {told}" if found else f"unknown command `{word}`; `help` lists all commands")
     return found[0]
 
 
@@ -73,49 +72,49 @@ def here(session: Session) -> Iterator[str]:
 
 
 def step_by(session: Session, rest: str, sign: int) -> Iterator[str]:
-    """Steps so many turns on or back, or to the next or last turn of a warrior."""
+    """Steps a number of turns forwards or back, or to the next or previous turn of a warrior."""
     if rest and not rest.isdecimal():
         warrior = session.warrior(rest)
         found = search(session.history, [Condition("moves", warrior, warrior)], session.turn, sign > 0)
         if found is None:
-            where = "behind" if sign > 0 else "before"
+            where = "after" if sign > 0 else "before"
             raise Refused(f"{session.names[warrior]} has no turn {where} turn {session.turn}")
         session.go(found[0])
     else:
-        to = session.turn + sign * session.number(rest or "1", "turns")
+        to = session.turn + sign * session.number(rest or "1", "a number of turns")
         session.go(max(0, min(session.history.end, to)))
     yield from here(session)
 
 
-@command("step [N|W]", "makes one turn, or N, or those up to the next one of warrior W", "s", "n", repeats=True)
+@command("step [N|W]", "execute one turn, N turns, or up to the next turn of warrior W", "s", "n", repeats=True)
 def step(session: Session, rest: str) -> Iterator[str]:
     yield from step_by(session, rest, 1)
 
 
-@command("reverse-step [N|W]", "goes as far back", "rs", "back", repeats=True)
+@command("reverse-step [N|W]", "step back in the same way", "rs", "back", repeats=True)
 def reverse_step(session: Session, rest: str) -> Iterator[str]:
     yield from step_by(session, rest, -1)
 
 
-@command("run [N]", "makes N turns, or all that are left", "r", repeats=True)
+@command("run [N]", "execute N turns, or all that are left", "r", repeats=True)
 def run(session: Session, rest: str) -> Iterator[str]:
     yield from step_by(session, rest or str(session.history.end), 1)
 
 
-@command("goto T", "goes to turn T, `start` or `end`", "g")
+@command("goto T", "go to turn T, `start` or `end`", "g")
 def goto(session: Session, rest: str) -> Iterator[str]:
     end = session.history.end
     turn = {"start": 0, "end": end}.get(rest)
-    turn = session.number(rest, "turns") if turn is None else turn
+    turn = session.number(rest, "the number of a turn, `start` or `end`") if turn is None else turn
     if turn > end:
-        raise Refused(f"the battle has turn 0 to turn {end}")
+        raise Refused(f"the battle has turns 0 to {end}")
     session.go(turn)
     yield from here(session)
 
 
-@command("until C", "goes on to where C cycles are complete")
+@command("until C", "execute turns until C cycles are completed")
 def until(session: Session, rest: str) -> Iterator[str]:
-    cycle, history = session.number(rest, "cycles"), session.history
+    cycle, history = session.number(rest, "a number of cycles"), session.history
     passed = history.block(session.turn).cycle(session.turn) >= cycle
     for block in [] if passed else history.blocks(session.turn):
         found = block.first + 1 + np.flatnonzero(block.records["cycle"] >= cycle)
@@ -123,15 +122,17 @@ def until(session: Session, rest: str) -> Iterator[str]:
             session.go(int(found[0]))
             yield from here(session)
             return
-    raise Refused(f"behind turn {session.turn} no cycle {cycle} is completed")
+    raise Refused(f"cycle {cycle} is not completed after turn {session.turn}")
 
 
-@command("continue [CONDITION]", "goes on to the next break, or to where the condition holds", "c", repeats=True)
+@command("continue [CONDITION]", "go to the next breakpoint, or to where the condition holds next", "c", repeats=True)
 def go_on(session: Session, rest: str) -> Iterator[str]:
     yield from searched(session, rest, True)
 
 
-@command("reverse-continue [CONDITION]", "goes back to the break before, or to where it held", "rc", repeats=True)
+@command(
+    "reverse-continue [CONDITION]", "go back to the previous breakpoint, or to where it held last", "rc", repeats=True
+)
 def go_back(session: Session, rest: str) -> Iterator[str]:
     yield from searched(session, rest, False)
 
@@ -142,39 +143,39 @@ def searched(session: Session, rest: str, forward: bool) -> Iterator[str]:
     yield from here(session)
 
 
-@command("break [CONDITION]", "sets a break for continue; without words: lists them", "b")
+@command("break [CONDITION]", "set a breakpoint for continue, or list all breakpoints", "b")
 def set_break(session: Session, rest: str) -> Iterator[str]:
     if rest:
         session.breaks.append(session.condition(rest.split()))
     for number, condition in enumerate(session.breaks):
-        yield f"break {number}: {session.told(condition)}"
+        yield f"breakpoint {number}: {session.told(condition)}"
 
 
-@command("delete N", "takes break N away; `delete all`: all of them", "d")
+@command("delete N", "delete breakpoint N, or `all` breakpoints", "d")
 def delete(session: Session, rest: str) -> Iterator[str]:
     if rest == "all":
         session.breaks.clear()
     else:
         number = whole(rest)
         if number is None or number >= len(session.breaks):
-            raise Refused(f"there is no break `{rest}`: delete takes a number, or `all`")
+            raise Refused(f"no breakpoint `{rest}`; expected a number or `all`")
         del session.breaks[number]
     yield from set_break(session, "")
 
 
-@command("undo", "takes back the last move or edit", "u", repeats=True)
+@command("undo", "undo the last move or edit", "u", repeats=True)
 def undo(session: Session, _: str) -> Iterator[str]:
     session.undo()
     yield from here(session)
 
 
-@command("redo", "makes again what was taken back", repeats=True)
+@command("redo", "redo the last move or edit that was undone", repeats=True)
 def redo(session: Session, _: str) -> Iterator[str]:
     session.redo()
     yield from here(session)
 
 
-@command("edit A LINE", "sets the cell at A by a line of source, as in edit 3 jmp bomb", "e")
+@command("edit A LINE", "set the cell at A to a line of source, as in `edit 3 jmp bomb`", "e")
 def edit(session: Session, rest: str) -> Iterator[str]:
     first, _, line = rest.partition(" ")
     address = session.address(first)
@@ -184,30 +185,30 @@ def edit(session: Session, rest: str) -> Iterator[str]:
     yield f"{session.teller.where(address)}: {old} -> {cell}"
 
 
-@command("fill A B LINE", "sets the cells from A to B by a line of source")
+@command("fill A B LINE", "set the cells from A to B to a line of source")
 def fill(session: Session, rest: str) -> Iterator[str]:
     words = rest.split(None, 2)
     if len(words) != 3:
-        raise Refused("fill takes two addresses and a line of source")
+        raise Refused("expected two addresses and a line of source")
     first, last = session.address(words[0]), session.address(words[1])
     if not first <= last < first + MOST_FILLED:
-        raise Refused(f"from {first} to {last} there are no 1 to {MOST_FILLED} cells")
+        raise Refused(f"cannot fill {first} to {last}: expected 1 to {MOST_FILLED} cells")
     cell = session.cell(first, words[2])
     session.edit(f"fill {first} {last} {cell}")
     yield f"{first} to {last}: {cell}"
 
 
-@command("move W I A", "makes process I of warrior W, 0 being its next one, stand at A")
+@command("move W I A", "move process I of warrior W to A; process 0 is the next one")
 def move(session: Session, rest: str) -> Iterator[str]:
     words = rest.rsplit(None, 2)
     if len(words) != 3:
-        raise Refused("move takes a warrior, the index of a process, and an address")
+        raise Refused("expected a warrior, the index of a process and an address")
     warrior = session.warrior(words[0])
     session.edit(f"move {warrior} {session.process(warrior, words[1])} {session.address(words[2])}")
     yield from queue(session, words[0])
 
 
-@command("kill W I", "takes process I of warrior W away")
+@command("kill W I", "remove process I of warrior W")
 def kill(session: Session, rest: str) -> Iterator[str]:
     name, _, index = rest.rpartition(" ")
     warrior = session.warrior(name)
@@ -215,39 +216,37 @@ def kill(session: Session, rest: str) -> Iterator[str]:
     yield from queue(session, name)
 
 
-@command("spawn W A", "gives warrior W a further process at A")
+@command("spawn W A", "add a process of warrior W at A")
 def spawn(session: Session, rest: str) -> Iterator[str]:
     name, _, where = rest.rpartition(" ")
     warrior, address = session.warrior(name), session.address(where)
     count = len(session.history.block(session.turn).queue(warrior, session.turn))
     if not 0 < count < session.history.fight.settings.processes:
-        why = "may have no more" if count else "the dead get none"
-        raise Refused(f"{session.names[warrior]} has {processes(count)}, and {why}")
+        why = f"has {counted(count, 'process')}, the maximum" if count else "is dead"
+        raise Refused(f"cannot add a process: {session.names[warrior]} {why}")
     session.edit(f"spawn {warrior} {address}")
     yield from queue(session, name)
 
 
-@command("futures [N]", "lists what edits made of the battle, or goes over to number N; none is lost")
+@command("futures [N]", "list the futures that edits have made, or switch to number N; none is lost")
 def futures(session: Session, rest: str) -> Iterator[str]:
     if rest:
-        number = session.number(rest, "a future")
+        number = session.number(rest, "the number of a future")
         if number >= len(session.futures):
-            raise Refused(f"there are the futures 0 to {len(session.futures) - 1}")
+            raise Refused(f"no future {number}; there are futures 0 to {len(session.futures) - 1}")
         history = session.futures[number]
         session.go(min(session.turn, history.end), history)
     for number, history in enumerate(session.futures):
-        edits = "; ".join(f"behind turn {turn}: {line}" for turn, line in history.edits) or "as it was"
+        edits = "; ".join(f"after turn {turn}: {line}" for turn, line in history.edits) or "no edits"
         yield f"{'>' if history is session.history else ' '} {number}: {edits}; {history.end} turns"
 
 
-@command(
-    "list [A [N]]", "shows N cells from A on; without A those around each warrior's next process", "l", repeats=True
-)
+@command("list [A [N]]", "list N cells from A on, or the cells around each warrior's next process", "l", repeats=True)
 def list_cells(session: Session, rest: str) -> Iterator[str]:
     core, teller, turn = session.history.core, session.teller, session.turn
     if rest:
         first, _, count = rest.partition(" ")
-        most = session.number(count, "cells") if count else CELLS
+        most = session.number(count, "a number of cells") if count else CELLS
         yield from teller.cells(turn, session.address(first), min(most, core))
         return
     for number in range(len(session.names)):
@@ -257,7 +256,7 @@ def list_cells(session: Session, rest: str) -> Iterator[str]:
             yield from teller.cells(turn, int(queue[0]) - AROUND // 2, min(AROUND, core))
 
 
-@command("queue [W]", "shows where the processes of warrior W stand, the next one first", "p")
+@command("queue [W]", "list the addresses of the processes of warrior W, the next one first", "p")
 def queue(session: Session, rest: str) -> Iterator[str]:
     block = session.history.block(session.turn)
     warrior = session.warrior(rest) if rest else block.following(session.turn)
@@ -265,7 +264,7 @@ def queue(session: Session, rest: str) -> Iterator[str]:
     yield f"{session.teller.names[warrior]}: {addresses}".rstrip()
 
 
-@command("show", "shows the turn and the cycle, and how each warrior stands", "i")
+@command("show", "show the turn, the cycle and the state of each warrior", "i")
 def show(session: Session, _: str) -> Iterator[str]:
     end, turn = session.history.end, session.turn
     state = "over" if turn == end else f"of {end} turns"
@@ -273,7 +272,7 @@ def show(session: Session, _: str) -> Iterator[str]:
     yield from session.teller.standing(turn)
 
 
-@command("why [W]", "tells why warrior W died, or how the cell came about that is executed next")
+@command("why [W]", "explain why warrior W died, or how the next cell to execute got its value")
 def why(session: Session, rest: str) -> Iterator[str]:
     turn, teller = session.turn, session.teller
     died = [int(number) for number, when in session.history.deaths(turn).tolist() if when == turn]
@@ -286,24 +285,24 @@ def why(session: Session, rest: str) -> Iterator[str]:
         yield from cause_told(teller, address, turn)
 
 
-@command("changed A", "tells the last turn that changed cell A, up to here")
+@command("changed A", "find the last turn up to here that changed cell A")
 def changed(session: Session, rest: str) -> Iterator[str]:
     yield from change_told(session.teller, session.address(rest), session.turn)
 
 
 CONDITIONS = """A CONDITION, for continue, reverse-continue and break:
   at A[..B]       a cell from A to B is executed next
-  changes A[..B]  a turn changed a cell from A to B
-  reads A[..B]    a turn came by a cell from A to B and didn't write it
-  .. by W         .. and warrior W does it
-  splits W        warrior W got a further process
+  changes A[..B]  the turn changed a cell from A to B
+  reads A[..B]    the turn accessed a cell from A to B without writing it
+  .. by W         .. and it is a turn of warrior W
+  splits W        warrior W gained a process
   ends W          warrior W lost a process
   dies W          warrior W died
-An address A is a number, a label, `.` (where the next process stands), or one of these with +N or -N.
-A warrior W is a number or a name. The first letters of a command do. An empty line makes the last one again."""
+An address A is a number, a label, `.` (the cell to execute next), or one of these with +N or -N.
+A warrior W is a number or a name. Commands can be abbreviated. An empty line repeats the last command."""
 
 
-@command("help [COMMAND]", "tells the commands, or one of them", "h", "?")
+@command("help [COMMAND]", "list all commands, or explain one", "h", "?")
 def tell_help(session: Session, rest: str) -> Iterator[str]:
     for one in [find_command(rest)] if rest else COMMANDS.values():
         short = f" ({', '.join(one.short)})" if one.short else ""
@@ -312,12 +311,12 @@ def tell_help(session: Session, rest: str) -> Iterator[str]:
         yield CONDITIONS
 
 
-@command("quit", "leaves", "q")
+@command("quit", "quit the debugger", "q")
 def leave(session: Session, _: str) -> NoReturn:
     raise Left
 
 
 def execute(session: Session, line: str) -> list[str]:
-    """Makes the command of a line, and gives what it tells. Raises Refused, and Left."""
+    """Executes the command of a line and returns the lines to show. Raises Refused, and Left."""
     word, _, rest = line.strip().partition(" ")
     return list(find_command(word).act(session, rest.strip()))

@@ -1,5 +1,5 @@
-"""The prompt: completion as one types, lines that are kept, cells in colours, and a bar that says where the battle
-stands. Without a terminal lines are read as they come, and what they tell is plain.
+"""The prompt: completion, a history of lines, colours, and a bar with the state of the battle. Without a terminal,
+lines are read as they come, and output is plain.
 """
 from __future__ import annotations
 
@@ -26,7 +26,7 @@ from .session import Session
 
 # The colours of warriors, as a terminal numbers them.
 PAINTS = (91, 94, 92, 93, 95, 96, 31, 34, 32, 33, 35, 36)
-# So deep files of lines may name files of lines.
+# How deep `source` may be nested.
 DEEPEST = 8
 
 
@@ -48,7 +48,7 @@ class Words(Completer):
                 yield Completion(text, -len(word), display_meta=told)
 
     def candidates(self, words: list[str], is_new: bool) -> Iterator[tuple[str, str]]:
-        """What may stand where the last word begins, each with what it means."""
+        """Yields what the last word can be completed to, each with its meaning."""
         if len(words) + is_new <= 1:
             yield from ((one.name, one.told) for one in COMMANDS.values())
             return
@@ -62,7 +62,7 @@ class Words(Completer):
 
 
 def command_of(line: str) -> Command | None:
-    """The command that a line begins with, if there is one."""
+    """Returns the command of a line, or None."""
     try:
         return find_command(line.split()[0])
     except (IndexError, Refused):
@@ -70,7 +70,7 @@ def command_of(line: str) -> Command | None:
 
 
 class Runner:
-    """Makes lines: those of the debugger, and `source FILE` and `log FILE`, which read and write lines."""
+    """Executes lines: those of the debugger, and `source FILE` and `log FILE`, which read and write lines."""
 
     def __init__(self, session: Session, show: Callable[[str], None]) -> None:
         self.session, self.show = session, show
@@ -78,7 +78,7 @@ class Runner:
         self.depth = 0
 
     def make(self, line: str) -> None:
-        """Makes a line, and shows what it tells. Raises Left."""
+        """Executes a line and shows the result. Raises Left."""
         word, _, file = line.strip().partition(" ")
         try:
             name = find_command(word).name if word else ""
@@ -93,7 +93,7 @@ class Runner:
             self.show(str(fault))
 
     def begin_log(self, file: str) -> None:
-        """From here on writes each line that was made into a file, which `source` makes again."""
+        """Begins to log executed lines to a new file, which `source` can execute again."""
         log, self.log = self.log, None
         if log:
             log.close()
@@ -103,7 +103,7 @@ class Runner:
             raise Refused(f"{file}: {fault.strerror if isinstance(fault, OSError) else fault}") from None
 
     def keep(self, line: str) -> None:
-        """Writes a line that was made. Where that can't be done, no further one is written."""
+        """Logs a line that was executed. If that fails, the log is closed."""
         if self.log is None:
             return
         try:
@@ -113,9 +113,9 @@ class Runner:
             raise Refused(f"{name}: {fault.strerror}") from None
 
     def make_all(self, file: str) -> None:
-        """Makes the lines of a file, of which some may name files, too."""
+        """Executes the lines of a file, which may contain `source` again."""
         if self.depth == DEEPEST:
-            raise Refused(f"{file}: files name files more than {DEEPEST} deep")
+            raise Refused(f"{file}: `source` is nested more than {DEEPEST} deep")
         self.depth += 1
         try:
             # All of it is read first: it may be the log, which grows.
@@ -125,14 +125,12 @@ class Runner:
             self.depth -= 1
 
 
-COMMANDS["source"] = Command("source FILE", "makes the lines of a file", (), False, lambda *_: [])
-COMMANDS["log"] = Command(
-    "log [FILE]", "writes the lines that follow into a new file; without FILE no longer", (), False, lambda *_: []
-)
+COMMANDS["source"] = Command("source FILE", "execute the lines of a file", (), False, lambda *_: [])
+COMMANDS["log"] = Command("log [FILE]", "log the next lines to a new file, or stop the log", (), False, lambda *_: [])
 
 
 def run_lines(session: Session, lines: Iterable[str]) -> None:
-    """Makes lines that come from no terminal. An empty one does nothing."""
+    """Executes lines that don't come from a terminal. An empty one does nothing."""
     runner = Runner(session, lambda text: print(text, flush=True))
     try:
         for line in lines:
@@ -142,7 +140,7 @@ def run_lines(session: Session, lines: Iterable[str]) -> None:
 
 
 def state_file() -> Path | None:
-    """The file of the lines that were typed before, where it can be written."""
+    """Returns the file with the history of lines, or None if it cannot be written."""
     try:
         folder = Path(os.environ.get("XDG_STATE_HOME") or Path.home() / ".local" / "state") / "corewar"
         folder.mkdir(parents=True, exist_ok=True)
@@ -153,7 +151,7 @@ def state_file() -> Path | None:
 
 
 def run_prompt(session: Session, coloured: bool) -> None:
-    """Reads lines at a prompt until the user leaves."""
+    """Reads lines at a prompt until the user quits."""
     session.paint = paint if coloured else session.paint
     file = state_file()
     prompt: PromptSession[str] = PromptSession(
@@ -179,7 +177,7 @@ def run_prompt(session: Session, coloured: bool) -> None:
 
 
 def bar(session: Session) -> str:
-    """Where the battle stands, in a line."""
+    """Returns the state of the battle in one line."""
     block = session.history.block(session.turn)
     counts = [len(block.queue(number, session.turn)) for number in range(len(session.names))]
     standing = ", ".join(f"{name} {count}" for name, count in zip(session.names, counts))

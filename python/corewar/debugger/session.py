@@ -1,6 +1,4 @@
-"""A battle that is debugged: where it stands, what was done, and what is to be undone. It changes by moves and edits
-alone.
-"""
+"""The session of the debugger: a place in a battle, with undo and redo, breakpoints and futures."""
 from __future__ import annotations
 
 import re
@@ -18,12 +16,12 @@ from ..model.settings import whole
 # The most cells that one edit fills, as the debugger of the program has it.
 MOST_FILLED = 1_000_000
 WORD = re.compile(r"[A-Za-z_]\w*")
-CONDITION = "a condition is at, changes or reads A[..B] [by W], or splits, ends or dies W"
+CONDITION = "expected a condition: at, changes or reads A[..B] [by W], or splits, ends or dies W"
 
 
 @dataclass
 class Session:
-    """The place in a history, the places to which undo and redo lead, breaks, and all futures that edits have made."""
+    """A place in a history, the places where undo and redo lead, breakpoints, and all futures that edits made."""
 
     history: History
     sources: Sources
@@ -46,7 +44,7 @@ class Session:
         return self.history.names
 
     def go(self, turn: int, history: History | None = None) -> None:
-        """Goes to a turn of this history or of another one. What leads nowhere isn't undone."""
+        """Goes to a turn of this history or of another one. A move to the same place is not recorded for undo."""
         if (turn, history or self.history) == (self.turn, self.history):
             return
         self.past.append((self.history, self.turn))
@@ -56,19 +54,19 @@ class Session:
     def undo(self) -> None:
         """Goes back to where the last move or edit began."""
         if not self.past:
-            raise Refused("there is nothing to undo")
+            raise Refused("nothing to undo")
         self.undone.append((self.history, self.turn))
         self.history, self.turn = self.past.pop()
 
     def redo(self) -> None:
-        """Makes again what was undone."""
+        """Goes to where the last undo began."""
         if not self.undone:
-            raise Refused("there is nothing to redo")
+            raise Refused("nothing to redo")
         self.past.append((self.history, self.turn))
         self.history, self.turn = self.undone.pop()
 
     def edit(self, line: str) -> None:
-        """Edits the battle here by a line of the debugger. What followed stays as another future."""
+        """Edits the battle here with a debugger command. What followed is kept as another future."""
         history = self.history.edited(self.turn, line)
         self.futures.append(history)
         self.go(self.turn, history)
@@ -76,26 +74,29 @@ class Session:
     def search(self, conditions: Sequence[Condition], forward: bool) -> Condition:
         """Goes to the next place where one of the conditions holds, or to the one before."""
         if not conditions:
-            raise Refused("there is no break: break sets one, and continue takes a condition, too")
+            raise Refused("no breakpoint is set; use `break CONDITION` or add a condition to this command")
         found = search(self.history, conditions, self.turn, forward)
         if found is None:
-            raise Refused(f"not found {'behind' if forward else 'before'} turn {self.turn}")
+            raise Refused(f"not found {'after' if forward else 'before'} turn {self.turn}")
         self.go(found[0])
         return found[1]
 
     def number(self, text: str, what: str) -> int:
         found = whole(text)
         if found is None:
-            raise Refused(f"`{text}` is no number of {what}")
+            raise Refused(f"expected {what}, not `{text}`")
         return found
 
     def address(self, text: str) -> int:
-        """An address: a number, a label, or `.`, where the next process stands; each with +N or -N behind it."""
+        """Returns the address of a number, a label, or `.`, the cell to execute next; each with or without +N or -N."""
         found = re.fullmatch(r"(\.|[\w.]+?)((?:[+-]\d{1,9})*)", text)
         base = found[1] if found else ""
         at = self.history.head(self.turn) if base == "." else self.sources.addresses.get(base, whole(base))
         if found is None or at is None or at >= self.history.core:
-            raise Refused(f"`{text}` is no address: a number below {self.history.core}, a label, or `.`, with +N or -N")
+            raise Refused(
+                f"`{text}` is not an address: a number below {self.history.core}, a label or `.`, "
+                "with or without +N or -N"
+            )
         return (at + sum(map(int, re.findall(r"[+-]\d+", found[2])))) % self.history.core
 
     def warrior(self, text: str) -> int:
@@ -103,7 +104,7 @@ class Session:
         return self.history.warrior(text)
 
     def condition(self, words: Sequence[str]) -> Condition:
-        """The condition that words say."""
+        """Returns the condition of some words. Raises Refused."""
         word, rest = (words[0], list(words[1:])) if words else ("", [])
         by = self.warrior(" ".join(rest[2:])) if len(rest) > 2 and rest[1] == "by" else None
         if word in OF_CELLS and rest and (len(rest) == 1 or by is not None):
@@ -115,7 +116,7 @@ class Session:
         raise Refused(CONDITION)
 
     def told(self, condition: Condition) -> str:
-        """A condition as it is told."""
+        """Returns a condition as text."""
         if condition.word in OF_WARRIORS:
             return f"{condition.word} {self.names[condition.first]}"
         where = self.teller.where(condition.first)
@@ -123,8 +124,8 @@ class Session:
         return f"{condition.word} {where}{until}" + ("" if condition.by is None else f" by {self.names[condition.by]}")
 
     def cell(self, address: int, line: str) -> str:
-        """The cell that a line of source makes at an address, as the debugger reads it; labels stand for what they do
-        in the core.
+        """Returns the cell that a line of source makes at an address, as the debugger reads it. Labels refer to the
+        core.
         """
         labels = [name for name in self.sources.addresses if name in WORD.findall(line)]
         given = [f"{name} EQU ({self.sources.addresses[name] - address})" for name in labels]
@@ -132,12 +133,14 @@ class Session:
         try:
             load = load_file("\n".join([*given, line, ""]), settings, 1, len(self.names))
         except Fault as fault:
-            raise Refused(f"`{line}` is no cell: {str(fault).partition(': ')[2]}") from None
+            raise Refused(f"`{line}` is not an instruction: {str(fault).partition(': ')[2]}") from None
         return load.decode().strip().rpartition("\n")[2]
 
     def process(self, warrior: int, text: str) -> int:
-        """The index of a process of a warrior, the next one being 0."""
-        index, count = self.number(text, "a process"), len(self.history.block(self.turn).queue(warrior, self.turn))
+        """Returns the index of a process of a warrior; the next one is 0."""
+        index, count = self.number(text, "the index of a process"), len(
+            self.history.block(self.turn).queue(warrior, self.turn)
+        )
         if index >= count:
-            raise Refused(f"{self.names[warrior]} has no process {index}: it has {count}")
+            raise Refused(f"{self.names[warrior]} has no process {index}; its number of processes is {count}")
         return index

@@ -54,11 +54,11 @@ def opened() -> tuple[Any, Any]:
     built = [HERE.parent / "libmars.so.1", CHECKOUT / "build" / "libmars.so", *below]
     shared = found("MARS_LIBRARY", built)
     if shared is None:
-        raise NoLibrary("libmars.so isn't found: scripts/library builds it, and MARS_LIBRARY names it")
+        raise NoLibrary("cannot find libmars.so; build it with scripts/library or set MARS_LIBRARY")
     headers = [folder / "include" / "mars.h" for folder in (CHECKOUT, *INSTALLED)]
     header = found("MARS_HEADER", [HERE.parent / "mars.h", *headers])
     if header is None:
-        raise NoLibrary("mars.h isn't found: `make install` installs it, and MARS_HEADER names it")
+        raise NoLibrary("cannot find mars.h; install it with `make install` or set MARS_HEADER")
     ffi = cffi.FFI()
     ffi.cdef(declarations(Path(header).read_text()))
     try:
@@ -67,7 +67,7 @@ def opened() -> tuple[Any, Any]:
         raise NoLibrary(f"{shared}: {fault}") from None
     given, wanted = calls.mars_version(), calls.MARS_VERSION
     if given // 1000 != wanted // 1000 or given < wanted:
-        raise NoLibrary(f"{shared} is of version {given}, and {header} of {wanted}: scripts/library builds it anew")
+        raise NoLibrary(f"{shared} has version {given}, but {header} has {wanted}; rebuild it with scripts/library")
     return ffi, calls
 
 
@@ -106,7 +106,7 @@ def slice_of(name: str, values: bytes | bytearray | NDArray[Any]) -> tuple[Any, 
 def number(value: int) -> int:
     """A number that a call takes."""
     if not 0 <= value < 1 << 32:
-        raise ValueError(f"{value} isn't a number from 0 to 4294967295")
+        raise ValueError(f"expected a number from 0 to 4294967295, not {value}")
     return value
 
 

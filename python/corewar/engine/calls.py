@@ -1,4 +1,4 @@
-"""The calls of the library, over values of Python and arrays of NumPy."""
+"""The calls of the library, with Python values and NumPy arrays."""
 from __future__ import annotations
 
 from collections.abc import Callable, Sequence
@@ -13,14 +13,24 @@ from ..model.settings import FORMULA, Settings
 from ..model.warriors import Warrior
 from .binding import ROOM, array, call, library, number, slice_of
 
-# How many places can be gone back in a battle that is only gone on.
+# The size of the history, in places, of a battle that is only run forwards.
 FORWARD_ALONE = 1
 HISTORY = 200_000
 
 
 @dataclass(frozen=True)
 class Match:
-    """What is fought: the warriors, in the order of their files, and how they are laid in the core."""
+    """The warriors of a match in the order of their files, and how they are placed in the core.
+
+    - `warriors`: 1 to 16 warriors
+    - `settings`: the parameters of the core
+    - `seed`: the seed for the starting positions, 1 to 2,147,483,646
+    - `position`: the address of the second of two warriors, from the minimum distance to the core size minus it; 0
+      draws the positions from the seed
+    - `rounds`: the number of rounds, 1 to 100,000
+
+    The ranges are checked by the calls that use the match.
+    """
 
     warriors: tuple[Warrior, ...]
     settings: Settings = Settings()
@@ -31,11 +41,14 @@ class Match:
 
 @dataclass(frozen=True, eq=False)
 class State:
-    """Where a battle stands.
+    """The state of a battle. Warriors are numbered from 0 in the order of their turns.
 
-    `cells` is an array with the fields op, modifier, a_mode, b_mode, a, b. `queues` has an array of addresses for
-    each warrior, the next one first, and `deaths` an array with the fields warrior, turns, in order. Warriors
-    count from 0 in the order of their turns.
+    - `cells`: the core, an array with the fields op, modifier, a_mode, b_mode, a and b
+    - `queues`: for each warrior an array with the addresses of its processes, the next one first
+    - `deaths`: an array with the fields warrior and turns, in the order of the deaths
+    - `turns`, `cycle`: the number of turns executed, and of cycles completed
+    - `next`: the warrior whose turn is next
+    - `over`: whether the battle is over
     """
 
     cells: Cells
@@ -49,7 +62,13 @@ class State:
 
 @dataclass(frozen=True)
 class Row:
-    """How a warrior fared: points by the formula, and how many rounds it survived alone, with others, and not."""
+    """The result of a warrior.
+
+    - `points`: the sum of its scores
+    - `wins`: the number of rounds that it survived as the only warrior
+    - `ties`: the number of rounds that it survived with others
+    - `losses`: the number of rounds in which it died
+    """
 
     points: int
     wins: int
@@ -58,7 +77,7 @@ class Row:
 
 
 def load_file(source: str | bytes, settings: Settings = Settings(), rounds: int = 1, warriors: int = 2) -> bytes:
-    """The load file of a source; `rounds` and `warriors` are what ROUNDS and WARRIORS stand for. Raises Fault."""
+    """Returns the load file of a source. `rounds` and `warriors` are what ROUNDS and WARRIORS mean. Raises Fault."""
     given = [held(settings, rounds), number(warriors), *slice_of("uint8_t", bytes_of(source))]
     return text(4096, lambda *room: call("mars_assemble", *given, *room))
 
@@ -66,14 +85,23 @@ def load_file(source: str | bytes, settings: Settings = Settings(), rounds: int 
 def assemble(
     source: str | bytes, settings: Settings = Settings(), rounds: int = 1, warriors: int = 2, file: str = ""
 ) -> Warrior:
-    """The warrior of a source. Raises Fault."""
+    """Assembles a source and returns the warrior.
+
+    - `source`: Redcode as text or bytes
+    - `settings`: the parameters of the core, on which predefined names and the maximum length depend
+    - `rounds`, `warriors`: the values of the predefined names ROUNDS and WARRIORS
+    - `file`: the name that the warrior has if its source gives none
+
+    Raises `Fault` with the line of an error in the source, or if the settings are invalid or memory runs out. There is
+    no limit of time and memory: use `Assembler` of `corewar.engine.sources` for the sources of strangers.
+    """
     return Warrior(load_file(source, settings, rounds, warriors), file, bytes_of(source))
 
 
 def source_lines(
     source: bytes, settings: Settings = Settings(), rounds: int = 1, warriors: int = 2
 ) -> list[tuple[int, list[str]]]:
-    """For each instruction of a source the number of its line, from 1, and its labels. Raises Fault."""
+    """Returns the number of the line, from 1, and the labels of each instruction of a source. Raises Fault."""
     given = [held(settings, rounds), number(warriors), *slice_of("uint8_t", source)]
     made = text(4096, lambda *room: call("mars_lines", *given, *room)).decode("latin-1")
     return [(int(words[0]), words[1:]) for words in map(str.split, made.splitlines())]
@@ -87,8 +115,18 @@ def match(
     position: int = 0,
     formula: str = FORMULA,
 ) -> list[Row]:
-    """A match of 1 to 16 warriors: the row of each. `position` is where the second of two starts in each round; 0 is
-    drawn.
+    """Runs a match of 1 to 16 warriors and returns the row of each, in their order.
+
+    - `rounds`: the number of rounds, 1 to 100,000
+    - `seed`: the seed for the starting positions, 1 to 2,147,483,646
+    - `settings`: the parameters of the core
+    - `position`: the address of the second of two warriors in each round, from the minimum distance to the core size
+      minus it; 0 draws the positions from the seed
+    - `formula`: the score of each survivor of a round, an expression in W (warriors) and S (survivors) of at most 256
+      bytes
+
+    Raises `Fault` if a number or a load file is invalid, if the core is too small for the warriors, if the formula has
+    no value for a round or a sum of points does not fit in 64 bits, or if memory runs out.
     """
     return rows("mars_match", held(settings, rounds, seed, position), formula, warriors, len(warriors))
 
@@ -96,7 +134,10 @@ def match(
 def league(
     warriors: Sequence[Warrior], rounds: int = 1, seed: int = 1, settings: Settings = Settings(), formula: str = FORMULA
 ) -> list[Row]:
-    """A league of up to 65,536 warriors, a match of every two: the row of each."""
+    """Runs a league of up to 65,536 warriors, a match of every two, and returns the row of each, in their order.
+
+    The parameters and errors are those of `match`; every match has the same seed.
+    """
     return rows("mars_league", held(settings, rounds, seed), formula, warriors, len(warriors))
 
 
@@ -109,31 +150,46 @@ def population(
     position: int = 0,
     formula: str = FORMULA,
 ) -> list[Row]:
-    """A match of each candidate with each opponent: for each candidate the sum of its rows."""
+    """Runs a match of each candidate with each opponent, and returns the sum of the rows of each candidate.
+
+    The candidate is the first warrior of its matches. The other parameters and the errors are those of `match`.
+    """
     fighters = [*candidates, *opponents]
     return rows("mars_population", held(settings, rounds, seed, position), formula, fighters, len(candidates))
 
 
 def debug(fight: Match, lines: Sequence[str], history: int = HISTORY) -> str:
-    """What the debugger answers to its lines over the battle of the first round."""
+    """Runs the debugger of `mars -e` on the first round and returns its replies.
+
+    - `lines`: the commands, without ends of lines
+    - `history`: the size of the history in places, 1 to 1,000,000
+
+    Raises `Fault` if the match or `history` is invalid or memory runs out. A command that cannot be executed has a
+    reply that begins with `refused`.
+    """
     given = [held(fight.settings, 1, fight.seed, fight.position), *loads(fight.warriors), number(history)]
     written = slice_of("uint8_t", lines_of(lines))
     return text(65536, lambda *room: call("mars_debug", *given, *written, *room)).decode("latin-1")
 
 
 def count_turns(fight: Match, round: int = 0, lines: Sequence[str] = (), history: int = FORWARD_ALONE) -> int:
-    """How many turns are left in the battle of a round from where the debugger's lines lead it."""
+    """Returns the number of turns that are left in the battle of a round after some debugger commands. Raises Fault."""
     return turns_of("mars_record", "MarsRecord", (fight, round, lines, history), 0, 0)[1]
 
 
 def record(
     fight: Match, round: int = 0, lines: Sequence[str] = (), first: int = 0, most: int = 1, history: int = FORWARD_ALONE
 ) -> Records:
-    """The turns of the battle of a round from where the debugger's lines lead it, without the first `first`: at most
-    so many.
+    """Returns the records of turns of a round, as an array with the fields of `MarsRecord` in the API for C.
 
-    An array with the fields of MarsRecord of the header: warrior, address, next, cycle, died, changes, queued,
-    change (three of address, before, after), process (two). What doesn't apply is 0. A turn takes 120 bytes.
+    - `round`: the round of the match, from 0
+    - `lines`: debugger commands that are executed first, such as `run 1000` or `edit 3 DAT.F $0, $0`
+    - `first`: the number of turns to skip after that
+    - `most`: the maximum number of turns to return; a record has 120 bytes
+    - `history`: the size of the debugger's history in places; above 1 only for commands that undo others
+
+    The fields are warrior, address, next, cycle, died, changes, queued, change (three of address, before and after) and
+    process (two); what does not apply is 0. Raises `Fault` if the match is invalid or memory runs out.
     """
     return turns_of("mars_record", "MarsRecord", (fight, round, lines, history), first, most)[0]
 
@@ -141,10 +197,10 @@ def record(
 def touched(
     fight: Match, round: int = 0, lines: Sequence[str] = (), first: int = 0, most: int = 1, history: int = FORWARD_ALONE
 ) -> Records:
-    """The cells that the same turns read or write, as those of `record`.
+    """Returns the cells that turns read or write, as an array with the fields of `MarsTouched` in the API for C.
 
-    An array with the fields of MarsTouched of the header: count, and address (eight), in which a cell may come more
-    than once. What doesn't apply is 0.
+    The fields are count, and address (eight), in which a cell may occur more than once; what does not apply is 0. The
+    parameters and errors are those of `record`.
     """
     return turns_of("mars_touched", "MarsTouched", (fight, round, lines, history), first, most)[0]
 
@@ -152,7 +208,12 @@ def touched(
 def state(
     fight: Match, round: int = 0, lines: Sequence[str] = (), turns: int = 0, history: int = FORWARD_ALONE
 ) -> State:
-    """Where the battle of a round stands, so many turns from where the debugger's lines lead it, or at its end."""
+    """Returns the state of the battle of a round after some debugger commands and a number of turns.
+
+    - `turns`: the number of turns after the commands; the battle may end earlier
+
+    The other parameters and the errors are those of `record`.
+    """
     count = len(fight.warriors)
     given = [*battle(fight, round, lines, history), number(turns)]
     cells, counts, deaths = array("MarsCell", fight.settings.core), array("size_t", count), array("MarsDeath", count)
@@ -176,18 +237,18 @@ def bytes_of(source: str | bytes) -> bytes:
 
 
 def lines_of(lines: Sequence[str]) -> bytes:
-    """The debugger's lines, each with its end."""
+    """Returns the debugger commands as bytes, each with an end of line."""
     return "".join(f"{line}\n" for line in lines).encode()
 
 
 def held(settings: Settings, rounds: int = 1, seed: int = 1, position: int = 0) -> Any:
-    """The settings as a call takes them."""
+    """Returns the settings in the form that a call expects."""
     numbers = {**vars(settings), "rounds": rounds, "seed": seed, "position": position}
     return library()[0].new("MarsSettings *", {name: number(value) for name, value in numbers.items()})
 
 
 def loads(warriors: Sequence[Warrior]) -> tuple[Any, ...]:
-    """The load files one behind the other, and the length of each."""
+    """Returns the load files joined, and the length of each."""
     files = [warrior.load for warrior in warriors]
     return (
         *slice_of("uint8_t", b"".join(files)),
@@ -197,7 +258,7 @@ def loads(warriors: Sequence[Warrior]) -> tuple[Any, ...]:
 
 
 def battle(fight: Match, round: int, lines: Sequence[str], history: int) -> tuple[Any, ...]:
-    """What a call on the battle of a round is given first."""
+    """Returns the first arguments of a call on the battle of a round."""
     given = held(fight.settings, number(round) + 1, fight.seed, fight.position)
     return given, *loads(fight.warriors), round, number(history), *slice_of("uint8_t", lines_of(lines))
 
@@ -205,21 +266,21 @@ def battle(fight: Match, round: int, lines: Sequence[str], history: int) -> tupl
 def turns_of(
     name: str, kind: str, given: tuple[Match, int, Sequence[str], int], first: int, most: int
 ) -> tuple[Records, int]:
-    """What a call tells of each of so many turns of a battle at most, and how many there are."""
+    """Returns the array of a call with at most `most` turns of a battle, and how many there are."""
     made, count = array(kind, most), library()[0].new("size_t *")
     call(name, *battle(*given), number(first), *slice_of(kind, made), count)
     return made[: count[0]], int(count[0])
 
 
 def rows(name: str, given: Any, formula: str, warriors: Sequence[Warrior], count: int) -> list[Row]:
-    """What a call gives in rows."""
+    """Returns the rows of a call."""
     made = array("MarsRow", count)
     call(name, given, *slice_of("uint8_t", formula.encode()), *loads(warriors), *slice_of("MarsRow", made))
     return [Row(*row) for row in made.tolist()]
 
 
 def text(room: int, ask: Callable[..., int]) -> bytes:
-    """What a call gives as text, in a buffer that is made longer once where it is too short."""
+    """Returns the text of a call. A buffer that is too short is replaced once."""
     length, buffer = library()[0].new("size_t *"), bytearray(room)
     if ask(*slice_of("uint8_t", buffer), length) == ROOM:
         buffer = bytearray(length[0])

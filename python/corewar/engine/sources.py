@@ -1,6 +1,5 @@
-"""Reads warriors from files. Sources are assembled in a process of their own, which is held to so much time and
-memory for each: within the limits of the language a source of a few lines can take minutes, or all memory there
-is.
+"""Reads warriors from files. Sources are assembled in a separate process with limits of time and memory, since a source
+of a few lines can take minutes or all memory within the limits of the language.
 """
 from __future__ import annotations
 
@@ -22,18 +21,18 @@ from .calls import load_file, match
 
 @dataclass(frozen=True)
 class Limit:
-    """What a source may take: seconds of a processor, and megabytes of memory."""
+    """The limits for assembling one source: `seconds` of CPU time, and `megabytes` of memory."""
 
     seconds: int = 10
     megabytes: int = 1000
 
 
 class Overrun(Refused):
-    """A source took more than the limit."""
+    """Assembling a source took more than a limit."""
 
 
 class Assembler:
-    """A process that assembles sources one after the other. It begins with the first one, and again where the limit
+    """A process that assembles sources, one after the other. It is started for the first one, and again after a limit
     has ended it.
     """
 
@@ -59,7 +58,7 @@ class Assembler:
             self._process = None
 
     def assemble(self, source: bytes, settings: Settings = Settings(), rounds: int = 1, warriors: int = 2) -> bytes:
-        """The load file of a source. Raises Fault, and Overrun where it takes more than the limit."""
+        """Returns the load file of a source. Raises Fault, and Overrun if it takes more than a limit."""
         with self._lock:
             if self._process is None:
                 self._begin()
@@ -69,17 +68,17 @@ class Assembler:
                 load, fault = self._pipe.recv()
             except (EOFError, OSError):
                 self.end()
-                raise Overrun(f"more than {self.limit.seconds} s of a processor") from None
+                raise Overrun(f"assembling takes more than {self.limit.seconds} s of CPU time") from None
         if fault and fault[0] == MEMORY:
-            raise Overrun(f"more than {self.limit.megabytes} MB of memory")
+            raise Overrun(f"assembling takes more than {self.limit.megabytes} MB of memory")
         if fault:
             raise Fault(*fault)
         return bytes(load)
 
     def _begin(self) -> None:
-        # (a library that isn't there is told by this call, and not by that process)
+        # A missing library is reported by this call, and not by the process.
         library()
-        # A process with threads isn't forked: the library is to be called in what comes of it.
+        # A process with threads is not forked, since the new process calls the library.
         context: Any = multiprocessing.get_context("fork" if threading.active_count() == 1 else "spawn")
         self._pipe, theirs = context.Pipe()
         self._process = context.Process(target=serve, args=(theirs, self.limit), daemon=True)
@@ -88,7 +87,7 @@ class Assembler:
 
 
 def serve(pipe: Connection, limit: Limit) -> None:
-    """Assembles what comes through a pipe, until it is closed."""
+    """Assembles the sources from a pipe until it is closed."""
     signal.signal(signal.SIGINT, signal.SIG_IGN)
     with open("/proc/self/statm") as file:
         taken = int(file.read().split()[0]) * resource.getpagesize()
@@ -116,9 +115,7 @@ def lower(kind: int, most: int) -> None:
 
 
 def read_file(path: str) -> bytes:
-    """What is in a file, a pipe or `-`, which is standard input; no more of it is read than a warrior may have.
-    Raises FileFault.
-    """
+    """Returns the content of a file, a pipe or `-`, standard input, up to the maximum size. Raises FileFault."""
     try:
         with open(0 if path == "-" else path, "rb", closefd=path != "-") as file:
             text = file.read(LARGEST_FILE + 1)
@@ -132,13 +129,13 @@ def read_file(path: str) -> bytes:
 def read_warrior(
     assemble: Callable[..., bytes], path: str, settings: Settings = Settings(), rounds: int = 1, warriors: int = 2
 ) -> Warrior:
-    """The warrior of a file: a load file where the name ends in .load, else a source. Raises FileFault, and Fault for
-    the settings.
+    """Returns the warrior of a file: of a load file if its name ends in .load, otherwise of a source. Raises FileFault,
+    and Fault if the settings are invalid.
     """
     text = read_file(path)
     try:
         if path.endswith(".load"):
-            # The library reads a load file where it fights, so a fight of one cycle tells its fault.
+            # The library reads a load file when it runs a match, so a match of one cycle finds its error.
             match([Warrior(text)], settings=replace(settings, cycles=1))
             return Warrior(text, path)
         return Warrior(assemble(text, settings, rounds, warriors), path, text)
@@ -157,8 +154,8 @@ def read_warriors(
     limit: Limit = Limit(),
     warriors: int | None = None,
 ) -> tuple[Warrior, ...]:
-    """The warriors of files, each read once; WARRIORS stands for how many there are unless another number is given.
-    Raises FileFault.
+    """Returns the warriors of files, each read once. WARRIORS is the number of files, or `warriors` if given. Raises
+    FileFault.
     """
     with Assembler(limit) as assembler:
         count = len(paths) if warriors is None else warriors
@@ -166,5 +163,12 @@ def read_warriors(
 
 
 def read(path: str, settings: Settings = Settings(), rounds: int = 1, warriors: int = 2) -> Warrior:
-    """The warrior of a file of one's own, without a limit. Raises FileFault."""
+    """Reads a warrior from a file: a load file if the name ends in .load, otherwise a source.
+
+    - `path`: the name of the file, or `-` for standard input; it has at most 1,048,576 bytes
+    - `settings`, `rounds`, `warriors`: as for `assemble`
+
+    Raises `FileFault` if the file cannot be read or has an error, and `Fault` if the settings are invalid. There is no
+    limit of time and memory.
+    """
     return read_warrior(load_file, path, settings, rounds, warriors)

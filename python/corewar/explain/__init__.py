@@ -1,6 +1,6 @@
-"""What a fault means, what pMARS reads otherwise, and how a source is mended."""
+"""Explains errors, lists what pMARS reads differently, and fixes sources."""
 from .meanings import read_faults, told, told_of
-from .pmars import mend, read_otherwise
+from .pmars import fix, read_otherwise
 from .source import excerpt
 
-__all__ = ["excerpt", "mend", "read_faults", "read_otherwise", "told", "told_of"]
+__all__ = ["excerpt", "fix", "read_faults", "read_otherwise", "told", "told_of"]

@@ -1,4 +1,4 @@
-"""Why a source has a fault, as far as the look of its text tells: sentences, the likeliest first."""
+"""Finds the likely causes of an error in the text of a source: sentences, the likeliest first."""
 from __future__ import annotations
 
 import re
@@ -16,14 +16,14 @@ OPENING = ("#", "$", "@", "{", "}", "(")
 def not_ascii(source: Source, line: Line) -> Iterator[str]:
     raw = source.data.split(b"\n")[line.number - 1].split(b";")[0]
     if line.number == 1 and raw.startswith((b"\xff\xfe", b"\xfe\xff")):
-        yield "The file is UTF-16, as some editors of Windows save it: save it as plain text."
+        yield "The file is UTF-16, as some Windows editors save it; save it as plain text."
     elif line.number == 1 and raw.startswith(b"\xef\xbb\xbf"):
-        yield "The file begins with a byte order mark, three bytes that can't be seen: save it as UTF-8 without it."
+        yield "The file begins with a byte order mark, three invisible bytes; save it as UTF-8 without it."
     else:
         found = re.search(r"[^\x00-\x7f]", raw.decode("utf-8", "replace"))
         if found:
             named = character_name(found[0], "without a name").lower()
-            yield f"Column {found.start() + 1} has `{found[0]}`, {named}: write the plain sign of your keyboard."
+            yield f"Column {found.start() + 1} has `{found[0]}`, {named}; use plain ASCII characters."
 
 
 def operation(source: Source, line: Line) -> Iterator[str]:
@@ -31,7 +31,7 @@ def operation(source: Source, line: Line) -> Iterator[str]:
     if COMMENT.search(line.code):
         yield BEGINS
     elif dashed:
-        yield f"A name has no `-`: write `{dashed[1].replace('-', '_')}`."
+        yield f"A name cannot contain `-`; write `{dashed[1].replace('-', '_')}`."
     elif word:
         yield word
     elif line.operation in source.equates:
@@ -45,11 +45,11 @@ def modifier(source: Source, line: Line, named: str) -> Iterator[str]:
     for loop in source.loops_around(line.number):
         if loop.counter == named:
             yield (
-                f"`{named}` is the counter of the loop of line {loop.head.number}, so its number stands behind the "
-                f"point: write `.{named.swapcase()}`, or give it another name, as `corewar explain --mend` does."
+                f"`{named}` is the counter of the loop in line {loop.head.number}, so its number is read after the "
+                f"dot; write `.{named.swapcase()}`, or rename the counter with `corewar explain --fix`."
             )
     if named.upper() not in MODIFIERS:
-        yield f"`.{named}` is no modifier: there are {', '.join(MODIFIERS)}."
+        yield f"`.{named}` is not a modifier; the modifiers are {', '.join(MODIFIERS)}."
 
 
 def duplicate(source: Source, line: Line) -> Iterator[str]:
@@ -59,23 +59,23 @@ def duplicate(source: Source, line: Line) -> Iterator[str]:
     for name in dict.fromkeys(line.labels):
         other = min((found.get(name, line) for found in (labels, source.equates)), key=lambda one: one.number)
         if name in PREDEFINED:
-            yield f"`{name}` is predefined: call it otherwise."
+            yield f"`{name}` is predefined; use another name."
         elif other.number < line.number:
             yield taken(line, name, other)
         elif line.labels.count(name) > 1:
-            yield f"`{name}` stands twice in this line, and no operation between."
+            yield f"`{name}` is in this line twice, without an operation in between."
         elif loops:
-            yield f"`{name}` stands in a loop, which is read more than once: write `{name}&{loops[-1].counter or 'i'}`."
+            yield f"`{name}` is in a loop with several iterations; write `{name}&{loops[-1].counter or 'i'}`."
 
 
 def taken(line: Line, name: str, other: Line) -> str:
-    """Why a name stands in an earlier line."""
+    """Returns why a name is in an earlier line."""
     word = misspelt(other)
     if word:
-        return f"In line {other.number} {word}"
+        return f"In line {other.number}, {word}"
     if line.word == "EQU" and not other.operation:
-        return f"Line {other.number} uses `{name}` before this EQU, so it is read as a label there: move the EQU up."
-    return f"`{name}` stands in line {other.number} already."
+        return f"Line {other.number} uses `{name}` before this EQU, so it is read as a label there; move the EQU up."
+    return f"`{name}` is already defined in line {other.number}."
 
 
 def syntax(source: Source, line: Line) -> Iterator[str]:
@@ -84,7 +84,7 @@ def syntax(source: Source, line: Line) -> Iterator[str]:
         yield BEGINS
         return
     if line.word in OPCODES and tokens and tokens[0].upper() in OPCODES:
-        yield f"`{line.operation}` is an opcode, so no label: call it otherwise."
+        yield f"`{line.operation}` is an opcode and cannot be a label; use another name."
         return
     for before, after in zip(tokens, tokens[1:]):
         if (before == ")" or re.match(r"\w", before)) and (after in OPENING or re.match(r"\w", after)):
@@ -105,30 +105,30 @@ def unknown(source: Source, line: Line) -> Iterator[str]:
         elif name not in labels:
             yield undefined(source, name, {**labels, **source.equates})
         elif line.text.lstrip().startswith(";"):
-            yield f"`{name}` is a label: an assert knows numbers, predefined names and EQU names."
+            yield f"`{name}` is a label; an assert can use only numbers, predefined names and EQU names."
 
 
 def undefined(source: Source, name: str, known: dict[str, Line]) -> str:
-    """Why a name stands for nothing."""
+    """Returns why a name is undefined."""
     for loop in source.loops:
         if name in loop.head.labels:
-            return f"`{name}` before the FOR of line {loop.head.number} is its counter: give it a line of its own."
+            return f"`{name}` is the counter of the FOR in line {loop.head.number}; put the label on a line of its own."
     for line in source.lines:
         if line.unread and name in line.labels:
-            return f"`{name}` stands in line {line.number}, but {line.unread}."
+            return f"`{name}` is in line {line.number}, but {line.unread}."
     if name.upper() in OPCODES + ELSEWHERE:
-        return f"`{name}` is an opcode: two instructions on one line, or a label of that name?"
+        return f"`{name}` is an opcode; are there two instructions on one line, or a label of that name?"
     near = like(name, [*known, *PREDEFINED])
     if name == "PSPACESIZE":
-        return "`PSPACESIZE`: P-space is left out."
+        return "`PSPACESIZE`: P-space is not supported."
     if near is None:
-        return f"`{name}` isn't defined: no line has it as a label or as the name of an EQU."
+        return f"`{name}` is not defined: no line has it as a label or as an EQU name."
     where = f" (line {known[near].number})" if near in known else ""
-    case = ": case counts" if near.lower() == name.lower() else ""
-    return f"`{name}` isn't defined{case}. Is `{near}`{where} meant?"
+    case = " (names are case-sensitive)" if near.lower() == name.lower() else ""
+    return f"`{name}` is not defined{case}; did you mean `{near}`{where}?"
 
 
-# What looks for the causes of a fault, by its text.
+# The functions that look for the causes of an error, by its text.
 CAUSES: dict[str, Cause] = {
     "1 Text 1 NotAscii": not_ascii,
     "1 Text 7 Duplicate": duplicate,

@@ -1,4 +1,4 @@
-"""What each fault means, and what to do."""
+"""What each error means, and what to do."""
 from __future__ import annotations
 
 import re
@@ -9,67 +9,69 @@ from ..model.faults import Fault
 from .causes import CAUSES
 from .source import read_source
 
-# How many causes of a fault are told at most.
+# The maximum number of causes that are reported for an error.
 MOST = 2
-GREATER = "give a greater `-l`, and with it `-d` at least as great"
+GREATER = "increase `-l`, and `-d` with it, which must be at least as large"
 EXPRESSION = {
-    "1 Syntax": "Something is missing in the expression, or is too much: an operand has one mode and one number.",
-    "2 Unknown": "A name stands for nothing: no label, EQU name or predefined name is called so.",
-    "3 DivideByZero": "A division, or a remainder, by zero.",
-    "4 Range": "A value doesn't fit 64 bits.",
-    "5 Depth": "More than 64 parentheses are open, or 64 signs stand in a row.",
+    "1 Syntax": "The expression is incomplete or has something extra; an operand has one mode and one number.",
+    "2 Unknown": "A name is undefined: it is not a label, an EQU name or a predefined name.",
+    "3 DivideByZero": "A division or remainder by zero.",
+    "4 Range": "A value does not fit in 64 bits.",
+    "5 Depth": "More than 64 parentheses are open, or there are more than 64 signs in a row.",
 }
 MEANINGS = {
-    "bad words": "The program doesn't take one of its words: `corewar explain mars WORDS` tells which.",
-    "out of memory": "Memory was refused.",
-    "settings 3 Position": "`-F` goes from the least distance to the core size less that, and asks for two warriors.",
+    "bad words": "An argument of the program is wrong; `corewar explain mars ARGUMENTS` finds out which.",
+    "out of memory": "A memory allocation failed.",
+    "settings 3 Position": "`-F` requires two warriors, and a position from the minimum distance to the core size minus"
+    " it.",
+    "settings 4 Warriors": "A match has 1 to 16 warriors, a league 2 to 65,536.",
     "parameters 4 Limit": "`--read-limit` or `--write-limit` is above the core size.",
-    "parameters 5 Length": "The longest warrior is longer than the core: give `-l` and `-d`.",
-    "parameters 6 Distance": "The least distance goes from the longest warrior to the core size: give `-d`.",
-    "formula 1 Expression 1 Syntax": "The formula is no expression in W and S, or has more than 256 bytes.",
-    "formula 1 Expression 2 Unknown": "A formula has the names W, of all warriors, and S, of the survivors, alone.",
-    "placement 1 NoRoom": "The core is too small for so many warriors that far apart: give `-s` or `-d`.",
-    "score 3 DivideByZero": "The formula divides by zero in some round.",
-    "score 4 Range": "The formula's value, or a sum of points, doesn't fit 64 bits.",
-    "load 1 Syntax": "This line isn't of the grammar of load files. A source has a name that doesn't end in `.load`.",
-    "load 2 TooLong": f"The load file has more cells than the longest warrior may have: {GREATER}.",
-    "load 3 Empty": "The load file has no cell: an END before the cells stops reading.",
-    "load 4 BadOrigin": "The start is none of the cells, which ORG and END count from 0.",
-    "load 6 Version": "The first line begins with `;load ` and isn't `;load 2 ` and a core size alone.",
-    "1 Text 1 NotAscii": "A byte of 128 or more stands outside a comment.",
-    "1 Text 2 BadToken": "Something is no token, or may not stand here: a number is decimal and at most "
+    "parameters 5 Length": "The maximum length is above the core size; set `-l` and `-d`.",
+    "parameters 6 Distance": "The minimum distance must be from the maximum length to the core size; set `-d`.",
+    "formula 1 Expression 1 Syntax": "The formula is not an expression in W and S, or it has more than 256 bytes.",
+    "formula 1 Expression 2 Unknown": "A formula can use only the names W, for the warriors, and S, for the survivors.",
+    "placement 1 NoRoom": "The core is too small for these warriors at this minimum distance; set `-s` or `-d`.",
+    "score 3 DivideByZero": "The formula divides by zero in a round.",
+    "score 4 Range": "The value of the formula, or a sum of points, does not fit in 64 bits.",
+    "load 1 Syntax": "This line is not valid in a load file; the name of a source must not end in `.load`.",
+    "load 2 TooLong": f"The load file has more cells than the maximum length; {GREATER}.",
+    "load 3 Empty": "The load file has no cell; reading stops at an END, also before the first cell.",
+    "load 4 BadOrigin": "The start is not one of the cells; ORG and END count them from 0.",
+    "load 6 Version": "The first line begins with `;load ` but is not `;load 2 ` followed by a core size.",
+    "1 Text 1 NotAscii": "There is a byte of 128 or more outside a comment.",
+    "1 Text 2 BadToken": "Something is not a token, or is not allowed here: a number is decimal and at most "
     "9223372036854775807, a name begins with a letter, `&` joins the counter of an open loop, and an EQU of several "
-    "lines is an operation.",
-    "1 Text 3 UnclosedFor": "The FOR of this line has no ROF; a ROF with a label before it is none.",
-    "1 Text 4 RofAlone": "The ROF of this line has no FOR: it is misspelt, or has more than one name before it.",
-    "1 Text 5 BadCount": "A loop is read 0 to 10,000 times, and the count of this FOR is another number.",
-    "1 Text 6 LabelInCount": "A count knows numbers, predefined names and the EQU names before it.",
-    "1 Text 7 Duplicate": "A name is taken already.",
-    "1 Text 8 EquDepth": "EQU names stand for one another more than 32 deep, or in a circle.",
-    "1 Text 9 TooLong": "Too many lines, tokens, open loops or replacements: look at the counts of FOR.",
-    "2 Operation": "There is no such opcode or modifier, and no EQU name before this line that is called so.",
+    "lines is used as an operation.",
+    "1 Text 3 UnclosedFor": "The FOR in this line has no ROF; a ROF with a label before it does not count.",
+    "1 Text 4 RofAlone": "The ROF in this line has no FOR; it may be misspelt, or have more than one name before it.",
+    "1 Text 5 BadCount": "A loop has 0 to 10,000 iterations; the count of this FOR is outside this range.",
+    "1 Text 6 LabelInCount": "The count of a FOR can use only numbers, predefined names and EQU names before it.",
+    "1 Text 7 Duplicate": "A name is already defined.",
+    "1 Text 8 EquDepth": "EQU names refer to each other more than 32 levels deep, or in a circle.",
+    "1 Text 9 TooLong": "There are too many lines, tokens, open loops or replacements; check the counts of FOR.",
+    "2 Operation": "Unknown opcode or modifier; no EQU name of an earlier line is called so either.",
     "3 Operand": "An operand is missing or empty, or there are more than two.",
-    "5 AssertFailed": "The value of this `;assert` is 0: the warrior isn't made for these settings.",
-    "6 BadOrigin": "ORG and END take the label of an instruction, or a number below that of the instructions.",
-    "7 Empty": "No line that is read has an opcode: END stops reading, and what stands before `;redcode` is ignored.",
-    "8 TooLong": f"This is the first instruction over the longest warrior: {GREATER}.",
+    "5 AssertFailed": "The value of this `;assert` is 0: the warrior was not written for these settings.",
+    "6 BadOrigin": "ORG and END require the label of an instruction, or a number below the number of instructions.",
+    "7 Empty": "No line that is read has an opcode; everything before `;redcode` and after END is ignored.",
+    "8 TooLong": f"This is the first instruction beyond the maximum length; {GREATER}.",
 }
 
 
-# What stands before the fault of an expression: that of an operand or an assert, of a FOR's count, of a formula.
+# What precedes the error of an expression: of an operand or an assert, of the count of a FOR, of a formula.
 OF_EXPRESSIONS = ("4 Expression ", "1 Text 10 Expression ", "formula 1 Expression ")
 KINDS = {**{head + kind: text for head in OF_EXPRESSIONS for kind, text in EXPRESSION.items()}, **MEANINGS}
-# A line that tells a fault, behind the names of programs and of a file.
+# An error message, after the names of programs and of a file.
 TOLD = re.compile(rf"(?:(.*?): )?(?:line (\d{{1,9}}): )?({'|'.join(map(re.escape, KINDS))})$")
 
 
 def told(fault: Fault, source: bytes) -> list[str]:
-    """What a fault means and what to do, in one or two sentences: the causes that the source shows, else in general."""
+    """Explains an error and what to do, in one or two sentences: by the causes that the source shows, or in general."""
     return told_of(re.sub(r"^line \d+: ", "", str(fault)), fault.line, source)
 
 
 def told_of(kind: str, number: int, source: bytes) -> list[str]:
-    """The same of a fault by its text, and the number of its line."""
+    """Explains an error by its text and the number of its line."""
     causes: list[str] = []
     if kind in CAUSES:
         text = read_source(source)
@@ -79,7 +81,7 @@ def told_of(kind: str, number: int, source: bytes) -> list[str]:
 
 
 def read_faults(lines: Iterable[str]) -> Iterator[tuple[str, str, int, str]]:
-    """The lines that tell a fault, whatever program wrote them, each with the file or "", its line, and the fault."""
+    """Yields the error messages of any program among some lines, each with the file or "", its line, and the error."""
     for found in filter(None, (TOLD.match(line.strip()) for line in lines)):
         parts = (found[1] or "").split(": ")
         while parts and re.fullmatch(r"[a-z]*", parts[0]):

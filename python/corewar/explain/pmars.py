@@ -1,4 +1,4 @@
-"""What pMARS reads otherwise than this kit, as far as the look of a source tells, and a source that both read."""
+"""Finds what pMARS reads differently, by the look of a source, and fixes a source so that both read it."""
 from __future__ import annotations
 
 import re
@@ -10,7 +10,7 @@ DIRECTIVE = re.compile(r"\s*;\s+(name|author|assert|redcode)\b", re.I)
 
 
 def read_otherwise(data: bytes) -> list[str]:
-    """What pMARS reads otherwise in a source: a sentence for each line, behind its number."""
+    """Returns what pMARS reads differently in a source: sentences, each after the number of its line."""
     source = read_source(data)
     found = [(line.number, note) for line in source.lines for note in notes(source, line)]
     found += [(loop.head.number, note) for loop in source.loops for note in notes_on_loop(source, loop)]
@@ -18,20 +18,23 @@ def read_otherwise(data: bytes) -> list[str]:
 
 
 def notes(source: Source, line: Line) -> Iterator[str]:
-    """What pMARS reads otherwise in a line."""
+    """Yields what pMARS reads differently in a line."""
     directive, before = DIRECTIVE.match(line.text), source.lines[line.number - 2] if line.number > 1 else None
     if directive:
-        yield f"pMARS obeys `; {directive[1]}`; here it is a comment: leave the blank out."
+        yield f"pMARS obeys `; {directive[1]}`, which is a comment here; remove the space."
     if line.word == "DAT" and line.operands and "," not in line.operands:
-        yield f"pMARS reads `DAT #0, {line.rest[0]}`, and this kit `DAT $0, {line.rest[0]}`: write both operands."
+        yield f"pMARS reads `DAT #0, {line.rest[0]}`, this kit `DAT $0, {line.rest[0]}`; write both operands."
     label = before.labels[-1] if before and before.labels and not before.operation else ""
     if label and line.word == "FOR" and not line.labels:
-        yield f"pMARS takes `{label}` of the line before as the counter; here it is a label: give this FOR a counter."
+        yield f"pMARS takes `{label}` of the line before as the counter; here it is a label. Give this FOR a counter."
     if label and line.word == "EQU":
-        yield f"pMARS takes `{label}` of the line before as a name of this EQU; here it is a label: move the EQU up."
+        yield f"pMARS takes `{label}` of the line before as the name of this EQU; here it is a label. Move the EQU up."
     for loop in source.loops if line.word == "EQU" else []:
         if loop.head.number > line.number and loop.counter and names_counter(line, loop.counter):
-            yield f"pMARS joins `{loop.counter}` where this EQU is used; here it stands in the loop, its name joined."
+            yield (
+                f"pMARS joins the counter `{loop.counter}` where this EQU is used; here the EQU has to be in the loop, "
+                f"with the counter joined to its name."
+            )
 
 
 def names_counter(line: Line, counter: str) -> bool:
@@ -41,19 +44,19 @@ def names_counter(line: Line, counter: str) -> bool:
 def notes_on_loop(source: Source, loop: Loop) -> Iterator[str]:
     if is_modifier_in(source, loop):
         yield (
-            f"pMARS reads `.{loop.counter}` as a modifier; here the number of the counter stands there: "
-            f"write `.{loop.counter.swapcase()}`, or let `corewar explain --mend` give the counter another name."
+            f"pMARS reads `.{loop.counter}` as a modifier; here the counter's number replaces it. "
+            f"Write `.{loop.counter.swapcase()}`, or rename the counter with `corewar explain --fix`."
         )
 
 
 def is_modifier_in(source: Source, loop: Loop) -> bool:
-    """Whether a loop's counter is spelt like a modifier that is used in it."""
+    """Whether a loop's counter has the name of a modifier that is used in the loop."""
     lines = source.lines[loop.head.number : loop.last - 1]
     return loop.counter.upper() in MODIFIERS and any(line.rest[:2] == [".", loop.counter] for line in lines)
 
 
-def mend(data: bytes) -> bytes:
-    """The source with another name for each counter that is spelt like a modifier of its loop. Comments stay."""
+def fix(data: bytes) -> bytes:
+    """Returns the source with each counter renamed that has the name of a modifier of its loop. Comments stay."""
     source, lines = read_source(data), data.split(b"\n")
     for loop in source.loops:
         if is_modifier_in(source, loop):
@@ -66,6 +69,6 @@ def mend(data: bytes) -> bytes:
 
 
 def renamed(line: bytes, counter: str, name: str) -> bytes:
-    """A line with another name for a counter, but for modifiers and its comment."""
+    """Returns a line with a counter renamed, except in modifiers and in the comment."""
     code, mark, comment = line.partition(b";")
     return re.sub(rb"(?<![\w.])%b(?!\w)" % counter.encode(), name.encode(), code) + mark + comment

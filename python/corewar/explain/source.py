@@ -1,4 +1,4 @@
-"""Sources by their look: lines with labels, operation and operands, EQU names, and loops, which are read once."""
+"""Splits sources by their look into lines with labels, operation and operands, EQU names and loops."""
 from __future__ import annotations
 
 import re
@@ -12,16 +12,16 @@ MODIFIERS = "A B AB BA F X I".split()
 PREDEFINED = "CORESIZE MAXPROCESSES MAXCYCLES MAXLENGTH MINDISTANCE ROUNDS WARRIORS VERSION CURLINE".split()
 # Opcodes of other dialects.
 ELSEWHERE = "LDP STP PIN XCH PCT STS".split()
-# A name with its joins, a number, or a sign. What is no sign of the language comes as a token, too.
+# A name with its joins, a number, or punctuation, also such as the language does not have.
 TOKEN = re.compile(r"(?:\w|&(?=[A-Za-z_]))+|==|!=|<=|>=|&&|\|\||\S", re.ASCII)
 NAME = re.compile(r"[A-Za-z_][\w&]*$", re.ASCII)
-# So many words of a line are looked at for one that is spelt like another.
+# How many words of a line are compared with the names of operations.
 FIRST_WORDS = 20
 
 
 @dataclass
 class Line:
-    """A line; `unread` says why it isn't read, where it isn't."""
+    """A line; `unread` is the reason if it is not read."""
 
     number: int
     text: str
@@ -37,7 +37,7 @@ class Line:
 
     @property
     def code(self) -> str:
-        """What stands before the comment."""
+        """The text before the comment."""
         return self.text.partition(";")[0]
 
     @property
@@ -80,7 +80,7 @@ class Source:
 
 
 def parse_line(number: int, text: str, names: dict[str, Line]) -> Line:
-    """A line in its parts: words are labels until one is an operation, as an EQU name may be."""
+    """Splits a line: words are labels until one is an operation, which may be an EQU name."""
     line, at = Line(number, text), 0
     tokens = TOKEN.findall(line.code)
     while at < len(tokens) and NAME.match(tokens[at]):
@@ -97,7 +97,7 @@ def parse_line(number: int, text: str, names: dict[str, Line]) -> Line:
 
 
 def read_source(data: bytes) -> Source:
-    """The lines of a source as they are parted where no loop is read twice."""
+    """Splits the lines of a source. Loops are read once."""
     texts = [text.decode("utf-8", "replace").rstrip("\r") for text in data.removesuffix(b"\n").split(b"\n")]
     first = next((number for number, text in enumerate(texts, 1) if re.match(r"\s*;redcode", text, re.I)), 1)
     source, open_loops, end = Source(data, [], {}, []), list[Loop](), 0
@@ -105,9 +105,9 @@ def read_source(data: bytes) -> Source:
         line = parse_line(number, text, source.equates)
         source.lines.append(line)
         if number < first:
-            line.unread = f"what is before the `;redcode` of line {first} is ignored"
+            line.unread = f"everything before the `;redcode` in line {first} is ignored"
         elif end:
-            line.unread = f"the END of line {end} stops reading"
+            line.unread = f"reading stops at the END in line {end}"
         elif line.word == "END":
             end = number
         elif line.word == "EQU" and line.labels:
@@ -121,7 +121,7 @@ def read_source(data: bytes) -> Source:
 
 
 def like(word: str, choices: Sequence[str]) -> str | None:
-    """The one of the choices that is spelt most like a word: the same letters in another order first."""
+    """Returns the choice that is most similar to a word; the same letters in another order come first."""
     upper = {choice.upper(): choice for choice in choices}
     same = [choice for choice in upper if sorted(choice) == sorted(word.upper())]
     close = same or get_close_matches(word.upper(), upper, n=1)
@@ -129,20 +129,20 @@ def like(word: str, choices: Sequence[str]) -> str | None:
 
 
 def misspelt(line: Line) -> str | None:
-    """What to say of a word in the place of an operation that is spelt like one, or is one of another dialect."""
+    """Returns a sentence on a word in place of an operation that is similar to one, or is one of another dialect."""
     if line.operation or not (line.rest or len(line.labels) > 1):
         return None
     for word in line.labels[:FIRST_WORDS]:
         meant = like(word, OPERATIONS)
         if word.upper() in ELSEWHERE:
-            return f"`{word}` isn't an opcode of this language: P-space and the like are left out."
+            return f"`{word}` is not an opcode of this language; P-space and other extensions are not supported."
         if meant:
-            return f"`{word}` is read as a label: is {meant} meant?"
+            return f"`{word}` is read as a label; did you mean `{meant}`?"
     return None
 
 
 def excerpt(data: bytes, number: int) -> list[str]:
-    """The line of a source with its neighbours; nothing where it has no such line."""
+    """Returns a line of a source with its neighbours, or nothing if there is no such line."""
     lines = data.decode("utf-8", "replace").removesuffix("\n").split("\n")
     shown = [] if not 0 < number <= len(lines) else range(max(1, number - 1), min(len(lines), number + 1) + 1)
     return [f"{'>' if at == number else ' '} {at:4} | {lines[at - 1].expandtabs()}".rstrip() for at in shown]

@@ -25,7 +25,7 @@ CYCLES_THERE = 50_000_000
 AT_A_SCHEDULER = 500
 # After so many seconds without an answer it is looked whether there is somebody to answer.
 LOOK_EACH = 5
-NO_PACKAGE = f"--scheduler: {sys.executable} has no package distributed: apt-get install python3-distributed"
+NO_PACKAGE = f"--scheduler: {sys.executable} cannot import distributed; run apt-get install python3-distributed"
 
 
 @dataclass(frozen=True)
@@ -95,12 +95,12 @@ def counts_there(future: Future[Counts | str]) -> Counts:
     try:
         counts = future.result()
     except CancelledError:
-        raise Refused("the scheduler has gone") from None
+        raise Refused("lost the connection to the scheduler") from None
     except ModuleNotFoundError as fault:
-        raise Refused(f"a worker doesn't have this package: {fault}") from None
+        raise Refused(f"this package is not installed on a worker: {fault}") from None
     except Exception as fault:
         # What is handed out raises nothing of its own: a worker can't take it, or a bundle has ended several workers.
-        raise Refused(f"the workers: {' '.join(str(fault).split())}") from None
+        raise Refused(f"error on the workers: {' '.join(str(fault).split())}") from None
     if isinstance(counts, str):
         raise Refused(counts)
     return counts
@@ -117,7 +117,7 @@ def teller_of_absence(client: Any) -> Callable[[], None]:
         except OSError:
             return
         if is_alone and not was_alone:
-            print("corewar: no worker is there: the matches wait for one", file=sys.stderr)
+            print("corewar: the scheduler has no workers; waiting for one", file=sys.stderr)
         was_alone = is_alone
 
     return look

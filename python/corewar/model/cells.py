@@ -1,4 +1,4 @@
-"""Cells, as numbers and as text. Numbers are those of the header of the library."""
+"""Cells, as numbers and as text. The numbers are those of the library's header."""
 from __future__ import annotations
 
 from typing import Any
@@ -9,17 +9,20 @@ from numpy.typing import NDArray
 OPCODES = "DAT MOV ADD SUB MUL DIV MOD JMP JMZ JMN DJN SEQ SNE SLT SPL NOP".split()
 MODIFIERS = "A B AB BA F X I".split()
 MODES = "#$*@{<}>"
-# An array of cells, of records of turns, of deaths: with the fields that the header gives them.
+# Arrays of cells, and of records of turns or deaths, with the fields of the header.
 Cells = NDArray[Any]
 Records = NDArray[Any]
 
 
 def signed(number: int, core: int) -> int:
-    """A number as it is printed: at most half the core size from 0, the half itself positive."""
+    """Returns a number as it is printed: the equivalent number nearest to 0, positive for half the core size."""
     return number - core if number > core // 2 else number
 
 
 def cell_text(cell: np.void, core: int) -> str:
-    """A cell as the program lists it."""
+    """Returns a cell as text, as `mars` lists it: `cell_text(history.state(0).cells[0], 8000)` is `"MOV.I $0, $1"`.
+
+    `core` is the core size; numbers above half of it are printed as negative ones.
+    """
     op, modifier, a_mode, b_mode, a, b = cell.tolist()
     return f"{OPCODES[op]}.{MODIFIERS[modifier]} {MODES[a_mode]}{signed(a, core)}, {MODES[b_mode]}{signed(b, core)}"

@@ -1,11 +1,11 @@
-"""What can't be done, and why."""
+"""Errors of the package."""
 from __future__ import annotations
 
 from typing import Any
 
 EXPRESSIONS = ["Syntax", "Unknown", "DivideByZero", "Range", "Depth"]
 PROBLEMS = "NotAscii BadToken UnclosedFor RofAlone BadCount LabelInCount Duplicate EquDepth TooLong Expression".split()
-# What each answer of the library but 0 is called, and its numbers from 1 on.
+# The kind of each result of the library except 0, and the names of its numbers from 1 on.
 KINDS: dict[int, tuple[str, list[str]]] = {
     1: ("out of memory", []),
     2: ("settings", ["Rounds", "Seed", "Position", "Warriors", "Lengths", "History", "Rows", "Round"]),
@@ -17,18 +17,21 @@ KINDS: dict[int, tuple[str, list[str]]] = {
     8: ("battle", ["NoWarrior", "TooMany", "Overlap", "StartOutside", "FieldOutside"]),
     9: ("score", EXPRESSIONS),
 }
-MEMORY, ASSEMBLY, LOAD, FORMULA, SCORE = 1, 5, 6, 4, 9
+MEMORY, SETTINGS, PARAMETERS, FORMULA, ASSEMBLY, LOAD, SCORE = 1, 2, 3, 4, 5, 6, 9
 
 
 class Refused(Exception):
-    """What can't be done, told in one line."""
+    """The base class of all errors of the package. Its text is one line."""
 
 
 class Fault(Refused):
-    """Why a call of the library wasn't done. Its text is what the program says behind the name of a file.
+    """An error of a call of the library. Its text is what `mars` prints after the name of the file.
 
-    `code` is the answer of the call, `kind` its name; `number` and `name` are those of the fault. `line` is that
-    of a source or of a load file, from 1, and `warrior` the index of a load file; they are 0 where there is none.
+    - `code`: the result of the call, as listed in the API for C; `kind` is its name
+    - `number`: the number of the error; `name` is its name, or "" if it has none
+    - `problem`, `expression`: the numbers of nested errors, or 0
+    - `line`: the line of a source or a load file, from 1, or 0 if the error has no line
+    - `warrior`: the index of a load file, from 0
     """
 
     def __init__(
@@ -49,7 +52,12 @@ class Fault(Refused):
 
 
 class FileFault(Refused):
-    """A fault of one file: the fault, the name of the file, and its text where that was read."""
+    """An error of one file.
+
+    - `file`: the name of the file
+    - `fault`: the `Fault`, or a text such as "No such file or directory"
+    - `text`: the content of the file, or b"" if it was not read
+    """
 
     def __init__(self, file: str, fault: Fault | str, text: bytes = b"") -> None:
         super().__init__(f"{file}: {fault}")
@@ -60,10 +68,10 @@ class FileFault(Refused):
 
 
 def named(names: list[str], number: int) -> str:
-    """The name of a number from 1 on, if it has one."""
+    """Returns the name of a number from 1 on, or ""."""
     return names[number - 1] if 0 < number <= len(names) else ""
 
 
 def numbered(names: list[str], number: int) -> str:
-    """A number and its name, where there is one."""
+    """Returns a number with its name, or "" for 0."""
     return f"{number} {named(names, number)}" if number else ""

@@ -1,25 +1,35 @@
-"""How contests are held: numbers with their ranges, and what known hills set."""
+"""The settings of matches: numbers with their ranges, and the settings of known hills."""
 from __future__ import annotations
 
 from dataclasses import dataclass
 
 FORMULA = "(W*W-1)/S"
-# No number that is asked for has more digits.
+# No number of an option or a command has more digits.
 MOST_DIGITS = 18
-# The most warriors of a match, and of a league.
+# The maximum number of warriors of a match, and of a league.
 MOST_WARRIORS, MOST_OF_LEAGUE = 16, 65_536
-# The longest source or load file that is read, in bytes.
+# The maximum size of a source or load file, in bytes.
 LARGEST_FILE = 1_048_576
 
 
 def whole(text: str) -> int | None:
-    """The number that digits are; None for another text, and for more digits than any number that is asked for."""
+    """Returns the number that decimal digits stand for, or None for another text and for more than 18 digits."""
     return int(text) if text.isdecimal() and len(text) <= MOST_DIGITS else None
 
 
 @dataclass(frozen=True)
 class Settings:
-    """The parameters of a core, with the program's defaults. A limit of 0 is the core size."""
+    """The parameters of a core, with the defaults of `mars`.
+
+    - `core`: the core size in cells, 1 to 1,048,576
+    - `processes`: the maximum number of processes of a warrior, 1 to 65,536
+    - `cycles`: the maximum number of cycles of a round, 1 to 10,000,000
+    - `longest`: the maximum length of a warrior in cells, 1 to the core size
+    - `distance`: the minimum distance between warriors in cells, from `longest` to the core size
+    - `read_limit`, `write_limit`: how far instructions read and write, 1 to the core size; 0 is the core size
+
+    The ranges are checked by the calls that use the settings.
+    """
 
     core: int = 8000
     processes: int = 8000
@@ -30,7 +40,7 @@ class Settings:
     write_limit: int = 0
 
 
-# The first one's are those that are taken where nothing else is said.
+# The first one has the default settings.
 HILLS = {
     "94nop": Settings(),
     "94x": Settings(core=55440, processes=10000, cycles=500000, longest=200, distance=200),
@@ -41,23 +51,40 @@ HILLS = {
 
 @dataclass(frozen=True)
 class Number:
-    """A number that is asked for: the word of `mars` for it, what it means, its least and its greatest value."""
+    """A number among the options: its option in `mars`, what it means, its bounds, and its range in words if that
+    depends on other options.
+    """
 
     word: str
     meaning: str
     least: int
     greatest: int
+    words: str = ""
+
+    @property
+    def range(self) -> str:
+        return self.words or f"{self.least} to {self.greatest}"
 
 
+UP_TO_CORE = "1 to the core size"
 NUMBERS = {
-    "core": Number("-s", "cells of the core", 1, 1_048_576),
-    "cycles": Number("-c", "cycles of a round", 1, 10_000_000),
-    "processes": Number("-p", "processes of a warrior", 1, 65_536),
-    "longest": Number("-l", "cells of a warrior", 1, 1_048_576),
-    "distance": Number("-d", "least distance between first cells", 1, 1_048_576),
-    "read_limit": Number("--read-limit", "how far an instruction reads", 1, 1_048_576),
-    "write_limit": Number("--write-limit", "how far an instruction writes", 1, 1_048_576),
-    "rounds": Number("-r", "rounds of a match", 1, 100_000),
-    "seed": Number("--seed", "seed of the positions", 1, 2_147_483_646),
-    "position": Number("-F", "position of the second of two warriors", 1, 1_048_576),
+    "core": Number("-s", "core size", 1, 1_048_576),
+    "cycles": Number("-c", "cycle limit", 1, 10_000_000),
+    "processes": Number("-p", "process limit", 1, 65_536),
+    "longest": Number("-l", "maximum length of a warrior", 1, 1_048_576, UP_TO_CORE),
+    "distance": Number("-d", "minimum distance", 1, 1_048_576, "from the maximum length to the core size"),
+    "read_limit": Number("--read-limit", "read limit", 1, 1_048_576, UP_TO_CORE),
+    "write_limit": Number("--write-limit", "write limit", 1, 1_048_576, UP_TO_CORE),
+    "rounds": Number("-r", "number of rounds", 1, 100_000),
+    "seed": Number("--seed", "seed for the starting positions", 1, 2_147_483_646),
+    "position": Number(
+        "-F", "position of warrior 2", 1, 1_048_576, "from the minimum distance to the core size minus it"
+    ),
 }
+# What a number is called where results are shown, if not by its own name.
+LABELS = {"core": "core size", "longest": "maximum length", "distance": "minimum distance"}
+
+
+def label(name: str) -> str:
+    """What the number of this name is called where results are shown."""
+    return LABELS.get(name, name.replace("_", " "))

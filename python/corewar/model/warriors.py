@@ -1,4 +1,4 @@
-"""Warriors, as their load files tell them."""
+"""Warriors, by their load files."""
 from __future__ import annotations
 
 import re
@@ -6,21 +6,26 @@ from dataclasses import dataclass
 from functools import cached_property
 from pathlib import Path
 
-# The head of a load file of version 2.
+# The header of a load file of version 2.
 HEAD = re.compile(rb";load 2 \d+\n;name (.*)\n;author (.*)\n")
-# A start, which is an instruction's index.
+# A start, which is the index of an instruction.
 START = re.compile(rb"(ORG|END)\b\s*([+-]?\d+)?", re.IGNORECASE)
 
 
 def printable(text: str) -> str:
-    """The text with `?` for each character that isn't shown, or that a terminal obeys: names may be a stranger's."""
+    """Returns the text with `?` for each character that is not printable or controls a terminal."""
     return "".join(letter if letter.isprintable() else "?" for letter in text)
 
 
 @dataclass(frozen=True)
 class Warrior:
-    """A warrior: its load file of either version; the name of the file that it came of, and the source, where there
-    is one.
+    """A warrior.
+
+    - `load`: its load file, of either version
+    - `file`: the name of the file that it was read from, or ""
+    - `source`: its source, or None for a load file
+
+    `len(warrior)` is its number of cells, and `str(warrior)` its load file as text.
     """
 
     load: bytes
@@ -34,31 +39,33 @@ class Warrior:
 
     @property
     def name(self) -> str:
+        """The name in the header of the load file; "Unknown" if there is no header."""
         return self._names[0]
 
     @property
     def author(self) -> str:
+        """The author in the header of the load file; "Anonymous" if there is no header."""
         return self._names[1]
 
     @property
     def title(self) -> str:
-        """What it is called, and its author, as tables have them."""
+        """The name and the author, as tables show them."""
         return f"{self.called} by {self.author}"
 
     @property
     def called(self) -> str:
-        """Its name, which is printable; that of its file where its text gives none."""
+        """The name with only printable characters, or the name of the file if the warrior has no name."""
         return printable(self.file if self.name in ("", "Unknown") and self.file else self.name or "Unknown")
 
     @property
     def files(self) -> tuple[str, str, str]:
-        """By what its file is named: as it was given, without its folder, and without its ending, too."""
+        """The names that stand for its file: as given, without the folder, and without folder and ending."""
         path = Path(self.file)
         return self.file, path.name, path.stem
 
     @cached_property
     def _extent(self) -> tuple[int, int]:
-        """Its first instruction's index, and how many cells it has."""
+        """The index of its first instruction, and its number of cells."""
         starts: dict[bytes, int] = {}
         cells = 0
         for line in self.load.split(b"\n"):
@@ -73,11 +80,11 @@ class Warrior:
 
     @property
     def origin(self) -> int:
-        """The index of its first instruction."""
+        """The index of its first instruction, from 0."""
         return self._extent[0]
 
     def __len__(self) -> int:
-        """How many cells it has."""
+        """Returns the number of cells."""
         return self._extent[1]
 
     def __str__(self) -> str:

@@ -7,9 +7,11 @@ from pathlib import Path
 from typing import Any
 from urllib.parse import quote
 
+from ..analysis.telling import counted
 from ..battle.history import History, distinct
 from ..engine.calls import Match
 from ..league.table import League
+from ..model.settings import label
 from ..pictures.shades import mixed
 from .render import render, write_page
 from .replay import page_of
@@ -39,11 +41,11 @@ class Pages:
             "seed": contest.seed,
             "position": contest.position,
         }
-        told = [f"{name.replace('_', ' ')} {value:,}" for name, value in numbers.items() if value]
+        told = [f"{label(name)} {value:,}" for name, value in numbers.items() if value]
         page = render(
             "league.html.j2",
             rows=[{**row, "title": title} for row, title in zip(league.rows, league.titles())],
-            settings=[*told, f"points {contest.formula}"],
+            settings=[*told, f"score {contest.formula}"],
             lines=self.lines() if len(league.order) <= LARGEST_MATRIX else [],
             is_linked=bool(self.folders),
         )
@@ -64,7 +66,8 @@ class Pages:
 
     def cell(self, one: int, other: int, counts: list[int], colour: list[int]) -> dict[str, Any]:
         wins, ties, losses = counts
-        told = f"{wins} wins, {ties} ties, {losses} losses against {self.league.warriors[other].called}"
+        told = f"{counted(wins, 'win')}, {counted(ties, 'tie')}, {counted(losses, 'loss')} against "
+        told += self.league.warriors[other].called
         ink = "#000" if sum(colour) > 3 * 130 else "#fff"
         is_linked = (min(one, other), max(one, other)) in self.folders
         link = quote(os.fsencode(self.replay(one, other))) if is_linked else ""

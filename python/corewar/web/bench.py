@@ -73,7 +73,7 @@ class Folder:
         path = sources_of(self.paths).get(name) or self.new(name)
         there = digest(read(path)) if path.exists() else ""
         if there != seen:
-            raise Refused(f"{name} was changed by something else: it isn't written over")
+            raise Refused(f"{name} has changed on disk; not overwritten")
         # It is written beside the source first: a full disk leaves that as it was.
         part = path.with_name(f".{path.name}.part")
         try:
@@ -90,7 +90,7 @@ class Folder:
     def new(self, name: str) -> Path:
         """Where a new source goes: into the first folder, or beside the first file."""
         if not name or name != Path(name).name or not name.endswith(".red"):
-            raise Refused(f"`{name}` is no name of a source: it ends in .red, and has no folder before it")
+            raise Refused(f"`{name}` is not a valid name; expected a name without a folder that ends in .red")
         first = self.paths[0]
         return (first if first.is_dir() else first.parent) / name
 
@@ -132,7 +132,7 @@ class Bench:
         """Lays a battle out on a desk, and knows how it ends. Raises Refused."""
         settings, sources = Settings(**given["settings"]), given["sources"]
         if not 1 <= len(sources) <= MOST_WARRIORS:
-            raise Refused(f"1 to {MOST_WARRIORS} sources fight: mark them in the list")
+            raise Refused(f"expected 1 to {MOST_WARRIORS} warriors; select them in the list")
         warriors = [self.warrior(source, settings, len(sources), given["rounds"]) for source in sources]
         made = Desk.of(Match(tuple(warriors), settings, given["seed"], 0, given["rounds"]), given["round"])
         self.desks[name] = made
@@ -144,7 +144,7 @@ class Bench:
     def desk(self, name: str) -> Desk:
         """The desk of this name. Raises Refused."""
         if name not in self.desks:
-            raise Refused("this page has no battle: fight one")
+            raise Refused("this page has no battle yet; press Fight")
         self.desks.move_to_end(name)
         return self.desks[name]
 

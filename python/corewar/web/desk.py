@@ -46,7 +46,11 @@ class Desk:
         """What the page shows of a battle besides its turns."""
         session, history = self.session, self.session.history
         futures = [
-            {"edits": [f"turn {turn}: {line}" for turn, line in one.edits], "end": one.end, "here": one is history}
+            {
+                "edits": [f"after turn {turn}: {line}" for turn, line in one.edits],
+                "end": one.end,
+                "here": one is history,
+            }
             for one in session.futures
         ]
         return {
@@ -88,7 +92,7 @@ class Desk:
             "cycle": block.cycle(turn),
             "next": block.following(turn),
             "head": head,
-            "told": teller.turn(turn) if turn else "the start",
+            "told": teller.turn(turn) if turn else "start",
             "mover": int(history.record(turn)["warrior"]) if turn else None,
             "reads": teller.reads(turn) if turn else [],
             "following": teller.following(turn),
@@ -146,7 +150,7 @@ class Desk:
         try:
             answer = execute(session, line)
         except Left:
-            answer = ["close the page to leave"]
+            answer = ["close the page to quit"]
         except Refused as fault:
             answer = [str(fault)]
         is_other = session.history is not before

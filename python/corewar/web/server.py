@@ -56,9 +56,9 @@ def guard(ports: list[int]) -> Any:
     async def guarded(request: web.Request, handler: Handler) -> web.StreamResponse:
         host = request.headers.get("Host", "")
         if host not in [f"{name}:{port}" for name in ("127.0.0.1", "localhost") for port in ports]:
-            raise web.HTTPForbidden(text="another host")
+            raise web.HTTPForbidden(text="wrong host")
         if request.headers.get("Origin", f"http://{host}") != f"http://{host}":
-            raise web.HTTPForbidden(text="another origin")
+            raise web.HTTPForbidden(text="wrong origin")
         response = await handler(request)
         if not response.prepared:
             response.headers.update({"Content-Security-Policy": POLICY, "Cache-Control": "no-store"})
@@ -75,7 +75,7 @@ async def told(request: web.Request, handler: Handler) -> web.StreamResponse:
     except (Refused, OSError) as fault:
         return web.json_response({"fault": str(fault)}, status=409)
     except (LookupError, TypeError, ValueError, ArithmeticError, RecursionError) as fault:
-        return web.json_response({"fault": f"no request of the page: {fault}"}, status=400)
+        return web.json_response({"fault": f"invalid request: {fault}"}, status=400)
 
 
 @routes.get("/")
@@ -195,14 +195,14 @@ def application(bench: Bench, ports: list[int], token: str) -> web.Application:
 async def serve(bench: Bench, port: int, opens: bool, say: Callable[[str], None]) -> None:
     """Serves until it is stopped."""
     if not CODEMIRROR.is_dir():
-        raise Refused("the editor isn't there: apt-get install libjs-codemirror")
+        raise Refused("cannot find the editor CodeMirror; run apt-get install libjs-codemirror")
     token, ports = secrets.token_urlsafe(16), [port]
     runner = web.AppRunner(application(bench, ports, token))
     await runner.setup()
     await web.TCPSite(runner, "127.0.0.1", port, shutdown_timeout=1).start()
     ports[0] = runner.addresses[0][1]
     address = f"http://127.0.0.1:{ports[0]}/{token}/"
-    say(f"The workbench is at {address} until Ctrl-C ends it.")
+    say(f"The workbench is at {address} (press Ctrl-C to stop)")
     try:
         with opened(address) if opens else nullcontext():
             await asyncio.Event().wait()

@@ -155,8 +155,8 @@ class Track {
     Object.assign(this, {canvas, slider, counts, end, frames, warriors});
     this.mostCells = most(({cells}) => cells.reduce((sum, value) => sum + value));
     this.mostProcesses = most(({processes}) => Math.max(...processes));
-    element("owned").textContent = `cells owned, up to ${number(this.mostCells)} together`;
-    element("standing").textContent = `processes, up to ${number(this.mostProcesses)}${this.mostProcesses > 9 ? ", drawn by square roots" : ""}`;
+    element("owned").textContent = `cells owned (at most ${number(this.mostCells)} in total)`;
+    element("standing").textContent = `processes (at most ${number(this.mostProcesses)}${this.mostProcesses > 9 ? "; square-root scale" : ""})`;
     this.show(0, end);
   }
 

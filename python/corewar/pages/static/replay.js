@@ -114,9 +114,9 @@ class Words {
     const when = age >= -LONG_AGO ? "" : age ? `written ${count(age, "frame")} ago` : "written in this frame";
     const standing = this.processes(focus);
     element("where").textContent = isOwn ? `Cell ${number(focus)}`
-      : replay.moment.turn === last ? "The end" : `Next: ${warriors[replay.moment.next].name} at ${number(focus)}`;
+      : replay.moment.turn === last ? "End of the battle" : `Next: ${warriors[replay.moment.next].name} at ${number(focus)}`;
     const link = Object.assign(document.createElement("button"), {textContent: when, className: "link", onclick: () => this.go(replay.written[focus])});
-    element("cell").replaceChildren(owner[focus] === NOBODY ? "Nobody’s cell" : `Owned by ${warriors[owner[focus]].name}`,
+    element("cell").replaceChildren(owner[focus] === NOBODY ? "Owned by no warrior" : `Owned by ${warriors[owner[focus]].name}`,
       ...(when && owner[focus] !== NOBODY ? [", ", link] : []), standing && `. Processes: ${standing}`);
     this.lines.forEach((line, i) => {
       const around = (this.lines.length - 1) / 2, address = (focus + i - around + around * size) % size;
@@ -275,4 +275,4 @@ class Player {
 
 let player;
 readBattle().then(battle => { player = new Player(battle); })
-  .catch(fault => { element("outcome").textContent = `This browser can't show the battle: ${fault.message}`; });
+  .catch(fault => { element("outcome").textContent = `This browser cannot show the battle: ${fault.message}`; });

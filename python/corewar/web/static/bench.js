@@ -126,7 +126,7 @@ class Shelf {
   add({name, text, seen, example}) {
     const ends = /\r\n/.test(text) && !/(^|[^\r])\n/.test(text) ? "\r\n" : "\n";
     const source = {name, seen, example, saved: text, doc: CodeMirror.Doc(text, "redcode", 0, ends), box: make("input", {type: "checkbox"})};
-    source.box.setAttribute("aria-label", `${name} fights`);
+    source.box.setAttribute("aria-label", `Select ${name}`);
     source.open = make("button", {textContent: name, onclick: () => this.show(source)});
     source.row = make("li", {}, source.box, source.open, make("small", {textContent: example ? "example" : ""}));
     element("names").append(source.row);
@@ -152,7 +152,7 @@ class Shelf {
   sign() {
     const {shown} = this, isSaved = !shown || Shelf.isSaved(shown);
     shown?.open.replaceChildren(shown.name + (isSaved ? "" : " •"));
-    element("saved").textContent = isSaved ? "" : shown.example ? "an example: it is saved beside your sources" : "not saved";
+    element("saved").textContent = isSaved ? "" : shown.example ? "example; Save puts a copy in your folder" : "not saved";
   }
 
   async lint(text, done) {
@@ -201,7 +201,7 @@ class Shelf {
 
   /** Makes a source of a name that none has yet. */
   create(name) {
-    const stem = name.slice(0, -".red".length), fault = this.find(name) ? "is there already" : !stem || name.includes("/") ? "is no name of a file" : "";
+    const stem = name.slice(0, -".red".length), fault = this.find(name) ? "already exists" : !stem || name.includes("/") ? "is not a valid file name" : "";
     if (fault) {
       element("saved").textContent = `${name} ${fault}`;
       return;
@@ -222,7 +222,7 @@ class Shelf {
     const reveal = () => this.editor.scrollIntoView(place, 60);
     if (source === this.shown && source) reveal();
     else if (source) element("following").append(" ", make("button", {className: "link", textContent: `${line.file}, line ${line.number}`,
-      title: "Shows it in the editor", onclick: () => { this.show(source); reveal(); }}));
+      title: "Show in the editor", onclick: () => { this.show(source); reveal(); }}));
   }
 }
 
@@ -318,13 +318,13 @@ class Time {
     refill("deaths", ...battle.warriors.filter(({death}) => death !== null).map(({name, death, grave}) =>
       make("button", {className: "link", textContent: `${name} died in turn ${number(death)}`, onclick: () => { this.go(death); this.keep(grave); }})));
     element("legend").replaceChildren(...battle.warriors.map(({name}, who) => {
-      const row = make("tr", {}, make("td", {}, make("button", {title: "Shows it alone", onclick: () => this.choose(who)}, make("i"),
+      const row = make("tr", {}, make("td", {}, make("button", {title: "Show only this warrior", onclick: () => this.choose(who)}, make("i"),
         make("span", {}, make("strong", {textContent: name}), make("small")))), make("td"), make("td"));
       row.style.setProperty("--warrior", `var(--warrior-${who})`);
       return row;
     }));
     refill("futures", ...battle.futures.length < 2 ? [] : battle.futures.map(({edits, end, here}, i) =>
-      make("li", {className: here ? "here" : ""}, make("button", {textContent: `${edits.join("; ") || "as it was"}: ${number(end)} turns`,
+      make("li", {className: here ? "here" : ""}, make("button", {textContent: `${edits.join("; ") || "no edits"}: ${number(end)} turns`,
         onclick: () => this.debug(`futures ${i}`)}))));
     this.tellBreaks(battle.breaks);
     this.grid = new Grid(element("core"), this.live);
@@ -440,7 +440,7 @@ class Time {
     if (!this.live || this.isPlaying || element("listing").querySelector("input")) return;
     const {focus, turn, live: {battle: {warriors}, moment}} = this, told = await ask(`cell/${focus}/${turn}`);
     if (element("listing").querySelector("input")) return;
-    element("where").textContent = this.kept !== null ? `Cell ${number(focus)}` : moment.head === null ? "The end" : `Next: ${warriors[moment.next].name} at ${number(focus)}`;
+    element("where").textContent = this.kept !== null ? `Cell ${number(focus)}` : moment.head === null ? "End of the battle" : `Next: ${warriors[moment.next].name} at ${number(focus)}`;
     element("listing").style.setProperty("--digits", `${String(this.live.battle.size - 1).length}ch`);
     refill("listing", ...told.around.map(cell => this.line(cell)));
     element("cell").textContent = told.told.join("\n");
@@ -455,8 +455,8 @@ class Time {
   /** A line of the listing: its address is looked at, its cell edited. */
   line({address, label, text, line, owner, processes}) {
     const {warriors} = this.live.battle, standing = processes.flatMap((count, who) => count ? [warriors[who].name + (count > 1 ? ` ×${count}` : "")] : []);
-    const where = make("button", {className: "address", textContent: address, title: "Looks at it", onclick: () => this.keep(address)});
-    const cell = make("button", {className: "text", textContent: text, title: "Edits it"});
+    const where = make("button", {className: "address", textContent: address, title: "Select this cell", onclick: () => this.keep(address)});
+    const cell = make("button", {className: "text", textContent: text, title: "Edit this cell"});
     const made = make("li", {title: line}, where, make("b", {textContent: label}), cell, make("em", {textContent: standing.join(", ") || line}));
     made.style.setProperty("--warrior", owner < warriors.length ? `var(--warrior-${owner})` : "transparent");
     cell.onclick = () => {
@@ -475,7 +475,7 @@ class Time {
   }
 
   tellBreaks(breaks) {
-    refill("breaks", ...breaks.map((text, i) => make("li", {}, `break ${i}: ${text} `,
+    refill("breaks", ...breaks.map((text, i) => make("li", {}, `breakpoint ${i}: ${text} `,
       make("button", {textContent: "delete", onclick: () => this.debug(`delete ${i}`)}))));
   }
 
@@ -563,7 +563,7 @@ class League {
     const counts = this.against[who][other];
     if (!counts) return make("td", {textContent: who === other ? "·" : ""});
     const [, wins, ties, losses] = counts, [first, second] = [Math.min(who, other), Math.max(who, other)].map(at => this.sources[at]);
-    const title = `${wins} wins, ${ties} ties, ${losses} losses against ${this.sources[other].name}; a click shows round 0`;
+    const title = `${count(wins, "win")}, ${count(ties, "tie")}, ${count(losses, "loss")} against ${this.sources[other].name}; click to show round 0`;
     const made = make("td", {}, make("button", {textContent: wins, title, onclick: () => this.time.fight([first, second], 0)}));
     const share = (wins - losses) / (wins + ties + losses), colour = share < 0 ? "200,30,30" : "30,80,200";
     made.style.background = `rgba(${colour},${Math.abs(share) * .5})`;
@@ -573,7 +573,7 @@ class League {
 
 /** What went wrong is told where the outcome stands: a request that fails, a server that is gone. */
 addEventListener("unhandledrejection", ({reason}) => {
-  element("outcome").textContent = reason instanceof TypeError ? `The workbench doesn’t answer: ${reason.message}` : reason.message;
+  element("outcome").textContent = reason instanceof TypeError ? `Cannot reach the workbench: ${reason.message}` : reason.message;
 });
 
 (async () => {

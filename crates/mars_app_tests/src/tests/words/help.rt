@@ -7,50 +7,50 @@ use std::test::Fail;
 
 /// The whole help.
 const HELP: &str =
-    "Core War: fights matches and leagues of warriors, and debugs battles forwards and backwards
+    "Core War: run matches and leagues of warriors, and debug battles forwards and backwards
 
 Usage: mars [OPTIONS] <FILE>...
 
 Arguments:
-  <FILE>...  1 to 16 warriors: sources of Redcode, and load files, whose names end in .load
+  <FILE>...  1 to 16 warriors: Redcode sources, or load files (.load)
 
-Contest:
-  -r <N>                 Rounds, 1 to 100000 [default: 1]
-  -F <N>                 Position of warrior 2, from the least distance to the core size less that
-      --seed <N>         Seed of the positions, 1 to 2147483646 [default: 1]
-      --score <FORMULA>  What a survivor gets, W being the warriors and S the survivors [default: (W*W-1)/S]
-      --league           Every pair of warriors fights
+Match:
+  -r <N>                 Number of rounds, 1 to 100000 [default: 1]
+  -F <N>                 Position of warrior 2, from the minimum distance to the core size minus it
+      --seed <N>         Seed for the starting positions, 1 to 2147483646 [default: 1]
+      --score <FORMULA>  Score of each survivor, with W warriors and S survivors [default: (W*W-1)/S]
+      --league           Run a league: every pair of warriors plays a match
 
 Core:
   -s <N>                 Core size, 1 to 1048576 [default: 8000]
   -c <N>                 Cycle limit, 1 to 10000000 [default: 80000]
   -p <N>                 Process limit, 1 to 65536 [default: 8000]
-  -l <N>                 Longest warrior, 1 to the core size [default: 100]
-  -d <N>                 Least distance, from the longest warrior to the core size [default: 100]
-      --read-limit <N>   How far is read, 1 to the core size [default: core size]
-      --write-limit <N>  How far is written, 1 to the core size [default: core size]
+  -l <N>                 Maximum length of a warrior, 1 to the core size [default: 100]
+  -d <N>                 Minimum distance, from the maximum length to the core size [default: 100]
+      --read-limit <N>   Read limit, 1 to the core size [default: core size]
+      --write-limit <N>  Write limit, 1 to the core size [default: core size]
 
 Debugger:
-  -e                 Debugs the battle of the first round by the commands of standard input
-      --history <N>  Places that the history keeps, 1 to 1000000 [default: 200000]
+  -e                 Debug the first round with commands from standard input
+      --history <N>  Size of the debugger's history, 1 to 1000000 places [default: 200000]
 
 Output:
-  -b          No listing of the warriors
-  -o          Results sorted by points
-      --load  Writes the load file of the one warrior
-      --help  Prints this help
+  -b          Omit the listing of the warriors
+  -o          Sort the results by points
+      --load  Assemble one warrior and print its load file
+      --help  Print this help
 
-At most one of -e, --league and --load is given; -F is for two files, and for no league.
+-e, --league and --load exclude each other. -F requires two warriors and no league.
 
-Commands of the debugger, one a line:
+Debugger commands, one per line:
   step, run N, until C, undo, redo, goto T
   edit A CELL, fill A B CELL, move W I A, kill W I, spawn W A
   list A N, queue W, show, quit
 
-Status: 0 done, 1 a fault of input or files, 2 a fault of the words.
+Exit status: 0 success, 1 error in input or files, 2 usage error.
 
 Example: mars -r 100 -b -o imp.red dwarf.red
-More in README.md and docs/user/REFERENCE.md.
+See README.md and docs/user/REFERENCE.md; `corewar explain` explains errors.
 ";
 
 #[test]

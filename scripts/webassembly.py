@@ -1,0 +1,125 @@
+"""Builds mars.wasm: the proved library for browsers and Node, from the module that the native library is compiled from."""
+import os
+import re
+import shutil
+import subprocess
+
+from program import TOP
+
+HEAP = os.path.join(TOP, "site", "src", "engine", "heap.c")
+HEADER = os.path.join(TOP, "include", "mars.h")
+# Keeps the largest module that it compiles, which is that of the library, with the arguments.
+KEEPING_CLANG = """#!/bin/sh
+for word in "$@"; do
+    if [ "$word" = module.bc ] && [ "$(stat -c %s module.bc)" -gt "$(stat -c %s '{kept}' 2>/dev/null || echo 0)" ]; then
+        cp module.bc '{kept}'
+        printf '%s\\n' "$@" >'{kept}.args'
+    fi
+done
+exec '{clang}' "$@"
+"""
+# wasm64 has pointers of 64 bits, as the native target has; the memory is lowered to 32 bits afterwards.
+TARGET = "wasm64-unknown-unknown"
+LAYOUT = "e-m:e-p:64:64-p10:8:8-p20:8:8-i64:64-i128:128-n32:64-S128-ni:1:10:20"
+COMPILE = [f"--target={TARGET}", "-mcpu=lime1", "-mbulk-memory", "-O3", "--no-default-config"]
+STACK, MAX_MEMORY = 1 << 20, 1 << 30
+LINK = ["-mwasm64", "--no-entry", "--gc-sections", "--stack-first", "-z", f"stack-size={STACK}", f"--max-memory={MAX_MEMORY}"]
+FEATURES = "memory64 bulk-memory sign-ext nontrapping-float-to-int multivalue mutable-globals".split()
+TABLE, ELEMENTS = 4, 9
+
+
+class CannotBuild(Exception):
+    """mars.wasm cannot be built; the text says why."""
+
+
+def keeping_toolchain(toolchain, folder, kept):
+    """Makes a folder like that of the toolchain, whose clang keeps its module in the file `kept`."""
+    os.makedirs(os.path.join(folder, "bin"))
+    for name in os.listdir(toolchain):
+        if name != "bin":
+            os.symlink(os.path.join(toolchain, name), os.path.join(folder, name))
+    for name in os.listdir(os.path.join(toolchain, "bin")):
+        if name != "clang":
+            os.symlink(os.path.join(toolchain, "bin", name), os.path.join(folder, "bin", name))
+    clang = os.path.join(folder, "bin", "clang")
+    with open(clang, "w") as file:
+        file.write(KEEPING_CLANG.format(kept=kept, clang=os.path.join(toolchain, "bin", "clang")))
+    os.chmod(clang, 0o755)
+    return folder
+
+
+def run(*words, folder=None):
+    done = subprocess.run(words, cwd=folder, capture_output=True, text=True)
+    if done.returncode:
+        raise CannotBuild(f"{os.path.basename(words[0])}: {(done.stderr or done.stdout).strip()[-600:]}")
+    return done.stdout
+
+
+def check_module(module, archive, toolchain, room):
+    """Checks that the module is the one that the archive was compiled from: compiled again, it has the same bytes."""
+    with open(f"{module}.args") as file:
+        words = file.read().splitlines()
+    shutil.copy(module, os.path.join(room, "module.bc"))
+    words[words.index("-o") + 1] = "module.o"
+    run(os.path.join(toolchain, "bin", "clang"), *words, folder=room)
+    member = run("ar", "t", archive).split()
+    with open(os.path.join(room, "module.o"), "rb") as made:
+        if len(member) != 1 or made.read() != subprocess.run(["ar", "p", archive], capture_output=True).stdout:
+            raise CannotBuild("the kept module is not that of the native library")
+
+
+def for_webassembly(text):
+    """The text of a module of x86-64 as one of wasm64."""
+    text = re.sub(r"^target datalayout = .*", f'target datalayout = "{LAYOUT}"', text, flags=re.M)
+    text = re.sub(r"^target triple = .*", f'target triple = "{TARGET}"', text, flags=re.M)
+    return re.sub(r' ?"(probe-stack|stack-probe-size|target-cpu)"="[^"]*"', "", text)
+
+
+def with_narrow_table(code):
+    """The module with 32-bit limits of its table, which is empty: Debian's binaryen reads no others."""
+    code, at = bytearray(code), 8
+
+    def number(at):
+        value = shift = 0
+        while True:
+            byte, at = code[at], at + 1
+            value, shift = value | (byte & 127) << shift, shift + 7
+            if byte < 128:
+                return value, at
+
+    while at < len(code):
+        kind, (size, body) = code[at], number(at + 1)
+        if kind == TABLE:
+            code[number(body)[1] + 1] &= ~4
+        if kind == ELEMENTS:
+            raise CannotBuild("the module has calls through a table, which cannot be lowered")
+        at = body + size
+    return bytes(code)
+
+
+def exports():
+    """The calls of the header."""
+    with open(HEADER) as file:
+        return re.findall(r"^(?:uint32_t|size_t) (mars_\w+)\(", file.read(), re.M)
+
+
+def build_wasm(module, archive, toolchain, room, out):
+    """Builds mars.wasm in the file `out`. Raises CannotBuild."""
+    clang, text, linked = os.path.join(toolchain, "bin", "clang"), os.path.join(room, "module.ll"), os.path.join(room, "mars.wasm")
+    check_module(module, archive, toolchain, room)
+    run(clang, "-S", "-emit-llvm", "-x", "ir", module, "-o", text, "-Xclang", "-disable-llvm-passes", "--no-default-config")
+    with open(text) as file:
+        source = for_webassembly(file.read())
+    with open(text, "w") as file:
+        file.write(source)
+    objects = [os.path.join(room, "library.o"), os.path.join(room, "heap.o")]
+    run(clang, *COMPILE, "-ffunction-sections", "-fno-vectorize", "-fno-slp-vectorize", "-c", "-x", "ir", text, "-o", objects[0])
+    run(clang, *COMPILE, "-ffreestanding", "-fno-builtin", "-c", HEAP, "-o", objects[1])
+    linker = os.path.join(room, "wasm-ld")
+    os.symlink(os.path.join(toolchain, "bin", "ld.lld"), linker)
+    run(linker, *LINK, *(f"--export={name}" for name in exports()), "-o", linked, *objects)
+    with open(linked, "rb") as file:
+        code = with_narrow_table(file.read())
+    with open(linked, "wb") as file:
+        file.write(code)
+    run("wasm-opt", *(f"--enable-{name}" for name in FEATURES), linked, "--memory64-lowering", "-O3", "-o", out)
