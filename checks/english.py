@@ -38,6 +38,7 @@ FORM = re.compile("|".join(rf"(?P<f{number}>\b(?:{form})\b)" for number, form in
 WANTED = list(FORMS.values())
 
 PYTHON = re.compile(r"#!.*python")
+JAVASCRIPT_TEXT = re.compile(r"([\"'`])((?:\\.|(?!\1)[^\\\n])*)\1")
 
 
 def without_code(text):
@@ -50,9 +51,16 @@ def without_code(text):
 def docstrings(text):
     """The line of each docstring, and whether it is the help of a command."""
     for node in ast.walk(ast.parse(text)):
-        if isinstance(node, (ast.Module, ast.ClassDef, ast.FunctionDef)) and ast.get_docstring(node) is not None:
+        if isinstance(node, (ast.Module, ast.ClassDef, ast.FunctionDef, ast.AsyncFunctionDef)) and ast.get_docstring(node) is not None:
             decorators = getattr(node, "decorator_list", [])
             yield node.body[0].lineno, any("command" in ast.unparse(decorator) for decorator in decorators)
+
+
+def without_expressions(text):
+    """A text without the code in braces, which may be nested."""
+    while text != (text := re.sub(r"\$?\{[^{}]*\}", " ", text)):
+        pass
+    return text
 
 
 def python_pieces(name, text):
@@ -63,8 +71,7 @@ def python_pieces(name, text):
         if token.type == tokenize.COMMENT or token.type == tokenize.STRING and is_help.get(line) is False:
             yield "comments", line, token.string
         elif token.type == tokenize.STRING and " " in token.string and (line in is_help or name.startswith("python/")):
-            # What an f-string names in braces is code.
-            yield "messages", line, re.sub(r"\{[^{}]*\}", " ", token.string)
+            yield "messages", line, without_expressions(token.string)
 
 
 def marked_pieces(text, marks):
@@ -90,7 +97,8 @@ def pieces(name, text):
     elif name.endswith((".js", ".c", ".h", ".rs", ".css")):
         yield from marked_pieces(text, r"//[/!]?|/\*\*?|\*")
         if name.endswith(".js"):
-            yield from (("messages", text[: found.start()].count("\n") + 1, found[2]) for found in re.finditer(r"([\"'`])((?:(?!\1)[^\n])* (?:(?!\1)[^\n])*)\1", text))
+            for found in JAVASCRIPT_TEXT.finditer(text):
+                yield "messages", text[: found.start()].count("\n") + 1, without_expressions(found[2]) if " " in found[2] else ""
     elif name.endswith((".html", ".j2")):
         yield "messages", 1, re.sub(r"\{[{%#].*?[}%#]\}|<[^>]*>", " ", text, flags=re.S)
 
