@@ -34,7 +34,7 @@ def gate(**lines):
 
 
 ALL = (0, ["0 skipped", "7 passed, 0 failed"])
-TOLD = "FAILED: no missing package explains that it was skipped: a: it is away"
+TOLD = "FAILED: skipped: a: it is away, though no package is missing"
 
 
 @pytest.mark.parametrize(
