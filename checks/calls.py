@@ -1,12 +1,15 @@
 #!/usr/bin/env python3
-"""Prints each public call with its contract: the table behind docs/dev/THEOREMS.md.
+"""Prints each public call with its contract.
 
 usage: checks/calls.py [CRATE..]
+       checks/calls.py --contracts
 
-A line for each call of the seven libraries and of the library for C: the call, where it stands, the labels of its clauses (a
-contract with one clause may have none), and the definitions of specs/ that they cite, as FILE.NAME.
+The first form prints a line for each call of the seven libraries and of the C library: the call, its file and line, the labels of its
+clauses (a contract with one clause may have none), and the definitions of specs/ that they cite, as FILE.NAME. The second form prints
+the whole contracts, which docs/dev/CONTRACTS.txt records; `checks/rules` compares the two, so that a change of a contract is a change
+of that file.
 """
-import glob, os, re, sys
+import glob, os, re, sys, textwrap
 from dataclasses import dataclass
 
 TOP = os.path.dirname(os.path.dirname(os.path.abspath(__file__)))
@@ -85,7 +88,21 @@ def public_calls(crate):
                         yield call
 
 
+def contracts():
+    """The whole contract of each public call, crate by crate."""
+    parts = []
+    for crate in CRATES:
+        for call in public_calls(crate):
+            file = call.place.split(":")[0]
+            contract = textwrap.dedent(call.head).removesuffix("{").rstrip().removesuffix(";")
+            parts.append(f"-- {call.name} ({crate}/{file})\n{contract}\n")
+    return "\n".join(parts)
+
+
 def main():
+    if sys.argv[1:] == ["--contracts"]:
+        print(contracts(), end="")
+        return
     crates = sys.argv[1:] or CRATES
     if set(crates) - set(CRATES):
         sys.exit(__doc__)
