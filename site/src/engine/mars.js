@@ -1,0 +1,371 @@
+/**
+ * The proved machine, compiled to WebAssembly: the calls of include/mars.h over JavaScript's values.
+ *
+ * Nothing outlives a call: what a call takes of the module's memory it gives back. A battle is a value of the caller's.
+ */
+import {
+  BLOCK,
+  DONE,
+  EDIT,
+  MarsEdit,
+  MarsFault,
+  MarsRecord,
+  MarsRow,
+  MarsSettings,
+  MarsTouched,
+  OUT_OF_MEMORY,
+  ROOM,
+  VERSION,
+} from "./layout.js";
+import { Battle } from "./battle.js";
+import { DEFAULTS, FORMULA } from "../model/settings.js";
+import { writeCell } from "../model/cells.js";
+
+/** @typedef {import("../model/settings.js").Settings} Settings */
+/** @typedef {import("../model/cells.js").Cell} Cell */
+/** @typedef {{points: number, wins: number, ties: number, losses: number}} Row the result of a warrior */
+/** @typedef {{settings?: Settings, rounds?: number, seed?: number, position?: number}} Terms */
+/** @typedef {(number | bigint)[]} Arguments */
+/**
+ * The exports of the module. Addresses and sizes are BigInt.
+ * @typedef {Record<string, (...given: Arguments) => number> & {memory: WebAssembly.Memory,
+ *   mars_alloc: (size: bigint) => bigint, mars_free: (block: bigint) => void,
+ *   mars_words: (settings: bigint, warriors: number) => bigint}} Exports
+ */
+
+const RECORD_WORDS = MarsRecord.size / 4;
+const TOUCHED_WORDS = MarsTouched.size / 4;
+const KINDS = { cell: 1, move: 2, kill: 3, add: 4 };
+const encoder = new TextEncoder();
+const decoder = new TextDecoder();
+
+/** Why a call was not done: `code` is a result of include/mars.h, the others are the fields of MarsFault. */
+export class MarsError extends Error {
+  /**
+   * @param {number} code
+   * @param {{number?: number, problem?: number, expression?: number, line?: number, warrior?: number}} details
+   */
+  constructor(code, { number = 0, problem = 0, expression = 0, line = 0, warrior = 0 } = {}) {
+    super(`error ${code}, number ${number}`);
+    this.name = "MarsError";
+    Object.assign(this, { code, number, problem, expression, line, warrior });
+  }
+}
+
+export class Mars {
+  /** @type {bigint[]} */
+  #blocks = [];
+  /** @type {Exports} */
+  #exports;
+
+  /** @param {WebAssembly.Instance} instance */
+  constructor(instance) {
+    this.#exports = /** @type {Exports} */ (/** @type {unknown} */ (instance.exports));
+    if (this.version !== VERSION) throw new Error(`mars.wasm has version ${this.version}, not ${VERSION}`);
+  }
+
+  /**
+   * Compiles the module and returns the machine.
+   * @param {BufferSource | WebAssembly.Module} code
+   */
+  static async load(code) {
+    const module = code instanceof WebAssembly.Module ? code : await WebAssembly.compile(code);
+    return new Mars(await WebAssembly.instantiate(module, {}));
+  }
+
+  get version() {
+    return this.#exports.mars_version();
+  }
+
+  /**
+   * Assembles a source and returns its load file. Throws a MarsError with the line.
+   * @param {string | Uint8Array} source
+   * @param {{settings?: Settings, rounds?: number, warriors?: number}} terms what ROUNDS and WARRIORS stand for
+   * @returns {Uint8Array}
+   */
+  assemble(source, { settings = DEFAULTS, rounds = 1, warriors = 2 } = {}) {
+    return this.#within(() => {
+      const given = [this.#settings(settings, { rounds }), warriors, ...this.#bytes(source)];
+      return this.#text("mars_assemble", given, 4096);
+    });
+  }
+
+  /**
+   * Returns for each cell of a source's warrior the number of its line, from 1, and its labels.
+   * @param {string | Uint8Array} source
+   * @param {{settings?: Settings, rounds?: number, warriors?: number}} terms
+   */
+  lines(source, { settings = DEFAULTS, rounds = 1, warriors = 2 } = {}) {
+    return this.#within(() => {
+      const given = [this.#settings(settings, { rounds }), warriors, ...this.#bytes(source)];
+      const text = decoder.decode(this.#text("mars_lines", given, 4096)).trimEnd();
+      return text.split("\n").map((row) => {
+        const [line, ...labels] = row.split(" ");
+        return { line: Number(line), labels };
+      });
+    });
+  }
+
+  /**
+   * Runs a match of 1 to 16 warriors and returns a row for each.
+   * @param {Uint8Array[]} loads load files
+   * @param {Terms & {formula?: string}} terms
+   */
+  match(loads, terms = {}) {
+    return this.#rows("mars_match", loads, loads.length, terms);
+  }
+
+  /**
+   * Runs a league, a match of every two of up to 65,536 warriors, and returns a row for each.
+   * @param {Uint8Array[]} loads
+   * @param {Terms & {formula?: string}} terms
+   */
+  league(loads, terms = {}) {
+    return this.#rows("mars_league", loads, loads.length, terms);
+  }
+
+  /**
+   * Runs a match of each candidate with each opponent and returns the sum of each candidate's rows.
+   * @param {Uint8Array[]} candidates
+   * @param {Uint8Array[]} opponents
+   * @param {Terms & {formula?: string}} terms
+   */
+  population(candidates, opponents, terms = {}) {
+    return this.#rows("mars_population", [...candidates, ...opponents], candidates.length, terms);
+  }
+
+  /**
+   * Returns the battle of a round, from 0, as it starts.
+   * @param {Uint8Array[]} loads
+   * @param {Terms & {round?: number}} terms
+   */
+  start(loads, { settings = DEFAULTS, round = 0, rounds = round + 1, seed = 1, position = 0 } = {}) {
+    return this.#within(() => {
+      const given = this.#settings(settings, { rounds, seed, position });
+      const words = Number(this.#exports.mars_words(given, loads.length));
+      const block = this.#take(4 * words);
+      this.#call("mars_start", [given, ...this.#loads(loads), round, block, BigInt(words)]);
+      return new Battle(this.#words(block, words).slice());
+    });
+  }
+
+  /**
+   * Makes turns of a battle in place: `turns` of them, or all that are left if these are fewer. Returns the words of
+   * the records and of the touched cells of the first turns, as MarsRecord and MarsTouched of include/mars.h.
+   * @param {Battle} battle
+   * @param {number} turns
+   * @param {{records?: number, touched?: number}} rows how many turns to report at most
+   */
+  play(battle, turns, { records = 0, touched = 0 } = {}) {
+    return this.#within(() => {
+      const first = battle.turns;
+      const [block, words] = this.#block(battle);
+      const recordRows = this.#take(MarsRecord.size * records);
+      const touchedRows = this.#take(MarsTouched.size * touched);
+      const given = [block, words, turns, recordRows, BigInt(records), touchedRows, BigInt(touched)];
+      this.#call("mars_play", given);
+      battle.words.set(this.#words(block, battle.words.length));
+      const made = battle.turns - first;
+      return {
+        records: this.#words(recordRows, RECORD_WORDS * Math.min(made, records)).slice(),
+        touched: this.#words(touchedRows, TOUCHED_WORDS * Math.min(made, touched)).slice(),
+      };
+    });
+  }
+
+  /**
+   * Makes an edit of a battle in place. Throws a MarsError if it is refused; then the battle is unchanged.
+   * @param {Battle} battle
+   * @param {{kind: "cell" | "move" | "kill" | "add", warrior?: number, place?: number, address?: number, cell?: Cell}} edit
+   */
+  edit(battle, { kind, warrior = 0, place = 0, address = 0, cell }) {
+    this.#within(() => {
+      const [block, words] = this.#block(battle);
+      const edit = this.#take(MarsEdit.size);
+      const fields = this.#words(edit, MarsEdit.size / 4);
+      fields.fill(0);
+      fields.set([KINDS[kind], warrior, place, address]);
+      if (cell) writeCell(fields.subarray(MarsEdit.cell / 4), 0, cell);
+      this.#call("mars_edit", [block, words, edit]);
+      battle.words.set(this.#words(block, battle.words.length));
+    });
+  }
+
+  /**
+   * Checks that the words are a battle. Throws a MarsError if they are not.
+   * @param {Battle} battle
+   */
+  check(battle) {
+    this.#within(() => this.#call("mars_check", this.#block(battle)));
+  }
+
+  /**
+   * Returns what the debugger answers to its lines, over the battle of the first round.
+   * @param {Uint8Array[]} loads
+   * @param {string} lines
+   * @param {Terms & {history?: number}} terms `history` is the number of places that can be walked back to
+   */
+  debug(loads, lines, { settings = DEFAULTS, rounds = 1, seed = 1, position = 0, history = 200_000 } = {}) {
+    return this.#within(() => {
+      const given = [this.#settings(settings, { rounds, seed, position }), ...this.#loads(loads), history];
+      return decoder.decode(this.#text("mars_debug", [...given, ...this.#bytes(lines)], 65_536));
+    });
+  }
+
+  /**
+   * Returns what `act` returns, and gives back the memory that it took.
+   * @template T
+   * @param {() => T} act
+   * @returns {T}
+   */
+  #within(act) {
+    try {
+      return act();
+    } finally {
+      for (const block of this.#blocks.splice(0)) this.#exports.mars_free(block);
+    }
+  }
+
+  /**
+   * Takes memory until the end of the call.
+   * @param {number} size in bytes
+   */
+  #take(size) {
+    const block = this.#exports.mars_alloc(BigInt(Math.max(1, size)));
+    if (!block) throw new MarsError(OUT_OF_MEMORY);
+    this.#blocks.push(block);
+    return block;
+  }
+
+  /**
+   * @param {bigint} block
+   * @param {number} length
+   */
+  #words(block, length) {
+    return new Uint32Array(this.#exports.memory.buffer, Number(block), length);
+  }
+
+  /** @param {bigint} block */
+  #view(block) {
+    return new DataView(this.#exports.memory.buffer, Number(block));
+  }
+
+  /**
+   * Copies bytes, or a text as UTF-8, into the memory; returns the arguments for them.
+   * @param {string | Uint8Array} data
+   * @returns {[bigint, bigint]}
+   */
+  #bytes(data) {
+    const bytes = typeof data === "string" ? encoder.encode(data) : data;
+    const block = this.#take(bytes.length);
+    new Uint8Array(this.#exports.memory.buffer, Number(block), bytes.length).set(bytes);
+    return [block, BigInt(bytes.length)];
+  }
+
+  /**
+   * Copies a battle into the memory; returns the arguments for it.
+   * @param {Battle} battle
+   * @returns {[bigint, bigint]}
+   */
+  #block({ words }) {
+    const block = this.#take(4 * words.length);
+    this.#words(block, words.length).set(words);
+    return [block, BigInt(words.length)];
+  }
+
+  /**
+   * @param {Settings} settings
+   * @param {{rounds?: number, seed?: number, position?: number}} terms
+   */
+  #settings(settings, { rounds = 1, seed = 1, position = 0 }) {
+    const block = this.#take(MarsSettings.size);
+    const { core, processes, cycles, readLimit, writeLimit, longest, distance } = settings;
+    const fields = { core, processes, cycles, longest, distance, rounds, seed, position };
+    const named = { ...fields, read_limit: readLimit, write_limit: writeLimit };
+    const view = this.#view(block);
+    for (const [name, value] of Object.entries(named)) {
+      view.setUint32(MarsSettings[/** @type {keyof typeof named} */ (name)], value, true);
+    }
+    return block;
+  }
+
+  /**
+   * Copies load files into the memory, one after another; returns the arguments for them.
+   * @param {Uint8Array[]} loads
+   */
+  #loads(loads) {
+    const whole = new Uint8Array(loads.reduce((total, load) => total + load.length, 0));
+    const lengths = new BigUint64Array(loads.length);
+    let end = 0;
+    loads.forEach((load, index) => {
+      whole.set(load, end);
+      end += load.length;
+      lengths[index] = BigInt(load.length);
+    });
+    return [...this.#bytes(whole), this.#bytes(new Uint8Array(lengths.buffer))[0], BigInt(loads.length)];
+  }
+
+  /**
+   * Makes a call and returns its result. Throws a MarsError for each result except DONE and the allowed one.
+   * @param {string} name
+   * @param {Arguments} given
+   */
+  #call(name, given, allowed = DONE) {
+    const fault = this.#take(MarsFault.size);
+    const result = this.#exports[name](...given, fault);
+    if (result === DONE || result === allowed) return result;
+    const view = this.#view(fault);
+    const word = (/** @type {number} */ offset) => view.getUint32(offset, true);
+    throw new MarsError(result, {
+      number: word(MarsFault.number),
+      problem: word(MarsFault.problem),
+      expression: word(MarsFault.expression),
+      line: Number(view.getBigUint64(MarsFault.line, true)),
+      warrior: Number(view.getBigUint64(MarsFault.warrior, true)),
+    });
+  }
+
+  /**
+   * Makes a call that writes bytes, a second time with a larger buffer if the first is too short.
+   * @param {string} name
+   * @param {Arguments} given
+   * @param {number} size
+   */
+  #text(name, given, size) {
+    const length = this.#take(8);
+    const lengthOf = () => Number(this.#view(length).getBigUint64(0, true));
+    let buffer = this.#take(size);
+    if (this.#call(name, [...given, buffer, BigInt(size), length], ROOM) === ROOM) {
+      const needed = lengthOf();
+      buffer = this.#take(needed);
+      this.#call(name, [...given, buffer, BigInt(needed), length]);
+    }
+    return new Uint8Array(this.#exports.memory.buffer, Number(buffer), lengthOf()).slice();
+  }
+
+  /**
+   * Makes a call that runs matches and fills rows.
+   * @param {string} name
+   * @param {Uint8Array[]} loads
+   * @param {number} count
+   * @param {Terms & {formula?: string}} terms
+   * @returns {Row[]}
+   */
+  #rows(name, loads, count, { settings = DEFAULTS, rounds = 1, seed = 1, position = 0, formula = FORMULA }) {
+    return this.#within(() => {
+      const rows = this.#take(MarsRow.size * count);
+      const given = [this.#settings(settings, { rounds, seed, position }), ...this.#bytes(formula)];
+      this.#call(name, [...given, ...this.#loads(loads), rows, BigInt(count)]);
+      const view = this.#view(rows);
+      const number = (/** @type {number} */ offset) => Number(view.getBigInt64(offset, true));
+      return Array.from({ length: count }, (_, index) => ({
+        points: number(index * MarsRow.size + MarsRow.points),
+        wins: number(index * MarsRow.size + MarsRow.wins),
+        ties: number(index * MarsRow.size + MarsRow.ties),
+        losses: number(index * MarsRow.size + MarsRow.losses),
+      }));
+    });
+  }
+}
+
+export { BLOCK, EDIT, OUT_OF_MEMORY };

@@ -1,0 +1,35 @@
+/** The settings of a match, with the defaults of `mars`, and those of known hills. */
+
+/**
+ * Settings: sizes in cells, limits in numbers. A read or write limit of 0 is the core size.
+ * @typedef {object} Settings
+ * @property {number} core cells of the core, 1 to 1,048,576
+ * @property {number} processes maximum number of processes of a warrior, 1 to 65,536
+ * @property {number} cycles maximum number of cycles of a round, 1 to 10,000,000
+ * @property {number} readLimit 0, or 1 to the core size
+ * @property {number} writeLimit 0, or 1 to the core size
+ * @property {number} longest maximum length of a warrior, 1 to the core size
+ * @property {number} distance minimum distance between warriors, `longest` to the core size
+ */
+
+/** The score of each survivor, in W warriors and S survivors. */
+export const FORMULA = "(W*W-1)/S";
+
+/** @type {Settings} */
+export const DEFAULTS = {
+  core: 8000,
+  processes: 8000,
+  cycles: 80000,
+  readLimit: 0,
+  writeLimit: 0,
+  longest: 100,
+  distance: 100,
+};
+
+/** @type {Record<string, Settings>} */
+export const HILLS = {
+  "94nop": DEFAULTS,
+  "94x": { ...DEFAULTS, core: 55440, processes: 10000, cycles: 500000, longest: 200, distance: 200 },
+  tiny: { ...DEFAULTS, core: 800, processes: 800, cycles: 8000, longest: 20, distance: 20 },
+  nano: { ...DEFAULTS, core: 80, processes: 80, cycles: 800, longest: 5, distance: 5 },
+};

@@ -1,0 +1,171 @@
+// Compares mars.wasm with the native program over random battles.
+//
+//     MARS_WASM=build/mars.wasm MARS=crates/mars/out/mars node --test site/tests/
+import assert from "node:assert/strict";
+import { execFileSync } from "node:child_process";
+import fs from "node:fs";
+import os from "node:os";
+import path from "node:path";
+import { after, test } from "node:test";
+
+import { Battle } from "../src/engine/battle.js";
+import { BLOCK, EDIT, Mars, MarsError, OUT_OF_MEMORY } from "../src/engine/mars.js";
+import { MODES, MODIFIERS, OPCODES, cellText } from "../src/model/cells.js";
+import { DEFAULTS, HILLS } from "../src/model/settings.js";
+
+const EXAMPLES = new URL("../../examples/", import.meta.url);
+const BATTLES = Number(process.env.BATTLES ?? 40);
+const code = fs.readFileSync(process.env.MARS_WASM);
+const mars = await Mars.load(code);
+const folder = fs.mkdtempSync(path.join(os.tmpdir(), "engine-"));
+after(() => fs.rmSync(folder, { recursive: true }));
+
+let state = 12345;
+const random = (limit) => {
+  state = (Math.imul(state, 1103515245) + 12345) >>> 0;
+  return Math.floor((state / 2 ** 32) * limit);
+};
+const pick = (list) => list[random(list.length)];
+const example = (name) => fs.readFileSync(new URL(`${name}.red`, EXAMPLES), "utf8");
+const text = (bytes) => new TextDecoder().decode(bytes);
+
+function randomSource(length) {
+  const operand = () => `${pick([...MODES])}${random(40) - 20}`;
+  const line = () => `${pick(OPCODES)}.${pick(MODIFIERS)} ${operand()}, ${operand()}`;
+  return Array.from({ length: 1 + random(length) }, line).join("\n") + "\n";
+}
+
+function randomFight() {
+  const hill = HILLS[pick(["94nop", "tiny", "nano"])];
+  const settings = { ...hill, cycles: Math.min(hill.cycles, pick([100, 2000])) };
+  if (random(4) === 0) {
+    settings.readLimit = 1 + random(settings.core);
+    settings.writeLimit = 1 + random(settings.core);
+  }
+  const sources = Array.from({ length: 1 + random(3) }, () => randomSource(Math.min(12, settings.longest)));
+  return { settings, sources, seed: 1 + random(1e6), rounds: 1 + random(4) };
+}
+
+/** Runs the native program on a fight. */
+function native({ settings, sources, seed, rounds }, options, input = "") {
+  const files = sources.map((source, index) => {
+    const file = path.join(folder, `${index}.red`);
+    fs.writeFileSync(file, source);
+    return file;
+  });
+  const { core, cycles, processes, longest, distance, readLimit, writeLimit } = settings;
+  const numbers = { "-s": core, "-c": cycles, "-p": processes, "-l": longest, "-d": distance, "-r": rounds, "--seed": seed };
+  if (readLimit) Object.assign(numbers, { "--read-limit": readLimit, "--write-limit": writeLimit });
+  const given = Object.entries(numbers).flatMap(([name, value]) => [name, String(value)]);
+  return execFileSync(process.env.MARS, [...given, ...options, ...files], { input, encoding: "latin1" });
+}
+
+/** The code and the number of the error that an act throws. */
+function errorOf(act) {
+  try {
+    act();
+  } catch (error) {
+    assert(error instanceof MarsError, String(error));
+    return [error.code, error.number];
+  }
+  return null;
+}
+
+test("random battles are those of the native program", () => {
+  for (let index = 0; index < BATTLES; index++) {
+    const fight = randomFight();
+    const { settings, sources, seed, rounds } = fight;
+    const loads = sources.map((source) => mars.assemble(source, { settings, warriors: sources.length, rounds }));
+    const table = native(fight, ["-b"]).trimEnd().split("\n").slice(1);
+    const rows = mars.match(loads, { settings, seed, rounds });
+    const numbers = rows.map(({ points, wins, ties, losses }) => [points, wins, ties, losses]);
+    assert.deepEqual(table.map((line) => line.trim().split(/\s+/).slice(0, 4).map(Number)), numbers);
+
+    const battle = mars.start(loads, { settings, seed, rounds });
+    const turns = random(300);
+    mars.play(battle, turns);
+    mars.check(battle);
+    const lines = `${turns ? `run ${turns}\n` : ""}list 0 ${settings.core}\n`;
+    const listed = native(fight, ["-e"], lines).trimEnd().split("\n").slice(turns ? 1 : 0);
+    const cells = listed.map((line) => /[A-Z]{3}\.\S+ \S+, \S+/.exec(line)?.[0]);
+    assert.deepEqual(cells, Array.from(cells, (_, address) => cellText(battle.cell(address), settings.core)));
+    assert.equal(mars.debug(loads, lines, { settings, seed, rounds }).trimEnd().split("\n").at(-1), listed.at(-1));
+  }
+});
+
+test("a load file is that of the native program", () => {
+  for (const name of ["dwarf", "paper", "silk"]) {
+    const fight = { settings: DEFAULTS, sources: [example(name)], seed: 1, rounds: 1 };
+    assert.equal(text(mars.assemble(example(name))), native(fight, ["--load"]));
+  }
+});
+
+test("turns one by one are turns at once, with their records", () => {
+  const loads = [mars.assemble(example("dwarf")), mars.assemble(example("imp"))];
+  const [single, whole] = [mars.start(loads), mars.start(loads)];
+  const { records, touched } = mars.play(whole, 100, { records: 100, touched: 100 });
+  for (let turn = 0; turn < 100; turn++) {
+    const one = mars.play(single, 1, { records: 1, touched: 1 });
+    assert.deepEqual(one.records, records.subarray(turn * one.records.length, (turn + 1) * one.records.length));
+    assert.deepEqual(one.touched, touched.subarray(turn * one.touched.length, (turn + 1) * one.touched.length));
+  }
+  assert.deepEqual(single.words, whole.words);
+  const rest = mars.play(whole, 0xffffffff);
+  assert.deepEqual([whole.over, whole.turns, whole.deaths, rest.records.length], [true, 7798, [{ warrior: 1, turns: 7798 }], 0]);
+});
+
+test("edits are made or refused by name, and wrong words are no battle", () => {
+  const battle = mars.start([mars.assemble(example("imp"))]);
+  const before = battle.copy();
+  const cell = { op: OPCODES.indexOf("JMP"), modifier: 1, aMode: 1, bMode: 1, a: 7, b: 0 };
+  assert.deepEqual(errorOf(() => mars.edit(battle, { kind: "cell", address: 8000, cell })), [EDIT, 2]);
+  assert.deepEqual(errorOf(() => mars.edit(battle, { kind: "kill", warrior: 0, place: 1 })), [EDIT, 5]);
+  assert.deepEqual(battle.words, before.words);
+  mars.edit(battle, { kind: "cell", address: 3, cell });
+  mars.edit(battle, { kind: "add", warrior: 0, address: 3 });
+  assert.deepEqual([battle.cell(3), [...battle.queue(0)]], [cell, [0, 3]]);
+  battle.words[2] = 0;
+  assert.deepEqual(errorOf(() => mars.check(battle)), [BLOCK, 3]);
+  assert.throws(() => new Battle(new Uint32Array(64)), TypeError);
+});
+
+test("errors have their line", () => {
+  assert.throws(() => mars.assemble("MOV 0, 1\nFOO 1\n"), { code: 5, number: 2, line: 2 });
+});
+
+test("out of memory is an error like any other, and calls succeed once memory is free again", async () => {
+  const { instance } = await WebAssembly.instantiate(code, {});
+  const blocks = [];
+  for (let size = 1n << 29n; size >= 16n; size /= 2n) {
+    for (let block; (block = instance.exports.mars_alloc(size)); ) blocks.push(block);
+  }
+  const full = new Mars(instance);
+  assert.deepEqual(errorOf(() => full.assemble("MOV 0, 1")), [OUT_OF_MEMORY, 0]);
+  for (const block of blocks) instance.exports.mars_free(block);
+  const imp = full.assemble("MOV 0, 1");
+  assert.equal(text(imp).split("\n").at(-2), "MOV.I $0, $1");
+  assert.equal(full.match([imp, imp], { settings: HILLS.nano })[0].ties, 1);
+});
+
+test("blocks of the heap never overlap, even when the memory is full", async () => {
+  const { instance } = await WebAssembly.instantiate(code, {});
+  const { memory, mars_alloc: alloc, mars_free: free } = instance.exports;
+  const blocks = [];
+  let refused = 0;
+  for (let step = 0; step < 5000; step++) {
+    const size = Math.ceil(2 ** (random(24 * 16) / 16));
+    const block = random(3) ? Number(alloc(BigInt(size))) : 0;
+    if (block) {
+      assert.equal(block % 16, 0);
+      Buffer.from(memory.buffer, block, size).fill(step % 251);
+      blocks.push({ block, size, byte: step % 251 });
+    } else if (blocks.length) {
+      refused += memory.buffer.byteLength > 2 ** 30 - 2 ** 24;
+      const [{ block: freed, size: length, byte }] = blocks.splice(random(blocks.length), 1);
+      assert(Buffer.from(memory.buffer, freed, length).equals(Buffer.alloc(length, byte)));
+      free(BigInt(freed));
+    }
+  }
+  assert(refused > 100);
+  assert(memory.buffer.byteLength <= 2 ** 30);
+});
