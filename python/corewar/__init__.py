@@ -20,7 +20,7 @@ from .model.settings import HILLS, Settings
 from .model.warriors import Warrior
 
 # The version of the kit: that of the package, the packages of Debian's, and the library (MARS_VERSION in its header).
-__version__ = "1.2"
+__version__ = "1.3"
 
 __all__ = [
     *("History", "Match", "Row", "State", "assemble", "debug", "league", "match", "population", "record", "state"),

@@ -14,6 +14,8 @@ KINDS: dict[int, tuple[str, list[str]]] = {
     7: ("placement", ["NoRoom", "BadSeed"]),
     8: ("battle", ["NoWarrior", "TooMany", "Overlap", "StartOutside", "FieldOutside"]),
     9: ("score", EXPRESSIONS),
+    11: ("block", "Short Mark Parameters Warriors Cell Queue Deaths Clock Head".split()),
+    12: ("refused", "NoSuchEdit Address FieldOutside NoSuchWarrior NoSuchProcess WarriorDead QueueFull".split()),
 }
 MEMORY, ASSEMBLY, LOAD, FORMULA, SCORE = 1, 5, 6, 4, 9
 
