@@ -75,7 +75,7 @@ def public_calls(crate):
     names = exported(crate)
     for path, text in sources(crate):
         module = path[len("src/"):-len(".rt")]
-        if module == "laws" or module == "exports":
+        if module == "laws" or module.split("/")[0] == "exports":
             wanted, owner = {name for _, name in re.findall(r"^(pub )(?:extern \"C\" )?fn (\w+)", text, re.M)}, "laws::" if module == "laws" else ""
         else:
             wanted, owner = {name for name, home in names.items() if home == module}, ""

@@ -26,7 +26,7 @@ extern "C" {
 
 /* The version of this header: 1000 for each major version, and the minor one. A minor version adds to what is there, a major one
  * changes it. */
-#define MARS_VERSION 1002
+#define MARS_VERSION 1003
 
 /* The version of the library that is called. */
 uint32_t mars_version(void);
@@ -51,8 +51,13 @@ enum {
     MARS_BATTLE = 8,
     /* as for a formula */
     MARS_SCORE = 9,
-    /* a buffer is shorter than what is to be written; *length, or *standing, says how long that is */
-    MARS_ROOM = 10
+    /* a buffer is shorter than what is to be written; *length, *standing or mars_words says how long that is */
+    MARS_ROOM = 10,
+    /* words that are not a battle (MarsBattle lists the reasons): 1 Short, 2 Mark, 3 Parameters, 4 Warriors, 5 Cell, 6 Queue,
+     * 7 Deaths, 8 Clock, 9 Head */
+    MARS_BLOCK = 11,
+    /* 1 NoSuchEdit, 2 Address, 3 FieldOutside, 4 NoSuchWarrior, 5 NoSuchProcess, 6 WarriorDead, 7 QueueFull */
+    MARS_EDIT = 12
 };
 
 /* The settings of a match. */
@@ -140,11 +145,103 @@ typedef struct {
     uint32_t code;       /* the call's answer */
     uint32_t number;     /* of the fault, as above */
     uint32_t problem;    /* of MARS_ASSEMBLY 1: 1 NotAscii, 2 BadToken, 3 UnclosedFor, 4 RofAlone, 5 BadCount, 6 LabelInCount,
-                            7 Duplicate, 8 EquDepth, 9 TooLong, 10 Expression */
+                            7 Duplicate, 8 EquDepth, 9 TooLong, 10 Expression; of MARS_BLOCK 3: as for MARS_PARAMETERS */
     uint32_t expression; /* of MARS_ASSEMBLY 4, or of problem 10: as for a formula */
-    uint64_t line;       /* of a source or a load file, from 1 */
-    uint64_t warrior;    /* the index of a load file, from 0 */
+    uint64_t line;       /* of a source or a load file, from 1; of MARS_BLOCK 5: the address of the first wrong cell */
+    uint64_t warrior;    /* the index of a load file, from 0; of MARS_BLOCK 6: the first warrior whose queue is wrong */
 } MarsFault;
+
+/* A battle: a block of 32-bit words that the caller owns. The block has the whole state of the battle, without pointers or padding,
+ * so the caller may copy, store, send and compare it as bytes. It has three parts:
+ *
+ *   64 words             this header
+ *   core * 3 words       the cells in the order of their addresses, each a MarsCell
+ *   one word a process   the addresses of the processes, the queue of warrior 0 first, the front of each queue first
+ *
+ * So the first `words` words are the battle. The calls ignore the words after them. Equal battles have equal words.
+ *
+ * A caller may write to any part, or make a whole battle. The next call checks it: if the words are not a battle, the call returns
+ * MARS_BLOCK and does nothing else. The reasons, by fault->number:
+ *
+ *   1 Short        there are fewer words than the header or the parts need
+ *   2 Mark         `mark` is not MARS_MARK: another byte order, or another version of the layout
+ *   3 Parameters   a limit is out of the range that MarsSettings states; fault->problem says which
+ *   4 Warriors     `warriors` is not from 1 to 16
+ *   5 Cell         a cell has an opcode, modifier or mode that does not exist, or a number outside the core; fault->line is its address
+ *   6 Queue        a warrior has more processes than `processes`, or one outside the core; fault->warrior is the warrior
+ *   7 Deaths       the deaths do not name each warrior without a process exactly once, and no other warrior
+ *   8 Clock        `turns`, `cycle` and `next` do not agree with each other or with the living warriors
+ *   9 Head         `words`, `over`, `unused` or an unused place of `queue` or `death` has a wrong value */
+typedef struct {
+    uint32_t mark;        /* MARS_MARK */
+    uint32_t words;       /* length of the battle in words: 64, 3 for each cell and 1 for each process */
+    uint32_t core;        /* as in MarsSettings, like the next six, but no limit is 0 */
+    uint32_t processes;
+    uint32_t cycles;
+    uint32_t read_limit;
+    uint32_t write_limit;
+    uint32_t longest;
+    uint32_t distance;
+    uint32_t warriors;    /* number of warriors, 1 to 16, including the dead; they count from 0 in the order of their turns */
+    uint32_t turns;       /* number of turns that all warriors made together */
+    uint32_t cycle;       /* number of completed cycles */
+    uint32_t next;        /* warrior whose turn is next */
+    uint32_t over;        /* 1 if no turn is left, else 0 */
+    uint32_t deaths;      /* number of warriors that died */
+    uint32_t unused;      /* 0 */
+    uint32_t queue[16];   /* number of processes of each warrior; 0 after the last warrior */
+    MarsDeath death[16];  /* in the order in which the warriors died; 0 after the last death */
+} MarsBattle;
+
+/* The first word of a battle: the bytes M, A, R and 1, the version of the layout; M is the lowest byte. */
+enum { MARS_MARK = 22167885 };
+
+/* An edit of a battle. It uses only the fields that its kind needs:
+ *
+ *   1 sets a cell      `address` and `cell`
+ *   2 moves a process  `warrior`, `place`, and `address` for its new address
+ *   3 kills a process  `warrior` and `place`; a warrior whose last process is killed dies
+ *   4 adds a process   `warrior` and `address`, at the end of the queue */
+typedef struct {
+    uint32_t what;    /* 1 to 4 */
+    uint32_t warrior;
+    uint32_t place;   /* index of the process in its queue; the front has index 0 */
+    uint32_t address; /* 0 to the core size less 1 */
+    MarsCell cell;
+} MarsEdit;
+
+/* Returns the maximum length in words of a battle with these settings and this number of warriors: no number of turns and edits
+ * exceeds it. Returns 0 if the settings are out of range, or if `warriors` is not from 1 to 16. Since version 1003, like the next
+ * four calls. */
+size_t mars_words(const MarsSettings *settings, uint32_t warriors);
+
+/* Writes the battle of a round, as it starts, to the first words of `battle`. The load files are as for mars_match; `round` is from 0
+ * to the rounds less 1. Returns MARS_ROOM if there are fewer words than mars_words returns. */
+uint32_t mars_start(const MarsSettings *settings,
+                    const uint8_t *loads, size_t loads_length, const size_t *lengths, size_t warriors,
+                    uint32_t round, uint32_t *battle, size_t words, MarsFault *fault);
+
+/* Makes `turns` turns of a battle in place, or as many as are left if these are fewer. Row k of `records` and of `touched` gets turn k,
+ * counted from 0; the two may have different lengths, and fewer rows than turns. A row for which no turn is made stays as it was.
+ * `battle` needs as many words as mars_words returns for it. Returns MARS_BLOCK if the words are not a battle, then MARS_ROOM if there
+ * are too few. */
+uint32_t mars_play(uint32_t *battle, size_t words, uint32_t turns,
+                   MarsRecord *records, size_t record_count, MarsTouched *touched, size_t touched_count, MarsFault *fault);
+
+/* Makes an edit of a battle in place, also if the battle is over. A dead warrior stays dead. Returns MARS_EDIT with number 1 if `what` is
+ * not from 1 to 4, or if a new cell has an opcode, modifier or mode that does not exist; then MARS_BLOCK and MARS_ROOM as mars_play;
+ * then MARS_EDIT with the first number that applies:
+ *
+ *   2 Address        `address` is outside the core
+ *   3 FieldOutside   a number of the new cell is outside the core
+ *   4 NoSuchWarrior  there is no such warrior
+ *   5 NoSuchProcess  the warrior has no process with this index
+ *   6 WarriorDead    the warrior is dead, so it gets no process
+ *   7 QueueFull      the warrior has as many processes as `processes` allows */
+uint32_t mars_edit(uint32_t *battle, size_t words, const MarsEdit *edit, MarsFault *fault);
+
+/* Checks that the first words are a battle. Returns MARS_BLOCK if not. */
+uint32_t mars_check(const uint32_t *battle, size_t words, MarsFault *fault);
 
 /* Assembles a source to a load file of version 2, into the front of the buffer. *length is its length in bytes, also where the
  * call returns MARS_ROOM. `warriors` is the value of WARRIORS, and settings->rounds that of ROUNDS. Seed and position are ignored. */

@@ -20,7 +20,7 @@ from .model.settings import HILLS, Settings
 from .model.warriors import Warrior
 
 # The version of the kit: of this package, the Debian packages and the library (MARS_VERSION in its header).
-__version__ = "1.2"
+__version__ = "1.3"
 
 __all__ = [
     "HILLS", "Fault", "FileFault", "History", "Limit", "Match", "Refused", "Row", "Settings", "State", "Warrior",

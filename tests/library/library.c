@@ -41,8 +41,11 @@ static const char SOURCE[] = ";name Loops\nstep EQU 4\ni FOR 3\nx&i ADD #step, x
 static const char PLACES[] = "4 x01\n4 x02\n4 x03\n6\n7\n";
 static const char LINES[] = "step\nrun 5\nundo\nshow\nlist 0 5\nquit\n";
 static const char FORMULA[] = "(W*W-1)/S";
+static const MarsEdit EDIT = {4, 1, 0, 5, {0, 0, 0, 0, 0, 0}};
+enum { WORDS = 64 + 3 * 800 + 3 * 800 };
 static uint8_t loads[4096];
 static size_t lengths[17], all;
+static uint32_t block[WORDS]; /* the battle of a round, as it starts */
 
 /* What a call left. */
 typedef struct {
@@ -55,13 +58,20 @@ typedef struct {
     size_t counts[3];
     uint32_t processes[20];
     MarsDeath deaths[3];
+    uint32_t battle[WORDS];
     MarsStanding standing;
     MarsFault fault;
     uint32_t answer;
 } Left;
 
-static void call(int which, Left *got) {
+/* What is there before a call: the calls from 10 on take a battle. */
+static void prepare(int which, Left *got) {
     memset(got, 7, sizeof *got);
+    if (which >= 10) memcpy(got->battle, block, sizeof block);
+}
+
+static void call(int which, Left *got) {
+    prepare(which, got);
     const uint8_t *formula = (const uint8_t *)FORMULA;
     size_t bytes = strlen(FORMULA);
     if (which == 0) got->answer = mars_assemble(&SETTINGS, 2, (const uint8_t *)SOURCE, strlen(SOURCE), got->text, sizeof got->text, &got->length, &got->fault);
@@ -73,6 +83,10 @@ static void call(int which, Left *got) {
     if (which == 6) got->answer = mars_state(&SETTINGS, loads, all, lengths, 3, 2, 50, (const uint8_t *)LINES, strlen(LINES), 4, got->cells, 800, got->counts, 3, got->processes, 20, got->deaths, 3, &got->standing, &got->fault);
     if (which == 7) got->answer = mars_lines(&SETTINGS, 2, (const uint8_t *)SOURCE, strlen(SOURCE), got->text, sizeof got->text, &got->length, &got->fault);
     if (which == 8) got->answer = mars_touched(&SETTINGS, loads, all, lengths, 3, 2, 50, (const uint8_t *)LINES, strlen(LINES), 4, got->touched, 9, &got->length, &got->fault);
+    if (which == 9) got->answer = mars_start(&SETTINGS, loads, all, lengths, 3, 2, got->battle, WORDS, &got->fault);
+    if (which == 10) got->answer = mars_play(got->battle, WORDS, 20, got->records, 9, got->touched, 9, &got->fault);
+    if (which == 11) got->answer = mars_edit(got->battle, WORDS, &EDIT, &got->fault);
+    if (which == 12) got->answer = mars_check(got->battle, WORDS, &got->fault);
 }
 
 static int is_kept(const Left *got, const Left *blank) {
@@ -82,7 +96,7 @@ static int is_kept(const Left *got, const Left *blank) {
 
 static int holds(int which, long each) {
     Left ample, got, blank;
-    memset(&blank, 7, sizeof blank);
+    prepare(which, &blank);
     left = rest = 0;
     call(which, &ample);
     if (ample.answer != MARS_DONE || held) return 0;
@@ -115,7 +129,28 @@ static int are_nulls_taken(void) {
         && mars_record(settings, loads, all, lengths, 3, 0, 9, NULL, 0, 0, NULL, 0, &got.length, &got.fault) == MARS_DONE && got.length > 9
         && mars_touched(settings, loads, all, lengths, 3, 0, 9, NULL, 0, 0, NULL, 0, &got.length, &got.fault) == MARS_DONE && got.length > 9
         && mars_state(settings, loads, all, lengths, 3, 0, 9, NULL, 0, 0, NULL, 0, NULL, 0, NULL, 0, NULL, 0, &got.standing, &got.fault) == MARS_ROOM
-        && got.standing.processes == 3;
+        && got.standing.processes == 3
+        && mars_start(settings, loads, all, lengths, 3, 0, NULL, 0, &got.fault) == MARS_ROOM
+        && mars_play(got.battle, 0, 1, NULL, 0, NULL, 0, &got.fault) == MARS_BLOCK && got.fault.number == 1
+        && mars_check(NULL, 0, &got.fault) == MARS_BLOCK && got.fault.number == 1;
+}
+
+/* A battle is as long as mars_words says or shorter, and plays on alike in one call and in several. */
+static int are_battles_values(void) {
+    Left once, several;
+    const MarsBattle *battle = (const MarsBattle *)once.battle;
+    MarsSettings bad = SETTINGS;
+    bad.distance = 801;
+    prepare(10, &once), prepare(10, &several);
+    for (int turn = 0; turn < 500; turn++)
+        if (mars_play(several.battle, WORDS, 1, NULL, 0, NULL, 0, &several.fault) != MARS_DONE) return 0;
+    return mars_words(&SETTINGS, 3) == WORDS && !mars_words(&SETTINGS, 0) && !mars_words(&SETTINGS, 17) && !mars_words(&bad, 3)
+        && mars_play(once.battle, WORDS, 500, NULL, 0, NULL, 0, &once.fault) == MARS_DONE && battle->mark == MARS_MARK
+        && battle->turns == 500 && battle->warriors == 3 && battle->words <= WORDS && sizeof *battle == 4 * 64
+        && !memcmp(once.battle, several.battle, 4 * battle->words)
+        && mars_play(once.battle, WORDS - 1, 1, NULL, 0, NULL, 0, &once.fault) == MARS_ROOM
+        && mars_check(once.battle, battle->words, &once.fault) == MARS_DONE
+        && mars_check(once.battle, battle->words - 1, &once.fault) == MARS_BLOCK && once.fault.number == 1;
 }
 
 /* The lines of a source's instructions, and a fault as that of its assembly. */
@@ -162,16 +197,17 @@ int main(void) {
         lengths[i] = first.length;
         all += first.length;
     }
-    for (int which = 0; which < 9; which++)
+    uint32_t started = mars_start(&SETTINGS, loads, all, lengths, 3, 2, block, WORDS, &first.fault);
+    for (int which = 0; which < 13 && started == MARS_DONE; which++)
         for (long each = 0; each < 2; each++) {
             int is_so = holds(which, each);
             passed += is_so, failed += !is_so;
             if (!is_so) printf("call %d, %s refused\n", which, each ? "all from one on" : "one");
         }
-    int others[] = {mars_version() == MARS_VERSION, are_nulls_taken(), are_lines_told(), are_mistakes_told_in_order()};
+    int others[] = {mars_version() == MARS_VERSION, are_nulls_taken(), are_lines_told(), are_mistakes_told_in_order(), are_battles_values()};
     for (size_t i = 0; i < sizeof others / sizeof *others; i++) {
         passed += others[i], failed += !others[i];
-        if (!others[i]) printf("%s\n", (const char *[]){"the version", "null pointers", "the lines of a source", "the order of mistakes"}[i]);
+        if (!others[i]) printf("%s\n", (const char *[]){"the version", "null pointers", "the lines of a source", "the order of mistakes", "battles as values"}[i]);
     }
     printf("%d passed, %d failed\n", passed, failed);
     return failed != 0;

@@ -271,7 +271,7 @@ def test_shared(built):
     assert os.readlink(f"{built}/libmars.so") == "libmars.so.1"
     assert "soname: [libmars.so.1]" in told("readelf", "--dynamic")
     exported = {line.split()[-1] for line in told("nm", "--dynamic", "--defined-only").splitlines()}
-    assert exported == {*re.findall(r"^uint32_t (mars_\w+)\(", HEADER, re.M)}
+    assert exported == {*re.findall(r"^(?:uint32_t|size_t) (mars_\w+)\(", HEADER, re.M)}
 
 
 C_PROGRAMS = [

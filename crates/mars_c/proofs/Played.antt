@@ -4,8 +4,7 @@ use Rattle.std.proofs.lemmas.List.{take_more_set, drop-set-lt, drop_more}
 use Rattle.mars_core.specs.State.{State, is_over_of}
 use Rattle.mars_core.specs.Turn.{turn_of, after_turns}
 use Rattle.mars_core.proofs.CallerLemmas.{turns-turn_of}
-use Rattle.mars_c.specs.Code.{recorded}
-use Rattle.mars_c.specs.Records.{IsLeft}
+use Rattle.mars_c.specs.Records.{IsLeft, recorded}
 
 -- a turn that was made, or wasn't, by the battle's answer and by what a row tells of it
 pub made_first : {A E : Type 0} (over : Bool) (e : E) (y x : A) → Ok x ≡ (if over then Err e else Ok y) → (over ≡ false) × (x ≡ y)
@@ -44,7 +43,7 @@ add_by : (over : Bool) (m n : ℕ) (s : State) → is_over_of s ≡ over → aft
 add_by true m n s over inner = rw over (over_stays n s over)
 add_by false m n s running inner = rw running inner
 
-add_turns : (m n : ℕ) (s : State) → after_turns n (after_turns m s) ≡ after_turns (m + n) s
+pub add_turns : (m n : ℕ) (s : State) → after_turns n (after_turns m s) ≡ after_turns (m + n) s
 add_turns zero n s = let e : 0 + n ≡ n = omega arith in rw e refl
 add_turns (suc m) n s = let e : suc m + n ≡ suc (m + n) = omega arith in rw e (add_by (is_over_of s) m n s refl (add_turns m n (turn_of s)))
 

@@ -2,8 +2,7 @@
 use Rattle.std.proofs.Common.{◌≡◌, ℕ, zero, suc, ◌≤◌, ◌<◌, Bool, true, false, List, [], ◌∷◌, Some, ap, arith, length, refl, slice_get}
 use Rattle.mars_core.specs.State.{State, is_over_of}
 use Rattle.mars_core.specs.Turn.{turn_of, after_turns}
-use Rattle.mars_c.specs.Code.{recorded}
-use Rattle.mars_c.specs.Records.{AreRows, IsLeft}
+use Rattle.mars_c.specs.Records.{AreRows, IsLeft, recorded}
 use Rattle.mars_c.proofs.Played.{none_recorded, one_recorded, turn_first}
 
 module _ {Row : Type 0} (row_of : State → Row) where

@@ -4,6 +4,10 @@ use Rattle.mars_cell.specs.declared.fault.LoadFault.{LoadFault}
 use Rattle.mars_cell.specs.declared.fault.LoadFault.TheVariants as load
 use Rattle.mars_cell.specs.declared.parameters.ParamFault.{ParamFault}
 use Rattle.mars_cell.specs.declared.parameters.ParamFault.TheVariants as parameter
+use Rattle.mars_core.specs.declared.battle.block.BlockFault.{BlockFault}
+use Rattle.mars_core.specs.declared.battle.block.BlockFault.TheVariants as block
+use Rattle.mars_core.specs.declared.battle.edit.EditFault.{EditFault}
+use Rattle.mars_core.specs.declared.battle.edit.EditFault.TheVariants as edit
 use Rattle.mars_core.specs.declared.battle.start.BattleFault.{BattleFault}
 use Rattle.mars_core.specs.declared.battle.start.BattleFault.TheVariants as battle
 use Rattle.mars_match.specs.declared.placement.PlaceFault.{PlaceFault}
@@ -15,6 +19,8 @@ use Rattle.redcode_text.specs.declared.fault.ExprFault.TheVariants as expression
 use Rattle.redcode_text.specs.declared.fault.TextProblem.{TextProblem}
 use Rattle.redcode_text.specs.declared.fault.TextProblem.TheVariants as text
 use Rattle.mars_c.specs.declared.faults.MarsFault.{MarsFault}
+use Rattle.mars_c.specs.declared.faults.BlockRefusal.{BlockRefusal}
+use Rattle.mars_c.specs.declared.faults.BlockRefusal.TheVariants as refused
 use Rattle.mars_c.specs.declared.faults.CallRefusal.{CallRefusal}
 use Rattle.mars_c.specs.declared.faults.CallRefusal.TheVariants.{OutOfMemory, Settings, Parameters, Formula, Assembly, Load, Placement, Battle, Score}
 use Rattle.mars_c.specs.declared.ranges.SettingsFault.{SettingsFault}
@@ -70,6 +76,42 @@ battle_number battle.Overlap = 3
 battle_number battle.StartOutside = 4
 battle_number battle.FieldOutside = 5
 battle_number battle.OutOfMemory = 6
+
+abbrev pub block_number : BlockFault → ℕ
+block_number block.Short = 1
+block_number block.Mark = 2
+block_number (block.Parameters fault) = 3
+block_number block.Warriors = 4
+block_number (block.Cell address) = 5
+block_number (block.Queue warrior) = 6
+block_number block.Deaths = 7
+block_number block.Clock = 8
+block_number block.Head = 9
+block_number block.OutOfMemory = 10
+
+-- the number of the parameter that is out of its range; 0 for other errors of a block
+abbrev pub block_problem : BlockFault → ℕ
+block_problem (block.Parameters fault) = parameter_number fault
+block_problem fault = 0
+
+-- the address of the first wrong cell; 0 for other errors of a block
+abbrev pub block_line : BlockFault → ℕ
+block_line (block.Cell address) = address
+block_line fault = 0
+
+-- the first warrior whose queue is wrong; 0 for other errors of a block
+abbrev pub block_warrior : BlockFault → ℕ
+block_warrior (block.Queue warrior) = warrior
+block_warrior fault = 0
+
+-- number 1 means that there is no such edit
+abbrev pub edit_number : EditFault → ℕ
+edit_number edit.Address = 2
+edit_number edit.FieldOutside = 3
+edit_number edit.NoSuchWarrior = 4
+edit_number edit.NoSuchProcess = 5
+edit_number edit.WarriorDead = 6
+edit_number edit.QueueFull = 7
 
 abbrev pub assembly_number : AsmProblem → ℕ
 assembly_number (assembly.Text problem) = 1
@@ -128,3 +170,18 @@ fault_of (Load index fault) = record { code = 6; number = load_number fault; pro
 fault_of (Placement fault) = numbered 7 (placement_number fault)
 fault_of (Battle fault) = numbered 8 (battle_number fault)
 fault_of (Score fault) = numbered 9 (expression_number fault)
+
+-- the error that a caller gets if a call on a block is refused
+abbrev pub block_fault_of : BlockRefusal → MarsFault
+block_fault_of refused.OutOfMemory = numbered 1 0
+block_fault_of (refused.Block fault) = record {
+  code = 11;
+  number = block_number fault;
+  problem = block_problem fault;
+  expression = 0;
+  line = block_line fault;
+  warrior = block_warrior fault;
+}
+block_fault_of refused.Capacity = numbered 10 0
+block_fault_of refused.NoSuchEdit = numbered 12 1
+block_fault_of (refused.Edit fault) = numbered 12 (edit_number fault)

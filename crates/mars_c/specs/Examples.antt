@@ -12,6 +12,7 @@ use Rattle.mars_cell.specs.declared.instruction.Modifier.{Modifier}
 use Rattle.mars_cell.specs.declared.instruction.Modifier.TheVariants.{B, Ba, F, I, X}
 use Rattle.mars_cell.specs.declared.instruction.Mode.TheVariants.{Immediate, Direct, AIndirect, APredecrement, BPredecrement, BPostincrement}
 use Rattle.mars_cell.specs.declared.fault.LoadFault.TheVariants.{Syntax}
+use Rattle.mars_cell.specs.declared.parameters.ParamFault.TheVariants.{Distance}
 use Rattle.redcode_asm.specs.Formula.{formula_of}
 use Rattle.redcode_asm.specs.declared.fault.AsmProblem.TheVariants.{Text}
 use Rattle.redcode_asm.specs.declared.fault.AsmProblem.TheVariants as assembly
@@ -25,6 +26,9 @@ use Rattle.mars_core.specs.State.{is_over_of}
 use Rattle.mars_core.specs.Touched.{touched}
 use Rattle.mars_core.specs.Turn.{after_turns}
 use Rattle.mars_core.specs.Examples.{the_machine, battle_of, cell_of, imp, of_eight, eight, lone}
+use Rattle.mars_core.specs.declared.battle.block.BlockFault.TheVariants as block
+use Rattle.mars_core.specs.declared.battle.edit.Edit.TheVariants.{KillProcess}
+use Rattle.mars_core.specs.declared.battle.edit.EditFault.TheVariants.{Address, QueueFull}
 use Rattle.mars_core.specs.declared.battle.start.BattleFault.TheVariants.{FieldOutside}
 use Rattle.mars_core.specs.declared.battle.start.BattleFault.TheVariants as battle
 use Rattle.mars_match.specs.Battles.{survivors_of_round, end_of}
@@ -38,12 +42,14 @@ use Rattle.mars_match.specs.Examples.Placements.{sizes}
 use Rattle.mars_c.specs.Settings.{parameters_in}
 use Rattle.mars_c.specs.Battles.{begun, placed_in}
 use Rattle.mars_c.specs.Cells.{plain_cell}
-use Rattle.mars_c.specs.Codes.{fault_of}
+use Rattle.mars_c.specs.Blocks.{Means, played_rows}
+use Rattle.mars_c.specs.Codes.{block_fault_of, fault_of, numbered}
 use Rattle.mars_c.specs.Contests.{population}
 use Rattle.mars_c.specs.Records.{AreRows, IsLeft, change_of, turn_row}
 use Rattle.mars_c.specs.Touches.{touched_row}
 use Rattle.mars_c.specs.Refusals.{IsOutside, fight_refusal}
 use Rattle.mars_c.specs.States.{counts_of, fits_in, plain_standing}
+use Rattle.mars_c.specs.declared.faults.BlockRefusal.TheVariants as blocks
 use Rattle.mars_c.specs.declared.faults.CallRefusal.TheVariants.{Assembly, Battle, Load, OutOfMemory, Placement, Score}
 use Rattle.mars_c.specs.declared.ranges.SettingsFault.TheVariants.{Lengths, Position, Rounds, Seed}
 use Rattle.mars_c.specs.declared.settings.MarsSettings.{MarsSettings}
@@ -64,6 +70,20 @@ source_is_told = refl
 -- a number beyond 32 bits in an operand of line 4
 pub operand_is_told : fault_of (Assembly (record { line = 4; problem = assembly.Expression Range })) ≡ record { code = 5; number = 4; problem = 0; expression = 4; line = 4; warrior = 0 }
 operand_is_told = refl
+
+-- the cell at address 7, the queue of warrior 2, and the distance in a block
+pub blocks_are_reported : (block_fault_of (blocks.Block (block.Cell 7)) ≡ record { code = 11; number = 5; problem = 0; expression = 0; line = 7; warrior = 0 })
+    × (block_fault_of (blocks.Block (block.Queue 2)) ≡ record { code = 11; number = 6; problem = 0; expression = 0; line = 0; warrior = 2 })
+    × (block_fault_of (blocks.Block (block.Parameters Distance)) ≡ record { code = 11; number = 3; problem = 6; expression = 0; line = 0; warrior = 0 })
+blocks_are_reported = (refl, refl, refl)
+
+-- the first and the last number of a refused edit
+pub edits_are_reported : (block_fault_of blocks.NoSuchEdit ≡ numbered 12 1) × (block_fault_of (blocks.Edit Address) ≡ numbered 12 2) × (block_fault_of (blocks.Edit QueueFull) ≡ numbered 12 7)
+edits_are_reported = (refl, refl, refl)
+
+-- the process at index 2 of warrior 1 is killed, whatever the address and the cell are
+pub kill_is_meant : Means (record { what = 3; warrior = 1; place = 2; address = 9; cell = record { op = 99; modifier = 0; a_mode = 0; b_mode = 0; a = 0; b = 0 } }) (KillProcess 1 2)
+kill_is_meant = (refl, refl, refl)
 
 -- DJN.BA >7, {3 and SNE.X <1, *2
 pub parts_have_their_numbers :
@@ -147,6 +167,13 @@ turn_told (suc k) less inside = absurd (omega (arith, less))
 row_stays : (k : ℕ) → 1 ≤ k → slice_get {X = ℕ} (0 ∷ 7 ∷ []) k ≡ slice_get {X = ℕ} (7 ∷ 7 ∷ []) k
 row_stays zero more = absurd (omega (arith, more))
 row_stays (suc k) more = refl
+
+-- of two turns at most, one is left; of one turn or none, the second or both rows stay
+pub rows_are_played : (played_rows (λ s. s.turns) 2 (lone of_eight (eight []) (6 ∷ [])) (7 ∷ 7 ∷ []) ≡ 0 ∷ 7 ∷ [])
+    × (played_rows (λ s. s.turns) 1 (lone of_eight (eight []) (6 ∷ [])) (7 ∷ 7 ∷ []) ≡ 0 ∷ 7 ∷ [])
+    × (played_rows (λ s. s.turns) 0 (lone of_eight (eight []) (6 ∷ [])) (7 ∷ 7 ∷ []) ≡ 7 ∷ 7 ∷ [])
+unfolding the_machine
+rows_are_played = (refl, refl, refl)
 
 pub rows_begin_there : AreRows (λ s. s.turns) (lone of_eight (eight []) (6 ∷ [])) 1 (7 ∷ 7 ∷ []) (0 ∷ 7 ∷ [])
 rows_begin_there = record { many = refl; written = turn_told; kept = row_stays }

@@ -8,6 +8,7 @@ pub mod Contests
 pub mod Debugging
 pub mod Examples
 pub mod Records
+pub mod Blocks
 pub mod Refusals
 pub mod States
 pub mod Touches

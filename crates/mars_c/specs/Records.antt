@@ -49,6 +49,11 @@ plain_record atom cycle = record {
 abbrev pub turn_row : State → MarsRecord
 turn_row s = plain_record (turn_record s) (turn_of s).cycle
 
+-- rows that hold the turns from the state s on, one each, as long as there are turns; the other rows are unchanged
+abbrev pub recorded : {Row : Type 0} → (State → Row) → State → List Row → List Row
+recorded row_of s [] = []
+recorded row_of s (row ∷ rows) = if is_over_of s then row ∷ rows else row_of s ∷ recorded row_of (turn_of s) rows
+
 -- so many turns are left: after them the battle is over, and not before
 pub record IsLeft (s : State) (n : ℕ) : Type 0 where
   pub ends : is_over_of (after_turns n s) ≡ true

@@ -7,6 +7,8 @@ ghost use Rattle.mars_c.specs.Records.{turn_row};
 ghost use Rattle.mars_c.specs.States.{AreKept};
 ghost use Rattle.mars_c.specs.Touches.{touched_row};
 
+mod blocks;
+
 use crate::assembling::{lines, load_file};
 use crate::battles::{LedRound, battle_of, state_of};
 use crate::cells::MarsCell;
@@ -47,12 +49,12 @@ fn answer(place: &mut MarsFault, fault: MarsFault) -> u32
 }
 
 /// The version: 1,000 for each major one, and the minor one. It is MARS_VERSION of `include/mars.h`.
-const VERSION: u32 = 1002;
+const VERSION: u32 = 1003;
 
 /// Tells the version of the library.
 #[unsafe(no_mangle)]
 pub extern "C" fn mars_version() -> u32
-    ensures { result ≡ 1002 }
+    ensures { result ≡ 1003 }
 {
     VERSION
 }

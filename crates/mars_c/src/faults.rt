@@ -1,16 +1,18 @@
 //! Why a call wasn't done, and what a caller is told of it.
 ghost use Rattle.std.specs.Prelude.{◌≡◌, ◌≤◌, if◌then◌else◌};
-ghost use Rattle.mars_c.specs.Codes.{fault_of, numbered as spec_numbered};
+ghost use Rattle.mars_c.specs.Codes.{block_fault_of, fault_of, numbered as spec_numbered};
 ghost use Rattle.mars_c.specs.Refusals.{fight_refusal, refusal_at};
+ghost use Rattle.mars_c.specs.declared.faults.BlockRefusal.TheVariants as refused;
 ghost use Rattle.mars_c.specs.declared.faults.CallRefusal.TheVariants as variant;
 
 use crate::numbers::{
-    assembly_number, battle_number, expression_number, load_line, load_number, parameter_number,
-    placement_number, problem_numbers,
+    assembly_number, battle_number, block_line, block_number, block_problem, block_warrior,
+    edit_number, expression_number, load_line, load_number, parameter_number, placement_number,
+    problem_numbers,
 };
 use crate::ranges::SettingsFault;
 use mars_cell::{LoadFault, ParamFault};
-use mars_core::BattleFault;
+use mars_core::{BattleFault, BlockFault, EditFault};
 use mars_match::{MatchFault, PlaceFault};
 use redcode_asm::{AsmFault, AsmProblem};
 use redcode_text::ExprFault;
@@ -28,6 +30,19 @@ pub enum CallRefusal {
     Placement(PlaceFault),
     Battle(BattleFault),
     Score(ExprFault),
+}
+
+/// Why a call on a block is refused.
+#[derive(Clone, Copy)]
+pub enum BlockRefusal {
+    OutOfMemory,
+    /// The words do not begin with the block of a battle.
+    Block(BlockFault),
+    /// The words have less capacity than the battle needs.
+    Capacity,
+    /// The numbers mean no edit.
+    NoSuchEdit,
+    Edit(EditFault),
 }
 
 /// What a caller is told. What doesn't apply is 0.
@@ -102,6 +117,31 @@ pub fn told(refusal: CallRefusal) -> MarsFault
         CallRefusal::Placement(fault) => numbered(7, placement_number(fault)),
         CallRefusal::Battle(fault) => numbered(8, battle_number(fault)),
         CallRefusal::Score(fault) => numbered(9, expression_number(fault)),
+    }
+}
+
+/// Returns the error that a caller gets if words are not a block.
+fn block(fault: BlockFault) -> MarsFault
+    ensures { result ≡ block_fault_of (refused.Block fault) }
+{
+    MarsFault {
+        problem: block_problem(fault),
+        line: block_line(fault),
+        warrior: block_warrior(fault),
+        ..numbered(11, block_number(fault))
+    }
+}
+
+/// Returns the error that a caller gets if a call on a block is refused.
+pub fn block_fault(refusal: BlockRefusal) -> MarsFault
+    ensures { result ≡ block_fault_of refusal }
+{
+    match refusal {
+        BlockRefusal::OutOfMemory => numbered(1, 0),
+        BlockRefusal::Block(fault) => block(fault),
+        BlockRefusal::Capacity => numbered(10, 0),
+        BlockRefusal::NoSuchEdit => numbered(12, 1),
+        BlockRefusal::Edit(fault) => numbered(12, edit_number(fault)),
     }
 }
 

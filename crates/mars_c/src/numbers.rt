@@ -3,7 +3,7 @@ ghost use Rattle.std.specs.Prelude.{◌≡◌};
 ghost use Rattle.mars_c.specs.Codes as codes;
 
 use mars_cell::{LoadFault, ParamFault};
-use mars_core::BattleFault;
+use mars_core::{BattleFault, BlockFault, EditFault};
 use mars_match::PlaceFault;
 use redcode_asm::AsmProblem;
 use redcode_text::{ExprFault, TextProblem};
@@ -53,6 +53,59 @@ pub fn battle_number(fault: BattleFault) -> u32
     ensures { result ≡ codes.battle_number fault }
 {
     fault as u32 + 1
+}
+
+pub fn block_number(fault: BlockFault) -> u32
+    ensures { result ≡ codes.block_number fault }
+{
+    match fault {
+        BlockFault::Short => 1,
+        BlockFault::Mark => 2,
+        BlockFault::Parameters(_) => 3,
+        BlockFault::Warriors => 4,
+        BlockFault::Cell(_) => 5,
+        BlockFault::Queue(_) => 6,
+        BlockFault::Deaths => 7,
+        BlockFault::Clock => 8,
+        BlockFault::Head => 9,
+        BlockFault::OutOfMemory => 10,
+    }
+}
+
+/// Returns the number of the parameter that is out of its range; 0 for other errors.
+pub fn block_problem(fault: BlockFault) -> u32
+    ensures { result ≡ codes.block_problem fault }
+{
+    match fault {
+        BlockFault::Parameters(fault) => parameter_number(fault),
+        _ => 0,
+    }
+}
+
+/// Returns the address of the first wrong cell; 0 for other errors.
+pub fn block_line(fault: BlockFault) -> u64
+    ensures { result ≡ codes.block_line fault }
+{
+    match fault {
+        BlockFault::Cell(address) => u64::from(address),
+        _ => 0,
+    }
+}
+
+/// Returns the first warrior whose queue is wrong; 0 for other errors.
+pub fn block_warrior(fault: BlockFault) -> u64
+    ensures { result ≡ codes.block_warrior fault }
+{
+    match fault {
+        BlockFault::Queue(warrior) => u64::from(warrior),
+        _ => 0,
+    }
+}
+
+pub fn edit_number(fault: EditFault) -> u32
+    ensures { result ≡ codes.edit_number fault }
+{
+    fault as u32 + 2
 }
 
 pub fn assembly_number(problem: AsmProblem) -> u32

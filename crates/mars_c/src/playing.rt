@@ -2,8 +2,7 @@
 ghost use Rattle.std.specs.Prelude.{◌≡◌, if◌then◌else◌, length, None, Some};
 ghost use Rattle.mars_core.specs.State.{State, is_over_of};
 ghost use Rattle.mars_core.specs.Turn.{after_turns, turn_of};
-ghost use Rattle.mars_c.specs.Code.{recorded};
-ghost use Rattle.mars_c.specs.Records.{AreRows, IsLeft};
+ghost use Rattle.mars_c.specs.Records.{AreRows, IsLeft, recorded};
 
 use mars_core::Battle;
 
@@ -18,7 +17,7 @@ pub trait TurnRow: Copy {
 }
 
 /// Makes turns, as many as there are rows for, and tells of each.
-fn tell_turns<R: TurnRow>(battle: &mut Battle, rows: &mut [R])
+pub fn tell_turns<R: TurnRow>(battle: &mut Battle, rows: &mut [R])
     ensures rows { rows.new ≡ recorded R.row_of battle.old rows.old }
     ensures battle { battle.new ≡ after_turns (length rows.old) battle.old }
 {

@@ -10,6 +10,7 @@ pub mod Turn
 pub mod Edit
 pub mod Validity
 pub mod Start
+pub mod Block
 pub mod Shape
 pub mod Leads
 pub mod Record

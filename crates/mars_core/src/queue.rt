@@ -229,6 +229,29 @@ impl ProcessQueue {
         Ok(queue)
     }
 
+    /// Returns a queue of these addresses with capacity for `limit` processes. Fails if the allocation fails.
+    pub fn of(alloc: Global, limit: usize, addresses: &[u32]) -> Result<ProcessQueue, AllocError>
+        requires { length addresses.now ≤ limit }
+        ensures { IfOk result (λ queue. queue ≡ record { addresses = addresses.now; limit = limit }) }
+    {
+        let mut queue = ProcessQueue::with_limit(alloc, limit)?;
+        queue.ring.fill_from_slice(addresses);
+        Ok(queue)
+    }
+
+    /// Writes the addresses, front first, to `words`, which has one word for each.
+    pub fn write_to(&self, words: &mut [u32])
+        requires { length words.old ≡ length self.now.addresses }
+        ensures { words.new ≡ self.now.addresses }
+    {
+        let len = self.ring.len();
+        let (front, back) = self.ring.as_slices();
+        prove!(front.len() + back.len() == len);
+        let (first, last) = words.split_at_mut(front.len());
+        first.copy_from_slice(front);
+        last.copy_from_slice(back);
+    }
+
     /// Copies this queue over another one of the same limit, without memory.
     pub fn copy_over(&self, target: &mut ProcessQueue)
         requires { self.now.limit ≡ target.old.limit }

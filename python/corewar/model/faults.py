@@ -16,6 +16,8 @@ KINDS: dict[int, tuple[str, list[str]]] = {
     7: ("placement", ["NoRoom", "BadSeed"]),
     8: ("battle", ["NoWarrior", "TooMany", "Overlap", "StartOutside", "FieldOutside"]),
     9: ("score", EXPRESSIONS),
+    11: ("block", "Short Mark Parameters Warriors Cell Queue Deaths Clock Head".split()),
+    12: ("refused", "NoSuchEdit Address FieldOutside NoSuchWarrior NoSuchProcess WarriorDead QueueFull".split()),
 }
 MEMORY, SETTINGS, PARAMETERS, FORMULA, ASSEMBLY, LOAD, SCORE = 1, 2, 3, 4, 5, 6, 9
 

@@ -4,7 +4,8 @@ use super::{
     NOP, OUTSIDE, check_clock, check_queue, check_refused, lone_battle, make_edit, make_turns,
     three_stay,
 };
-use mars_core::{Battle, BattleFault, Edit, EditFault, Over};
+use mars_cell::ParamFault;
+use mars_core::{Battle, BattleFault, BlockFault, Edit, EditFault, Over};
 use std::alloc::Global;
 use std::fmt::Display;
 use std::process::Abort;
@@ -111,12 +112,28 @@ const EDIT_FAULTS: &[(EditFault, &str)] = &[
     (EditFault::QueueFull, "6 QueueFull"),
 ];
 
+const BLOCK_FAULTS: &[(BlockFault, &str)] = &[
+    (BlockFault::Short, "1 Short"),
+    (BlockFault::Mark, "2 Mark"),
+    (BlockFault::Parameters(ParamFault::Limit), "3 Parameters"),
+    (BlockFault::Warriors, "4 Warriors"),
+    (BlockFault::Cell(7), "5 Cell"),
+    (BlockFault::Queue(1), "6 Queue"),
+    (BlockFault::Deaths, "7 Deaths"),
+    (BlockFault::Clock, "8 Clock"),
+    (BlockFault::Head, "9 Head"),
+    (BlockFault::OutOfMemory, "10 OutOfMemory"),
+];
+
 #[test]
 fn faults_are_displayed(rt: HostRuntime) -> Result<(), Fail> {
     for (fault, text) in BATTLE_FAULTS {
         check_text(&rt, rt.alloc(), fault, text)?;
     }
     for (fault, text) in EDIT_FAULTS {
+        check_text(&rt, rt.alloc(), fault, text)?;
+    }
+    for (fault, text) in BLOCK_FAULTS {
         check_text(&rt, rt.alloc(), fault, text)?;
     }
     check_text(&rt, rt.alloc(), &Over, "the battle is over")

@@ -2,7 +2,7 @@
 //! checks/memory refuses each in turn.
 use super::{check_clock, check_same, params};
 use mars_cell::{Params, Warrior, read_cell};
-use mars_core::{Battle, BattleFault};
+use mars_core::{Battle, BattleFault, BlockFault};
 use std::alloc::Global;
 use std::process::Abort;
 use std::test::Fail;
@@ -72,5 +72,33 @@ fn a_battle_is_copied(rt: HostRuntime) -> Result<(), Fail> {
     check_same(&rt, &copy, &battle);
     check_goes_on(&rt, &mut copy);
     check_same(&rt, &battle, &twin);
+    Ok(())
+}
+
+/// The block of a battle, for which memory is refused at most once.
+fn second_block(alloc: Global, battle: &Battle) -> Option<Vec<u32>> {
+    let len = battle.block_len();
+    let asked: Result<Vec<u32>, _> = Vec::from_elem(alloc, 0, len).or_else(|_| Vec::from_elem(
+        alloc, 0, len,
+    ));
+    let mut words = asked.ok()?;
+    battle.write_block(&mut words);
+    Some(words)
+}
+
+#[test]
+fn a_block_is_read(rt: HostRuntime) -> Result<(), Fail> {
+    let params = params(8, 2, 8, 8)?;
+    let battle = second_start(rt.alloc(), &params).ok_or("battle")?;
+    let words = second_block(rt.alloc(), &battle).ok_or("block")?;
+    let mut copy = match Battle::read_block(rt.alloc(), &words) {
+        Err(fault) => {
+            assert_eq!(rt; fault, BlockFault::OutOfMemory);
+            Battle::read_block(rt.alloc(), &words).ok().ok_or("copy")?
+        }
+        Ok(copy) => copy,
+    };
+    check_same(&rt, &copy, &battle);
+    check_goes_on(&rt, &mut copy);
     Ok(())
 }

@@ -1,6 +1,6 @@
 use Rattle.std.proofs.Common.{◌≡◌, ◌-◌, ◌++◌, length, take, drop}
 use Rattle.mars_core.specs.Turn.{after_turns}
-use Rattle.mars_c.specs.Code.{recorded}
+use Rattle.mars_c.specs.Records.{recorded}
 use Rattle.mars_c.proofs.playing.tell_turns.Given as goal
 
 abbrev pub invariant-loop-i : goal.invariant-loop-i

@@ -1,0 +1,92 @@
+-- Battles as blocks of words that the caller owns: their capacity, what calls write to them, the edits that numbers mean, and why calls are refused.
+use Rattle.std.specs.Prelude.{◌≡◌, ◌≢◌, ◌≤◌, ◌<◌, ◌⊎◌, ◌+◌, ◌*◌, ℕ, ⊤, List, ◌++◌, length, drop, take, None, Some}
+use Rattle.mars_core.specs.State.{State}
+use Rattle.mars_core.specs.Block.{Spells, block_of, head_words}
+use Rattle.mars_core.specs.Edit.{edited, edit_fault}
+use Rattle.mars_core.specs.declared.battle.block.BlockFault.TheVariants as block
+use Rattle.mars_core.specs.declared.battle.edit.Edit.{Edit}
+use Rattle.mars_core.specs.declared.battle.edit.Edit.TheVariants as edit
+use Rattle.mars_c.specs.Battles.{IsStart}
+use Rattle.mars_c.specs.Cells.{plain_cell}
+use Rattle.mars_c.specs.Codes.{block_fault_of}
+use Rattle.mars_c.specs.Records.{recorded}
+use Rattle.mars_c.specs.Refusals.{AreWarriors, Misses, RefusesRound}
+use Rattle.mars_c.specs.declared.faults.BlockRefusal.{BlockRefusal}
+use Rattle.mars_c.specs.declared.faults.BlockRefusal.TheVariants.{OutOfMemory, Block, Capacity, NoSuchEdit, Edit as OfEdit}
+use Rattle.mars_c.specs.declared.faults.CallRefusal.{CallRefusal}
+use Rattle.mars_c.specs.declared.faults.MarsFault.{MarsFault}
+use Rattle.mars_c.specs.declared.edits.MarsEdit.{MarsEdit}
+use Rattle.mars_c.specs.declared.ranges.SettingsFault.TheVariants.{Warriors}
+use Rattle.mars_c.specs.declared.settings.MarsSettings.{MarsSettings}
+
+-- the capacity in words that the battle s needs: no number of turns and edits makes its block longer
+abbrev pub capacity_of : State → ℕ
+capacity_of s = head_words + 3 * s.params.core_size + length s.queues * s.params.processes
+
+-- the words begin with the block of s, and have the capacity that s needs
+pub record IsPlayable (s : State) (words : List ℕ) : Type 0 where
+  pub spells : Spells s words
+  pub capacity : capacity_of s ≤ length words
+
+-- the words `after` begin with the block of s; behind it they are as the words `before`
+abbrev pub IsWritten : State → List ℕ → List ℕ → Type 0
+IsWritten s before after = after ≡ block_of s ++ drop (length (block_of s)) before
+
+-- at most `turns` turns from the state s on, one in each row as long as there are turns and rows; the other rows are unchanged
+abbrev pub played_rows : {Row : Type 0} → (State → Row) → ℕ → State → List Row → List Row
+played_rows row_of turns s rows = recorded row_of s (take turns rows) ++ drop turns rows
+
+-- the numbers mean this edit
+abbrev pub Means : MarsEdit → Edit → Type 0
+Means numbers (edit.SetCell address cell) = (numbers.what ≡ 1) × (address ≡ numbers.address) × (plain_cell cell ≡ numbers.cell)
+Means numbers (edit.MoveProcess warrior place address) =
+    (numbers.what ≡ 2) × (warrior ≡ numbers.warrior) × (place ≡ numbers.place) × (address ≡ numbers.address)
+Means numbers (edit.KillProcess warrior place) = (numbers.what ≡ 3) × (warrior ≡ numbers.warrior) × (place ≡ numbers.place)
+Means numbers (edit.Spawn warrior address) = (numbers.what ≡ 4) × (warrior ≡ numbers.warrior) × (address ≡ numbers.address)
+
+-- the block holds the battle of a round as it starts
+abbrev pub HoldsStart : MarsSettings → List ℕ → List ℕ → ℕ → List ℕ → List ℕ → Type 0
+HoldsStart settings loads lengths round before after = (s : State) × IsStart settings loads lengths round s
+    × (capacity_of s ≤ length before) × IsWritten s before after
+
+-- the battle of a round needs more capacity than the words have
+abbrev pub OverflowsStart : MarsSettings → List ℕ → List ℕ → ℕ → List ℕ → Type 0
+OverflowsStart settings loads lengths round words = (s : State) × IsStart settings loads lengths round s × (length words < capacity_of s)
+
+-- the edit that the numbers mean is made in the block
+abbrev pub HoldsEdited : MarsEdit → List ℕ → List ℕ → Type 0
+HoldsEdited numbers before after = (s : State) × (e : Edit) × IsPlayable s before × Means numbers e
+    × (edit_fault s e ≡ None) × IsWritten (edited s e) before after
+
+-- the battle of a round of these load files is not started
+abbrev pub RefusesStart : MarsSettings → List ℕ → List ℕ → ℕ → CallRefusal → Type 0
+RefusesStart settings loads lengths round refusal =
+    Misses Warriors (AreWarriors (length lengths)) refusal ⊎ RefusesRound settings loads lengths round refusal
+
+-- the words do not begin with the block of a battle
+abbrev pub RefusesWords : List ℕ → BlockRefusal → Type 0
+RefusesWords words OutOfMemory = ⊤
+RefusesWords words (Block fault) = (fault ≢ block.OutOfMemory) × ((s : State) → Spells s words → ⊥)
+RefusesWords words Capacity = ⊥
+RefusesWords words NoSuchEdit = ⊥
+RefusesWords words (OfEdit fault) = ⊥
+
+-- nothing can be played in the words: they do not begin with a block, or have less capacity than its battle needs
+abbrev pub RefusesPlay : List ℕ → BlockRefusal → Type 0
+RefusesPlay words OutOfMemory = ⊤
+RefusesPlay words (Block fault) = RefusesWords words (Block fault)
+RefusesPlay words Capacity = (s : State) × Spells s words × (length words < capacity_of s)
+RefusesPlay words NoSuchEdit = ⊥
+RefusesPlay words (OfEdit fault) = ⊥
+
+-- the numbers mean no edit, nothing can be played in the words, or the machine refuses the edit
+abbrev pub RefusesEdit : List ℕ → MarsEdit → BlockRefusal → Type 0
+RefusesEdit words numbers OutOfMemory = ⊤
+RefusesEdit words numbers (Block fault) = RefusesWords words (Block fault)
+RefusesEdit words numbers Capacity = RefusesPlay words Capacity
+RefusesEdit words numbers NoSuchEdit = (e : Edit) → Means numbers e → ⊥
+RefusesEdit words numbers (OfEdit fault) = (s : State) × (e : Edit) × IsPlayable s words × Means numbers e × (edit_fault s e ≡ Some fault)
+
+-- the error is that of a refusal with a cause
+abbrev pub Reports : (BlockRefusal → Type 0) → MarsFault → Type 0
+Reports Refuses fault = (refusal : BlockRefusal) × (fault ≡ block_fault_of refusal) × Refuses refusal

@@ -1,0 +1,63 @@
+//! Edits as numbers.
+ghost use Rattle.std.specs.Prelude.{◌≡◌, ◌≢◌, IfNone, IfSome};
+ghost use Rattle.mars_cell.specs.declared.instruction.Cell.{Cell as CellValue};
+ghost use Rattle.mars_core.specs.declared.battle.edit.Edit.{Edit as EditValue};
+ghost use Rattle.mars_c.specs.Blocks.{Means};
+ghost use Rattle.mars_c.specs.Cells.{plain_cell};
+
+use crate::cells::MarsCell;
+use mars_cell::Cell;
+use mars_core::{Edit, mode_of, modifier_of, op_of};
+
+/// Edit of a battle. An edit reads only the fields that it needs.
+#[repr(C)]
+#[derive(Clone, Copy)]
+pub struct MarsEdit {
+    /// 1 sets a cell, 2 moves a process, 3 kills a process, 4 adds a process.
+    pub what: u32,
+    /// Warrior of the process: 2, 3 and 4.
+    pub warrior: u32,
+    /// Index of the process in its queue; the front has index 0: 2 and 3.
+    pub place: u32,
+    /// Address of the cell, or of the process from then on: 1, 2 and 4.
+    pub address: u32,
+    /// New cell: 1.
+    pub cell: MarsCell,
+}
+
+/// Returns the cell with these numbers, or `None` if a number stands for no opcode, modifier or mode.
+fn cell_of(numbers: &MarsCell) -> Option<Cell>
+    ensures some { IfSome result (λ cell. plain_cell cell ≡ numbers.now) }
+    ensures none { IfNone result ((cell : CellValue) → plain_cell cell ≢ numbers.now) }
+{
+    Some(Cell {
+        op: op_of(u32::from(numbers.op))?,
+        modifier: modifier_of(u32::from(numbers.modifier))?,
+        a_mode: mode_of(u32::from(numbers.a_mode))?,
+        b_mode: mode_of(u32::from(numbers.b_mode))?,
+        a: numbers.a,
+        b: numbers.b,
+    })
+}
+
+/// Returns the edit that the numbers mean, or `None` if they mean none.
+pub fn edit_of(numbers: &MarsEdit) -> Option<Edit>
+    ensures some { IfSome result (Means numbers.now) }
+    ensures none { IfNone result ((edit : EditValue) → Means numbers.now edit → ⊥) }
+{
+    let (warrior, place, address) = (
+        u64::from(numbers.warrior),
+        u64::from(numbers.place),
+        u64::from(numbers.address),
+    );
+    match numbers.what {
+        1 => match cell_of(&numbers.cell) {
+            Some(cell) => Some(Edit::SetCell(address, cell)),
+            None => None,
+        },
+        2 => Some(Edit::MoveProcess(warrior, place, address)),
+        3 => Some(Edit::KillProcess(warrior, place)),
+        4 => Some(Edit::Spawn(warrior, address)),
+        _ => None,
+    }
+}

@@ -1,0 +1,110 @@
+//! Calls on blocks for C.
+ghost use Rattle.std.specs.Prelude.{◌≡◌, ◌≢◌, ◌≤◌, ◌+◌, ◌*◌, Ok};
+ghost use Rattle.mars_cell.specs.Parameters.{Parameters};
+ghost use Rattle.mars_cell.specs.ParameterFaults.{checked_parameters};
+ghost use Rattle.mars_core.specs.State.{State};
+ghost use Rattle.mars_core.specs.Turn.{after_turns};
+ghost use Rattle.mars_core.specs.Block.{Spells, head_words};
+ghost use Rattle.mars_c.specs.Blocks.{HoldsEdited, HoldsStart, IsPlayable, IsWritten, OverflowsStart, RefusesEdit, RefusesPlay, RefusesStart, RefusesWords, Reports, played_rows};
+ghost use Rattle.mars_c.specs.Records.{turn_row};
+ghost use Rattle.mars_c.specs.Refusals.{AreWarriors, Tells};
+ghost use Rattle.mars_c.specs.Settings.{parameters_in};
+ghost use Rattle.mars_c.specs.Touches.{touched_row};
+
+use crate::blocks::{check, edit_in, play_in, put_if_fits, started, words_of};
+use crate::edits::MarsEdit;
+use crate::exports::answer;
+use crate::faults::{MarsFault, block_fault, given, told};
+use crate::loading::LoadFiles;
+use crate::records::MarsRecord;
+use crate::settings::MarsSettings;
+use crate::touches::MarsTouched;
+use std::alloc::Global;
+
+/// Returns the maximum length of the block of a battle, in words.
+#[unsafe(no_mangle)]
+pub extern "C" fn mars_words(settings: &MarsSettings, warriors: u32) -> usize
+    ensures some { (p : Parameters) → checked_parameters (parameters_in settings.now) ≡ Ok p → AreWarriors warriors
+        → result ≡ head_words + 3 * p.core_size + warriors * p.processes }
+    ensures none { result ≢ 0 → (p : Parameters) × (checked_parameters (parameters_in settings.now) ≡ Ok p) × AreWarriors warriors }
+{
+    words_of(settings, warriors)
+}
+
+/// Writes the battle of a round, as it starts, to a block.
+#[unsafe(no_mangle)]
+pub extern "C" fn mars_start(
+    alloc: Global,
+    settings: &MarsSettings,
+    loads: &[u8],
+    lengths: &[usize],
+    round: u32,
+    battle: &mut [u32],
+    fault: &mut MarsFault,
+) -> u32
+    ensures told { result ≡ fault.new.code }
+    ensures refused { 1 ≤ result → result ≤ 9 → Tells (RefusesStart settings.now loads.now lengths.now round) fault.new }
+    ensures done { result ≡ 0 → HoldsStart settings.now loads.now lengths.now round battle.old battle.new }
+    ensures room { result ≡ 10 → OverflowsStart settings.now loads.now lengths.now round battle.old }
+    ensures kept { result ≢ 0 → battle.new ≡ battle.old }
+    ensures few { result ≤ 10 }
+{
+    match started(alloc, settings, LoadFiles { loads, lengths }, round) {
+        Ok(start) => answer(fault, given(put_if_fits(&start, battle))),
+        Err(refusal) => answer(fault, told(refusal)),
+    }
+}
+
+/// Makes turns in a block, and records the first of them.
+#[unsafe(no_mangle)]
+pub extern "C" fn mars_play(
+    alloc: Global,
+    battle: &mut [u32],
+    turns: u32,
+    records: &mut [MarsRecord],
+    touched: &mut [MarsTouched],
+    fault: &mut MarsFault,
+) -> u32
+    ensures told { result ≡ fault.new.code }
+    ensures refused { result ≢ 0 → Reports (RefusesPlay battle.old) fault.new }
+    ensures done { result ≡ 0 → (s : State) × IsPlayable s battle.old × IsWritten (after_turns turns s) battle.old battle.new
+        × (records.new ≡ played_rows turn_row turns s records.old) × (touched.new ≡ played_rows touched_row turns s touched.old) }
+    ensures kept { result ≢ 0 → (battle.new ≡ battle.old) × (records.new ≡ records.old) × (touched.new ≡ touched.old) }
+{
+    match play_in(alloc, battle, turns, records, touched) {
+        Ok(()) => answer(fault, given(true)),
+        Err(refusal) => answer(fault, block_fault(refusal)),
+    }
+}
+
+/// Makes an edit in a block.
+#[unsafe(no_mangle)]
+pub extern "C" fn mars_edit(
+    alloc: Global,
+    battle: &mut [u32],
+    edit: &MarsEdit,
+    fault: &mut MarsFault,
+) -> u32
+    ensures told { result ≡ fault.new.code }
+    ensures refused { result ≢ 0 → Reports (RefusesEdit battle.old edit.now) fault.new }
+    ensures done { result ≡ 0 → HoldsEdited edit.now battle.old battle.new }
+    ensures kept { result ≢ 0 → battle.new ≡ battle.old }
+{
+    match edit_in(alloc, battle, edit) {
+        Ok(()) => answer(fault, given(true)),
+        Err(refusal) => answer(fault, block_fault(refusal)),
+    }
+}
+
+/// Checks that words begin with the block of a battle.
+#[unsafe(no_mangle)]
+pub extern "C" fn mars_check(alloc: Global, battle: &[u32], fault: &mut MarsFault) -> u32
+    ensures told { result ≡ fault.new.code }
+    ensures refused { result ≢ 0 → Reports (RefusesWords battle.now) fault.new }
+    ensures done { result ≡ 0 → (s : State) × Spells s battle.now }
+{
+    match check(alloc, battle) {
+        Ok(()) => answer(fault, given(true)),
+        Err(refusal) => answer(fault, block_fault(refusal)),
+    }
+}

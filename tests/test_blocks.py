@@ -1,0 +1,287 @@
+"""Battles as blocks of words: their turns, their edits, and words that are not a battle.
+
+States and rows are compared with the calls on load files, edits with the lines of the debugger. The words that the
+library accepts are compared with `is_battle`, which is written from the rules of a battle only.
+"""
+from __future__ import annotations
+
+import random
+from itertools import accumulate, pairwise
+from typing import Any
+
+import numpy as np
+import pytest
+from battles import matches
+from hypothesis import given, strategies as st
+from numpy.typing import NDArray
+
+from corewar.engine.binding import ROOM, array, call, kind, library, slice_of
+from corewar.engine.calls import Match, State, assemble, debug, held, loads, record, state, touched
+from corewar.model.cells import MODES, MODIFIERS, OPCODES
+from corewar.model.faults import Fault
+from corewar.model.settings import Settings
+
+Words = NDArray[np.uint32]
+BLOCK, EDIT, MARK = 11, 12, 22167885
+
+
+def slices(words: Words) -> tuple[Any, int]:
+    return slice_of("uint32_t", words)
+
+
+def started(fight: Match, round: int = 0) -> Words:
+    """The battle of a round, with the capacity that it needs."""
+    settings = held(fight.settings, round + 1, fight.seed, fight.position)
+    words = array("uint32_t", library()[1].mars_words(settings, len(fight.warriors)))
+    assert call("mars_start", settings, *loads(fight.warriors), round, *slices(words)) == 0
+    return words
+
+
+def play(words: Words, turns: int, rows: int = 0) -> tuple[NDArray[Any], NDArray[Any]]:
+    """Plays turns; returns the rows of records and of touched cells."""
+    made = array("MarsRecord", rows), array("MarsTouched", rows)
+    assert (
+        call("mars_play", *slices(words), turns, *slice_of("MarsRecord", made[0]), *slice_of("MarsTouched", made[1]))
+        == 0
+    )
+    return made
+
+
+def edit(words: Words, what: int, warrior: int = 0, place: int = 0, address: int = 0, cell: Any = (0,) * 6) -> None:
+    made = library()[0].new("MarsEdit *", [what, warrior, place, address, list(cell)])
+    assert call("mars_edit", *slices(words), made) == 0
+
+
+def header(words: Words) -> Any:
+    return words[:64].view(kind("MarsBattle"))[0]
+
+
+def is_state(words: Words, now: State) -> bool:
+    """Whether the words are the block of a state, followed by zeros."""
+    head = header(words)
+    cells = words[64 : 64 + 3 * head["core"]].view(kind("MarsCell"))
+    ends = [*accumulate(head["queue"][: head["warriors"]], initial=64 + 3 * head["core"])]
+    queues = [words[start:end] for start, end in pairwise(ends)]
+    places = [int(head[name]) for name in ("turns", "cycle", "next", "over")]
+    return (
+        places == [now.turns, now.cycle, now.next, now.over]
+        and np.array_equal(cells, now.cells)
+        and [*map(list, queues)] == [*map(list, now.queues)]
+        and np.array_equal(head["death"][: head["deaths"]], now.deaths)
+        and ends[-1] == head["words"]
+    )
+
+
+@given(matches(), st.integers(0, 2), st.integers(0, 60), st.integers(0, 30))
+def test_turns(fight: Match, round: int, first: int, more: int) -> None:
+    """After turns a battle is that state, its rows are those records, and turns one by one make the same words."""
+    try:
+        words = started(fight, round)
+    except Fault as fault:
+        with pytest.raises(Fault, match=str(fault)):
+            state(fight, round)
+        return
+    play(words, first)
+    assert is_state(words, state(fight, round, turns=first))
+    single = words.copy()
+    made = play(words, more, more + 2)
+    for rows, told in zip(made, (record, touched)):
+        expected = told(fight, round, first=first, most=more)
+        assert np.array_equal(rows[: len(expected)], expected) and not rows[len(expected) :].view(np.uint32).any()
+    for _ in range(more):
+        play(single, 1)
+    length = header(words)["words"]
+    assert is_state(words, state(fight, round, turns=first + more)) and np.array_equal(words[:length], single[:length])
+
+
+NUMBERS = st.integers(0, 4)
+CELLS = st.tuples(*(st.integers(0, len(names) - 1) for names in (OPCODES, MODIFIERS, MODES, MODES)), NUMBERS, NUMBERS)
+
+
+@given(matches(), st.integers(0, 40), st.integers(1, 4), NUMBERS, NUMBERS, st.integers(0, 70), CELLS)
+def test_edits(fight: Match, first: int, what: int, warrior: int, place: int, address: int, cell: Any) -> None:
+    """An edit makes what the debugger's line makes, or is refused by the same number and changes nothing."""
+    op, modifier, a_mode, b_mode, a, b = cell
+    line = [
+        f"edit {address} {OPCODES[op]}.{MODIFIERS[modifier]} {MODES[a_mode]}{a}, {MODES[b_mode]}{b}",
+        f"move {warrior} {place} {address}",
+        f"kill {warrior} {place}",
+        f"spawn {warrior} {address}",
+    ][what - 1]
+    try:
+        words = started(fight)
+    except Fault:
+        return
+    play(words, first)
+    before, refused, lines = words.copy(), "", [*([f"run {first}"] if first else []), line]
+    try:
+        edit(words, what, warrior, place, address, cell)
+    except Fault as fault:
+        refused = str(fault)
+        assert fault.code == EDIT and np.array_equal(words, before)
+    assert is_state(words, state(fight, lines=lines))
+    assert debug(fight, lines).splitlines()[-1] == refused or not refused
+
+
+SMALL = Settings(core=8, processes=3, cycles=10, longest=1, distance=1)
+
+
+def three() -> Words:
+    """Three warriors of one process each, after four turns."""
+    words = started(Match((assemble("JMP 0", SMALL),) * 3, SMALL))
+    play(words, 4)
+    return words
+
+
+# What is written into the words of `three`, and the error then: its number, problem, line and warrior.
+ERRORS = [
+    ({0: 0}, (2, 0, 0, 0)),
+    ({2: 0}, (3, 1, 0, 0)),
+    ({3: 0}, (3, 2, 0, 0)),
+    ({4: 0}, (3, 3, 0, 0)),
+    ({5: 9}, (3, 4, 0, 0)),
+    ({6: 0}, (3, 4, 0, 0)),
+    ({7: 9}, (3, 5, 0, 0)),
+    ({8: 9}, (3, 6, 0, 0)),
+    ({9: 17}, (4, 0, 0, 0)),
+    ({64: 16}, (5, 0, 0, 0)),
+    ({64 + 3 * 7 + 2: 8}, (5, 0, 7, 0)),
+    ({90: 8}, (6, 0, 0, 2)),
+    ({14: 1}, (7, 0, 0, 0)),
+    ({10: 5}, (8, 0, 0, 0)),
+    ({13: 1}, (9, 0, 0, 0)),
+    ({0: 0, 13: 1}, (2, 0, 0, 0)),
+]
+
+
+@pytest.mark.parametrize("changes, error", ERRORS, ids=str)
+def test_errors_of_blocks(changes: dict[int, int], error: tuple[int, ...]) -> None:
+    """Each call reports the same error of words that are not a battle, and changes nothing."""
+    words = three()
+    for place, word in changes.items():
+        words[place] = word
+    before = words.copy()
+    for ask in (lambda: call("mars_check", *slices(words)), lambda: play(words, 1, 1), lambda: edit(words, 3)):
+        with pytest.raises(Fault) as found:
+            ask()
+        told = found.value
+        assert (told.code, (told.number, told.problem, told.line, told.warrior)) == (BLOCK, error)
+        assert np.array_equal(words, before)
+
+
+def test_few_words() -> None:
+    """Words that are too few for the battle, or for what it may come to need."""
+    words = three()
+    assert header(words)["words"] == 91 and len(words) == 64 + 3 * 8 + 3 * 3
+    for length in (0, 63, 90):
+        with pytest.raises(Fault, match="block 1 Short"):
+            call("mars_check", *slices(words[:length]))
+    assert call("mars_check", *slices(words[:91])) == 0
+    none = library()[0].NULL, 0
+    assert call("mars_play", *slices(words[:-1]), 1, *none, *none) == ROOM
+
+
+# Edits, and the number of the error of each.
+REFUSED = [
+    ((0,), 1),
+    ((5,), 1),
+    ((1, 0, 0, 0, (16, 0, 0, 0, 0, 0)), 1),
+    ((1, 0, 0, 0, (0, 7, 0, 0, 0, 0)), 1),
+    ((1, 0, 0, 0, (0, 0, 0, 8, 0, 0)), 1),
+    ((1, 0, 0, 8), 2),
+    ((2, 3, 0, 8), 2),
+    ((1, 0, 0, 0, (0, 0, 0, 0, 8, 0)), 3),
+    ((4, 3, 0, 0), 4),
+    ((3, 0, 1), 5),
+    ((4, 2, 0, 0), 6),
+    ((4, 1, 0, 0), 7),
+]
+
+
+@pytest.mark.parametrize("given, number", REFUSED, ids=str)
+def test_errors_of_edits(given: Any, number: int) -> None:
+    """Each refusal of an edit, of a battle whose warrior 1 has all its processes and whose warrior 2 is dead."""
+    words = three()
+    edit(words, 4, 1, 0, 5), edit(words, 4, 1, 0, 6), edit(words, 3, 2, 0)
+    before = words.copy()
+    with pytest.raises(Fault) as found:
+        edit(words, *given)
+    assert (found.value.code, found.value.number) == (EDIT, number) and np.array_equal(words, before)
+
+
+def test_a_core_of_its_own() -> None:
+    """A battle that a caller makes up: every cell an imp, two processes."""
+    words = np.zeros(64 + 3 * 8 + 3, np.uint32)
+    words[:16] = [MARK, 64 + 24 + 2, 8, 3, 10, 8, 8, 1, 1, 1, 0, 0, 0, 0, 0, 0]
+    words[16], words[64:88] = 2, [1 + 256 * 6 + 65536 + 16777216, 0, 1] * 8
+    words[88:90] = [3, 7]
+    assert call("mars_check", *slices(words)) == 0
+    records, _ = play(words, 3, 3)
+    assert records["address"].tolist() == [3, 7, 4] and words[88:90].tolist() == [0, 5]
+
+
+def is_battle(words: list[int]) -> bool:
+    """Whether words begin with a battle."""
+    if len(words) < 64 or words[0] != MARK:
+        return False
+    length, core, processes, cycles, read, write, longest, distance, warriors = words[1:10]
+    turns, cycle, following, over, dead, unused = words[10:16]
+    ranges = (
+        (core, 1 << 20),
+        (processes, 1 << 16),
+        (cycles, 10**7),
+        (read, core),
+        (write, core),
+        (longest, core),
+        (warriors, 16),
+    )
+    if any(not 1 <= value <= most for value, most in ranges) or not longest <= distance <= core:
+        return False
+    counts = words[16 : 16 + warriors]
+    if length != 64 + 3 * core + sum(counts) or length > len(words) or unused or any(words[16 + warriors : 32]):
+        return False
+    for tags, a, b in (words[64 + 3 * address : 67 + 3 * address] for address in range(core)):
+        if any(tags >> 8 * k & 255 >= most for k, most in enumerate((16, 7, 8, 8))) or max(a, b) >= core:
+            return False
+    if max(counts) > processes or any(address >= core for address in words[64 + 3 * core : length]):
+        return False
+    if dead > 16 or any(words[32 + 2 * dead : 64]):
+        return False
+    alive = [warrior for warrior in range(warriors) if counts[warrior]]
+    if sorted(words[32 : 32 + 2 * dead : 2]) != [warrior for warrior in range(warriors) if not counts[warrior]]:
+        return False
+    if following >= warriors or cycle > cycles or turns > cycle * warriors + following + (not alive):
+        return False
+    if alive and (following not in alive or cycle == cycles and following != alive[0]):
+        return False
+    return over == (cycle == cycles or len(alive) <= (warriors > 1))
+
+
+SOURCES = ["MOV 0, 1", "SPL 0\nJMP -1", "DAT 0", "SPL 1\nDIV #0, 1"]
+
+
+def test_corrupted_blocks() -> None:
+    """Changed or shortened blocks are accepted if they are a battle, and are then written back unchanged."""
+    dice, accepted = random.Random(7), 0
+    settings = Settings(core=20, processes=4, cycles=30, longest=2, distance=2)
+    for _ in range(2000):
+        warriors = tuple(assemble(dice.choice(SOURCES), settings) for _ in range(dice.randint(1, 3)))
+        words = started(Match(warriors, settings, dice.randint(1, 999)))
+        play(words, dice.randint(0, 80))
+        words = words[: header(words)["words"] + dice.choice([0, 0, 5])]
+        for _ in range(dice.randint(1, 3)):
+            place = dice.choice([dice.randrange(64), dice.randrange(len(words))])
+            near = [max(0, int(words[place]) - 1), min(2**32 - 1, int(words[place]) + 1)]
+            words[place] = dice.choice([0, 1, 2, 3, 16, 17, 20, 255, 2**32 - 1, *near, *near])
+        words = words[: dice.choice([len(words)] * 5 + [dice.randrange(len(words))])]
+        try:
+            call("mars_check", *slices(words))
+        except Fault as fault:
+            assert fault.code == BLOCK and not is_battle(words.tolist()), words
+            continue
+        assert is_battle(words.tolist()), words
+        accepted += 1
+        longer = np.concatenate([words, np.zeros(64, np.uint32)])
+        play(longer, 0)
+        assert np.array_equal(longer[: len(words)], words)
+    assert 100 < accepted < 1900
