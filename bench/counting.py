@@ -1,14 +1,14 @@
-"""Counts by valgrind: the machine instructions of a run, and its requests for memory; and load files of bench/race.rattle."""
+"""Counts machine instructions and allocations of a run with valgrind; and load files of bench/race.rattle."""
 import os
 import re
 import subprocess
 
-# The program of turns (`rt` takes no file that ends in .rt outside of crates/), whose warriors are constants.
+# The program of turns, whose warriors are constants (`rt` accepts no file that ends in .rt outside of crates/).
 RACE = os.path.join(os.path.dirname(os.path.abspath(__file__)), "race.rattle")
 
 
 def count(command, pattern, options=()):
-    """A number that valgrind tells of a run, and what the run wrote."""
+    """Returns a number that valgrind reports of a run, and the output of the run."""
     done = subprocess.run(["valgrind", *options, *command], capture_output=True, text=True, check=True)
     return int(re.search(pattern, done.stderr)[1].replace(",", "")), done.stdout
 
@@ -22,7 +22,7 @@ def requests(command):
 
 
 def load_file(place, constant):
-    """A file of the load file that a constant of the program of turns has."""
+    """Writes the load file in a constant of the program of turns to a file."""
     text = re.search(rf'const {constant}: .* = b"(.*)";', open(RACE).read())[1]
     path = os.path.join(place, f"{constant}.load")
     with open(path, "w") as file:

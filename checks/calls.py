@@ -64,7 +64,7 @@ def sources(crate):
 
 
 def exported(crate):
-    """The names that a crate hands out; those of a library for C are its exports."""
+    """Returns the names that a crate exports; those of a library for C are its exports to C."""
     lib = dict(sources(crate))["src/lib.rt"]
     named = {name: module.replace("::", "/") for module, names in re.findall(r"^pub use ([\w:]+)::(\{[^}]*\}|\w+);", lib, re.M) for name in re.findall(r"\w+", names)}
     return named | {"laws": "laws"} if "pub mod laws;" in lib else named

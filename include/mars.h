@@ -5,7 +5,7 @@
  * one in this order is returned: the numbers of warriors, of rows and of places of the history; the parameters; rounds, seed and
  * position; the formula; the load files in order, and bytes left over after them; the round; then errors that only the match shows.
  *
- * Nothing outlives a call and nothing is shared, so several threads may call at once, each with its own rows, buffers and faults.
+ * Nothing outlives a call and nothing is shared, so several threads may call at once, each with its own rows, buffers and *fault.
  * A call gets its memory from malloc and realloc and frees all of it; these calls must belong to one allocator and align as C requires.
  * A stack of 64 KiB is sufficient: no measured call used more than 40 KiB. Do not call the library from a signal handler, or in the
  * forked child of a process with threads.
@@ -31,7 +31,7 @@ extern "C" {
 /* The version of the library that is called. */
 uint32_t mars_version(void);
 
-/* The results of calls, each with the meaning of `number` in a fault. */
+/* The results of calls, and the meaning of `number` in MarsFault for each. */
 enum {
     MARS_DONE = 0,
     MARS_OUT_OF_MEMORY = 1,

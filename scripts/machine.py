@@ -1,19 +1,19 @@
-"""What a machine has: the toolchain, its processors, the memory that is free, and packages of Debian's."""
+"""Properties of the machine: the toolchain, processors, free memory, and Debian packages."""
 import os, re, shutil, subprocess
 
-# The limit of a control group and what it uses, of either version; without a limit the first is no number, or a huge one.
+# The files with the limit and the use of a control group, of either version; without a limit the first has no number, or a huge one.
 GROUPS = [("memory.max", "memory.current"), ("memory/memory.limit_in_bytes", "memory/memory.usage_in_bytes")]
 
 
 def toolchain():
-    """The folder of the Rattle toolchain, which has the guide that `rt doc` names; None where there is no `rt`."""
+    """Returns the folder of the Rattle toolchain, which has the guide that `rt doc` prints, or None without `rt`."""
     if not shutil.which("rt"):
         return None
     return os.path.dirname(subprocess.run(["rt", "doc"], capture_output=True, text=True).stdout.strip())
 
 
 def number_in(name, pattern=r"(\d+)\s*$"):
-    """A number in a file of the system, where both are there."""
+    """Returns a number in a file of the system, or None."""
     try:
         with open(name) as file:
             found = re.search(pattern, file.read())
@@ -23,7 +23,7 @@ def number_in(name, pattern=r"(\d+)\s*$"):
 
 
 def free_memory():
-    """What memory is free, in bytes: of the machine, and of the control group."""
+    """Returns the free memory in bytes, of the machine or of the control group, whichever is less."""
     free = [1024 * number_in("/proc/meminfo", r"MemAvailable: *(\d+)")]
     for names in GROUPS:
         limit, used = (number_in(f"/sys/fs/cgroup/{name}") for name in names)
@@ -33,12 +33,12 @@ def free_memory():
 
 
 def at_a_time(memory):
-    """How many processes of so much memory, in bytes, there are processors and memory for: one at least."""
+    """Returns for how many processes with this much memory, in bytes, there are processors and memory: at least one."""
     return max(1, min(len(os.sched_getaffinity(0)), free_memory() // memory))
 
 
 def is_missing(package):
-    """Whether neither Debian's package is there nor a command of its name from elsewhere."""
+    """Returns whether neither the Debian package is installed nor a command of its name exists."""
     if shutil.which(package):
         return False
     words = ["dpkg-query", "--show", "--showformat=${db:Status-Status}", package]

@@ -13,7 +13,7 @@ class NoProgram(Exception):
 
 
 def find_program(given=None):
-    """The file of the program: the given one, or the built one, or one on the path."""
+    """Returns the file of the program: the given one, or the built one, or one on the path. Raises NoProgram."""
     known = (path for path in (BUILT, shutil.which("mars")) if path and os.path.isfile(path))
     program = given or next(known, BUILT)
     if not os.path.isfile(program) or not os.access(program, os.X_OK):

@@ -4,7 +4,7 @@ import shutil
 import sys
 import time
 
-# The longest silence where there is no terminal, in seconds.
+# The maximum time without a line if there is no terminal, in seconds.
 SILENCE = 20
 
 
@@ -13,7 +13,7 @@ def clock(seconds):
 
 
 class Reckoning:
-    """When each crate is proved, in seconds from the begin of a start: as in the last one, which a file keeps, else the last crate alone."""
+    """The expected time of each crate, in seconds from the start of a build: as in the last build, from a file, or only that of the last crate."""
 
     def __init__(self, path, crates, whole):
         self.path = path
@@ -28,7 +28,7 @@ class Reckoning:
         return max(self.due.values())
 
     def left(self, proved, seconds):
-        """How many seconds are left: the pace is that of the crate that was proved last, or slower where one that isn't proved is late."""
+        """Returns the remaining seconds, at the pace of the crate that was proved last, or slower if another one is late."""
         paces = [when / self.due[crate] for crate, when in proved.items() if crate in self.due]
         late = [seconds / when for crate, when in self.due.items() if crate not in proved]
         return self.whole() * max([paces[-1] if paces else 1, *late]) - seconds
@@ -39,8 +39,8 @@ class Reckoning:
 
 
 class Progress:
-    """Tells how far a start with so many crates is: on a terminal in one line that is written over each second; elsewhere in a line for each
-    crate that is proved, and one on what is under way where nothing was said for a while."""
+    """Reports the progress of a build: on a terminal in one line that is rewritten every second, otherwise in a line for each proved crate,
+    and one with the crates in progress after a while without a line."""
 
     def __init__(self, count, reckoning=None):
         self.count, self.reckoning, self.proved = count, reckoning, {}
@@ -48,13 +48,13 @@ class Progress:
         self.is_terminal = sys.stderr.isatty()
 
     def add(self, crate):
-        """Tells of a crate that it is proved."""
+        """Reports a crate as proved."""
         self.proved[crate] = time.monotonic() - self.begun
         if not self.is_terminal:
             self.tell(f"mars: proved {crate}, {len(self.proved)} of {self.count} ({clock(self.proved[crate])})")
 
     def go_on(self, at_work):
-        """Tells what is under way, where it is time for that."""
+        """Reports the crates in progress, if it is time to."""
         if time.monotonic() - self.told >= (1 if self.is_terminal else SILENCE):
             seconds = time.monotonic() - self.begun
             parts = [f"mars: {len(self.proved)} of {self.count} crates proved in {clock(seconds)}", *self.time_left(seconds)]
@@ -66,7 +66,7 @@ class Progress:
             yield f"about {left / 60:.0f} min left" if left >= 90 else "about a minute left"
 
     def tell(self, line):
-        """Writes a line, on a terminal over the one before."""
+        """Writes a line, on a terminal over the previous one."""
         self.told = time.monotonic()
         if self.is_terminal:
             print(f"\r\033[K{line[:shutil.get_terminal_size().columns - 1]}", end="", file=sys.stderr, flush=True)
@@ -74,7 +74,7 @@ class Progress:
             print(line, file=sys.stderr, flush=True)
 
     def end(self):
-        """Ends the line of a terminal."""
+        """Ends the line on a terminal."""
         if self.is_terminal:
             done = f"mars: proved {len(self.proved)} crates in {clock(time.monotonic() - self.begun)}\n" if len(self.proved) == self.count > 0 else ""
             print(f"\r\033[K{done}", end="", file=sys.stderr, flush=True)

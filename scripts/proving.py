@@ -1,4 +1,4 @@
-"""Two ways to prove crates: from nothing over what those below state, of which only what is built stays, or over work that is kept."""
+"""Two ways to prove crates: from scratch, given the statements of the crates below, or with stored work."""
 import os
 import re
 import shutil
@@ -10,15 +10,15 @@ from program import BUILT as PROGRAM_FILE, CRATE, TOP
 from rooms import all_below, crate_lines, make_room
 from webassembly import keeping_toolchain
 
-# The lines of crates.txt of the program and of the library for C, and what is built of them.
+# The lines of crates.txt of the program and of the library for C, and the files that are built from them.
 PROGRAM, LIBRARY = CRATE, "mars_c staticlib"
 ARCHIVE = os.path.join(TOP, "crates", "mars_c", "out", "libmars_c.a")
 # The module that the archive is compiled from.
 MODULE = os.path.join(TOP, "crates", "mars_c", "out", "module.bc")
 BUILT = {PROGRAM: PROGRAM_FILE, LIBRARY: ARCHIVE}
-# Marks what crates state where a start that was stopped, or still goes on, has left it.
+# Marks the statements of a crate that come from a build that was stopped or is still running.
 MARK = "of-a-first-start"
-# How much memory there has to be for each job, with those of other crates side by side, in bytes.
+# The memory that each job needs, in parallel with other crates, in bytes.
 MEMORY_OF_A_JOB = 3_300_000_000
 
 
@@ -35,7 +35,7 @@ def crate_of(name):
 
 
 def lines_of(*built):
-    """The lines of crates.txt for what is built and for all that it stands on. Crates of tests aren't among them."""
+    """Returns the lines of crates.txt for what is built and for everything that it uses, without crates of tests."""
     lines = crate_lines()
     wanted = {*built, *(name for one in built for name in all_below(one, lines))}
     return {name: lines[name] for name in lines if name in wanted}
@@ -46,18 +46,17 @@ def folder_of(name):
 
 
 def made_of(name):
-    """What a proof of a crate leaves: what is built of it, or what it states."""
+    """Returns the result of proving a crate: the file that is built from it, or its statements."""
     return BUILT.get(name) or os.path.join(folder_of(name), "out", "rlib", f"{name}.rlib")
 
 
 def has_work(name):
-    """Whether work is kept there that later checks take up again."""
+    """Returns whether there is stored work for later checks."""
     return os.path.isdir(os.path.join(folder_of(name), "out", "incremental"))
 
 
 def time_of(path):
-    """When a file was written, or what a crate states, which is a folder; there it is when its proof began, where a mark tells that.
-    None where there is none."""
+    """Returns when a file was written, or a folder of statements; with a mark, when the proof of these began. None if there is none."""
     written, mark = (os.path.join(path, "format"), os.path.join(os.path.dirname(path), MARK)) if os.path.isdir(path) else (path, "")
     if not os.path.exists(written):
         return None
@@ -65,7 +64,7 @@ def time_of(path):
 
 
 def is_newer(made, names):
-    """Whether what was made is newer than all sources of these crates."""
+    """Returns whether a result is newer than all sources of these crates."""
     when = time_of(made)
     folders = [os.path.join(folder_of(name), part) for name in names for part in ("src", "specs", "proofs")]
     files = [os.path.join(here, file) for folder in folders for here, _, found in os.walk(folder) for file in found]
@@ -73,18 +72,18 @@ def is_newer(made, names):
 
 
 def built_anew(lines):
-    """What is newer than all its sources, of the program and the archive."""
+    """Returns which of the program and the archive are newer than all their sources."""
     return {name for name in BUILT.keys() & lines.keys() if is_newer(BUILT[name], [name, *all_below(name, lines)])}
 
 
 def builder_of(library):
-    """The line of a library that tells which build of the prover wrote it."""
+    """Returns the line of a library with the build of the prover that wrote it."""
     with open(os.path.join(library, "format"), errors="replace") as file:
         return next((line for line in file if line.startswith("rattle-build ")), None)
 
 
 def run(words, name, folder):
-    """Runs a command in a folder, and gives what it said; a fault of the crate where it doesn't end well."""
+    """Runs a command in a folder and returns its output. Raises NotProved if it fails."""
     done = subprocess.run(words, cwd=folder, stdout=subprocess.PIPE, stderr=subprocess.STDOUT, text=True, errors="replace")
     if done.returncode:
         raise NotProved(name, done.stdout)
@@ -92,17 +91,17 @@ def run(words, name, folder):
 
 
 class FromNothing:
-    """Proves each crate from nothing over what those below it state, as `rt ci` does, and leaves what it states in the place where that does."""
+    """Proves each crate from scratch, given the statements of those below it, as `rt ci` does, and leaves its statements in the same place."""
 
     def __init__(self, lines):
         self.lines, self.kit, self.most = lines, toolchain(), at_a_time(MEMORY_OF_A_JOB)
 
     def jobs(self, at_once):
-        """The jobs of a crate of so many that are proved at once: they are at work all the time, so each crate has its part."""
+        """Returns the number of jobs of each of `at_once` crates. All jobs are busy all the time, so the crates share them."""
         return max(1, self.most // at_once)
 
     def proved(self):
-        """What needn't be proved: nothing has changed since the program or the archive was built, or since the crate was proved in this way."""
+        """Returns what need not be proved: unchanged since the program or the archive was built, or since the crate was proved in this way."""
         found = built_anew(self.lines)
         for name in self.lines:
             made, below = made_of(name), [one for one in self.lines[name] if one in self.lines]
@@ -111,13 +110,13 @@ class FromNothing:
         return found
 
     def is_stated(self, name):
-        """Whether what a crate states is newer than its sources, and written by this prover in this way."""
+        """Returns whether the statements of a crate are newer than its sources, and written by this prover in this way."""
         made = made_of(name)
         is_whole = os.path.exists(os.path.join(os.path.dirname(made), "stamp"))
         return is_newer(made, [name]) and not is_whole and builder_of(made) == builder_of(f"{self.kit}/rlibs/std.rlib")
 
     def prove(self, name, jobs):
-        """Proves a crate in so many jobs. The program takes one, since each further one would read once more what all crates state."""
+        """Proves a crate in `jobs` jobs. The program uses one, since every other one would read the statements of all crates again."""
         made = made_of(name)
         if name not in BUILT:
             shutil.rmtree(os.path.dirname(made), ignore_errors=True)
@@ -138,7 +137,7 @@ class FromNothing:
             self.link(f"{made}.o", made)
 
     def build(self, name, words):
-        """Has the prover check a crate and build something of it."""
+        """Calls the prover to check a crate and build something from it."""
         crate = crate_of(name)
         command = [f"{self.kit}/bin/rattle", "build", "--crate-name", crate, "src/main.rt" if name == PROGRAM else "src/lib.rt"]
         for library in ["std", *self.lines[name]]:
@@ -151,36 +150,36 @@ class FromNothing:
             raise NotProved(name, said)
 
     def link(self, compiled, program):
-        """Links the program, and puts it in place of an older one, which may be running."""
+        """Links the program and replaces an older one, which may be running."""
         command = [f"{self.kit}/bin/rattle-link", "--target", "x86_64-unknown-linux-gnu", "--toolchain", f"{self.kit}/toolchain", "-o", f"{program}.new", compiled]
         run([*command, f"{self.kit}/c/libos_c.a", f"{self.kit}/c/liblibc_c.a"], PROGRAM, TOP)
         os.replace(f"{program}.new", program)
         os.remove(compiled)
 
     def tidy(self):
-        """Removes what a start has left of the crates, but for what is built."""
+        """Removes what a build has left of the crates, except the built files."""
         for folder in (os.path.dirname(made_of(name)) for name in self.lines if name not in BUILT):
             if os.path.exists(os.path.join(folder, MARK)):
                 shutil.rmtree(folder)
 
 
 class Kept:
-    """Proves crates by `rt lib` and `rt run`, which keep what later checks take up again. `rt` lets one check at a time into a crate and into those
-    below it, so each is proved in a room of its own, to which they are linked; what it made is moved out of there."""
+    """Proves crates with `rt lib` and `rt run`, which store work for later checks. `rt` runs one check at a time in a crate and in those below
+    it, so each is proved in a room of its own with links to them; the results are moved out of there."""
 
     def __init__(self, lines, rooms):
         self.lines, self.rooms, self.most = lines, rooms, at_a_time(MEMORY_OF_A_JOB)
 
     def jobs(self, _at_once):
-        """Each has all jobs, since a check begins and ends with one at work: what it leaves idle, another takes."""
+        """Returns all jobs for each crate, since a check begins and ends with one busy job and leaves the others to other crates."""
         return self.most
 
     def proved(self):
-        """What needn't be built again: nothing has changed since, and all work is there. Of the crates below `rt` itself knows what has changed."""
+        """Returns what need not be built again: unchanged, with all its work. Changes in the crates below are found by `rt`."""
         return {name for name in built_anew(self.lines) if all(map(has_work, (name, *all_below(name, self.lines))))}
 
     def prove(self, name, jobs):
-        """Proves a crate over those below it in so many jobs, and keeps what that made."""
+        """Proves a crate in `jobs` jobs, with those below it, and stores the results."""
         room = os.path.join(self.rooms, crate_of(name))
         wanted = {name, *all_below(name, self.lines)}
         make_room(room, {one: self.lines[one] for one in self.lines if one in wanted})
@@ -194,4 +193,4 @@ class Kept:
                 os.rename(os.path.join(made, "out"), kept)
 
     def tidy(self):
-        """All is kept."""
+        """Everything is stored."""

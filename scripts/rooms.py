@@ -1,5 +1,5 @@
-"""Rooms: repositories of some of the crates alone, by links. `rt` locks a crate and those below it, so what is proved or tried side by side
-needs one each."""
+"""Rooms: repositories with links to only some of the crates. `rt` locks a crate and those below it, so crates that are proved or tried in
+parallel need a room each."""
 import os
 import shutil
 
@@ -7,20 +7,20 @@ from program import TOP
 
 
 def crate_lines():
-    """The lines of crates.txt: for each crate, or `NAME staticlib`, the words behind its colon."""
+    """Returns the lines of crates.txt: for each crate, or `NAME staticlib`, the words after its colon."""
     with open(os.path.join(TOP, "crates.txt")) as file:
         lines = [line.split(":") for line in file if line[0].isalpha()]
     return {name: rest.split() for name, rest in lines}
 
 
 def all_below(crate, lines):
-    """The crates of these lines that a crate stands on, by itself or through others."""
+    """Returns the crates of these lines that a crate uses, directly or through others."""
     below = [name for name in lines[crate] if name in lines]
     return {*below, *(name for one in below for name in all_below(one, lines))}
 
 
 def make_room(folder, lines):
-    """A repository of the crates of these lines alone. It has to be on the file system of this one, since links don't lead to another."""
+    """Makes a repository of only the crates of these lines. It has to be on the same file system as this one, because of the links."""
     os.mkdir(folder)
     shutil.copy(os.path.join(TOP, "HANDLES"), folder)
     with open(os.path.join(folder, "crates.txt"), "w") as file:
@@ -31,7 +31,7 @@ def make_room(folder, lines):
 
 
 def write_new(path, text):
-    """Writes a file of a room anew: what stood there may be a link to the repository's own."""
+    """Replaces a file of a room, which may be a link to that of the repository."""
     if os.path.exists(path):
         os.remove(path)
     os.makedirs(os.path.dirname(path), exist_ok=True)

@@ -13,12 +13,12 @@ from typing import Any
 import pytest
 from hypothesis import settings
 
-# The gate tries the same examples each time; `--hypothesis-profile=wide` tries others, and more of them.
+# CI tries the same examples each time; `--hypothesis-profile=wide` tries others, and more of them.
 settings.register_profile("gate", deadline=None, derandomize=True)
 settings.register_profile("wide", deadline=None, max_examples=3000)
 settings.load_profile("gate")
 
-# What tests start hears Ctrl-C, though a shell that ran the tests behind it (`&`) has it ignored.
+# Processes of tests receive Ctrl-C, even if a shell runs the tests in the background and ignores it.
 signal.signal(signal.SIGINT, signal.default_int_handler)
 
 TOP = Path(__file__).resolve().parents[1]

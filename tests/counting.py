@@ -8,10 +8,10 @@ import pytest
 
 TOP = str(Path(__file__).resolve().parents[1])
 SCRIPTS = os.path.join(TOP, "scripts")
-# The program, which `./mars` or the gate has built; MARS names another one.
+# The program, which `./mars` or CI has built; MARS names another one.
 PROGRAM = os.path.abspath(os.environ.get("MARS") or f"{TOP}/crates/mars/out/mars")
 
 
 def skip(name: str, why: str, package: str | None = None) -> None:
-    """Tells what can't be tried on this machine, and the package of Debian's by which it could be."""
+    """Skips a test that can't run on this machine, and names the Debian package that it requires."""
     pytest.skip(f"{name}: {why}" + (f" (package {package})" if package else ""))

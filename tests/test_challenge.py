@@ -1,4 +1,4 @@
-"""challenge: its lines against values that were worked out by hand, and its faults."""
+"""challenge: its rows against values that were calculated manually, and its errors."""
 from __future__ import annotations
 
 from pathlib import Path
@@ -23,7 +23,7 @@ def folder(tmp_path: Path) -> None:
 
 
 def test_by_hand(run: Run) -> None:
-    """A survivor alone gets (2*2-1)/1 = 3 points of a round, each of two gets 3/2 = 1, a dead one nothing."""
+    """A single survivor scores (2*2-1)/1 = 3 points in a round, each of two 3/2 = 1, a dead warrior nothing."""
     assert run("challenge", "-r", 4, "stay.red", "stay.red", "dead.red", "late.red").stdout == HEAD + (
         "      12      4      0      0        0  dead.red  Dead by Anonymous\n"
         "      12      4      0      0        0  late.red  Late by Me\n"
@@ -45,7 +45,7 @@ def test_by_hand(run: Run) -> None:
 
 
 def test_faults(run: Run) -> None:
-    """An opponent with a fault is told and left out; the candidate's ends all."""
+    """An opponent with an error is reported and left out; an error of the candidate ends the command."""
     done = run("challenge", "-r", 2, "stay.red", "broken.red", "dead.red", "none.red")
     assert done.returncode == 1 and done.stdout == HEAD + (
         "       6      2      0      0        0  dead.red  Dead by Anonymous\n"
@@ -60,7 +60,7 @@ def test_faults(run: Run) -> None:
 
 
 def test_results_are_kept(run: Run, tmp_path: Path) -> None:
-    """They are those of a league in which the candidate stands first."""
+    """They are those of a league in which the candidate is the first file."""
     words = ["--results", "kept.sqlite", "-r", 4, "stay.red", "dead.red", "late.red"]
     told = run("league", *words)
     assert told.returncode == 0

@@ -95,7 +95,7 @@ def test_a_worker_dies_and_another_comes(start: Start, scheduler: tuple[str, Any
 
 
 def test_ends(start: Start, scheduler: tuple[str, Any]) -> None:
-    """Ctrl-C, and a scheduler that goes, are told in a line."""
+    """Ctrl-C, and the end of a scheduler, are reported in a line."""
     worker(start, scheduler[0])
     for status in (130, 1):
         process = begun("-r", LONG, "--scheduler", scheduler[0])

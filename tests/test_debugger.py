@@ -1,4 +1,4 @@
-"""The debugger: a session does what the program's debugger does, and commands tell it."""
+"""The debugger: a session does what the program's debugger does, and commands report it."""
 from __future__ import annotations
 
 import os
@@ -157,7 +157,7 @@ def test_over_a_pipe(run: Run) -> None:
 
 
 def test_deaths_and_cells_by_hand() -> None:
-    """What an edit did is told as that, also before the first turn."""
+    """Effects of edits are reported as such, also before the first turn."""
     session = session_of("dwarf", "imp")
     execute(session, "kill imp 0")
     assert execute(session, "why") == ["Imp was killed by an edit after turn 0."]

@@ -15,9 +15,9 @@ from corewar.explain.source import MODIFIERS, OPERATIONS, PREDEFINED
 from corewar.model.faults import ASSEMBLY, FORMULA, PROBLEMS, Fault
 from corewar.model.settings import Settings
 
-# A source, the fault that the library finds in it, and what has to be said of it.
+# A source, the error that the library finds in it, and a part of the explanation.
 SOURCES = [
-    # Misspelt opcodes, also where another line has the fault.
+    # Misspelt opcodes, also if another line has the error.
     ("MVO #1, 2\n", "line 1: 2 Operation", "`MVO` is read as a label; did you mean `MOV`?"),
     (
         "go MVO bomb, 2\nbomb dat 0\n",
@@ -72,7 +72,7 @@ SOURCES = [
     ("mov 0, \u2018a\n", "line 1: 1 Text 1 NotAscii", "Column 8 has `\u2018`, left single quotation mark"),
     ("\ufeffmov 0, 1\n", "line 1: 1 Text 1 NotAscii", "The file begins with a byte order mark"),
     ("dat 0\n" * 101, "line 101: 8 TooLong", "increase `-l`"),
-    # Faults of which the text shows no cause: what they mean.
+    # Errors without a cause in the text: what they mean.
     ("mov 0, 1.5\n", "line 1: 4 Expression 1 Syntax", "The expression is incomplete"),
     ("i FOR 2\nx&j dat 0\nROF\n", "line 2: 1 Text 2 BadToken", "`&` joins the counter of an open loop"),
     ("FOR 1/0\ndat 0\nROF\n", "line 1: 1 Text 10 Expression 3 DivideByZero", "A division or remainder by zero."),
@@ -89,7 +89,7 @@ def test_causes(text: str, fault: str, expected: str) -> None:
 
 
 def test_each_fault_has_a_meaning() -> None:
-    """Those that the documents tell; each is read back from a line, whatever stands before it."""
+    """The errors of the documents; each is found in a line, whatever precedes it."""
     document = (TOP / "docs" / "user" / "LANGUAGE.md").read_text()
     table = document[document.index("## Errors") : document.index("## Differences")]
     names = [line.split("`")[1] for line in table.splitlines() if line.startswith("| `")]
@@ -103,7 +103,7 @@ def test_each_fault_has_a_meaning() -> None:
 
 
 def test_each_fault_of_the_library_is_known() -> None:
-    """The texts are those that faults have."""
+    """The explained texts are those of the errors."""
     for number, name in enumerate(("", "Operation", "Operand", "", "AssertFailed", "BadOrigin", "Empty", "TooLong"), 1):
         assert not name or f"{number} {name}" in KINDS and told(Fault(ASSEMBLY, number, line=1), b"")
     for number, name in enumerate(PROBLEMS[:-1], 1):
@@ -194,7 +194,7 @@ def test_fix(run: Run, tmp_path: Path) -> None:
 
 
 def test_it_is_soon_there() -> None:
-    """What is made to take long: thousands of causes, words behind END, labels behind loops, deep EQU names."""
+    """Sources made to take long: thousands of causes, words after END, labels after loops, deep EQU names."""
     names, many = [f"q{number}" for number in range(15000)], [f"q{number}" for number in range(9000)]
     deep = "z0 EQU 1\n" + "".join(f"z{number} EQU z{number - 1}\n" for number in range(1, 34))
     sources = {
@@ -220,7 +220,7 @@ def test_it_is_soon_there() -> None:
 
 
 def test_faults_of_all_commands_are_explained(run: Run) -> None:
-    """Settings that don't go together are told with what to do."""
+    """Contradictory settings are reported with what to do."""
     told = run("why", "-l", 200, "@imp")
     assert told.returncode == 2 and told.stderr.splitlines()[0] == "corewar: parameters 6 Distance"
     assert "set `-d`" in told.stderr.splitlines()[1]
@@ -230,7 +230,7 @@ def test_faults_of_all_commands_are_explained(run: Run) -> None:
 
 
 def test_words_of_mars(run: Run) -> None:
-    """The word that the program doesn't take is told, and no other one."""
+    """The wrong argument of the program is reported, and no other one."""
     program, imp = TOP / "crates" / "mars" / "out" / "mars", str(TOP / "examples" / "imp.red")
     cases = [
         ("-r", "requires an argument"),

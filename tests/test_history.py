@@ -99,7 +99,7 @@ def test_a_cell_that_a_turn_does_not_touch_changes_nothing(fight: Match, part: f
 
 @given(matches(), st.integers(0, 23), st.integers(0, 3), PLACES)
 def test_reads_are_those_of_each_turn(fight: Match, first: int, more: int, places: list[tuple[float, str]]) -> None:
-    """What a turn touched, but for what it wrote."""
+    """Returns the cells that a turn touched, except for those that it wrote."""
     history, lines = edited(History(fight), places)
     begin, cells = history.segments[-1].first, {(first + place) % history.core for place in range(more + 1)}
     rows, made = (call(fight, 0, lines, 0, history.end) for call in (touched, record))

@@ -178,13 +178,13 @@ def test_one_version() -> None:
 
 
 def test_one_list_of_packages(tmp_path: Path) -> None:
-    """What `corewar` stands on is the same for pip, for Debian's package, and for scripts/setup."""
+    """The dependencies of `corewar` are the same for pip, for the Debian package, and for scripts/setup."""
     asked = {
         f"python3-{name}" for name in tomllib.loads((TOP / "pyproject.toml").read_text())["project"]["dependencies"]
     }
     control = (TOP / "packaging" / "debian" / "control").read_text().partition("Package: corewar")[2]
     assert {*re.findall(r"^ (python3-[\w-]+),$", control, re.M)} == asked
-    # Nothing is there for this stand-in.
+    # No package is installed for this stub.
     (tmp_path / "dpkg-query").write_text("#!/bin/sh\n")
     (tmp_path / "dpkg-query").chmod(0o755)
     (tmp_path / "python3").symlink_to("/usr/bin/python3")
@@ -227,7 +227,7 @@ def test_page_of_mars_has_the_words() -> None:
 
 
 def test_page_of_mars_has_the_commands_and_faults() -> None:
-    """Each command of the debugger, refusal and fault of the documents is in the page."""
+    """Each command of the debugger, refusal and error of the documents is in the page."""
     text = page_text()
     reference, language = ((TOP / "docs" / "user" / name).read_text() for name in ("REFERENCE.md", "LANGUAGE.md"))
     tables = reference[reference.index("## Debugger commands") : reference.index("## What a source can cost")]

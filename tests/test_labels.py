@@ -20,13 +20,13 @@ last    JMP first
 
 
 def test_lines_of_loops_and_equ_names() -> None:
-    """A line of a loop is told in each round, with its joined label; the lines of an EQU name are those of its use."""
+    """A line of a loop occurs once per iteration, with its joined label; an EQU name has the line of its use."""
     lines = [(4, ["first", "second"]), (6, ["lab01"]), (6, ["lab02"]), (10, []), (10, []), (11, ["last"])]
     assert source_lines(SOURCE) == lines
 
 
 def test_labels_of_two_warriors() -> None:
-    """A label of one warrior stands alone; one of both needs the warrior's number."""
+    """A label of only one warrior needs no number; a label of both does."""
     imp = assemble("last MOV 0, 1")
     history = History(Match((assemble(SOURCE), imp)))
     sources, start = Sources(history), int(history.state(0).queues[1][0])

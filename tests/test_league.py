@@ -1,4 +1,4 @@
-"""league: its tables against the program's own, what is kept, faults, and what it writes."""
+"""league: its tables against the program's own, stored results, errors, and the files that it writes."""
 from __future__ import annotations
 
 import csv
@@ -90,7 +90,7 @@ def test_a_hill_is_its_words(run: Run) -> None:
 
 
 def test_files(run: Run, folder: Path) -> None:
-    """Load files, WARRIORS and ROUNDS, standard input, a name with a dash, and the file where there is no name."""
+    """Load files, WARRIORS and ROUNDS, standard input, a name with a dash, and the file for a missing name."""
     own = own_rows(folder, "-o -r 4 old.load made.red unnamed.load late.red dead.red")
     told = run("league", "-r", 4, "old.load", "made.red", "unnamed.load", "late.red", "dead.red").stdout
     shown = [line.replace(" Unknown by", " old.load by").replace("   by ", "  unnamed.load by ") for line in own]
@@ -109,7 +109,7 @@ LAST_FIRST = ["-r", 4, "dead.red", "late.red", "stay.red", "same.red"]
 
 
 def test_csv(run: Run, folder: Path) -> None:
-    """Dead gets nothing. Late outlives it alone, and the two others outlive both and tie."""
+    """Dead gets nothing. Late outlives only Dead, and the two others outlive both and tie."""
     table = [
         ["rank", "file", "name", "author", "points", "wins", "ties", "losses"],
         ["1", "stay.red", "Stay", "Anonymous", "28", "8", "4", "0"],
@@ -180,7 +180,7 @@ def test_pages(run: Run, folder: Path) -> None:
 
 
 def test_faults_of_files(run: Run, folder: Path) -> None:
-    """A file with a fault is told and left out, and what it means; the others fight on."""
+    """A file with an error is explained and left out; the others play."""
     done = run(
         "league", "-r", 2, "stay.red", "broken.red", "dead.red", "none.red", "alone.red", "late.red", "/dev/zero"
     )
@@ -235,7 +235,7 @@ def test_no_file_has_a_warrior(run: Run, folder: Path) -> None:
 
 
 def test_source_limit(run: Run, folder: Path) -> None:
-    """A source that takes more than its limit is told and left out; a long fight isn't."""
+    """A source that exceeds its limit is reported and left out; a long match is not."""
     (folder / "slow.red").write_text(slow())
     (folder / "names.red").write_text(large())
     for limit, name, told in (("1", "slow.red", "more than 1 s"), ("60,200", "names.red", "more than 200 MB")):
@@ -264,7 +264,7 @@ def wait_for_results(path: Path, count: int) -> None:
 
 
 def test_it_goes_on_where_it_was_ended(folder: Path) -> None:
-    """By a kill and by Ctrl-C, which tells how many are kept; then the table is the same, and all are kept."""
+    """After a kill and after Ctrl-C, which reports how many are stored, the table is the same, and all are stored."""
     path, before = folder / "kept.sqlite", 0
     words = ["-r", 300, "--jobs", 1, "--results", path, *(EXAMPLES / name for name in NAMES[:7])]
     for how in (signal.SIGKILL, signal.SIGINT):
@@ -343,7 +343,7 @@ def test_it_tells_what_is_kept_the_other_way_round(run: Run, folder: Path) -> No
 
 
 def test_progress(folder: Path) -> None:
-    """On a terminal standard error has a bar, and standard output the table alone."""
+    """On a terminal standard error has a bar, and standard output only the table."""
     ours, theirs = os.openpty()
     words = ["league", "stay.red", "dead.red", "late.red"]
     table, _ = begin(*words, cwd=folder, env={**ENVIRONMENT, "TERM": "xterm"}, stderr=theirs).communicate()

@@ -1,4 +1,4 @@
-"""why, trace and changed: what is told of a battle."""
+"""why, trace and changed: their reports on a battle."""
 from __future__ import annotations
 
 import os
@@ -32,7 +32,7 @@ def test_why(run: Run) -> None:
 
 
 def test_why_tells_what_another_made(run: Run) -> None:
-    """A warrior that strays into what another wrote: the turn that wrote it is told, however far back."""
+    """If a warrior executed a cell of another one, the turn that wrote it is reported, however far back."""
     told = run("why", "--turns", 2, "--of", "Dwarf", "@dwarf", "@paper").stdout
     assert told.startswith("Dwarf died in turn 23543:\n")
     assert "of Folder at" in told or "Folder at" in told
@@ -68,7 +68,7 @@ def test_changed(run: Run) -> None:
 
 
 def test_bad_words_and_faults(run: Run) -> None:
-    """Which word is wrong is told; so is which file has a fault, and nothing is a traceback."""
+    """The wrong argument and the file with an error are reported, without a traceback."""
     for words, told in (
         (["why", "-r", "0", "@imp"], "expected a number from 1 to 100000, not `0`"),
         (["why", "--hil", "nano", "@imp"], "No such option: --hil"),
@@ -109,7 +109,7 @@ def test_streams_that_are_closed_or_no_text(run: Run) -> None:
 
 
 def test_names_of_files_that_are_no_text(run: Run, tmp_path: Path) -> None:
-    """A file's name stands in for a warrior's, with `?` for what a terminal or a page can't be given."""
+    """A file's name replaces a missing name of a warrior, with `?` for characters unfit for a terminal or a page."""
     name = os.fsdecode(b"a\xff\x1b[31m.red")
     (tmp_path / name).write_text("mov 0, 1\n")
     assert run("why", name).stdout == "No warrior died; the battle is over: a??[31m.red lives.\n"

@@ -101,7 +101,7 @@ def test_pictures_of_each_kind(run: Run, tmp_path: Path) -> None:
 
 
 def test_the_points_of_a_picture() -> None:
-    """An imp alone in a core of 8: in row K its process stands in column K + 1 of 8, on white or on what it owns."""
+    """An imp in a core of 8: in row K its process is in column K + 1 of 8, on white or on its own cells."""
     from corewar.pictures.timeline import View, points
 
     from corewar.engine.sources import read
@@ -142,7 +142,7 @@ def shown(browser: Any, run: Run, tmp_path: Path) -> Any:
 
 
 def test_a_browser_replays(shown: Any) -> None:
-    """By buttons, keys, links and the address: the turn that is shown is the one that was asked for."""
+    """Buttons, keys, links and the address show the requested turn."""
     from selenium.webdriver import ActionChains, Keys
 
     def at(turn: str) -> None:

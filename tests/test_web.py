@@ -82,7 +82,7 @@ def test_who_it_answers_to(site: Site) -> None:
 
 
 def test_the_browser_is_led_by_a_file(tmp_path: Path) -> None:
-    """The token is in no word of a command: it stands in a file that its user alone may read."""
+    """The token is in no argument of a command, but in a file that only its user may read."""
     (tmp_path / "imp.red").write_text("MOV 0, 1\n")
     (tmp_path / "browser").write_text('#!/bin/sh\necho "$@"\nstat -c %a "${1#file://}"\ncat "${1#file://}"\n')
     (tmp_path / "browser").chmod(0o755)
@@ -113,7 +113,7 @@ def test_requests_that_are_none(site: Site) -> None:
 
 
 def test_numbers_beyond_the_battle(site: Site) -> None:
-    """As another window may ask for, behind whose back the battle has changed."""
+    """Another window may request them after the battle has changed."""
     end = site.told("fight", fight("dwarf", "imp"))["last"]
     assert site.told("search/dies/0/999999999/back") == {"turn": None}
     assert site.told(f"search/splits/0/{10 ** 30}/on") == {"turn": None} and site.ask("search/x/0/0/on")[0] == 400

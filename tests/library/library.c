@@ -1,6 +1,7 @@
-/* Calls each export with ample memory, and then with each request for memory refused, alone and with all from it on. Each answer
- * is that with ample memory, or want of memory, which leaves rows and buffers as they were; and all memory is given back. Null
- * pointers are taken where the length is 0, and of several mistakes the first is told. It is linked with --wrap for malloc, realloc and free. Prints `N passed, M failed`. */
+/* Calls each export with ample memory, and then with each allocation failing, only this one and with all after it. Each result is that
+ * with ample memory, or MARS_OUT_OF_MEMORY, which leaves rows and buffers unchanged; and all memory is freed. Null pointers are accepted
+ * if the length is 0, and of several errors the first is returned. It is linked with --wrap for malloc, realloc and free. Prints
+ * `N passed, M failed`. */
 #include <mars.h>
 #include <stdio.h>
 #include <stdlib.h>
@@ -153,7 +154,7 @@ static int are_battles_values(void) {
         && mars_check(once.battle, battle->words - 1, &once.fault) == MARS_BLOCK && once.fault.number == 1;
 }
 
-/* The lines of a source's instructions, and a fault as that of its assembly. */
+/* The lines of a source's instructions, and the same error as when it is assembled. */
 static int are_lines_told(void) {
     Left got, other;
     const uint8_t *wrong = (const uint8_t *)"NOP\nFOO 1";
@@ -175,7 +176,7 @@ static int is_refused_for(uint32_t number, const MarsSettings *settings, size_t 
     return is_so && debugger == MARS_SETTINGS && got.fault.number == number;
 }
 
-/* A mistake has the same number in each call, before the parameters, or behind them and before the formula and the load files. */
+/* An error has the same number in each call, before the parameters, or after them and before the formula and the load files. */
 static int are_mistakes_told_in_order(void) {
     MarsSettings bad = SETTINGS, placed = SETTINGS, both = SETTINGS;
     bad.core = 0, placed.position = 1, both.position = 1, both.distance = 0;

@@ -1,6 +1,6 @@
 """Compares the library for C, through the package, with what the program gives.
 
-Assemblies, matches, leagues, transcripts and faults are those of the program; a population is the sum of its matches; two threads
+Assemblies, matches, leagues, transcripts and errors are those of the program; a population is the sum of its matches; two threads
 get what one does. (tests/test_history.py holds records, states and what turns touch against transcripts.) A C program calls each
 export with each request for memory refused in turn, as it is, under valgrind and under AddressSanitizer; the example in Rust is built.
 """
@@ -28,7 +28,7 @@ EXAMPLES = sorted(map(str, Path(TOP, "examples").glob("*.red")))
 OPCODES = "DAT MOV ADD SUB MUL DIV MOD JMP JMZ JMN DJN SEQ SNE SLT SPL NOP CMP FOO".split()
 MODES = ["", "#", "$", "*", "@", "{", "<", "}", ">", "?"]
 LINES = ["", "x EQU 3", "i FOR 2", "ROF", "END 1", "ORG 5", ";assert 0", "MOV 1/0, 2", "lab ADD lab, x", "MOV é"]
-# A source for each fault of the assembler.
+# A source for each error of the assembler.
 FAULTY = [
     "MOV é",
     "DAT 1, ?",
@@ -52,7 +52,7 @@ FAULTY = [
     "",
     "DAT 0\n" * 101,
 ]
-# A load file for each fault of theirs.
+# A load file for each of its errors.
 BAD_LOADS = [
     "DAT.F #0, #0\nMOV 0\n",
     "DAT.F #0, #0\n" * 101,
@@ -60,7 +60,7 @@ BAD_LOADS = [
     "ORG 5\nDAT.F #0, #0\n",
     ";load 3 8\nDAT.F #0, #0\n",
 ]
-# Settings that the program takes for bad words, and the fault of each.
+# Settings that are bad words of the program, and the error of each.
 OUT_OF_RANGE = [
     ({"core": 0}, "parameters 1 CoreSize"),
     ({"core": 1048577}, "parameters 1 CoreSize"),
@@ -87,14 +87,14 @@ def words_of(settings):
 
 
 def started(*words, **given):
-    """What the program writes, or its fault without its own name and that of a file."""
+    """Returns the output of the program, or its error without its own name and that of a file."""
     done = subprocess.run([PROGRAM, *words], capture_output=True, **given)
     told = done.stderr.decode().rstrip("\n")
     return re.sub(r"^mars: (\S+/\S+: )?", "", told) if done.returncode else done.stdout
 
 
 def called(call, *given, **named):
-    """What a call gives, or the text of its fault."""
+    """Returns the result of a call, or the text of its error."""
     try:
         return call(*given, **named)
     except corewar.Fault as fault:
@@ -113,7 +113,7 @@ def files_of(warriors, folder):
 
 
 def plain(table):
-    """The rows of a table, as numbers; a fault stays as it is."""
+    """Returns the rows of a table, as numbers; an error is returned unchanged."""
     if isinstance(table, str):
         return table
     return [corewar.Row(*map(int, line.split()[:4])) for line in table.splitlines()[1:]]
@@ -154,7 +154,7 @@ def settings():
 
 
 def test_assemblies(tmp_path):
-    """Examples and random sources: the load file, or the fault with its line."""
+    """Examples and random sources: the load file, or the error with its line."""
     count = 0
     for text in [*(Path(path).read_bytes() for path in EXAMPLES), *(source().encode() for _ in range(300))]:
         held = settings() if len(text) < 200 else corewar.Settings()
@@ -165,7 +165,7 @@ def test_assemblies(tmp_path):
 
 
 def test_faults_of_files(tmp_path):
-    """Each fault of a source and of a load file, by its numbers and its line."""
+    """Each error of a source and of a load file, by its numbers and its line."""
     for text in FAULTY:
         path = file_of(tmp_path, "faulty.red", text.encode())
         assert called(corewar.assemble, text) == started("--load", path), text[:40]
@@ -199,7 +199,7 @@ def test_faults_of_settings():
 
 
 def test_contests(tmp_path):
-    """Random matches and leagues: the rows, or the fault."""
+    """Random matches and leagues: the rows, or the error."""
     fought = 0
     for index in range(1000):
         warriors, held, rounds, seed = [*loads()], settings(), dice.randrange(1, 6), dice.randrange(1, 1 << 30)
@@ -263,7 +263,7 @@ def test_threads():
 
 
 def test_shared(built):
-    """The shared library is known by its major version, and exports the calls of the header alone."""
+    """The shared library is named by its major version, and exports only the calls of the header."""
 
     def told(*words):
         return subprocess.run([*words, f"{built}/libmars.so"], capture_output=True, text=True).stdout
@@ -296,7 +296,7 @@ def test_c(tmp_path, built, more, before):
 
 
 def test_rust(tmp_path, built):
-    """The example in Rust: the rows of a match, and the fault of a source."""
+    """The example in Rust: the rows of a match, and the error of a source."""
     if not shutil.which("cargo"):
         skip("the example in Rust", "there is no cargo", "cargo")
     made = {**os.environ, "MARS_LIB": built, "CARGO_TARGET_DIR": str(tmp_path / "target")}

@@ -26,12 +26,12 @@ class Examples:
         return start, cells
 
     def survives_alone(self, name, *words):
-        """Whether a warrior that fights nobody is alive after all cycles."""
+        """Returns whether a warrior without opponents is alive after all cycles."""
         answer = self.run("-e", *words, name, commands="until 80000\n")
         return answer.startswith("turn ") and " cycle 80000 " in answer and " alive 1 " in answer
 
     def queue(self, warrior, commands, *words):
-        """Where the processes of a warrior stand after these commands."""
+        """Returns the addresses of the processes of a warrior after these commands."""
         last = self.run("-e", *words, commands=f"{commands}\nqueue {warrior}\n").splitlines()[-1]
         return [int(address) for address in last.split(":")[1].split()]
 
@@ -47,7 +47,7 @@ def each_assembles(examples):
 
 
 def none_ends_itself(examples):
-    """Those that say that they never hit themselves live on alone."""
+    """Warriors that claim never to hit themselves survive without opponents."""
     for words in (
         ["fitted.red"],
         ["fitted.red", "-s", "800"],
@@ -70,7 +70,7 @@ def tailor_is_fitted(examples):
 
 
 def stranger_boots(examples):
-    """After its six copies and the jump, Stranger stands far away, on a copy of its first working cell."""
+    """After its six copies and the jump, Stranger is far away, on a copy of its first working cell."""
     # The pointer `to` is the cell 8, and lowered six times from 3941 + 6.
     at = 8 + 3941
     if examples.queue(0, "run 7", "boot.red") != [at]:

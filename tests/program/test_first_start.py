@@ -1,4 +1,4 @@
-"""Tests ./mars and scripts/prove with a stand-in for the toolchain: which crates are proved, in which order, what a start tells, and what it leaves."""
+"""Tests ./mars and scripts/prove with a stub for the toolchain: which crates are proved, in which order, the messages, and what is left."""
 import json, os, shutil, signal, stat, subprocess, sys, tempfile, time
 
 import pytest
@@ -8,7 +8,7 @@ from counting import SCRIPTS, TOP
 sys.path.insert(0, SCRIPTS)
 import progress  # noqa: E402
 
-# Stands for rt, rattle and rattle-link. It notes each proof, fails or sleeps at a crate that it is told, and makes what the next ones look for.
+# Replaces rt, rattle and rattle-link. It logs each proof, fails or sleeps at the crates of its environment, and makes the files that the next ones expect.
 STAND_IN = """#!/usr/bin/env python3
 import os, shutil, sys, time
 command, words, log, kit = os.path.basename(sys.argv[0]), sys.argv[1:], os.environ["RT_LOG"], os.path.dirname(os.path.dirname(os.path.abspath(sys.argv[0])))
@@ -61,7 +61,7 @@ def place(folder):
 
 
 class Place:
-    """A copy of what ./mars reads, with the stand-in on the path."""
+    """A copy of what ./mars reads, with the stub on the path."""
 
     def __init__(self, folder):
         self.folder, self.log = folder, os.path.join(folder, "log")
@@ -102,7 +102,7 @@ class Place:
         )
 
     def leave_out(self, crate, library):
-        """Takes a library out of the line of a crate, which still stands on it through others."""
+        """Removes a library from the line of a crate, which still uses it through others."""
         path = os.path.join(self.folder, "crates.txt")
         lines = [line.replace(f" {library} ", " ") if line.startswith(f"{crate}:") else line for line in open(path)]
         with open(path, "w") as file:
@@ -132,7 +132,7 @@ class Place:
             env=self.environment(sleeps=sleeps),
             start_new_session=True,
             preexec_fn=lambda: signal.signal(signal.SIGINT, signal.SIG_DFL),
-        )  # (what a shell runs behind `&` ignores it)
+        )  # (a background process of a shell ignores it)
         while not os.path.exists(f"{self.log}-{sleeps}"):
             time.sleep(0.05)
         time.sleep(0.5)
@@ -147,7 +147,7 @@ class Place:
         return [words[0] for words in self.calls()]
 
     def rooms(self):
-        """What stands in the room that each crate was proved in."""
+        """Returns the crates of the room in which each crate was proved."""
         return {name: stands_on(f"{self.log}-{name}") for name in self.proved()}
 
     def jobs(self):
@@ -156,7 +156,7 @@ class Place:
 
 
 def stands_on(path, but_for="_tests: staticlib:"):
-    """What each crate of a crates.txt stands on, of the repository's own, but for crates of tests and libraries for C."""
+    """Returns what each crate of a crates.txt uses of the repository's own, except for crates of tests and libraries for C."""
     names = {line.split(":")[0] for line in open(os.path.join(TOP, "crates.txt")) if line[0].isalpha()}
     lines = [
         line.split(":")
@@ -172,7 +172,7 @@ def is_closed(lines):
 
 
 def is_in_order(order, below):
-    """Whether each crate is proved once, and none before those that it stands on."""
+    """Returns whether each crate is proved once, and none before those that it uses."""
     return sorted(order) == sorted(below) and all(below[name] <= set(order[: order.index(name)]) for name in order)
 
 
@@ -313,7 +313,7 @@ def test_terminal(place):
 
 
 def test_progress(folder):
-    """How long a start takes still, by the last one; and that one isn't silent where there is no terminal."""
+    """The remaining time, by the last build; and a build without a terminal is not silent."""
     path = os.path.join(folder, "last-start.json")
     unknown = progress.Reckoning(path, ["a", "b", "c"], 600)
     assert [unknown.left({}, 0), unknown.left({"a": 50}, 100)] == [600, 500], "without a last start"
@@ -338,7 +338,7 @@ def test_progress(folder):
 
 
 def test_library(place):
-    """The library for C is proved in the same run as the program, and anew where a source is newer than its archive."""
+    """The library for C is proved in the same run as the program, and again if a source is newer than its archive."""
     below = {**stands_on(os.path.join(TOP, "crates.txt"), "_tests:"), "mars": {"mars_app"}}
     done = place.run(script="scripts/library")
     assert is_in_order(place.proved(), below), "in the same run"
@@ -359,7 +359,7 @@ def test_library(place):
 
 
 def test_what_the_gate_leaves(place):
-    """What `rt ci` leaves of each crate is taken where it is newer than the sources, so that the library alone is left to be proved."""
+    """What `rt ci` leaves of each crate is used if it is newer than the sources, so that only the library is left to be proved."""
     environment = {**place.environment(), "RT_LOG": os.path.join(place.folder, "of-rt-ci")}
     for crate in ("mars_cell", "redcode_text", "redcode_asm", "mars_core", "mars_session", "mars_match", "mars_app"):
         target = os.path.join("out", "rlib", f"{crate}.rlib")

@@ -1,4 +1,4 @@
-"""Tests checks/run with stand-ins for its steps: what it counts, and which skipped tests count as failed.
+"""Tests checks/run with stubs for its steps: what it counts, and which skipped tests fail.
 """
 import os, shutil, subprocess, tempfile
 
@@ -14,7 +14,7 @@ STEPS = [
 
 
 def gate(**lines):
-    """The last lines of the gate, and its status, where a step prints these lines and ends with the status that they begin with, and the others pass one each."""
+    """Returns the status and the last lines of checks/run if a step prints these lines and exits with the status before them, and the others pass one each."""
     with tempfile.TemporaryDirectory() as folder:
         for name in STEPS:
             path, (status, *told) = os.path.join(folder, name), lines.get(

@@ -35,7 +35,7 @@ def load(path, **how):
 
 @pytest.fixture(autouse=True)
 def folder():
-    """Each test stands in a folder with an imp, whose name once has a letter that isn't ASCII."""
+    """Each test runs in a folder with an imp, also under a name with a letter that is not ASCII."""
     with tempfile.TemporaryDirectory() as folder, contextlib.chdir(folder):
         for name in ("imp.red", "w\u00e4chter.red"):
             Path(name).write_text("MOV 0, 1\n")
@@ -43,7 +43,7 @@ def folder():
 
 
 def is_read(stream):
-    """Whether all that was written to a pipe is read, or nobody is left to read it."""
+    """Returns whether everything written to a pipe was read, or the pipe has no reader."""
     watch = select.poll()
     watch.register(stream, 0)
     return bool(watch.poll(0)) or struct.unpack("i", fcntl.ioctl(stream, termios.FIONREAD, bytes(4))) == (0,)
@@ -60,7 +60,7 @@ def feed(stream, text, size):
 
 @contextlib.contextmanager
 def debugger(*words):
-    """The debugger of an imp over pipes, its faults among its replies. Where it says nothing for long it is ended."""
+    """The debugger of an imp over pipes, with errors among its replies. It is ended if it is silent for long."""
     with subprocess.Popen(
         [PROGRAM, "-e", *words, "imp.red"],
         stdin=subprocess.PIPE,
@@ -99,7 +99,7 @@ def test_many_words():
 
 
 def test_names():
-    """The name of a file is told whole in the line of its fault, but for control characters."""
+    """The whole name of a file is in its error message, except for control characters."""
     for name in ("x" * 300, "x" * 5000, "\u00e4" * 150, "k\u00e4fer.red", "\u4e16\u754c.red"):
         assert run(name) == (1, "", f"mars: {name}: cannot read\n"), f"{name[:10]}, {len(name)} letters"
     assert run("-b", "no\nsuch\x1b[1m\x85\x9b.red") == (1, "", "mars: no?such?[1m??.red: cannot read\n")
@@ -111,7 +111,7 @@ def test_names():
 
 
 def source(size):
-    """A source of so many bytes. Its instruction stands at the end, so a source that is cut short has none."""
+    """Returns a source of `size` bytes. Its instruction is at the end, so a truncated source has none."""
     code = "\nMOV 0, 1"
     return ";" * (size - len(code)) + code
 
@@ -135,7 +135,7 @@ def test_files():
 
 
 def test_limits():
-    """A source that costs more than the system lets the program have: it is ended, or answers want of memory by name, and writes nothing."""
+    """A source that exceeds the limits of the system: the program is ended, or reports that it is out of memory, and prints nothing."""
     for name, text, seconds, answer in (
         ("slow.red", slow(), 1, (-signal.SIGKILL, "", "")),
         ("large.red", large(), 60, (1, "", "mars: out of memory\n")),
@@ -147,7 +147,7 @@ def test_limits():
 
 
 def test_leave():
-    """A file that may not be read. Who may read all files tries it as nobody, with a copy of the program."""
+    """A file without permission to read. As root, the test runs a copy of the program as the user `nobody`."""
     Path("closed.red").write_text("MOV 0, 1\n")
     os.chmod("closed.red", 0)
     os.chmod(".", 0o755)
@@ -263,7 +263,7 @@ def test_pieces():
 
 
 def test_many_reads():
-    """A line of 410,000,000 bytes is read in more than 100,000 pieces, and what stands behind it is answered."""
+    """A line of 410,000,000 bytes is read in more than 100,000 pieces, and the command after it has a reply."""
     with open("commands", "wb") as file:
         file.seek(410_000_000)
         file.write(b"\nstep\n")

@@ -1,4 +1,4 @@
-"""Tests scripts/try: what it hands to a stand-in for `rt`, and once by the toolchain itself that what runs unproved gives what the program does.
+"""Tests scripts/try: what it passes to a stub for `rt`, and once with the toolchain that the unproved run has the output of the program.
 """
 import os
 import subprocess
@@ -14,7 +14,7 @@ WORDS = ["-b", "-r", "10", "examples/dwarf.red", "examples/imp.red"]
 
 
 def tried(folder, *words):
-    """The status, the words that `rt` gets, and what is told."""
+    """Returns the status, the arguments of `rt`, and the messages."""
     done = subprocess.run(
         [os.path.join(SCRIPTS, "try"), *words],
         cwd=folder,

@@ -1,1 +1,1 @@
-"""A battle in time: each turn of it, what an edit by hand makes of it, and where a condition holds."""
+"""The history of a battle: its turns, the effects of edits, and searches for conditions."""

@@ -1,4 +1,4 @@
-"""Turns in blocks: their records, with where the battle stands before them, and what they changed and read."""
+"""Turns in blocks: their records, the state before them, and the cells that they changed and read."""
 from __future__ import annotations
 
 from collections.abc import Callable
@@ -15,28 +15,28 @@ from ..model.cells import Cells, Records
 
 @dataclass(frozen=True, eq=False)
 class Touches:
-    """Cells that turns came by, in the order of the turns, and whose turns these were."""
+    """Cells that turns accessed, in the order of the turns, each with its turn and warrior."""
 
     turns: NDArray[np.int64]
     addresses: NDArray[np.uint32]
     warriors: NDArray[np.uint32]
 
     def of(self, turn: int) -> slice:
-        """Where those of a turn stand."""
+        """Returns the slice of a turn."""
         return slice(*np.searchsorted(self.turns, [turn, turn + 1]))
 
 
 @dataclass(frozen=True, eq=False)
 class Changes(Touches):
-    """The cells that turns left other than they were."""
+    """The cells that turns changed."""
 
     before: Cells
     after: Cells
 
 
 def changes_of(first: int, records: Records) -> Changes:
-    """What the turns behind a turn changed. Of several writes of a cell in one turn the first one's cell before and the
-    last one's after count.
+    """Returns the changes of the turns after `first`. Several writes of a cell in one turn are one change, from the
+    cell before the first write to the cell after the last one.
     """
     change = records["change"]
     address, before, after = change["address"], change["before"].copy(), change["after"]
@@ -53,8 +53,8 @@ def changes_of(first: int, records: Records) -> Changes:
 
 
 class Block:
-    """Turns `first` + 1 to `last` of a battle: what is in their records besides the writes, what they changed, and
-    where the battle stands before them. `touched` asks which cells they touch.
+    """Turns `first` + 1 to `last` of a battle: their records without the writes, their changes, and the state before
+    them. `touched` returns the cells that they touch.
     """
 
     def __init__(self, first: int, start: State, records: Records, touched: Callable[[], Records]) -> None:
@@ -66,7 +66,7 @@ class Block:
 
     @cached_property
     def reads(self) -> Touches:
-        """The cells that turns touched and didn't write, some more than once; asked of the machine where wanted."""
+        """The cells that turns touched without writing them, some more than once. They are read when needed."""
         touched = self._touched()
         address, used = touched["address"], np.arange(touched["address"].shape[1]) < touched["count"][:, None]
         for place in range(self._writes.shape[1]):
@@ -76,24 +76,24 @@ class Block:
         return Touches(self.first + 1 + rows, address[used], self.records["warrior"][rows])
 
     def count(self, turn: int) -> int:
-        """How many of the changes there were up to a turn."""
+        """Returns the number of changes up to a turn."""
         return int(np.searchsorted(self.changes.turns, turn, "right"))
 
     def cells(self, turn: int) -> Cells:
-        """The core after a turn."""
+        """Returns the core after a turn."""
         cells, count = self.start.cells.copy(), self.count(turn)
         cells[self.changes.addresses[:count]] = self.changes.after[:count]
         return cells
 
     def cell(self, address: int, turn: int) -> np.void:
-        """A cell after a turn."""
+        """Returns a cell after a turn."""
         found = np.flatnonzero(self.changes.addresses[: self.count(turn)] == address)
         cell: np.void = self.changes.after[found[-1]] if len(found) else self.start.cells[address]
         return cell
 
     @cached_property
     def _queued(self) -> list[tuple[NDArray[np.uint32], NDArray[np.intp], NDArray[np.intp]]]:
-        """For each warrior what it queued, how much of it up to each turn, and how many turns it had up to each."""
+        """For each warrior the addresses it queued, and after each turn their number and the number of its turns."""
         used = np.arange(2) < self.records["queued"][:, None]
         found = []
         for warrior in range(len(self.start.queues)):
@@ -103,8 +103,8 @@ class Block:
         return found
 
     def queue(self, warrior: int, turn: int) -> NDArray[np.uint32]:
-        """Where the processes of a warrior stand after a turn, the next one first: all that were queued, less one for
-        each of its turns.
+        """Returns the addresses of a warrior's processes after a turn, the next one first: all that were queued, minus
+        one for each of its turns.
         """
         if turn == self.first:
             return self.start.queues[warrior]
@@ -114,9 +114,9 @@ class Block:
         return queue[turns[place] :]
 
     def following(self, turn: int) -> int:
-        """The warrior whose turn is next after a turn."""
+        """Returns the warrior whose turn is next after a turn."""
         return self.start.next if turn == self.first else int(self.records["next"][turn - self.first - 1])
 
     def cycle(self, turn: int) -> int:
-        """How many cycles are complete after a turn."""
+        """Returns the number of cycles completed after a turn."""
         return self.start.cycle if turn == self.first else int(self.records["cycle"][turn - self.first - 1])

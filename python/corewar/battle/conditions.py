@@ -1,4 +1,4 @@
-"""What can be searched for in a battle, forwards and back: turns of which something is so."""
+"""Conditions on turns, and searches for them in a battle, forwards and backwards."""
 from __future__ import annotations
 
 from collections.abc import Sequence
@@ -11,19 +11,21 @@ from numpy.typing import NDArray
 from .blocks import Block, Touches
 from .history import History
 
-# What a condition is about: cells, or a warrior.
+# The conditions on cells, and those on a warrior.
 OF_CELLS, OF_WARRIORS = ("at", "changes", "reads"), ("splits", "ends", "dies")
 
 
 @dataclass(frozen=True)
 class Condition:
-    """A condition on a place, which is a number of turns made:
+    """A condition on a place, which is a number of executed turns.
 
-    `at`: one of the cells is executed next; `changes`, `reads`: the last turn changed one of the cells, or read it;
-    `splits`, `ends`, `dies`: in the last turn the warrior got a further process, lost one, died. The cells are those
-    from `first` to `last`, around the core; `by` is the warrior whose turn it has to be, where that counts. For a
-    condition on a warrior `first` is its number. Besides, `becomes`: the opcode changed; `moves`: it was the warrior's
-    turn.
+    - `at`: one of the cells is executed next
+    - `changes`, `reads`: the last turn changed or read one of the cells; `becomes`: it changed the opcode of one
+    - `splits`, `ends`, `dies`: the warrior gained a process, lost one or died in the last turn; `moves`: that was its
+      turn
+
+    The cells are those from `first` to `last`, around the end of the core if `last` is smaller. `by` is the warrior of
+    the turn, or None for any. In a condition on a warrior `first` is its number.
     """
 
     word: str
@@ -32,8 +34,8 @@ class Condition:
     by: int | None = None
 
     def places(self, block: Block, core: int) -> NDArray[np.int64]:
-        """The places of a block, in order, where this holds: for `at` from its first one on, else from that behind
-        its first turn.
+        """Returns the places of a block at which this holds, in order. `at` can hold at its first place, the others
+        only after its first turn.
         """
         records = block.records
         if self.word == "at":
@@ -60,7 +62,7 @@ class Condition:
 def search(
     history: History, conditions: Sequence[Condition], turn: int, forward: bool = True
 ) -> tuple[int, Condition] | None:
-    """The first place behind a turn where one of the conditions holds, or the last one before it."""
+    """Returns the first place after a turn at which one of the conditions holds, or the last one before it."""
     for block in history.blocks(turn) if forward else history.blocks_back(turn):
         found = []
         for condition in conditions:
@@ -73,6 +75,6 @@ def search(
 
 
 def last_change(history: History, address: int, turn: int, word: str = "changes") -> int | None:
-    """The last turn, up to this one, that changed a cell; with `becomes` its opcode."""
+    """Returns the last turn, up to this one, that changed a cell, or with `becomes` its opcode."""
     found = search(history, [Condition(word, address, address)], turn + 1, False)
     return found and found[0]

@@ -1,4 +1,4 @@
-"""A battle in frames: some turns each, with the cells that they changed, who did, and where processes stand after
+"""A battle in frames of several turns, with the cells that they changed, the warriors that did, and the processes after
 them.
 """
 from __future__ import annotations
@@ -15,8 +15,8 @@ from .history import BY_HAND, History
 
 @dataclass(frozen=True, eq=False)
 class Frame:
-    """A moment after `turn` turns. `addresses` are the cells that changed since the frame before, in order, `writers`
-    who changed each last, or BY_HAND, and `cells` what is there now.
+    """The battle after `turn` turns. `addresses` are the cells that changed since the previous frame, in order,
+    `writers` the warrior that changed each last, or BY_HAND, and `cells` the cells now.
     """
 
     turn: int
@@ -27,20 +27,20 @@ class Frame:
 
 
 def parts(first: int, last: int, count: int) -> list[int]:
-    """The ends of so many parts of the turns from the first to the last one; of fewer where there are fewer turns."""
+    """Returns the ends of `count` parts of the turns from `first` to `last`, or of fewer if there are fewer turns."""
     count = max(1, min(last - first, count))
     return [first + (last - first) * part // count for part in range(count + 1)]
 
 
 def frames(history: History, ends: list[int]) -> Iterator[Frame]:
-    """The frames at these turns; in the first one nothing has changed."""
+    """Yields the frames at these turns; the first one has no changes."""
     yield frame(history, ends[0], ends[0])
     for first, last in zip(ends, ends[1:]):
         yield frame(history, first, last)
 
 
 def frame(history: History, first: int, last: int) -> Frame:
-    """The frame of the turns behind one turn, up to another."""
+    """Returns the frame of the turns after `first`, up to `last`."""
     addresses, writers, cells = [], [], []
     for block in history.blocks(first, last):
         start, end = block.count(first), block.count(last)
@@ -55,6 +55,6 @@ def frame(history: History, first: int, last: int) -> Frame:
     queues = [history.block(last).queue(number, last) for number in range(len(history.warriors))]
     if not addresses:
         return Frame(last, np.empty(0, np.int64), np.empty(0, np.uint8), history.block(0).start.cells[:0], queues)
-    # Of each cell the last change counts: the first one from behind.
+    # The last change of each cell counts, which is the first one in reverse order.
     changed, places = np.unique(np.concatenate(addresses)[::-1], return_index=True)
     return Frame(last, changed, np.concatenate(writers)[::-1][places], np.concatenate(cells)[::-1][places], queues)

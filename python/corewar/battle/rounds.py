@@ -1,4 +1,4 @@
-"""The rounds of a match: how each ends."""
+"""The rounds of a match and their outcomes."""
 from __future__ import annotations
 
 from collections.abc import Iterator
@@ -12,23 +12,23 @@ OUTCOMES = ("win", "tie", "loss")
 
 @dataclass(frozen=True, eq=False)
 class Round:
-    """A round: its battle, and for each warrior in the order of the files whether it has won, tied or lost."""
+    """A round: its battle, and the outcome for each warrior in the order of the files."""
 
     history: History
     outcomes: tuple[str, ...]
 
 
 def rounds_of(fight: Match, count: int) -> Iterator[Round]:
-    """The rounds of a match, from round 0 on."""
+    """Yields the rounds of a match, from round 0."""
     for number in range(count):
         history = History(fight, number)
         dead = {int(warrior) for warrior in history.ending.deaths["warrior"]}
         survived = "win" if len(dead) == len(fight.warriors) - 1 else "tie"
-        # Warrior 0 of a battle is that which begins it.
+        # Warrior 0 of a battle is the one that begins it.
         places = [(place - number) % len(fight.warriors) for place in range(len(fight.warriors))]
         yield Round(history, tuple("loss" if place in dead else survived for place in places))
 
 
 def sums(outcomes: list[tuple[str, ...]]) -> list[list[int]]:
-    """For each warrior how many rounds it has won, tied and lost, by the outcomes of each."""
+    """Returns the number of wins, ties and losses of each warrior, given the outcomes of each round."""
     return [[told.count(outcome) for outcome in OUTCOMES] for told in zip(*outcomes)]

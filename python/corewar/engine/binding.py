@@ -21,27 +21,27 @@ from numpy.typing import NDArray
 
 from ..model.faults import Fault, Refused
 
-# The answer of a call whose buffer is too short, which isn't a fault.
+# The result of a call whose buffer is too short, which is not an error.
 ROOM = 10
 OPENING = Lock()
 HERE = Path(__file__).resolve()
 CHECKOUT = HERE.parents[3]
-# What `make install` installs stands below one of these: first the one that this file itself is installed below.
+# The possible prefixes of `make install`, first the one in which this file is installed.
 INSTALLED = [*HERE.parents[5:6], Path("/usr/local"), Path("/usr")]
 
 
 class NoLibrary(Refused):
-    """The library or its header isn't there, or they are of different versions."""
+    """The library or its header is missing, or their versions differ."""
 
 
 def found(variable: str, places: Sequence[Path]) -> str | None:
-    """The file that a variable of the environment names, or the first of these that is there."""
+    """Returns the file that an environment variable names, or the first of these files that exists."""
     return os.environ.get(variable) or next((str(path) for path in places if path.is_file()), None)
 
 
 def library() -> tuple[Any, Any]:
-    """The types of the header, and the library: the same for all threads, since the types of two headers don't go
-    together.
+    """Returns the types of the header, and the library: the same for all threads, since types of two headers are
+    incompatible.
     """
     with OPENING:
         return opened()
@@ -49,7 +49,7 @@ def library() -> tuple[Any, Any]:
 
 @lru_cache(maxsize=None)
 def opened() -> tuple[Any, Any]:
-    """The types of the header, and the library."""
+    """Returns the types of the header, and the library."""
     below = [folder / "lib" / "libmars.so.1" for folder in INSTALLED]
     built = [HERE.parent / "libmars.so.1", CHECKOUT / "build" / "libmars.so", *below]
     shared = found("MARS_LIBRARY", built)
@@ -72,7 +72,7 @@ def opened() -> tuple[Any, Any]:
 
 
 def declarations(header: str) -> str:
-    """The header without what is for the preprocessor, but for the version."""
+    """Returns the header without the lines for the preprocessor, except for the version."""
     plain = re.sub(r"#ifdef __cplusplus\n.*?\n#endif", "", header, flags=re.S)
     return "\n".join(
         line for line in plain.splitlines() if not line.startswith("#") or line.startswith("#define MARS_VERSION")
@@ -81,7 +81,7 @@ def declarations(header: str) -> str:
 
 @lru_cache(maxsize=None)
 def kind(name: str) -> np.dtype[Any]:
-    """The type of an array's elements, by that of the header."""
+    """Returns the type of the elements of an array, for a type of the header."""
     return kind_of(library()[0].typeof(name))
 
 
@@ -94,24 +94,24 @@ def kind_of(declared: Any) -> np.dtype[Any]:
 
 
 def array(name: str, count: int) -> NDArray[Any]:
-    """An array of so many values of a type of the header, all 0."""
+    """Returns an array of `count` values of a type of the header, all 0."""
     return np.zeros(number(count), kind(name))
 
 
 def slice_of(name: str, values: bytes | bytearray | NDArray[Any]) -> tuple[Any, int]:
-    """A pointer to values of a type, and how many there are."""
+    """Returns a pointer to values of a type, and their number."""
     return values if isinstance(values, bytes) else library()[0].from_buffer(f"{name}[]", values), len(values)
 
 
 def number(value: int) -> int:
-    """A number that a call takes."""
+    """Returns a number if it is valid in a call. Raises ValueError."""
     if not 0 <= value < 1 << 32:
         raise ValueError(f"expected a number from 0 to 4294967295, not {value}")
     return value
 
 
 def call(name: str, *given: Any) -> int:
-    """Calls the library; ROOM is an answer, and every other one but 0 is raised."""
+    """Calls the library. Returns 0 or ROOM, and raises `Fault` for every other result."""
     ffi, calls = library()
     fault = ffi.new("MarsFault *")
     answer: int = getattr(calls, name)(*given, fault)

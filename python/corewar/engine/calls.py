@@ -77,7 +77,7 @@ class Row:
 
 
 def load_file(source: str | bytes, settings: Settings = Settings(), rounds: int = 1, warriors: int = 2) -> bytes:
-    """Returns the load file of a source. `rounds` and `warriors` are what ROUNDS and WARRIORS mean. Raises Fault."""
+    """Returns the load file of a source. `rounds` and `warriors` are what ROUNDS and WARRIORS mean. Raises `Fault`."""
     given = [held(settings, rounds), number(warriors), *slice_of("uint8_t", bytes_of(source))]
     return text(4096, lambda *room: call("mars_assemble", *given, *room))
 
@@ -101,7 +101,7 @@ def assemble(
 def source_lines(
     source: bytes, settings: Settings = Settings(), rounds: int = 1, warriors: int = 2
 ) -> list[tuple[int, list[str]]]:
-    """Returns the number of the line, from 1, and the labels of each instruction of a source. Raises Fault."""
+    """Returns the number of the line, from 1, and the labels of each instruction of a source. Raises `Fault`."""
     given = [held(settings, rounds), number(warriors), *slice_of("uint8_t", source)]
     made = text(4096, lambda *room: call("mars_lines", *given, *room)).decode("latin-1")
     return [(int(words[0]), words[1:]) for words in map(str.split, made.splitlines())]
@@ -173,7 +173,7 @@ def debug(fight: Match, lines: Sequence[str], history: int = HISTORY) -> str:
 
 
 def count_turns(fight: Match, round: int = 0, lines: Sequence[str] = (), history: int = FORWARD_ALONE) -> int:
-    """Returns the number of turns that are left in the battle of a round after some debugger commands. Raises Fault."""
+    """Returns the number of turns left in the battle of a round after some debugger commands. Raises `Fault`."""
     return turns_of("mars_record", "MarsRecord", (fight, round, lines, history), 0, 0)[1]
 
 

@@ -58,7 +58,7 @@ class Assembler:
             self._process = None
 
     def assemble(self, source: bytes, settings: Settings = Settings(), rounds: int = 1, warriors: int = 2) -> bytes:
-        """Returns the load file of a source. Raises Fault, and Overrun if it takes more than a limit."""
+        """Returns the load file of a source. Raises `Fault`, and Overrun if it takes more than a limit."""
         with self._lock:
             if self._process is None:
                 self._begin()

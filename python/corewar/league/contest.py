@@ -1,4 +1,4 @@
-"""What a league or a challenge fights: by which settings, which warriors in which pairs, and what came of it."""
+"""The matches of a league or a challenge: their settings, warriors, pairs and results."""
 from __future__ import annotations
 
 import hashlib
@@ -15,17 +15,17 @@ from ..model.faults import FileFault
 from ..model.settings import FORMULA, NUMBERS, Settings
 from ..model.warriors import Warrior
 
-# Rows of five numbers: the first one's points, wins, ties and losses, and the second one's points.
+# Rows of five numbers: points, wins, ties and losses of the first warrior, and points of the second one.
 Counts = NDArray[np.int64]
-# Rows of two numbers: which warriors meet, the first one of the match first.
+# Rows of two numbers: the warriors of a match in their order.
 Pairs = NDArray[np.intp]
-# Which of the pairs of a contest, from 0.
+# Indices of pairs, from 0.
 Rows = NDArray[np.intp]
 
 
 @dataclass(frozen=True)
 class Contest:
-    """By what all matches are fought: those of the same warriors in the same order come out the same."""
+    """The settings of all matches. They determine the result of a match of two warriors in a given order."""
 
     settings: Settings = Settings()
     rounds: int = 1
@@ -35,14 +35,14 @@ class Contest:
 
     @property
     def words(self) -> list[str]:
-        """All of it as words of `mars`."""
+        """The settings as options of `mars`."""
         numbers = {**vars(self.settings), "rounds": self.rounds, "seed": self.seed, "position": self.position}
         given = [f"{NUMBERS[name].word}={number}" for name, number in numbers.items() if number]
         return [*given, f"--score={self.formula}"]
 
 
 def fight(contest: Contest, warriors: Mapping[int, Warrior], pairs: Pairs) -> Counts:
-    """The counts of the matches of some pairs, a row for each. Raises Fault."""
+    """Runs the matches of some pairs and returns their counts, a row for each. Raises `Fault`."""
     counts = np.zeros((len(pairs), 5), np.int64)
     for row, pair in enumerate(pairs.tolist()):
         fighters = [warriors[number] for number in pair]
@@ -54,7 +54,7 @@ def fight(contest: Contest, warriors: Mapping[int, Warrior], pairs: Pairs) -> Co
 
 
 def enter(contest: Contest, files: Sequence[str], limit: Limit) -> tuple[list[Warrior], list[FileFault]]:
-    """The warriors of files, in order, and the faults of those that have none. A fault of the settings is raised."""
+    """Returns the warriors of files, in order, and the errors of the other files. Raises `Fault` for the settings."""
     warriors, faults = [], []
     with Assembler(limit) as assembler:
         for file in files:
@@ -66,7 +66,7 @@ def enter(contest: Contest, files: Sequence[str], limit: Limit) -> tuple[list[Wa
 
 
 class Matches:
-    """The matches of pairs, which go up by the first and then the second: `counts` has those that `is_fought`."""
+    """The matches of pairs, sorted by the first and then the second warrior. `counts` is valid where `is_fought`."""
 
     def __init__(self, contest: Contest, warriors: Sequence[Warrior], pairs: Pairs) -> None:
         self.contest, self.warriors, self.pairs = contest, dict(enumerate(warriors)), pairs
@@ -78,12 +78,12 @@ class Matches:
         return len(self.pairs)
 
     def fill_in(self, rows: Rows, counts: Counts) -> None:
-        """Takes the counts of matches, by their rows."""
+        """Stores the counts of matches, by their rows."""
         self.counts[rows] = counts
         self.is_fought[rows] = True
 
     def rows_of(self, pairs: Pairs) -> Rows:
-        """The row of each of these pairs; -1 where a pair isn't asked for."""
+        """Returns the row of each of these pairs, or -1 for a pair without a match."""
         if not len(self):
             return np.full(len(pairs), -1)
         # A pair as one number.
@@ -92,7 +92,7 @@ class Matches:
         return np.where(wanted[rows] == asked, rows, -1)
 
     def take_kept(self, kept: Iterator[tuple[Any, ...]]) -> int:
-        """Fills in what was kept, by two digests and counts; gives how many are kept the other way round alone."""
+        """Fills in stored results, each two digests and counts. Returns how many are stored only in the other order."""
         numbers: dict[bytes, list[int]] = {}
         for number, digest in enumerate(self.digests):
             numbers.setdefault(digest, []).append(number)
@@ -109,12 +109,12 @@ class Matches:
         return int((~self.is_fought[turned]).sum())
 
     def bundles(self, cycles: int) -> Iterator[Rows]:
-        """The rows of what isn't fought yet, in bundles that take so many cycles at most, or one match."""
+        """Yields the rows of the matches left to run, in bundles of at most `cycles` cycles or one match."""
         rows = np.flatnonzero(~self.is_fought)
         size = max(1, cycles // (self.contest.rounds * self.contest.settings.cycles))
         return (rows[at : at + size] for at in range(0, len(rows), size))
 
 
 def all_pairs(count: int) -> Pairs:
-    """Every two of so many warriors, the earlier one first."""
+    """Returns all pairs of `count` warriors, the earlier one first."""
     return np.column_stack(np.triu_indices(count, 1))

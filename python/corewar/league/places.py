@@ -1,4 +1,4 @@
-"""Where matches are fought: by threads of this process, or by the workers of a Dask cluster, which have the package."""
+"""Runs matches in threads of this process, or on the workers of a Dask cluster, which have the package."""
 from __future__ import annotations
 
 import logging
@@ -17,21 +17,21 @@ from ..model.faults import Refused
 from ..model.warriors import Warrior
 from .contest import Contest, Counts, Matches, Pairs, Rows, fight
 
-# How many cycles a bundle takes at most here, which is a quarter of a second, and how many bundles a thread has ahead.
+# The maximum cycles of a bundle here, a quarter of a second, and the number of bundles that wait for a thread.
 CYCLES = 6_000_000
 AHEAD = 2
 # The same at a scheduler, where each bundle costs some milliseconds.
 CYCLES_THERE = 50_000_000
 AT_A_SCHEDULER = 500
-# After so many seconds without an answer it is looked whether there is somebody to answer.
+# The seconds without a result after which the cluster is checked for workers.
 LOOK_EACH = 5
 NO_PACKAGE = f"--scheduler: {sys.executable} cannot import distributed; run apt-get install python3-distributed"
 
 
 @dataclass(frozen=True)
 class Place:
-    """How a bundle is handed out; how many cycles it takes at most; how many bundles are out at a time; what is done
-    now and then while they are waited for; and the counts of one that is done."""
+    """How bundles are run: how one is submitted, its maximum number of cycles, the number of bundles at a time, what is
+    checked while they run, and how to get the counts of one."""
 
     submit: Callable[[Rows], Future[Any]]
     cycles: int
@@ -40,7 +40,7 @@ class Place:
     counts_of: Callable[[Future[Any]], Counts] = Future.result
 
     def fight(self, matches: Matches) -> Iterator[Rows]:
-        """Fights what isn't fought yet. Gives the rows of each bundle whose counts are filled in. Raises Refused."""
+        """Runs the matches that are left. Yields the rows of each bundle with its counts filled in. Raises Refused."""
         bundles = matches.bundles(self.cycles)
         out: dict[Future[Any], Rows] = {}
         while True:
@@ -59,7 +59,7 @@ class Place:
 
 @contextmanager
 def threads(matches: Matches, jobs: int) -> Iterator[Place]:
-    """So many matches at a time here. What hasn't begun when it is left is dropped."""
+    """Runs `jobs` matches at a time here. Matches that have not begun at the end are dropped."""
     pool = ThreadPoolExecutor(jobs)
 
     def submit(rows: Rows) -> Future[Counts]:
@@ -99,7 +99,7 @@ def counts_there(future: Future[Counts | str]) -> Counts:
     except ModuleNotFoundError as fault:
         raise Refused(f"this package is not installed on a worker: {fault}") from None
     except Exception as fault:
-        # What is handed out raises nothing of its own: a worker can't take it, or a bundle has ended several workers.
+        # A submitted call raises nothing itself: a worker could not load it, or a bundle has ended several workers.
         raise Refused(f"error on the workers: {' '.join(str(fault).split())}") from None
     if isinstance(counts, str):
         raise Refused(counts)
@@ -107,7 +107,7 @@ def counts_there(future: Future[Counts | str]) -> Counts:
 
 
 def teller_of_absence(client: Any) -> Callable[[], None]:
-    """What tells, each time that it becomes so, that a scheduler has no worker."""
+    """Returns a function that reports each time the scheduler loses its last worker."""
     was_alone = False
 
     def look() -> None:
@@ -125,12 +125,12 @@ def teller_of_absence(client: Any) -> Callable[[], None]:
 
 @contextmanager
 def cluster(matches: Matches, address: str) -> Iterator[Place]:
-    """The workers of a Dask scheduler. What hasn't ended when it is left is dropped. Raises Refused."""
+    """Runs matches on the workers of a Dask scheduler. Unfinished ones are dropped at the end. Raises Refused."""
     try:
         import distributed
     except ImportError:
         raise Refused(NO_PACKAGE) from None
-    # Dask logs a traceback for each match that is dropped; what ends a league comes as a fault.
+    # Dask logs a traceback for each dropped match; errors that end a league are raised.
     logging.disable()
     try:
         begin: Any = distributed.Client

@@ -1,8 +1,8 @@
-"""Results of matches, kept in a file of SQLite, so that no match is fought twice.
+"""Stores results of matches in an SQLite file, so that no match is run twice.
 
-A match is known by its contest and by the digests of its two load files, in their order: a fight is a function of
-these. Results are written once a second, all of them or none, so a process that is killed loses at most those of its
-last second. Several processes may use one file.
+A match is identified by its settings and by the digests of its two load files, in their order, since its results depend
+only on these. Results are written once a second in a transaction, so a process that is killed loses at most those of
+the last second. Several processes may use one file.
 """
 from __future__ import annotations
 
@@ -22,20 +22,20 @@ points INTEGER NOT NULL, wins INTEGER NOT NULL, ties INTEGER NOT NULL, losses IN
 PRIMARY KEY (contest, first, second)) STRICT, WITHOUT ROWID"""
 FIND = "SELECT first, second, points, wins, ties, losses, theirs FROM fought WHERE contest = ?"
 KEEP = "INSERT OR IGNORE INTO fought VALUES (?, ?, ?, ?, ?, ?, ?, ?)"
-# How long another process may keep the file to itself, and how long results wait to be written, in seconds.
+# How long another process may lock the file, and how long results wait to be written, in seconds.
 PATIENCE = 60
 WRITE_EACH = 1
 
 
 class Results:
-    """The kept results of some matches. Leaving it writes what waits. A fault of the file raises Refused."""
+    """The stored results of some matches. Waiting results are written at the end. Raises Refused for the file."""
 
     def __init__(self, path: str, matches: Matches) -> None:
         self.path, self.matches, self.contest = path, matches, shlex.join(matches.contest.words)
         self.new: list[tuple[Any, ...]] = []
         self.written = time.monotonic()
         with self.telling():
-            # Some names mean no file to SQLite; a path isn't one of them.
+            # Some names do not mean a file to SQLite; an absolute path always does.
             self.file = sqlite3.connect(os.path.abspath(path), timeout=PATIENCE)
             self.file.execute(TABLE)
 
@@ -48,19 +48,19 @@ class Results:
 
     @contextmanager
     def telling(self) -> Iterator[None]:
-        """Tells a fault of SQLite as one of the file."""
+        """Raises an error of SQLite as one of the file."""
         try:
             yield
         except sqlite3.Error as fault:
             raise Refused(f"{self.path}: {fault}") from None
 
     def find(self) -> int:
-        """Fills in the matches that are kept. Returns how many are kept the other way round alone."""
+        """Fills in the stored matches. Returns how many are stored only in the other order."""
         with self.telling():
             return self.matches.take_kept(self.file.execute(FIND, [self.contest]))
 
     def keep(self, rows: Rows) -> None:
-        """Keeps the matches of some rows, which were fought."""
+        """Stores the results of some rows."""
         digests, counts = self.matches.digests, self.matches.counts[rows].tolist()
         for (first, second), numbers in zip(self.matches.pairs[rows].tolist(), counts):
             self.new.append((self.contest, digests[first], digests[second], *numbers))
@@ -68,7 +68,7 @@ class Results:
             self.write()
 
     def write(self) -> None:
-        """Writes what waits."""
+        """Writes the waiting results."""
         with self.telling(), self.file:
             self.file.executemany(KEEP, self.new)
         self.new, self.written = [], time.monotonic()

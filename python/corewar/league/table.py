@@ -1,4 +1,4 @@
-"""What came of a league: who has how many points, who beats whom, and both as text for people and programs."""
+"""The results of a league: points, and wins of each pair, as text for people and programs."""
 from __future__ import annotations
 
 import csv
@@ -18,9 +18,9 @@ HEAD = ("points", "wins", "ties", "losses")
 
 
 class League:
-    """The warriors of a league, and `against`: the points, wins, ties and losses of each, by lines, against each.
+    """The results of a league. `against` has the points, wins, ties and losses of each warrior against each other one.
 
-    `ranks` has the place of each warrior by its points, from 1; those of equal points stand in the order of the files.
+    `ranks` has the rank of each warrior by its points, from 1; equal points are ranked in the order of the files.
     `order` has the warriors in the order in which they are shown.
     """
 
@@ -39,7 +39,7 @@ class League:
 
     @cached_property
     def rows(self) -> list[dict[str, Any]]:
-        """A row for each warrior that is shown: rank, file, name, author, points, wins, ties and losses."""
+        """A row for each warrior in the shown order: rank, file, name, author, points, wins, ties and losses."""
         sums, rows = self.against.sum(axis=1).tolist(), []
         for number in self.order:
             one = self.warriors[number]
@@ -48,11 +48,11 @@ class League:
         return rows
 
     def titles(self) -> list[str]:
-        """Each warrior that is shown, by its name or its file, and its author."""
+        """Returns the name or file, and the author, of each warrior in the shown order."""
         return [self.warriors[number].title for number in self.order]
 
     def balances(self) -> NDArray[np.int64]:
-        """The wins, ties and losses of each that is shown against each, in this order."""
+        """Returns the wins, ties and losses of each warrior against each, in the shown order."""
         return self.against[np.ix_(self.order, self.order)][..., 1:]
 
 
@@ -64,7 +64,7 @@ def table_of(league: League) -> str:
 
 
 def matrix_of(league: League) -> str:
-    """The wins of each against each; lines and columns have the ranks of the warriors."""
+    """Returns the wins of each against each; rows and columns have the ranks of the warriors."""
     lines = [["", *(str(league.ranks[number]) for number in league.order)]]
     for line, (number, wins) in enumerate(zip(league.order, league.balances()[..., 0].tolist())):
         wins[line] = "."
@@ -83,7 +83,7 @@ def csv_of(league: League) -> str:
 
 
 def json_of(league: League) -> str:
-    """The words, the seed, the warriors as they are shown, and each match with its warriors' places there, from 0."""
+    """Returns the options, the seed, the warriors in the shown order, and each match with their indices in it."""
     contest = league.matches.contest
     head = {"words": contest.words, "seed": contest.seed, "rounds": contest.rounds}
     return json.dumps({**head, "warriors": league.rows, "matches": [*matches_of(league)]})

@@ -1,1 +1,1 @@
-"""Plain values: settings, warriors, cells, rows of results, faults. Nothing here reads a file or asks the machine."""
+"""Plain values: settings, warriors, cells and errors. Nothing here reads a file or calls the library."""

@@ -82,7 +82,7 @@ NUMBERS = {
     ),
 }
 # What a number is called where results are shown, if not by its own name.
-LABELS = {"core": "core size", "longest": "maximum length", "distance": "minimum distance"}
+LABELS = {"core": "core size", "longest": "max length", "distance": "min distance"}
 
 
 def label(name: str) -> str:

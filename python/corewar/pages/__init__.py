@@ -1,1 +1,1 @@
-"""Pages for a browser, by templates in which every text is escaped. Each is one file, and asks nothing of a network."""
+"""Pages for a browser, from templates that escape every text. Each is one file and loads nothing from a network."""

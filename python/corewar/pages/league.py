@@ -1,4 +1,4 @@
-"""The page of a league: its table, who beats whom, and links to the replays of some pairs."""
+"""The page of a league: its table, the wins of each pair, and links to the replays of some pairs."""
 from __future__ import annotations
 
 import os
@@ -16,12 +16,12 @@ from ..pictures.shades import mixed
 from .render import render, write_page
 from .replay import page_of
 
-# The matrix of more warriors is too much for a browser.
+# A browser cannot show the matrix of more warriors.
 LARGEST_MATRIX = 250
 
 
 class Pages:
-    """A folder with the page of a league, index.html, and a folder for each pair with a replay, named by its files."""
+    """A folder with the page of a league, index.html, and a folder with a replay for each pair, named by its files."""
 
     def __init__(self, folder: Path, league: League, pairs: Sequence[tuple[int, int]]) -> None:
         self.folder, self.league = folder, league
@@ -29,11 +29,11 @@ class Pages:
         self.folders = dict(zip(pairs, distinct([f"{stems[one]}-{stems[other]}" for one, other in pairs])))
 
     def replay(self, one: int, other: int) -> str:
-        """Where the replay of the first round of two warriors' match stands, below the folder."""
+        """Returns the path of the replay of the first round of two warriors' match, below the folder."""
         return f"{self.folders[min(one, other), max(one, other)]}/round-0.html"
 
     def write_index(self) -> None:
-        """Writes the page of the league, with links to replays that are to be written."""
+        """Writes the page of the league, with links to the replays that will be written."""
         league, contest = self.league, self.league.matches.contest
         numbers = {
             **vars(contest.settings),
@@ -53,7 +53,7 @@ class Pages:
         write_page(self.folder / "index.html", page)
 
     def lines(self) -> list[list[dict[str, Any] | None]]:
-        """The cells of the matrix, line by line; none where a warrior would meet itself."""
+        """Returns the cells of the matrix, row by row, with None for a warrior against itself."""
         balances, order = self.league.balances(), self.league.order
         colours, counts = mixed(balances).tolist(), balances.tolist()
         return [

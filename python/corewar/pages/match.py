@@ -12,7 +12,7 @@ from .replay import page_of
 
 
 class Pages:
-    """A folder with a page for each round of a match, as it is played, and index.html behind the last one."""
+    """A folder with a page for each round of a match, written as it is played, and index.html after the last one."""
 
     def __init__(self, folder: str, fight: Match) -> None:
         self.folder, self.fight = Path(folder), fight

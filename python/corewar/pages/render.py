@@ -1,4 +1,4 @@
-"""Fills templates. What a page needs besides its text is written into it."""
+"""Fills templates. Everything that a page needs is written into it."""
 from __future__ import annotations
 
 from importlib.resources import files
@@ -18,7 +18,7 @@ environment.filters["number"] = "{:,}".format
 
 
 def static(name: str) -> Markup:
-    """A file of the folder `static`, as it is."""
+    """Returns the content of a file in the folder `static`."""
     return Markup((files("corewar.pages") / "static" / name).read_text(encoding="utf-8"))
 
 
@@ -26,10 +26,10 @@ environment.globals["static"] = static
 
 
 def render(template: str, **fields: object) -> str:
-    """A template with these fields."""
+    """Returns a template filled with these fields."""
     return environment.get_template(template).render(**fields)
 
 
 def write_page(path: Path, text: str) -> None:
-    """Writes a page. What is no text in the name of a file is `?` in it."""
+    """Writes a page. Bytes in names of files that are not text become `?`."""
     path.write_text(text, encoding="utf-8", errors="replace")

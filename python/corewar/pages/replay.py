@@ -1,7 +1,7 @@
 """The page that replays a battle.
 
-It has the battle in it: a line for its head, and one for each piece of its frames, all of them JSON, deflated, in
-base64. Each piece has the texts of its cells, so that a browser can read the pieces side by side.
+It contains the battle: a line for its header and one for each piece of its frames, all of them deflated JSON in base64.
+Each piece has the texts of its cells, so that a browser can read the pieces in parallel.
 """
 from __future__ import annotations
 
@@ -22,25 +22,25 @@ from ..model.cells import Cells, cell_text
 from ..pictures.colours import DARK, LIGHT, coloured
 from .render import render
 
-# How many frames a page has where nothing else is said, and a piece.
+# The default number of frames of a page, and the number of frames of a piece.
 FRAMES, PIECE = 600, 100
 EMPTY = "DAT.F $0, $0"
 
 
 def gaps(addresses: NDArray[np.int64]) -> list[int]:
-    """The first address, and by how much each one is more than the one before: numbers that deflate well."""
+    """Returns the first address and the distances between the addresses, which deflate well."""
     made: list[int] = np.diff(addresses, prepend=0).tolist()
     return made
 
 
 def moves(before: NDArray[np.int64], after: NDArray[np.int64]) -> list[list[int]]:
-    """By how much the number of a warrior's processes changed, as the gaps between these addresses and the numbers."""
+    """Returns the changes in a warrior's number of processes: the gaps between addresses, and the differences."""
     addresses = np.flatnonzero(before != after)
     return [gaps(addresses), (after - before)[addresses].tolist()]
 
 
 class Coder:
-    """Writes frames for JSON, each by what it differs in from the one before."""
+    """Encodes frames for JSON, each by its differences from the previous one."""
 
     def __init__(self, history: History) -> None:
         self.history = history
@@ -49,8 +49,8 @@ class Coder:
         self.kinds: dict[bytes, int] = {}
 
     def coded(self, one: Frame, writers: NDArray[np.uint8]) -> dict[str, Any]:
-        """A frame. A cell's text is its number among the texts, which grow by those that are new. A cell that was
-        edited is nobody's.
+        """Encodes a frame. The text of a cell is its index in the texts, to which new ones are added. A cell that was
+        edited has no owner.
         """
         block = self.history.block(one.turn)
         before = self.stands
@@ -67,8 +67,8 @@ class Coder:
         }
 
     def numbers(self, cells: Cells) -> list[int]:
-        """The number of each cell's text. Most cells stand there more than once, and a text is made once for each
-        kind.
+        """Returns the index of each cell's text. Most cells occur more than once, so each kind is converted to text
+        only once.
         """
         size, raw = cells.dtype.itemsize, np.ascontiguousarray(cells).tobytes()
         kinds = [raw[at : at + size] for at in range(0, len(raw), size)]
@@ -78,19 +78,19 @@ class Coder:
         return [self.kinds[kind] for kind in kinds]
 
     def piece(self, coded: Iterable[dict[str, Any]]) -> str:
-        """The line of a piece."""
+        """Returns the line of a piece."""
         self.texts, self.kinds = {}, {}
         made = list(coded)
         return packed({"texts": list(self.texts), "frames": made})
 
 
 def packed(value: object) -> str:
-    """A line of the page's battle."""
+    """Returns a line of the page's battle."""
     return base64.b64encode(zlib.compress(json.dumps(value, separators=(",", ":")).encode())).decode()
 
 
 def start_frame(history: History, turn: int) -> Frame:
-    """All cells that aren't empty or nobody's after a turn, as a frame that shows them."""
+    """Returns a frame with all cells that have an owner or are not empty after a turn."""
     state, owners = history.state(turn), history.owners(turn)
     empty = np.array([cell_text(cell, history.core) == EMPTY for cell in state.cells])
     addresses = np.flatnonzero(~empty | (owners != NOBODY))
@@ -98,7 +98,7 @@ def start_frame(history: History, turn: int) -> Frame:
 
 
 def pieces(history: History, ends: list[int]) -> Iterator[str]:
-    """The lines of all frames at these turns."""
+    """Yields the lines of all frames at these turns."""
     coder = Coder(history)
     first = start_frame(history, ends[0])
     yield coder.piece(coder.coded(one, one.writers) for one in [first])
@@ -109,13 +109,13 @@ def pieces(history: History, ends: list[int]) -> Iterator[str]:
 
 
 def grave(history: History, warrior: int) -> int | None:
-    """Where the process stood by whose end a warrior died; None where it lives, or died by hand."""
+    """Returns the address of a warrior's last process, or None if it survives or an edit killed it."""
     death = history.death(warrior)
     return None if death is None or history.is_killed(warrior) else int(history.record(death)["address"])
 
 
 def head_of(history: History) -> dict[str, Any]:
-    """What a page shows of a battle besides its turns."""
+    """Returns what a page shows of a battle besides its turns."""
     warriors = [
         {
             "name": history.names[number],
@@ -130,7 +130,7 @@ def head_of(history: History) -> dict[str, Any]:
 
 
 def page_of(history: History, ends: list[int] | None = None) -> str:
-    """The page of a battle in frames at these turns; without them all of it."""
+    """Returns the page of a battle with frames at these turns, or of the whole battle."""
     ends = ends or parts(0, history.end, FRAMES)
     head = {**head_of(history), "empty": EMPTY, "command": command(history, "debug --turn TURN")}
     return render(

@@ -1,5 +1,5 @@
-"""The colours of warriors: sixteen that are far apart, also for those who see few colours; the first two most, the
-first eight well.
+"""The colours of warriors: sixteen distinct ones, also for colour-blind people, the first two most and the first eight
+well.
 """
 from __future__ import annotations
 
@@ -16,6 +16,6 @@ DARK = (
 
 
 def coloured(colours: tuple[str, ...], history: History) -> list[str]:
-    """The colours of a battle's warriors: each has the same one in all rounds of a match, whoever begins."""
+    """Returns the colours of a battle's warriors. Each has the same colour in all rounds of a match."""
     count = len(history.warriors)
     return [colours[(number + history.round) % count] for number in range(count)]

@@ -1,4 +1,4 @@
-"""Who beats whom in a league, as a picture and as colours: blue is won, red lost, grey tied."""
+"""The wins of each pair in a league as a picture: blue is won, red lost, grey tied."""
 from __future__ import annotations
 
 from collections.abc import Sequence
@@ -11,14 +11,14 @@ from numpy.typing import NDArray
 
 from .shades import LOST, TIED, WON, mixed
 
-# The size of a cell and of the whole matrix at most, in inches; letters below this size, in points, aren't written.
+# The size of a cell, and the maximum size of the matrix, in inches; smaller letters, in points, are left out.
 CELL, SIDE, LETTER = 0.25, 20.0, 4.0
 
 
-# A name with `$` is no formula.
+# `$` in a name does not begin a formula.
 @rc_context({"text.parse_math": False})  # type: ignore[misc]
 def draw(titles: Sequence[str], ranks: Sequence[int], balances: NDArray[np.int64], path: str) -> None:
-    """Draws the wins, ties and losses of each against each, of the kind that the file's name ends in."""
+    """Draws the wins, ties and losses of each against each. The end of the file's name selects the kind of picture."""
     side = min(CELL * len(titles), SIDE)
     letter = min(9.0, 72 * side / max(1, len(titles)) * 0.7)
     figure = Figure(figsize=(side + 4, side + 1), layout="constrained")

@@ -1,4 +1,4 @@
-"""The colours of results: a match is mixed of those of its rounds."""
+"""The colours of results; that of a match is a mix of the colours of its rounds."""
 from __future__ import annotations
 
 import numpy as np
@@ -9,7 +9,7 @@ NO_MATCH = 255
 
 
 def mixed(balances: NDArray[np.int64]) -> NDArray[np.uint8]:
-    """The red, green and blue of matches, each from 0 to 255, by their wins, ties and losses, in the last dimension."""
+    """Returns red, green and blue of matches, from 0 to 255, by their wins, ties and losses in the last dimension."""
     rounds = balances.sum(axis=-1, keepdims=True)
     colours = balances @ np.array([WON, TIED, LOST]) / np.maximum(rounds, 1)
     return np.where(rounds > 0, np.rint(colours), NO_MATCH).astype(np.uint8)

@@ -1,6 +1,5 @@
-"""A battle as a picture: time goes down, the core goes across. A warrior's colour is strong where its processes
-stand, lighter where it wrote, and pale on the cells that it wrote last. The end of the file's name chooses PNG,
-SVG or PDF.
+"""A battle as a picture: time runs down, the core runs across. A warrior's colour is strong where its processes are,
+lighter where it wrote, and pale on the cells that it wrote last. The end of the file's name selects PNG, SVG or PDF.
 """
 from __future__ import annotations
 
@@ -18,20 +17,20 @@ from ..battle.frames import Frame, frames
 from ..battle.history import History
 from .colours import LIGHT, coloured
 
-# How much of a warrior's colour there is on cells that are owned, that are written, and where processes stand.
+# The share of a warrior's colour on cells that it owns, that it wrote, and where its processes are.
 OWNED, WRITTEN, STANDING = 0.3, 0.6, 1.0
 
 
 @dataclass(frozen=True)
 class View:
-    """What a picture shows: the turns at which its rows end, and the cells of its columns."""
+    """The turns at which the rows of a picture end, the cells that it shows, and its number of columns."""
 
     ends: list[int]
     cells: range
     columns: int
 
     def leaders(self, addresses: NDArray[np.int64], warriors: NDArray[np.int64], count: int) -> NDArray[np.int64]:
-        """Of each column the warrior that has most of these cells, the first of several, -1 where nobody has any."""
+        """Returns the warrior with most of these cells in each column, the first of several, or -1 for none."""
         inside = (addresses >= self.cells.start) & (addresses < self.cells.stop) & (warriors < count)
         columns = (addresses[inside] - self.cells.start) * self.columns // len(self.cells)
         sums = np.bincount(warriors[inside] * self.columns + columns, minlength=count * self.columns).reshape(count, -1)
@@ -39,13 +38,13 @@ class View:
 
 
 def standing(frame: Frame) -> tuple[NDArray[np.int64], NDArray[np.int64]]:
-    """Where processes stand, and whose they are."""
+    """Returns the addresses of the processes, and their warriors."""
     whose = np.repeat(np.arange(len(frame.queues)), [len(queue) for queue in frame.queues])
     return np.concatenate(frame.queues).astype(np.int64), whose
 
 
 def points(history: History, view: View) -> NDArray[np.float64]:
-    """The colours of the picture, by rows and columns."""
+    """Returns the colours of the picture, by rows and columns."""
     count, owners = len(history.warriors), history.owners(view.ends[0]).astype(np.int64)
     shades = np.array([to_rgb(colour) for colour in coloured(LIGHT, history)])
     made = np.ones((len(view.ends) - 1, view.columns, 3))
@@ -64,7 +63,7 @@ def points(history: History, view: View) -> NDArray[np.float64]:
     return made
 
 
-# A name with `$` is no formula.
+# `$` in a name does not begin a formula.
 @rc_context({"text.parse_math": False})  # type: ignore[misc]
 def draw(history: History, view: View, path: str) -> None:
     """Writes the picture of a battle to a file."""
@@ -81,7 +80,7 @@ def draw(history: History, view: View, path: str) -> None:
         death = history.death(warrior)
         if death is not None and first < death <= last:
             axes.axhline(death, color=colour, linestyle="dashed")
-    # A label that begins with an underscore would be left out.
+    # matplotlib leaves out a label that begins with an underscore.
     labels = [f" {name} {fate(history, number)}" for number, name in enumerate(history.names)]
     handles = [Patch(color=colour, label=label) for colour, label in zip(colours, labels)]
     axes.legend(

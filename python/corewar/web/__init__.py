@@ -1,1 +1,1 @@
-"""The workbench: an editor, a fight, the core in time and the debugger, in a page of a browser on this machine."""
+"""The workbench: an editor, a view of the core, the debugger and leagues, in a browser on this machine."""

@@ -1,4 +1,4 @@
-"""What is on the workbench: sources, and a battle for each tab of the browser."""
+"""The state of the workbench: sources, and a battle for each tab of the browser."""
 from __future__ import annotations
 
 import hashlib
@@ -25,7 +25,7 @@ from ..model.settings import MOST_WARRIORS, Settings
 from ..model.warriors import Warrior
 from .desk import Desk
 
-# The most tabs whose battles are kept; the battle of a further one takes the place of that which is longest unseen.
+# The maximum number of stored battles; another tab's battle replaces the least recently used one.
 MOST_DESKS = 4
 JOBS = len(os.sched_getaffinity(0))
 
@@ -35,7 +35,7 @@ def digest(text: str) -> str:
 
 
 def coded(text: str) -> bytes:
-    """The bytes of a source: whatever they are, it has them again when it is saved."""
+    """Returns the bytes of a source. Invalid UTF-8 survives reading and saving."""
     return text.encode("utf-8", "surrogateescape")
 
 
@@ -44,20 +44,20 @@ def read(path: Path) -> str:
 
 
 def sources_of(paths: Iterable[Path]) -> dict[str, Path]:
-    """The sources of files and folders, by their names."""
+    """Returns the sources of files and folders, by their names."""
     found = [file for path in paths for file in (sorted(path.glob("*.red")) if path.is_dir() else [path])]
     return {file.name: file.resolve() for file in found}
 
 
 @dataclass
 class Folder:
-    """The sources that are edited, in files and folders, and examples, which stay as they are."""
+    """The sources to edit, in files and folders, and examples, which are not changed."""
 
     paths: list[Path]
     examples: dict[str, Path]
 
     def all(self) -> list[dict[str, Any]]:
-        """The sources that are there now."""
+        """Returns the sources that exist now."""
         files = sources_of(self.paths)
         found = [(name, path, False) for name, path in files.items()]
         found += [(name, path, True) for name, path in self.examples.items() if name not in files]
@@ -69,12 +69,12 @@ class Folder:
         ]
 
     def save(self, name: str, text: str, seen: str) -> str:
-        """Writes a source where it came from, if it is there as it was seen; a new name is free. Raises Refused."""
+        """Saves a source to its file if that has not changed since it was read, or to a new file. Raises Refused."""
         path = sources_of(self.paths).get(name) or self.new(name)
         there = digest(read(path)) if path.exists() else ""
         if there != seen:
             raise Refused(f"{name} has changed on disk; not overwritten")
-        # It is written beside the source first: a full disk leaves that as it was.
+        # A temporary file is written first, so that a full disk leaves the source unchanged.
         part = path.with_name(f".{path.name}.part")
         try:
             part.write_bytes(coded(text))
@@ -88,7 +88,7 @@ class Folder:
         return digest(text)
 
     def new(self, name: str) -> Path:
-        """Where a new source goes: into the first folder, or beside the first file."""
+        """Returns the path of a new source: in the first folder, or beside the first file. Raises Refused."""
         if not name or name != Path(name).name or not name.endswith(".red"):
             raise Refused(f"`{name}` is not a valid name; expected a name without a folder that ends in .red")
         first = self.paths[0]
@@ -97,7 +97,7 @@ class Folder:
 
 @dataclass
 class Bench:
-    """The workbench: its sources, and a battle on each desk, a tab of the browser by the name that it gave itself."""
+    """The workbench: its sources, and a desk with a battle for each tab, by the name that the tab chose."""
 
     folder: Folder
     results: str | None = None
@@ -109,14 +109,14 @@ class Bench:
         return Warrior(self.assembler.assemble(text, settings, rounds, warriors), name, text)
 
     def warrior(self, source: dict[str, str], settings: Settings, warriors: int, rounds: int) -> Warrior:
-        """The warrior of a source that the page sent. Raises Refused."""
+        """Returns the warrior of a source that the page sent. Raises Refused."""
         try:
             return self.assemble(source["name"], source["text"], settings, warriors, rounds)
         except (Fault, Overrun) as fault:
             raise Refused(f"{source['name']}: {fault}") from None
 
     def lint(self, source: str, settings: Settings) -> dict[str, Any]:
-        """The load file of a source, or its fault: the line, what it is, and what to do."""
+        """Returns the load file of a source, or its error: the line, the text, and what to do."""
         try:
             return {"load": str(self.assemble("", source, settings, 2))}
         except Overrun as fault:
@@ -129,7 +129,7 @@ class Bench:
             }
 
     def fight(self, name: str, given: dict[str, Any]) -> dict[str, Any]:
-        """Lays a battle out on a desk, and knows how it ends. Raises Refused."""
+        """Runs a battle on a desk and returns it. Raises Refused."""
         settings, sources = Settings(**given["settings"]), given["sources"]
         if not 1 <= len(sources) <= MOST_WARRIORS:
             raise Refused(f"expected 1 to {MOST_WARRIORS} warriors; select them in the list")
@@ -142,16 +142,14 @@ class Bench:
         return made.battle()
 
     def desk(self, name: str) -> Desk:
-        """The desk of this name. Raises Refused."""
+        """Returns the desk of this name. Raises Refused."""
         if name not in self.desks:
             raise Refused("this page has no battle yet; press Fight")
         self.desks.move_to_end(name)
         return self.desks[name]
 
     def league(self, given: dict[str, Any]) -> Generator[dict[str, Any], None, None]:
-        """Fights a match of every two sources, and tells the counts of matches as they end. Kept results are told at
-        once.
-        """
+        """Runs a match of every two sources, and yields the counts of matches as they end, after the stored ones."""
         sources, contest = given["sources"], Contest(Settings(**given["settings"]), given["rounds"], given["seed"])
         warriors = [self.warrior(source, contest.settings, 2, contest.rounds) for source in sources]
         matches = Matches(contest, warriors, all_pairs(len(warriors)))
@@ -168,6 +166,6 @@ class Bench:
 
 
 def counts_told(matches: Matches, rows: NDArray[np.intp]) -> dict[str, Any]:
-    """The pairs and the counts of some matches, and how many of all are fought."""
+    """Returns the pairs and the counts of some matches, and how many of all are done."""
     counts = np.hstack([matches.pairs[rows], matches.counts[rows]]).tolist()
     return {"done": int(matches.is_fought.sum()), "total": len(matches), "counts": counts}

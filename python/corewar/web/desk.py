@@ -1,4 +1,4 @@
-"""A battle that a tab of the browser shows, with all its futures."""
+"""The battle of a tab of the browser, with all its futures."""
 from __future__ import annotations
 
 import json
@@ -20,30 +20,30 @@ from ..model.cells import cell_text
 from ..model.faults import Refused
 from ..pages.replay import head_of, page_of
 
-# How many moments the overview has; a cell that was written within so many of them is shown as lately written.
+# The number of moments of the overview, and for how many of them a written cell is shown as recent.
 MOMENTS, FADING = 600, 16
-# How many cells stand before and behind the one that is looked at.
+# The number of cells listed before and after the selected one.
 AROUND = 4
 
 
 @dataclass
 class Desk:
-    """The debugger's session over a battle: its place in time and its futures."""
+    """The debugger's session of a battle: its place in the history and its futures."""
 
     session: Session
 
     def within(self, turn: int) -> int:
-        """A turn that the battle has: another window may have made it shorter."""
+        """Returns the nearest turn that the battle has; another window may have made it shorter."""
         return max(0, min(turn, self.session.history.end))
 
     @classmethod
     def of(cls, fought: Match, round: int) -> Desk:
-        """A round of a match, laid out, with how it ends."""
+        """Returns the desk of a round of a match."""
         history = History(fought, round)
         return cls(Session(history, Sources(history)))
 
     def battle(self) -> dict[str, Any]:
-        """What the page shows of a battle besides its turns."""
+        """Returns what the page shows of a battle besides its turns."""
         session, history = self.session, self.session.history
         futures = [
             {
@@ -64,7 +64,7 @@ class Desk:
         }
 
     def overview(self) -> dict[str, Any]:
-        """For some moments of the battle how many cells each warrior owns, and how many processes it has."""
+        """Returns the number of cells and processes of each warrior at some moments of the battle."""
         history = self.session.history
         count, ends = len(history.warriors), parts(0, history.end, MOMENTS)
         owners, cells, processes = history.owners(0).copy(), [], []
@@ -75,8 +75,8 @@ class Desk:
         return {"turns": ends, "cells": cells, "processes": processes}
 
     def turn(self, turn: int) -> bytes:
-        """A turn: a line of JSON, then a byte for the owner of each cell, one for how lately it was written, and
-        where processes stand.
+        """Returns a turn: a line of JSON, then for each cell a byte for its owner and one for its age, then the
+        addresses of the processes.
         """
         session, history = self.session, self.session.history
         session.turn = turn = self.within(turn)
@@ -104,7 +104,7 @@ class Desk:
         return json.dumps(told).encode() + b"\n" + shown.tobytes() + ages.tobytes() + np.concatenate(queues).tobytes()
 
     def cell(self, address: int, turn: int) -> dict[str, Any]:
-        """A cell with its neighbours, and the turns that changed it last and will change it next."""
+        """Returns a cell with its neighbours, and the turns of its last and next change."""
         session, history = self.session, self.session.history
         turn, address = self.within(turn), address % history.core
         block, owners, cells = history.block(turn), history.owners(turn), history.block(turn).cells(turn)
@@ -132,7 +132,7 @@ class Desk:
         }
 
     def search(self, word: str, address: int, turn: int, forward: bool) -> dict[str, Any]:
-        """The next turn, or the last one before, of which something is so for a cell, or for any warrior."""
+        """Finds the next or the previous turn with a condition on a cell, or on any warrior."""
         history = self.session.history
         numbers = [address] if word in OF_CELLS else range(len(history.warriors))
         conditions = [Condition(word, number, number) for number in numbers]
@@ -140,11 +140,11 @@ class Desk:
         return {"turn": found and found[0]}
 
     def replay(self) -> str:
-        """The page that replays the battle."""
+        """Returns the page that replays the battle."""
         return page_of(self.session.history)
 
     def debug(self, line: str, turn: int) -> dict[str, Any]:
-        """Makes a line of the debugger at a turn."""
+        """Executes a debugger command at a turn."""
         session = self.session
         session.turn, before = self.within(turn), session.history
         try:

@@ -1,4 +1,4 @@
-"""The server of the workbench. It serves on 127.0.0.1 alone, to who has the token of its address."""
+"""The server of the workbench. It serves only on 127.0.0.1, and only to clients with the token of its address."""
 from __future__ import annotations
 
 import asyncio
@@ -25,7 +25,7 @@ HERE = Path(__file__).parent / "static"
 SHARED = Path(__file__).parents[1] / "pages" / "static"
 CODEMIRROR = Path("/usr/share/javascript/codemirror")
 LARGEST_REQUEST = 20_000_000
-# What the page may load, and from where: of this server alone.
+# What the page may load: only from this server.
 POLICY = (
     "default-src 'none'; script-src 'self'; style-src 'self' 'unsafe-inline'; img-src 'self' data:; connect-src 'self'"
 )
@@ -40,17 +40,17 @@ def bench_of(request: web.Request) -> Bench:
 
 
 def desk_of(request: web.Request) -> Desk:
-    """The desk of the tab that asks."""
+    """Returns the desk of the tab that sent the request."""
     return bench_of(request).desk(request.query.get("desk", ""))
 
 
 async def answer(act: Callable[..., Any], *given: Any) -> web.Response:
-    """What a call gives, which is made in a thread."""
+    """Returns the result of a call, which runs in a thread."""
     return web.json_response(await asyncio.to_thread(act, *given))
 
 
 def guard(ports: list[int]) -> Any:
-    """Answers only to this address: a page of another site may neither ask under another name nor send anything."""
+    """Rejects requests for another host name, and those from pages of other sites."""
 
     @web.middleware
     async def guarded(request: web.Request, handler: Handler) -> web.StreamResponse:
@@ -69,7 +69,7 @@ def guard(ports: list[int]) -> Any:
 
 @web.middleware
 async def told(request: web.Request, handler: Handler) -> web.StreamResponse:
-    """What can't be done is told as a text, with the status of a conflict."""
+    """Returns errors as text, with the status of a conflict or of a bad request."""
     try:
         return await handler(request)
     except (Refused, OSError) as fault:
@@ -135,15 +135,13 @@ async def cell(request: web.Request) -> web.Response:
 
 @routes.post("/league")
 async def league(request: web.Request) -> web.StreamResponse:
-    """The counts of matches as they end, a line of JSON for each bundle; a fault behind the first one is the last
-    line.
-    """
+    """Sends the counts of matches as they end, a line of JSON for each bundle. A later error is the last line."""
     fought, loop = bench_of(request).league(await request.json()), asyncio.get_running_loop()
 
     def more() -> dict[str, Any]:
         return next(fought, {})
 
-    # What SQLite opens in a thread is used in that alone.
+    # A connection of SQLite is used only in the thread that opens it.
     with ThreadPoolExecutor(1) as thread:
         told = await loop.run_in_executor(thread, more)
         response = web.StreamResponse(headers={"Content-Type": "application/x-ndjson"})
@@ -174,14 +172,14 @@ async def debug(request: web.Request) -> web.Response:
 
 @routes.get("/replay.html")
 async def replay(request: web.Request) -> web.Response:
-    """The page that replays the battle, to be kept or sent."""
+    """Sends the page that replays the battle, as a download."""
     text = await asyncio.to_thread(desk_of(request).replay)
     name = {"Content-Disposition": 'attachment; filename="battle.html"'}
     return web.Response(text=text, content_type="text/html", headers=name)
 
 
 def application(bench: Bench, ports: list[int], token: str) -> web.Application:
-    """The server's application: everything lies behind the token. The ports are those that it is asked under."""
+    """Returns the server's application. Every path begins with the token; `ports` are the ports in the host names."""
     inner = web.Application(middlewares=[told], client_max_size=LARGEST_REQUEST)
     inner["bench"] = bench
     inner.add_routes(routes)
@@ -193,7 +191,7 @@ def application(bench: Bench, ports: list[int], token: str) -> web.Application:
 
 
 async def serve(bench: Bench, port: int, opens: bool, say: Callable[[str], None]) -> None:
-    """Serves until it is stopped."""
+    """Serves until it is stopped. Raises Refused."""
     if not CODEMIRROR.is_dir():
         raise Refused("cannot find the editor CodeMirror; run apt-get install libjs-codemirror")
     token, ports = secrets.token_urlsafe(16), [port]
@@ -207,14 +205,14 @@ async def serve(bench: Bench, port: int, opens: bool, say: Callable[[str], None]
         with opened(address) if opens else nullcontext():
             await asyncio.Event().wait()
     finally:
-        # Nothing is answered any more when the threads that make answers end.
+        # The server stops before the threads that its handlers use.
         await runner.cleanup()
 
 
 @contextmanager
 def opened(address: str) -> Iterator[None]:
-    """Opens an address in the browser, by a page that leads there and that only this user may read: all users of the
-    machine see the words of a browser that is started.
+    """Opens an address in the browser, through a page that redirects there and that only this user may read, since all
+    users of the machine see the arguments of a process.
     """
     with NamedTemporaryFile("w", prefix="corewar-", suffix=".html") as page:
         page.write(f'<meta http-equiv="refresh" content="0; url={address}">\n')

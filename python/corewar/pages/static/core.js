@@ -1,11 +1,11 @@
 "use strict";
 const element = name => document.getElementById(name);
 const NOBODY = 255, LONG_AGO = -1e9;
-// frames until a cell is no longer lately written; snapshots of the core
+// frames for which a cell counts as recently written; snapshots of the core
 const FADING = 16, SNAPSHOTS = 16;
-// a warrior on so few cells has rings round them, unless a cell has so many pixels; pixels round the grid for rings and crosses
+// a warrior on at most FEW cells has rings around them, unless cells have LARGE pixels; MARGIN is the space around the grid for them
 const FEW = 3, LARGE = 14, MARGIN = 10;
-// frames a second; a battle plays in so many seconds, or in less than twice that time; the fewest frames that the track shows
+// frames per second; the seconds that a battle plays, or at most twice that; the minimum number of frames on the timeline
 const SPEEDS = [1, 2, 5, 10, 20, 40, 60, 120, 240], LENGTH = 25, LEAST = 8;
 const KEYS = {ArrowLeft: "back", ArrowRight: "on", ArrowUp: "faster", ArrowDown: "slower", Home: "first", End: "last", " ": "play",
   "+": "closer", "-": "wider", 0: "whole", Escape: "release"};
@@ -16,7 +16,7 @@ const number = value => value.toLocaleString("en");
 const count = (value, what) => `${number(value)} ${what}${value === 1 ? "" : /(s|ch)$/.test(what) ? "es" : "s"}`;
 const clamp = (value, low, high) => Math.max(low, Math.min(high, value));
 
-/** The colours of the theme: of the ground, and of each warrior in text, on its cells by their age, and of its processes. */
+/** The colours of the theme: of the ground, and of each warrior for text, for its cells by their age, and for its processes. */
 class Palette {
   constructor(count, alone) {
     const style = getComputedStyle(document.documentElement), read = name => style.getPropertyValue(`--${name}`).trim();
@@ -35,12 +35,12 @@ class Palette {
       Palette.pixel(shown(mixed(ground, colour, age(frames / FADING)), who))));
   }
 
-  /** A colour as the four bytes of a pixel. */
+  /** Returns a colour as the four bytes of a pixel. */
   static pixel([red, green, blue]) {
     return (255 << 24 | Math.round(blue) << 16 | Math.round(green) << 8 | Math.round(red)) >>> 0;
   }
 
-  /** So many bands for the processes of these warriors on one cell; all of them in one, where there is no room. */
+  /** Returns the bands for the processes of these warriors on one cell, or one mixed band if the cell is too small. */
   bands(warriors, room) {
     const colours = warriors.map(who => this.process[who]);
     const mean = i => colours.reduce((sum, colour) => sum + colour[i], 0) / colours.length;
@@ -48,7 +48,7 @@ class Palette {
   }
 }
 
-/** The grid of the core. A cell is some pixels of the screen, and its processes stand in the middle of it, side by side. */
+/** The grid of the core. A cell is some pixels of the screen, with its processes side by side in the middle. */
 class Grid {
   constructor(canvas, replay) {
     Object.assign(this, {canvas, replay, size: replay.battle.size});
@@ -56,14 +56,14 @@ class Grid {
     this.rows = Math.ceil(this.size / this.columns);
   }
 
-  /** How many columns: a divisor of the size that makes the grid somewhat wider than high, or about that. */
+  /** Returns the number of columns: a divisor of the size that makes the grid slightly wider than high, or that width. */
   divisor() {
     const wish = Math.sqrt(this.size * 1.3), root = Math.ceil(Math.sqrt(this.size));
     const columns = Array.from({length: Math.ceil(root * .6)}, (_, i) => root + i).filter(value => this.size % value === 0);
     return columns.sort((one, other) => Math.abs(one - wish) - Math.abs(other - wish))[0] ?? Math.ceil(wish);
   }
 
-  /** Takes the room that its stage has; on a narrow screen that has its width alone. */
+  /** Fits the grid to its stage; on a narrow screen only to its width. */
   fit(stage, isNarrow) {
     const ratio = devicePixelRatio, across = stage.clientWidth * ratio;
     const height = (isNarrow ? innerHeight * .7 : stage.clientHeight) * ratio;
@@ -94,7 +94,7 @@ class Grid {
     if (focus !== null) this.mark(focus, SQUARE, (this.inner + devicePixelRatio) / 2, 1, palette.ink);
   }
 
-  /** Each row of cells: its first line of pixels, and copies of that. */
+  /** Draws each row of cells: its first line of pixels, and copies of it. */
   drawCells({ages, ground, page}) {
     const {owner, written, frame} = this.replay, {width} = this.image;
     this.pixels.fill(page);
@@ -109,7 +109,7 @@ class Grid {
     }
   }
 
-  /** A mark on each cell with processes. Gives the cells of the warriors that stand on few. */
+  /** Marks each cell with processes. Returns the cells of the warriors with few of them. */
   drawProcesses(palette) {
     const addresses = new Map(), few = [];
     this.replay.stands.forEach((stands, who) => {
@@ -130,7 +130,7 @@ class Grid {
     return few;
   }
 
-  /** Draws a shape of some radius round the middle of a cell. */
+  /** Draws a shape with a radius around the middle of a cell. */
   mark(address, shape, radius, width, colour) {
     const at = place => this.margin + place * this.cell + (this.inner - 1) / 2;
     this.context.setTransform(radius, 0, 0, radius, at(address % this.columns) + .5, at(Math.floor(address / this.columns)) + .5);
@@ -138,7 +138,7 @@ class Grid {
     this.context.stroke(shape);
   }
 
-  /** The address under the pointer, or null. */
+  /** Returns the address under the pointer, or null. */
   addressAt(event) {
     const box = this.canvas.getBoundingClientRect(), scale = this.canvas.width / box.width;
     const at = distance => Math.floor((distance * scale - this.margin) / this.cell);
@@ -147,8 +147,8 @@ class Grid {
   }
 }
 
-/** Some frames of the battle, or all of them, time across: above the cells of each warrior, one on the other, below its
- * processes, and each death. A slider lies over it. */
+/** The timeline of some or all frames: above the cells of the warriors, stacked, below their processes, and each death. A slider covers
+ * it. */
 class Track {
   constructor(canvas, slider, replay) {
     const {counts, end, battle: {frames, warriors}} = replay, most = of => counts.reduce((most, moment) => Math.max(most, of(moment)), 1);
@@ -160,7 +160,7 @@ class Track {
     this.show(0, end);
   }
 
-  /** Shows so many frames from one on, or from as near to it as there are so many. */
+  /** Shows `length` frames from `from` on, or from the nearest frame with that many after it. */
   show(from, length) {
     this.from = clamp(from, 0, this.end - length);
     this.to = this.from + length;
@@ -169,13 +169,13 @@ class Track {
 
   get length() { return this.to - this.from; }
 
-  /** Shows so much of the frames that are shown, round one of them that stays where it is. */
+  /** Changes the number of shown frames by a factor, around a frame that stays where it is. */
   zoom(factor, frame) {
     const length = clamp(Math.round(this.length * factor), Math.min(LEAST, this.end), this.end);
     this.show(Math.round(frame - (frame - this.from) * length / Math.max(1, this.length)), length);
   }
 
-  /** Lets a frame be among those that are shown. */
+  /** Scrolls to a frame if it is not shown. */
   follow(frame) {
     if (frame < this.from || frame > this.to) this.show(frame - (frame < this.from ? this.length : 0), this.length);
   }
@@ -201,7 +201,7 @@ class Track {
 
   across(turn) { return 1.5 + (turn - this.first) / (this.last - this.first) * (this.width - 3); }
 
-  /** Goes on with a line through the frames that are shown, forwards or backwards, at a height for each. */
+  /** Continues a line through the shown frames, forwards or backwards, at a height for each. */
   line(height, isBack = false) {
     for (let i = 0; i <= this.length; i++) {
       const frame = isBack ? this.to - i : this.from + i;
@@ -228,7 +228,7 @@ class Track {
     this.context.stroke();
   }
 
-  /** Round numbers of turns, as many as there is room for. */
+  /** Draws round numbers of turns, as many as fit. */
   drawScale() {
     const {context, width, bottom, first, last} = this, least = (last - first) / (width / 90);
     const power = 10 ** Math.floor(Math.log10(Math.max(1, least)));

@@ -1,4 +1,4 @@
-/** The battle of the page: its head, all texts of cells in one list, and its frames, each knowing where its texts begin there. */
+/** Reads the battle of the page: its header, all texts of cells in one list, and its frames, each with the start of its texts there. */
 async function readBattle() {
   const unpack = async line => {
     const bytes = Uint8Array.from(atob(line), letter => letter.charCodeAt(0));
@@ -13,7 +13,7 @@ async function readBattle() {
   return {...head, texts, frames};
 }
 
-/** The core at a frame: for each cell who wrote it last, in which frame, its text, and how many processes of whom stand there. */
+/** The core at a frame: for each cell its owner, the frame of its last write, its text, and the number of processes of each warrior. */
 class Replay {
   constructor(battle) {
     const {size, warriors, frames} = battle;
@@ -36,7 +36,7 @@ class Replay {
   get end() { return this.battle.frames.length - 1; }
   get moment() { return this.battle.frames[this.frame]; }
 
-  /** Makes the changes of a frame. */
+  /** Applies the changes of a frame. */
   apply({at, by, text, base, moves}, when) {
     let address = 0;
     at.forEach((gap, i) => {
@@ -60,7 +60,7 @@ class Replay {
     this.apply(this.moment, this.frame || LONG_AGO);
   }
 
-  /** Goes to a frame: on from here, or on from the snapshot before it, where that is nearer. */
+  /** Goes to a frame, from here or from the snapshot before it, whichever is nearer. */
   seek(frame) {
     const from = Math.floor(frame / this.interval);
     if (frame < this.frame || from * this.interval > this.frame) {
@@ -71,7 +71,7 @@ class Replay {
   }
 }
 
-/** What is told in words: the outcome, the warriors, the cells around one, the words of mars that debug a turn. */
+/** The texts: the warriors, the cells around one, and the command that debugs a turn. */
 class Words {
   constructor(replay, choose, go) {
     Object.assign(this, {replay, go, rows: [...element("legend").rows], lines: [...element("listing").children]});
@@ -99,16 +99,16 @@ class Words {
     this.list(focus, isOwn);
   }
 
-  /** The words that start the debugger at a turn. */
+  /** Returns the command that starts the debugger at a turn. */
   command(turn) { return this.replay.battle.command.replace("TURN", turn); }
 
-  /** Whose processes stand on a cell, and how many. */
+  /** Returns the warriors with processes on a cell, and how many. */
   processes(address) {
     const {battle: {warriors}, stands} = this.replay, times = value => value > 1 ? ` ×${number(value)}` : "";
     return warriors.flatMap(({name}, who) => stands[who][address] ? [name + times(stands[who][address])] : []).join(", ");
   }
 
-  /** The cells around an address. */
+  /** Lists the cells around an address. */
   list(focus, isOwn) {
     const {replay, replay: {battle: {size, texts, warriors, last}, owner}} = this, age = replay.frame - replay.written[focus];
     const when = age >= -LONG_AGO ? "" : age ? `written ${count(age, "frame")} ago` : "written in this frame";
@@ -126,7 +126,7 @@ class Words {
   }
 }
 
-/** The controls: which frame is shown, which cell is looked at, and which warrior alone. */
+/** The controls: the frame that is shown, the selected cell, and the only warrior that is shown. */
 class Player {
   constructor(battle) {
     const replay = new Replay(battle);
@@ -174,7 +174,7 @@ class Player {
     }, {passive: false});
   }
 
-  /** What a button or a key does; those that go on or back go so many frames. */
+  /** Executes the command of a button or a key; `step` is the number of frames to go forward or back. */
   command(name, step = 1) {
     const {frame} = this, quicken = by => this.look({rate: clamp(this.rate + by, 0, SPEEDS.length - 1)});
     const commands = {first: () => this.go(0), last: () => this.go(this.end), back: () => this.go(frame - step),
@@ -193,7 +193,7 @@ class Player {
     event.preventDefault();
   }
 
-  /** Shows a frame, and plays no further. */
+  /** Shows a frame and stops playing. */
   go(frame) {
     this.position = clamp(frame, 0, this.end);
     this.play(false);
@@ -220,13 +220,13 @@ class Player {
     this.ask();
   }
 
-  /** Goes to the first frame after so many turns, or to the end. */
+  /** Goes to the first frame after a number of turns, or to the end. */
   goTo(turn) {
     const frame = this.replay.battle.frames.findIndex(moment => moment.turn >= turn);
     this.go(frame < 0 ? this.end : frame);
   }
 
-  /** Goes to the turn that the page's address names behind #turn=, or to the start. */
+  /** Goes to the turn after #turn= in the page's address, or to the start. */
   fromAddress() { this.goTo(+new URLSearchParams(location.hash.slice(1)).get("turn")); }
 
   fit() {
@@ -241,7 +241,7 @@ class Player {
     this.draw();
   }
 
-  /** Asks for one drawing, however much changes until then. */
+  /** Requests one drawing for all changes until then. */
   ask() {
     if (this.isAsked) return;
     this.isAsked = true;

@@ -1,20 +1,20 @@
 "use strict";
-/* The workbench: sources in an editor, and a battle of which each turn is asked of the server when it is shown. The grid, the track and
+/* The workbench: sources in an editor, and a battle whose turns are fetched from the server when they are shown. The grid, the track and
  * the palette are those of the page that replays a battle (core.js). */
 
-/** What this tab finds again when it is loaded anew: the name under which the server has its battle, the terms, and what isn't saved. */
+/** What this tab restores when it is reloaded: the name of its battle on the server, the settings, and unsaved sources. */
 const kept = JSON.parse(sessionStorage.bench ?? "{}");
 const keep = changes => {
   Object.assign(kept, changes);
-  try { sessionStorage.bench = JSON.stringify(kept); } catch { /* more than a tab may keep: the browser asks before the tab is left */ }
+  try { sessionStorage.bench = JSON.stringify(kept); } catch { /* too large to store: the browser warns before the tab is closed */ }
 };
 keep({desk: kept.desk ?? crypto.randomUUID()});
 
-/** Where this tab's battle is asked for, and what is posted there. */
+/** The address of a request for this tab's battle, and the form of a post. */
 const at = path => `${path}?desk=${kept.desk}`;
 const posted = body => ({method: "POST", headers: {"Content-Type": "application/json"}, body: JSON.stringify(body)});
 
-/** What the server answers to a path, and to a body where one is sent. */
+/** Returns the server's response to a path, with or without a body. */
 async function ask(path, body) {
   const answer = await fetch(at(path), body === undefined ? {} : posted(body));
   const told = await answer.json();
@@ -27,7 +27,7 @@ const make = (kind, properties = {}, ...children) => {
   made.append(...children);
   return made;
 };
-/** Puts other parts into an element. The button that had the focus gives it to the one in its place. */
+/** Replaces the parts of an element. The focus moves from a button to the one in the same position. */
 const refill = (name, ...parts) => {
   const place = [...element(name).querySelectorAll("button")].indexOf(document.activeElement);
   element(name).replaceChildren(...parts);
@@ -38,7 +38,7 @@ const settle = (action, wait) => {
   return () => { clearTimeout(waiting); waiting = setTimeout(action, wait); };
 };
 
-/** A battle at a turn, as the grid and the track ask for it. A cell's age stands in place of the frame in which it was written. */
+/** A battle at a turn, in the form that the grid and the track use. A cell has an age instead of the frame of its last write. */
 class Live {
   constructor(battle, overview) {
     const {size, warriors} = battle;
@@ -53,7 +53,7 @@ class Live {
 
   get end() { return this.battle.frames.length - 1; }
 
-  /** Takes a turn as the server sends it. */
+  /** Reads a turn as the server sends it. */
   take(buffer) {
     const {size} = this.battle, bytes = new Uint8Array(buffer), start = bytes.indexOf(10) + 1;
     this.moment = JSON.parse(new TextDecoder().decode(bytes.subarray(0, start)));
@@ -68,7 +68,7 @@ class Live {
     });
   }
 
-  /** Where among the moments of the overview a turn is; between two of them a part. */
+  /** Returns the position of a turn among the moments of the overview, with a fraction between two of them. */
   frameOf(turn) {
     const {frames} = this.battle, next = frames.findIndex(moment => moment.turn >= turn);
     if (next <= 0) return 0;
@@ -122,7 +122,7 @@ class Shelf {
     keep({drafts: drafts.map(({name, doc, seen, example}) => ({name, text: doc.getValue(), seen, example}))});
   }
 
-  /** A source whose lines end as in its file; where they end in both ways, the editor shows each carriage return. */
+  /** Adds a source with the ends of lines of its file; if these are mixed, the editor shows each carriage return. */
   add({name, text, seen, example}) {
     const ends = /\r\n/.test(text) && !/(^|[^\r])\n/.test(text) ? "\r\n" : "\n";
     const source = {name, seen, example, saved: text, doc: CodeMirror.Doc(text, "redcode", 0, ends), box: make("input", {type: "checkbox"})};
@@ -148,7 +148,7 @@ class Shelf {
     this.sign();
   }
 
-  /** Says whether the source is saved. */
+  /** Shows whether the source is saved. */
   sign() {
     const {shown} = this, isSaved = !shown || Shelf.isSaved(shown);
     shown?.open.replaceChildren(shown.name + (isSaved ? "" : " •"));
@@ -169,7 +169,7 @@ class Shelf {
     }
   }
 
-  /** Saves the source where it came from. A file that something else changed isn't written over. */
+  /** Saves the source to its file, unless the file has changed on disk. */
   async save() {
     const {shown} = this, text = shown.doc.getValue();
     try {
@@ -183,7 +183,7 @@ class Shelf {
     }
   }
 
-  /** Asks for the name of a new source at the end of the list: Enter makes it, Esc doesn't. */
+  /** Requests the name of a new source at the end of the list: Enter creates it, Esc cancels. */
   askName() {
     let number = 1;
     while (this.find(`warrior-${number}.red`)) number++;
@@ -199,7 +199,7 @@ class Shelf {
     input.setSelectionRange(0, input.value.length - ".red".length);
   }
 
-  /** Makes a source of a name that none has yet. */
+  /** Creates a source with a new name. */
   create(name) {
     const stem = name.slice(0, -".red".length), fault = this.find(name) ? "already exists" : !stem || name.includes("/") ? "is not a valid file name" : "";
     if (fault) {
@@ -214,7 +214,7 @@ class Shelf {
     this.editor.focus();
   }
 
-  /** Marks the line of the process that moves, and names it where another source is in the editor. */
+  /** Highlights the line of the process whose turn is next, or links to it if another source is in the editor. */
   mark(line) {
     if (this.moving) this.moving.doc.removeLineClass(this.moving.line, "wrap", "moves");
     const source = line && this.find(line.file), place = source && CodeMirror.Pos(line.number - 1, 0);
@@ -226,7 +226,7 @@ class Shelf {
   }
 }
 
-/** The settings of the fight. */
+/** The settings of the battle. */
 class Terms {
   async load() {
     this.hills = await ask("settings");
@@ -239,7 +239,7 @@ class Terms {
   number(name) { return +element(name).value; }
 }
 
-/** The battle in time: which turn is shown, which cell is looked at, and the debugger. */
+/** The battle: the turn that is shown, the selected cell, and the debugger. */
 class Time {
   constructor(shelf, terms) {
     Object.assign(this, {shelf, terms, live: null, wanted: 0, isAsking: false, isPlaying: false, hovered: null, kept: null, alone: null});
@@ -291,7 +291,7 @@ class Time {
     event.preventDefault();
   }
 
-  /** Fights, and shows the battle from its start. */
+  /** Runs a battle, and shows it from its start. */
   async fight(sources, round = this.terms.number("round")) {
     element("fight").disabled = true;
     try {
@@ -339,7 +339,7 @@ class Time {
     this.recolour();
   }
 
-  /** Shows a turn. While one is asked for, the latest wish counts. */
+  /** Shows a turn. While one is being fetched, only the latest request counts. */
   go(turn) {
     this.wanted = clamp(Math.round(turn), 0, this.last);
     if (!this.isAsking) this.fetch();
@@ -434,7 +434,7 @@ class Time {
     this.shelf.mark(moment.line);
   }
 
-  /** Lists the cells round the one that is looked at: who wrote it when, and what can be done with it. */
+  /** Lists the cells around the selected one, with its last change and buttons for it. */
   async list() {
     // A cell that is being edited stays where it is.
     if (!this.live || this.isPlaying || element("listing").querySelector("input")) return;
@@ -452,7 +452,7 @@ class Time {
     refill("acts", ...changes, ...acts, ...spawns);
   }
 
-  /** A line of the listing: its address is looked at, its cell edited. */
+  /** Returns a line of the listing: its address selects the cell, its text edits it. */
   line({address, label, text, line, owner, processes}) {
     const {warriors} = this.live.battle, standing = processes.flatMap((count, who) => count ? [warriors[who].name + (count > 1 ? ` ×${count}` : "")] : []);
     const where = make("button", {className: "address", textContent: address, title: "Select this cell", onclick: () => this.keep(address)});
@@ -485,7 +485,7 @@ class Time {
     if (turn !== null) this.go(turn);
   }
 
-  /** Makes a line of the debugger where the battle stands, and goes where it leads. */
+  /** Executes a debugger command at the current turn, and goes to its result. */
   async debug(line) {
     if (!this.live) return;
     const {turn, answer, breaks, isOther} = await ask("debug", {line, turn: this.turn});
@@ -498,7 +498,7 @@ class Time {
   }
 }
 
-/** The league of the sources that are marked: the table and who beats whom grow as matches end. */
+/** The league of the selected sources. Its table grows as matches end. */
 class League {
   constructor(shelf, terms, time) {
     Object.assign(this, {shelf, terms, time, sorted: 0, isHeld: false});
@@ -523,7 +523,7 @@ class League {
     this.isHeld = false;
   }
 
-  /** Takes each line of the answer. */
+  /** Reads each line of the response. */
   async read(reader) {
     let rest = "";
     for (;;) {
@@ -546,7 +546,7 @@ class League {
     this.draw();
   }
 
-  /** The table, sorted by a column of sums, the most first. Lines and columns have the ranks of the warriors. */
+  /** Draws the table, sorted by a column of sums, the highest first. Rows and columns have the ranks of the warriors. */
   draw() {
     const sums = this.against.map(line => line.reduce((sum, counts) => counts ? sum.map((value, i) => value + counts[i]) : sum, [0, 0, 0, 0]));
     const order = sums.map((_, who) => who).sort((one, other) => sums[other][this.sorted] - sums[one][this.sorted]);
@@ -558,7 +558,7 @@ class League {
       ...order.map((_, rank) => make("th", {textContent: rank + 1}))), ...lines);
   }
 
-  /** The wins of one against another: a click fights their first round. */
+  /** Returns a cell with the wins of one warrior against another; a click shows their first round. */
   cell(who, other) {
     const counts = this.against[who][other];
     if (!counts) return make("td", {textContent: who === other ? "·" : ""});
@@ -571,7 +571,7 @@ class League {
   }
 }
 
-/** What went wrong is told where the outcome stands: a request that fails, a server that is gone. */
+/** Shows errors in place of the outcome: a request that fails, or a server that has stopped. */
 addEventListener("unhandledrejection", ({reason}) => {
   element("outcome").textContent = reason instanceof TypeError ? `Cannot reach the workbench: ${reason.message}` : reason.message;
 });
