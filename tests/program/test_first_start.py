@@ -68,7 +68,7 @@ class Place:
         for name in ("mars", "crates.txt", "HANDLES"):
             shutil.copy(os.path.join(TOP, name), folder)
         os.mkdir(os.path.join(folder, "scripts"))
-        for name in ("library", "prove", "machine.py", "program.py", "progress.py", "proving.py", "rooms.py"):
+        for name in ("library", "prove", "machine.py", "program.py", "progress.py", "proving.py", "rooms.py", "webassembly.py"):
             shutil.copy(os.path.join(TOP, "scripts", name), os.path.join(folder, "scripts"))
         for crate in stands_on(os.path.join(TOP, "crates.txt"), ""):
             for part in ("src", "specs", "proofs"):
@@ -76,6 +76,7 @@ class Place:
             self.touch(crate)
         self.tools = os.path.join(folder, "kit", "bin")
         os.makedirs(self.tools)
+        os.makedirs(os.path.join(folder, "kit", "toolchain", "bin"))
         for name in ("rt", "rattle", "rattle-link"):
             with open(os.path.join(self.tools, name), "w") as file:
                 file.write(STAND_IN)
