@@ -281,7 +281,8 @@ def test_corrupted_blocks() -> None:
             continue
         assert is_battle(words.tolist()), words
         accepted += 1
-        longer = np.concatenate([words, np.zeros(64, np.uint32)])
+        # The limit of processes may have become 255 for each of three warriors.
+        longer = np.concatenate([words, np.zeros(3 * 255, np.uint32)])
         play(longer, 0)
         assert np.array_equal(longer[: len(words)], words)
     assert 100 < accepted < 1900
