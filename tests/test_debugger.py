@@ -107,9 +107,15 @@ def test_edits_make_futures() -> None:
         refused(session, "edit 8000 nop")
         == "`8000` is not an address: a number below 8000, a label or `.`, with or without +N or -N"
     )
-    assert refused(session, "edit 0 mvo 1").startswith("`mvo 1` is not an instruction: ")
+    assert refused(session, "edit 0 mvo 1") == (
+        "`mvo 1` is not an instruction: 2 Operation: `mvo` is read as a label; did you mean `MOV`?"
+    )
     assert refused(session, "kill imp 3") == "Imp has no process 3; its number of processes is 1"
     assert refused(session, "futures 9") == "no future 9; there are futures 0 to 5"
+    execute(session, "goto end")
+    assert refused(session, "edit . dat 0") == (
+        "`.` is the cell to execute next, but the battle is over; use a number or a label"
+    )
     assert refused(session, "fill 5 3 nop") == "cannot fill 5 to 3: expected 1 to 1000000 cells"
 
 
@@ -210,3 +216,9 @@ def test_at_a_terminal(tmp_path: object) -> None:
         child.expect("turn 2>")
         child.sendcontrol("d")
         child.expect(pexpect.EOF)
+
+
+def test_an_edit_knows_the_settings_of_the_match() -> None:
+    fight = Match((assemble("MOV 0, 1"),), seed=3, rounds=10)
+    session = Session(History(fight), Sources(History(fight)))
+    assert execute(session, "edit 5 DAT MAXLENGTH, ROUNDS") == ["5: DAT.F $0, $0 -> DAT.F $100, $10"]

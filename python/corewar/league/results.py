@@ -1,6 +1,6 @@
 """Results of matches, kept in a file of SQLite, so that no match is fought twice.
 
-A match is known by its contest and by the digests of its two load files, in their order: a fight is a function of
+A match is known by its contest and by the digests of its two load files, in their order: its result is a function of
 these. Results are written once a second, all of them or none, so a process that is killed loses at most those of its
 last second. Several processes may use one file.
 """
@@ -57,7 +57,10 @@ class Results:
     def find(self) -> int:
         """Fills in the matches that are kept. Returns how many are kept the other way round alone."""
         with self.telling():
-            return self.matches.take_kept(self.file.execute(FIND, [self.contest]))
+            try:
+                return self.matches.take_kept(self.file.execute(FIND, [self.contest]))
+            except Refused as fault:
+                raise Refused(f"{self.path}: invalid result: {fault}") from None
 
     def keep(self, rows: Rows) -> None:
         """Keeps the matches of some rows, which were fought."""
