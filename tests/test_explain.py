@@ -1,15 +1,18 @@
 """explain: the causes of errors that happen, what pMARS reads differently, and sources that are fixed."""
 from __future__ import annotations
 
+import re
 import subprocess
 import time
+from collections.abc import Callable, Iterator
 from pathlib import Path
+from random import Random
 
 import pytest
 from conftest import TOP, Run
 
 from corewar.engine.calls import load_file
-from corewar.explain import fix, read_faults, read_otherwise, told, told_of
+from corewar.explain import errors_of, fix, read_faults, read_otherwise, told, told_of
 from corewar.explain.meanings import EXPRESSION, KINDS
 from corewar.explain.source import MODIFIERS, OPERATIONS, PREDEFINED
 from corewar.model.faults import ASSEMBLY, FORMULA, PROBLEMS, Fault
@@ -86,6 +89,99 @@ def test_causes(text: str, fault: str, expected: str) -> None:
         load_file(text)
     sentences = told(found.value, text.encode())
     assert str(found.value) == fault and expected in sentences[0] and len(sentences) <= 2
+
+
+OPCODE = re.compile(r"\b(MOV|ADD|SUB|JMP|SPL|DJN|DAT|SEQ|SNE|JMN|JMZ)\b(\.\w+)?")
+EXAMPLES = [path.read_text() for path in sorted((TOP / "examples").glob("*.red"))]
+# Ways to make a line faulty.
+FAULTS: list[Callable[[str, re.Match[str]], str]] = [
+    lambda line, found: line[: found.start()] + found[0][0] + found[0][2] + found[0][1] + line[found.start() + 3 :],
+    lambda line, found: line[: found.start()] + found[1] + ".Q" + line[found.end() :],
+    lambda line, found: re.sub(r"\s*(;|$)", r"+undefinedname \1", line, count=1),
+    lambda line, found: re.sub(r"\s*(;|$)", r"+(1 \1", line, count=1),
+    lambda line, found: line.replace(",", " ", 1),
+    # An operand with a name of which one letter is missing.
+    lambda line, found: line[: found.end()] + re.sub(r"\b(\w\w)\w(\w+)", r"\1\2", line[found.end() :], count=1),
+]
+
+
+def mutated(count: int) -> Iterator[tuple[str, set[int]]]:
+    """Examples in which one to four lines have an error each, with the numbers of these lines."""
+    dice = Random(5)
+    for _ in range(count):
+        original = dice.choice(EXAMPLES).split("\n")
+        lines, wrong = [*original], set[int]()
+        for number in dice.sample(range(len(lines)), min(len(lines), dice.randint(3, 12))):
+            found = OPCODE.search(lines[number].partition(";")[0])
+            if found is None or "EQU" in lines[number].upper() or len(wrong) == 4:
+                continue
+            changed = dice.choice(FAULTS)(lines[number], found)
+            try:
+                load_file("\n".join([*original[:number], changed, *original[number + 1 :]]))
+            except Fault:
+                lines[number] = changed
+                wrong.add(number + 1)
+        if wrong:
+            yield "\n".join(lines), wrong
+
+
+def line_to_correct(fault: Fault, sentences: list[str]) -> int:
+    earlier = re.match(r"In line (\d+), ", sentences[0])
+    return int(earlier[1]) if earlier else fault.line
+
+
+def test_all_errors_of_a_source_are_found() -> None:
+    """Nearly each of them, and nearly none that is not there."""
+    planted, found, more = 0, 0, 0
+    for text, wrong in mutated(200):
+        reported = {line_to_correct(*error) for error in errors_of(text.encode(), load_file)}
+        planted, found, more = planted + len(wrong), found + len(wrong & reported), more + len(reported - wrong)
+    assert planted > 250 and found >= 0.99 * planted and more <= 0.01 * planted
+
+
+# What to write, and instead of what.
+ADVICE = [
+    re.compile(r"(?:In line \d+, )?`(?P<old>[^`]+)` is read as a label; did you mean `(?P<new>[^`]+)`"),
+    re.compile(r"`(?P<old>[^`]+)` is not defined.*; did you mean `(?P<new>[^`]+)`"),
+    re.compile(r"`(?P<old>[^`]+)` is in a loop with several iterations; write `(?P<new>[^`]+)`"),
+]
+
+
+def test_advice_makes_no_source_worse() -> None:
+    """A source in which one advice was followed has fewer errors."""
+    applied = 0
+    for text, _ in mutated(200):
+        errors = [*errors_of(text.encode(), load_file)]
+        for fault, sentences in errors:
+            advice = next(filter(None, (form.match(sentences[0]) for form in ADVICE)), None)
+            if advice:
+                lines, number = text.split("\n"), line_to_correct(fault, sentences) - 1
+                lines[number] = re.sub(rf"\b{advice['old']}\b", advice["new"], lines[number], count=1)
+                assert len([*errors_of("\n".join(lines).encode(), load_file)]) < len(errors), (text, sentences)
+                applied += 1
+    assert applied > 100
+
+
+LOOPS = "a FOR 2\nb FOR 2\nx NOP\nROF\nROF\n"
+
+
+def test_names_in_loops() -> None:
+    """The counters of all loops around are joined; a loop without one gets one first."""
+    ((_, sentences),) = errors_of(LOOPS.encode(), load_file)
+    assert sentences == ["`x` is in a loop with several iterations; write `x&a&b`."]
+    assert load_file(LOOPS.replace("x NOP", "x&a&b NOP"))
+    ((_, sentences),) = errors_of(LOOPS.replace("a FOR", "FOR").encode(), load_file)
+    assert "give the FOR in line 1 a counter" in sentences[0]
+
+
+def test_all_errors_of_a_file(run: Run, tmp_path: Path) -> None:
+    (tmp_path / "three.red").write_text("go mvo 0, 1\n jmp og\n mov.q 0, 1\n")
+    done = run("explain", "three.red")
+    assert done.returncode == 1 and [line for line in done.stdout.splitlines() if line.startswith("three.red")] == [
+        "three.red: line 1: 2 Operation",
+        "three.red: line 2: 4 Expression 2 Unknown",
+        "three.red: line 3: 2 Operation",
+    ]
 
 
 def test_each_fault_has_a_meaning() -> None:

@@ -2,12 +2,14 @@
 from __future__ import annotations
 
 import os
+from collections.abc import Iterator
+from functools import partial
 
 import click
 
-from ..engine.sources import read_file, read_warriors
-from ..explain import excerpt, fix, read_faults, read_otherwise, told, told_of
-from ..model.faults import Fault, FileFault, Refused
+from ..engine.sources import Assembler, Overrun, read_file, read_warriors
+from ..explain import errors_of, excerpt, fix, read_faults, read_otherwise, told, told_of
+from ..model.faults import ASSEMBLY, Fault, FileFault, Refused
 from ..model.warriors import printable
 from .layout import Command
 from .options import Asked, battle_options
@@ -62,16 +64,36 @@ def explain(asked: Asked, pmars: bool, is_fixed: bool) -> int:
 
 
 def explain_file(asked: Asked, path: str) -> int:
-    """Assembles a file, and explains its error. Returns the exit status."""
+    """Assembles a file, and explains its errors. Returns the exit status."""
+    found = False
+    for fault, text, sentences in errors_in(asked, path):
+        write([f"{path}: {fault}", *excerpt(text, fault.line), *sentences])
+        found = True
+    if not found:
+        write([f"{path}: no error"])
+    return int(found)
+
+
+def errors_in(asked: Asked, path: str) -> Iterator[tuple[Fault, bytes, list[str]]]:
+    """Yields the errors of a file, each with the text of the file and its explanation. Raises FileFault."""
     try:
         read_warriors([path], asked.settings, asked.rounds, asked.limit, 2)
+        return
     except FileFault as left:
         if not isinstance(left.fault, Fault):
             raise
-        write([str(left), *excerpt(left.text, left.fault.line), *told(left.fault, left.text)])
-        return 1
-    write([f"{path}: no error"])
-    return 0
+        fault, text = left.fault, left.text
+    if fault.code != ASSEMBLY:
+        yield fault, text, told(fault, text)
+        return
+    with Assembler(asked.limit) as assembler:
+        try:
+            for error, sentences in errors_of(
+                text, partial(assembler.assemble, settings=asked.settings, rounds=asked.rounds)
+            ):
+                yield error, text, sentences
+        except Overrun as overrun:
+            raise FileFault(path, str(overrun), text) from None
 
 
 def explain_lines() -> None:

@@ -1,6 +1,7 @@
 """Explains errors, lists what pMARS reads differently, and fixes sources."""
+from .errors import errors_of
 from .meanings import read_faults, told, told_of
 from .pmars import fix, read_otherwise
 from .source import excerpt
 
-__all__ = ["excerpt", "fix", "read_faults", "read_otherwise", "told", "told_of"]
+__all__ = ["errors_of", "excerpt", "fix", "read_faults", "read_otherwise", "told", "told_of"]

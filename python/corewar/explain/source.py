@@ -4,7 +4,8 @@ from __future__ import annotations
 import re
 from collections.abc import Sequence
 from dataclasses import dataclass, field
-from difflib import get_close_matches
+from difflib import SequenceMatcher, get_close_matches
+from operator import itemgetter
 
 OPCODES = "DAT MOV ADD SUB MUL DIV MOD JMP JMZ JMN DJN SEQ CMP SNE SLT SPL NOP".split()
 OPERATIONS = [*OPCODES, *"FOR ROF EQU ORG END".split()]
@@ -15,6 +16,8 @@ ELSEWHERE = "LDP STP PIN XCH PCT STS".split()
 # A name with its joins, a number, or punctuation, also such as the language does not have.
 TOKEN = re.compile(r"(?:\w|&(?=[A-Za-z_]))+|==|!=|<=|>=|&&|\|\||\S", re.ASCII)
 NAME = re.compile(r"[A-Za-z_][\w&]*$", re.ASCII)
+# How many names are compared with a word; a comparison takes 10 to 20 microseconds for each letter.
+MOST_CHOICES = 1000
 # How many words of a line are compared with the names of operations.
 FIRST_WORDS = 20
 
@@ -122,23 +125,31 @@ def read_source(data: bytes) -> Source:
 
 def like(word: str, choices: Sequence[str]) -> str | None:
     """Returns the choice that is most similar to a word; the same letters in another order come first."""
-    upper = {choice.upper(): choice for choice in choices}
+    upper = {choice.upper(): choice for choice in choices[:MOST_CHOICES]}
     same = [choice for choice in upper if sorted(choice) == sorted(word.upper())]
     close = same or get_close_matches(word.upper(), upper, n=1)
     return upper[close[0]] if close else None
+
+
+def likeness(word: str, choice: str) -> float:
+    """Returns how similar two words are: 1 if they have the same letters, otherwise less."""
+    same = sorted(word.upper()) == sorted(choice)
+    return 1.0 if same else SequenceMatcher(None, word.upper(), choice).ratio()
 
 
 def misspelt(line: Line) -> str | None:
     """Returns a sentence on a word in place of an operation that is similar to one, or is one of another dialect."""
     if line.operation or not (line.rest or len(line.labels) > 1):
         return None
-    for word in line.labels[:FIRST_WORDS]:
-        meant = like(word, OPERATIONS)
+    words = line.labels[:FIRST_WORDS]
+    for word in words:
         if word.upper() in ELSEWHERE:
             return f"`{word}` is not an opcode of this language; P-space and other extensions are not supported."
-        if meant:
-            return f"`{word}` is read as a label; did you mean `{meant}`?"
-    return None
+    found = [(likeness(word, meant), word, meant) for word in words if (meant := like(word, OPERATIONS))]
+    if not found:
+        return None
+    _, word, meant = max(found, key=itemgetter(0))
+    return f"`{word}` is read as a label; did you mean `{meant}`?"
 
 
 def excerpt(data: bytes, number: int) -> list[str]:
