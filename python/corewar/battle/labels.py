@@ -1,6 +1,7 @@
 """Maps the core of a battle to the sources of its warriors: the line of each loaded cell, and its labels."""
 from __future__ import annotations
 
+import re
 from collections import Counter
 from dataclasses import dataclass
 from functools import cached_property
@@ -9,6 +10,7 @@ import numpy as np
 
 from ..engine.calls import source_lines, state
 from ..model.faults import Fault
+from ..model.warriors import printable
 from .history import History
 
 
@@ -36,7 +38,9 @@ class Sources:
             texts = (warrior.source or b"").decode("latin-1").split("\n")
             for place, (line, labels) in enumerate(self._read(history, number)):
                 address = (first + place) % history.core
-                self.lines[address] = Line(number, line, " ".join(texts[line - 1].partition(";")[0].split()))
+                # Control characters are whitespace of the language, but a terminal would obey them.
+                words = re.findall(r"[^\0- ]+", texts[line - 1].partition(";")[0])
+                self.lines[address] = Line(number, line, printable(" ".join(words)))
                 self._labels += [(number, label, address) for label in labels]
 
     def told(self, address: int, cell: np.void) -> str:
