@@ -12,15 +12,15 @@ import pytest
 from conftest import TOP, Run
 
 from corewar.engine.calls import load_file
-from corewar.explain import errors_of, fix, read_faults, read_otherwise, told, told_of
+from corewar.explain import LOOKED_FOR, errors_of, fix, read_faults, read_otherwise, told, told_of
 from corewar.explain.meanings import EXPRESSION, KINDS
 from corewar.explain.source import MODIFIERS, OPERATIONS, PREDEFINED
 from corewar.model.faults import ASSEMBLY, FORMULA, PROBLEMS, Fault
 from corewar.model.settings import Settings
 
-# A source, the fault that the library finds in it, and what has to be said of it.
+# A source, the error that the library finds in it, and what has to be said of it.
 SOURCES = [
-    # Misspelt opcodes, also where another line has the fault.
+    # Misspelt opcodes, also where another line has the error.
     ("MVO #1, 2\n", "line 1: 2 Operation", "`MVO` is read as a label; did you mean `MOV`?"),
     (
         "go MVO bomb, 2\nbomb dat 0\n",
@@ -272,9 +272,94 @@ def test_pmars(run: Run, tmp_path: Path) -> None:
     expected = ["line 1: pMARS obeys `; name`", "line 3: pMARS takes `start`", "line 4: pMARS reads `DAT #0, 1`"]
     expected += ["line 6: pMARS joins the counter `i`", "line 7: pMARS reads `.i` as a modifier"]
     assert len(lines) == 5 and all(line.startswith(f"other.red: {told}") for line, told in zip(lines, expected))
-    assert run("explain", "--pmars", "@dwarf").stdout.endswith("dwarf.red: pMARS reads it in the same way.\n")
+    nothing = f"dwarf.red: none of the {LOOKED_FOR} known differences from pMARS was found\n"
+    assert run("explain", "--pmars", "@dwarf").stdout.endswith(nothing)
     assert read_otherwise(b"i FOR 2\nmov.I 0, i\nROF\nx equ 2\n") == []
     assert run("explain", "--pmars").returncode == 2
+
+
+# For each row of the table in LANGUAGE.md that a source can show its beginning, such a source, and what is reported.
+DIFFERENT = [
+    ("B-operand with `#`", "mov <0, #2\n", "before the side effect"),
+    ("CMP and SEQ", "cmp 0, 1\n", "write SEQ"),
+    ("P-space", "ldp 0, 1\n", "P-space"),
+    ("`mov.i` in a loop", "i FOR 2\nmov.i 0, i\nROF\n", "reads `.i` as a modifier"),
+    ("a label in a count", "x nop 0\ny nop 0\nFOR y-x\nnop 0\nROF\n", "accepts the label `y` in a count"),
+    ("a count below 0", "nop 0\nFOR 0-CURLINE\nnop 0\nROF\n", "a count below 0"),
+    ("a count with a later EQU name", "FOR n\nnop 0\nROF\nn EQU 2\nnop 0\n", "the EQU of `n` is later"),
+    ("FOR and ROF in the text", "loop EQU FOR 2\nnop 0\n", "FOR and ROF in the text of an EQU"),
+    ("`&i`, or `i`, in an EQU", "e EQU i*2\ni FOR 2\ndat 0, e\nROF\n", "joins the counter `i`"),
+    ("prose in a `FOR 0` whose second", "FOR 0\nwait for it\nROF\nnop 0\n", "takes the `for` in this text"),
+    ("several labels before", "a b EQU 2\nnop 0\n", "several labels before EQU"),
+    ("a name twice", "a nop 0\na nop 0\n", "drops this second `a`"),
+    ("a label in `;assert`", "a nop 0\n;assert a == 0\n", "the label `a` in an assert"),
+    ("`;assert VERSION", ";assert VERSION >= 90\nnop 0\n", "VERSION is 92"),
+    ("a label before ROF", "FOR 2\nnop 0\nx ROF\n", "a label before ROF"),
+    ("a start outside", "nop 0\nORG 5\n", "only warns of this start"),
+    ("`DAT x`", "dat 5+3\n", "`DAT #0, 5+3`"),
+    ("`1-2*3+4`", "mov 1-2*3+4, 1\n", "subtracts all that follows"),
+    ("a second `;redcode`", ";redcode\nnop 0\n;redcode\nnop 0\n", "second `;redcode`"),
+    ("`ORG 0` and `END 1`", "ORG 0\nnop 0\nnop 0\nEND 1\n", "starts where END says"),
+    (
+        "prose in a `FOR 0` whose third",
+        "FOR 0\nthis one waits for scanners\nROF\nnop 0\n",
+        "takes the `for` in this text",
+    ),
+    ("a line with only a label before", "start\nn EQU 2\nnop n\n", "takes `start` of the line before"),
+    ("`; assert 0`", "; assert 0\nnop 0\n", "obeys `; assert`"),
+    ("`;name`, `;author`", ";name " + "n" * 61 + "\nnop 0\n", "60 bytes"),
+    ("one operand with opcodes", "mov 1\n", "with this number of operands"),
+    ("a last line with only a label", "jmp last\nlast\n", "drops a last line"),
+    ("a counter with the name of a label", "i nop 0\ni FOR 2\nnop i\nROF\n", "rejects the counter `i`"),
+    ("lines and names of more", f"nop 0, {'+'.join(['1'] * 130)}\n", "cuts lines"),
+]
+# Rows that no source shows.
+OF_MATCHES = ["three and more warriors", "starting positions", "`-F`", "`-l` above 100"]
+
+
+@pytest.mark.parametrize("row, text, expected", DIFFERENT)
+def test_each_row_of_the_table_is_looked_for(row: str, text: str, expected: str) -> None:
+    faults = [fault for fault, _ in errors_of(text.encode(), load_file)]
+    assert any(expected in note for note in read_otherwise(text.encode(), faults))
+
+
+def test_the_table_has_these_rows() -> None:
+    document = (TOP / "docs" / "user" / "LANGUAGE.md").read_text().partition("## Differences from pMARS")[2]
+    rows = re.findall(r"^\| (?!\*\*|\||pMARS|-)(.+?) \|", document, re.M)
+    known = [*(row for row, _, _ in DIFFERENT), *OF_MATCHES]
+    assert len(rows) == len(known) and LOOKED_FOR == len(DIFFERENT)
+    assert all(any(row.startswith(one) for row in rows) for one in known)
+
+
+# What pMARS accepts and this kit rejects, and the same for both; None if it cannot be fixed.
+FIXED = [
+    ("mov 0, \\\n 1 ; x\n", "mov 0, 1\n"),
+    ("x nop 0\ny nop 0\nFOR y-x+1 ; two\ndat 1, 1\nROF\n", "nop 0\nnop 0\ndat 1, 1\ndat 1, 1\n"),
+    ("x jmp z\ny nop 0\nFOR x-y\ndat 1, 1\nROF\nz nop 0\n", "jmp 2\nnop 0\nnop 0\n"),
+    ("a nop 0\na: jmp a\n", "nop 0\njmp -1\n"),
+    ("p q EQU 7 ; both\ndat p, q\n", "dat 7, 7\n"),
+    ("z b FOR 2\ndat b, z\nROF\n", "dat 1, 0\ndat 2, -1\n"),
+    (";assert\nnop 0\n", "nop 0\n"),
+    ("e equ i*2\ni FOR 2\nmov.i e, i\nROF\n", "mov.i 2, 1\nmov.i 4, 2\n"),
+    ("e equ i*2\nnop e\ni FOR 2\nnop e\nROF\n", None),
+]
+
+
+@pytest.mark.parametrize("text, same", FIXED)
+def test_what_is_fixed(text: str, same: str | None) -> None:
+    fixed = fix(text.encode(), load_file)
+    assert [*errors_of(text.encode(), load_file)]
+    if same is None:
+        assert [*errors_of(fixed, load_file)]
+    else:
+        assert load_file(fixed) == load_file(same) and fix(fixed, load_file) == fixed
+
+
+def test_what_cannot_be_fixed_is_reported(run: Run, tmp_path: Path) -> None:
+    (tmp_path / "space.red").write_text("a nop 0 ; x\na ldp 0, 1\n")
+    done = run("explain", "--fix", "space.red")
+    assert done.returncode == 1 and done.stdout.startswith("a nop 0 ; x\n")
+    assert done.stderr.startswith("corewar: space.red: not fixed: line 2: ")
 
 
 def test_fix(run: Run, tmp_path: Path) -> None:
@@ -286,7 +371,7 @@ def test_fix(run: Run, tmp_path: Path) -> None:
         b"x&i jmp x&i", b"x&i__ jmp x&i__"
     )
     assert load_file(fixed) == load_file(source.replace(b"mov.i", b"mov.I"))
-    assert fix(b"i FOR 2\r\nmov.I 0, i\r\nROF") == b"i FOR 2\r\nmov.I 0, i\r\nROF"
+    assert fix(b"i FOR 2\r\nmov.I 0, i\r\nROF", load_file) == b"i FOR 2\r\nmov.I 0, i\r\nROF"
 
 
 def test_it_is_soon_there() -> None:

@@ -24,7 +24,7 @@ FIRST_WORDS = 20
 
 @dataclass
 class Line:
-    """A line; `unread` is the reason if it is not read."""
+    """A line; `unread` is the reason if it is not read, and `skipped` whether it is in a loop whose count is 0."""
 
     number: int
     text: str
@@ -32,6 +32,7 @@ class Line:
     operation: str = ""
     rest: list[str] = field(default_factory=list)
     unread: str = ""
+    skipped: bool = False
 
     @property
     def word(self) -> str:
@@ -73,7 +74,7 @@ class Source:
         """The first line of each label."""
         found: dict[str, Line] = {}
         for line in self.lines:
-            if not line.unread and line.word not in ("EQU", "FOR"):
+            if not line.unread and not line.skipped and line.word not in ("EQU", "FOR"):
                 for label in line.labels:
                     found.setdefault(label, line)
         return found
@@ -90,7 +91,8 @@ def parse_line(number: int, text: str, names: dict[str, Line]) -> Line:
         word, following = tokens[at], "".join(tokens[at + 1 : at + 2])
         at += 1
         is_operation = word.upper() in OPERATIONS or word in names
-        if following.upper() not in ("EQU", "FOR") and is_operation:
+        # An opcode before EQU or FOR is a name, but after a name EQU is the operation, whatever its text begins with.
+        if is_operation and (following.upper() not in ("EQU", "FOR") or word.upper() == "EQU" and line.labels):
             line.operation = word
             break
         line.labels.append(word)
@@ -103,22 +105,28 @@ def read_source(data: bytes) -> Source:
     """Splits the lines of a source. Loops are read once."""
     texts = [text.decode("utf-8", "replace").rstrip("\r") for text in data.removesuffix(b"\n").split(b"\n")]
     first = next((number for number, text in enumerate(texts, 1) if re.match(r"\s*;redcode", text, re.I)), 1)
-    source, open_loops, end = Source(data, [], {}, []), list[Loop](), 0
+    source, open_loops, end, zeros = Source(data, [], {}, []), list[Loop](), 0, 0
     for number, text in enumerate(texts, 1):
         line = parse_line(number, text, source.equates)
         source.lines.append(line)
+        line.skipped = zeros > 0
         if number < first:
             line.unread = f"everything before the `;redcode` in line {first} is ignored"
         elif end:
             line.unread = f"reading stops at the END in line {end}"
         elif line.word == "END":
             end = number
+        elif line.skipped and (line.word not in ("FOR", "ROF") or len(line.labels) > 1):
+            # In a loop that is skipped, only a first or second word begins another one.
+            continue
         elif line.word == "EQU" and line.labels:
             source.equates.setdefault(line.labels[-1], line)
         elif line.word == "FOR":
             open_loops.append(Loop(line, "".join(line.labels[-1:]), len(texts) + 1))
             source.loops.append(open_loops[-1])
+            zeros += line.rest == ["0"]
         elif line.word == "ROF" and open_loops:
+            zeros -= open_loops[-1].head.rest == ["0"]
             open_loops.pop().last = number
     return source
 
