@@ -131,9 +131,10 @@ def test_what_is_told() -> None:
         "Dwarf: 1 process",
         "Imp: died in turn 7798",
     ]
-    assert execute(session, "why")[:3] == [
+    assert execute(session, "why")[:4] == [
         "Imp died in turn 7798:",
         "turn 7798: Imp at 5203: DAT.F #0, #-2800",
+        "    line 12 of Dwarf: bomb DAT #0, #0",
         "Cell 5203 was last changed in turn 7797:",
     ]
     assert execute(session, "why dwarf") == ["Dwarf is alive after turn 7798, the last one."]
