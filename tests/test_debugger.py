@@ -2,16 +2,19 @@
 from __future__ import annotations
 
 import os
+import signal
+import time
 from pathlib import Path
 
 import pytest
 from battles import MOVES, is_listed, matches
-from conftest import EXAMPLES, Run
+from conftest import EXAMPLES, Run, begin
 from hypothesis import given, strategies as st
 
 from corewar.battle.history import History, distinct
 from corewar.battle.labels import Sources
 from corewar.debugger.commands import COMMANDS, Left, execute, find_command
+from corewar.debugger.prompt import Lines
 from corewar.debugger.session import Session
 from corewar.engine.calls import Match, assemble
 from corewar.engine.sources import read
@@ -107,9 +110,15 @@ def test_edits_make_futures() -> None:
         refused(session, "edit 8000 nop")
         == "`8000` is not an address: a number below 8000, a label or `.`, with or without +N or -N"
     )
-    assert refused(session, "edit 0 mvo 1").startswith("`mvo 1` is not an instruction: ")
+    assert refused(session, "edit 0 mvo 1") == (
+        "`mvo 1` is not an instruction: 2 Operation: `mvo` is read as a label; did you mean `MOV`?"
+    )
     assert refused(session, "kill imp 3") == "Imp has no process 3; its number of processes is 1"
     assert refused(session, "futures 9") == "no future 9; there are futures 0 to 5"
+    execute(session, "goto end")
+    assert refused(session, "edit . dat 0") == (
+        "`.` is the cell to execute next, but the battle is over; use a number or a label"
+    )
     assert refused(session, "fill 5 3 nop") == "cannot fill 5 to 3: expected 1 to 1000000 cells"
 
 
@@ -122,9 +131,10 @@ def test_what_is_told() -> None:
         "Dwarf: 1 process",
         "Imp: died in turn 7798",
     ]
-    assert execute(session, "why")[:3] == [
+    assert execute(session, "why")[:4] == [
         "Imp died in turn 7798:",
         "turn 7798: Imp at 5203: DAT.F #0, #-2800",
+        "    line 12 of Dwarf: bomb DAT #0, #0",
         "Cell 5203 was last changed in turn 7797:",
     ]
     assert execute(session, "why dwarf") == ["Dwarf is alive after turn 7798, the last one."]
@@ -190,7 +200,7 @@ def test_files_of_lines(run: Run, tmp_path: Path) -> None:
     (tmp_path / "self").write_text("source self\nstep\n")
     assert run("debug", "@imp", given="source self\n").stdout.splitlines()[-2].startswith("turn 8: ")
     told = run("debug", "@imp", given="lo kept\nstep\nso kept\nlog\nlog a\0b\nsource a\0b\n").stdout.splitlines()
-    assert told[2].startswith("turn 2: ") and told[4:] == ["a\0b: embedded null byte", "a\0b: cannot read"]
+    assert told[2].startswith("turn 2: ") and told[4:] == ["a?b: embedded null byte", "a?b: cannot read"]
     assert (tmp_path / "kept").read_text() == "step\nstep\n"
 
 
@@ -210,3 +220,47 @@ def test_at_a_terminal(tmp_path: object) -> None:
         child.expect("turn 2>")
         child.sendcontrol("d")
         child.expect(pexpect.EOF)
+
+
+def test_a_terminal_with_bytes_that_are_not_utf_8(tmp_path: Path) -> None:
+    """They are refused, and the debugger continues, also if the history of lines cannot be written."""
+    pexpect = pytest.importorskip("pexpect", reason="package python3-pexpect")
+    environment = {**os.environ, "XDG_STATE_HOME": str(tmp_path), "TERM": "xterm"}
+    words = ["debug", str(EXAMPLES / "imp.red")]
+    with pexpect.spawn(str(EXAMPLES.parent / "corewar"), words, env=environment, timeout=20) as child:
+        child.expect("turn 0>")
+        child.send(b"b\xff\xfe\r")
+        child.expect("unknown command")
+        child.send(b"step\r")
+        child.expect("turn 1>")
+        child.sendcontrol("d")
+        child.expect(pexpect.EOF)
+    Lines("/dev/full").store_string("step")
+
+
+def test_control_characters_of_sources_are_not_shown(run: Run, tmp_path: Path) -> None:
+    """They are whitespace of the language, so that a valid warrior can have them."""
+    (tmp_path / "esc.red").write_bytes(b"c DAT 0, \x1bc\x07\x00 ; \x1b[2J\n")
+    shown = run("debug", "esc.red", "@imp", given="list\nedit 0 dat \x1bc\n\x1b[2J\n")
+    assert shown.returncode == 0 and "; 1: c DAT 0, c" in shown.stdout and "\x1b" not in shown.stdout + shown.stderr
+
+
+def test_a_killed_command_leaves_no_process(tmp_path: Path) -> None:
+    """The process that assembles ends with the one that started it."""
+    os.mkfifo(tmp_path / "pipe")
+    for how in (signal.SIGKILL, signal.SIGTERM):
+        process = begin("fight", EXAMPLES / "imp.red", tmp_path / "pipe")
+        listed, children, end = Path(f"/proc/{process.pid}/task/{process.pid}/children"), "", time.monotonic() + 60
+        while not children and time.monotonic() < end:
+            children = listed.read_text()
+            time.sleep(0.05)
+        time.sleep(0.3)
+        process.send_signal(how)
+        # Output is closed by all processes that have it, or this waits for ever.
+        process.communicate(timeout=20)
+
+
+def test_an_edit_knows_the_settings_of_the_match() -> None:
+    fight = Match((assemble("MOV 0, 1"),), seed=3, rounds=10)
+    session = Session(History(fight), Sources(History(fight)))
+    assert execute(session, "edit 5 DAT MAXLENGTH, ROUNDS") == ["5: DAT.F $0, $0 -> DAT.F $100, $10"]

@@ -1,15 +1,18 @@
 """explain: the causes of errors that happen, what pMARS reads differently, and sources that are fixed."""
 from __future__ import annotations
 
+import re
 import subprocess
 import time
+from collections.abc import Callable, Iterator
 from pathlib import Path
+from random import Random
 
 import pytest
 from conftest import TOP, Run
 
 from corewar.engine.calls import load_file
-from corewar.explain import fix, read_faults, read_otherwise, told, told_of
+from corewar.explain import LOOKED_FOR, errors_of, fix, read_faults, read_otherwise, told, told_of
 from corewar.explain.meanings import EXPRESSION, KINDS
 from corewar.explain.source import MODIFIERS, OPERATIONS, PREDEFINED
 from corewar.model.faults import ASSEMBLY, FORMULA, PROBLEMS, Fault
@@ -86,6 +89,99 @@ def test_causes(text: str, fault: str, expected: str) -> None:
         load_file(text)
     sentences = told(found.value, text.encode())
     assert str(found.value) == fault and expected in sentences[0] and len(sentences) <= 2
+
+
+OPCODE = re.compile(r"\b(MOV|ADD|SUB|JMP|SPL|DJN|DAT|SEQ|SNE|JMN|JMZ)\b(\.\w+)?")
+EXAMPLES = [path.read_text() for path in sorted((TOP / "examples").glob("*.red"))]
+# Ways to make a line faulty.
+FAULTS: list[Callable[[str, re.Match[str]], str]] = [
+    lambda line, found: line[: found.start()] + found[0][0] + found[0][2] + found[0][1] + line[found.start() + 3 :],
+    lambda line, found: line[: found.start()] + found[1] + ".Q" + line[found.end() :],
+    lambda line, found: re.sub(r"\s*(;|$)", r"+undefinedname \1", line, count=1),
+    lambda line, found: re.sub(r"\s*(;|$)", r"+(1 \1", line, count=1),
+    lambda line, found: line.replace(",", " ", 1),
+    # An operand with a name of which one letter is missing.
+    lambda line, found: line[: found.end()] + re.sub(r"\b(\w\w)\w(\w+)", r"\1\2", line[found.end() :], count=1),
+]
+
+
+def mutated(count: int) -> Iterator[tuple[str, set[int]]]:
+    """Examples in which one to four lines have an error each, with the numbers of these lines."""
+    dice = Random(5)
+    for _ in range(count):
+        original = dice.choice(EXAMPLES).split("\n")
+        lines, wrong = [*original], set[int]()
+        for number in dice.sample(range(len(lines)), min(len(lines), dice.randint(3, 12))):
+            found = OPCODE.search(lines[number].partition(";")[0])
+            if found is None or "EQU" in lines[number].upper() or len(wrong) == 4:
+                continue
+            changed = dice.choice(FAULTS)(lines[number], found)
+            try:
+                load_file("\n".join([*original[:number], changed, *original[number + 1 :]]))
+            except Fault:
+                lines[number] = changed
+                wrong.add(number + 1)
+        if wrong:
+            yield "\n".join(lines), wrong
+
+
+def line_to_correct(fault: Fault, sentences: list[str]) -> int:
+    earlier = re.match(r"In line (\d+), ", sentences[0])
+    return int(earlier[1]) if earlier else fault.line
+
+
+def test_all_errors_of_a_source_are_found() -> None:
+    """Nearly each of them, and nearly none that is not there."""
+    planted, found, more = 0, 0, 0
+    for text, wrong in mutated(200):
+        reported = {line_to_correct(*error) for error in errors_of(text.encode(), load_file)}
+        planted, found, more = planted + len(wrong), found + len(wrong & reported), more + len(reported - wrong)
+    assert planted > 250 and found >= 0.99 * planted and more <= 0.01 * planted
+
+
+# What to write, and instead of what.
+ADVICE = [
+    re.compile(r"(?:In line \d+, )?`(?P<old>[^`]+)` is read as a label; did you mean `(?P<new>[^`]+)`"),
+    re.compile(r"`(?P<old>[^`]+)` is not defined.*; did you mean `(?P<new>[^`]+)`"),
+    re.compile(r"`(?P<old>[^`]+)` is in a loop with several iterations; write `(?P<new>[^`]+)`"),
+]
+
+
+def test_advice_makes_no_source_worse() -> None:
+    """A source in which one advice was followed has fewer errors."""
+    applied = 0
+    for text, _ in mutated(200):
+        errors = [*errors_of(text.encode(), load_file)]
+        for fault, sentences in errors:
+            advice = next(filter(None, (form.match(sentences[0]) for form in ADVICE)), None)
+            if advice:
+                lines, number = text.split("\n"), line_to_correct(fault, sentences) - 1
+                lines[number] = re.sub(rf"\b{advice['old']}\b", advice["new"], lines[number], count=1)
+                assert len([*errors_of("\n".join(lines).encode(), load_file)]) < len(errors), (text, sentences)
+                applied += 1
+    assert applied > 100
+
+
+LOOPS = "a FOR 2\nb FOR 2\nx NOP\nROF\nROF\n"
+
+
+def test_names_in_loops() -> None:
+    """The counters of all loops around are joined; a loop without one gets one first."""
+    ((_, sentences),) = errors_of(LOOPS.encode(), load_file)
+    assert sentences == ["`x` is in a loop with several iterations; write `x&a&b`."]
+    assert load_file(LOOPS.replace("x NOP", "x&a&b NOP"))
+    ((_, sentences),) = errors_of(LOOPS.replace("a FOR", "FOR").encode(), load_file)
+    assert "give the FOR in line 1 a counter" in sentences[0]
+
+
+def test_all_errors_of_a_file(run: Run, tmp_path: Path) -> None:
+    (tmp_path / "three.red").write_text("go mvo 0, 1\n jmp og\n mov.q 0, 1\n")
+    done = run("explain", "three.red")
+    assert done.returncode == 1 and [line for line in done.stdout.splitlines() if line.startswith("three.red")] == [
+        "three.red: line 1: 2 Operation",
+        "three.red: line 2: 4 Expression 2 Unknown",
+        "three.red: line 3: 2 Operation",
+    ]
 
 
 def test_each_fault_has_a_meaning() -> None:
@@ -176,9 +272,94 @@ def test_pmars(run: Run, tmp_path: Path) -> None:
     expected = ["line 1: pMARS obeys `; name`", "line 3: pMARS takes `start`", "line 4: pMARS reads `DAT #0, 1`"]
     expected += ["line 6: pMARS joins the counter `i`", "line 7: pMARS reads `.i` as a modifier"]
     assert len(lines) == 5 and all(line.startswith(f"other.red: {told}") for line, told in zip(lines, expected))
-    assert run("explain", "--pmars", "@dwarf").stdout.endswith("dwarf.red: pMARS reads it in the same way.\n")
+    nothing = f"dwarf.red: none of the {LOOKED_FOR} known differences from pMARS was found\n"
+    assert run("explain", "--pmars", "@dwarf").stdout.endswith(nothing)
     assert read_otherwise(b"i FOR 2\nmov.I 0, i\nROF\nx equ 2\n") == []
     assert run("explain", "--pmars").returncode == 2
+
+
+# For each row of the table in LANGUAGE.md that a source can show its beginning, such a source, and what is reported.
+DIFFERENT = [
+    ("B-operand with `#`", "mov <0, #2\n", "before the side effect"),
+    ("CMP and SEQ", "cmp 0, 1\n", "write SEQ"),
+    ("P-space", "ldp 0, 1\n", "P-space"),
+    ("`mov.i` in a loop", "i FOR 2\nmov.i 0, i\nROF\n", "reads `.i` as a modifier"),
+    ("a label in a count", "x nop 0\ny nop 0\nFOR y-x\nnop 0\nROF\n", "accepts the label `y` in a count"),
+    ("a count below 0", "nop 0\nFOR 0-CURLINE\nnop 0\nROF\n", "a count below 0"),
+    ("a count with a later EQU name", "FOR n\nnop 0\nROF\nn EQU 2\nnop 0\n", "the EQU of `n` is later"),
+    ("FOR and ROF in the text", "loop EQU FOR 2\nnop 0\n", "FOR and ROF in the text of an EQU"),
+    ("`&i`, or `i`, in an EQU", "e EQU i*2\ni FOR 2\ndat 0, e\nROF\n", "joins the counter `i`"),
+    ("prose in a `FOR 0` whose second", "FOR 0\nwait for it\nROF\nnop 0\n", "takes the `for` in this text"),
+    ("several labels before", "a b EQU 2\nnop 0\n", "several labels before EQU"),
+    ("a name twice", "a nop 0\na nop 0\n", "drops this second `a`"),
+    ("a label in `;assert`", "a nop 0\n;assert a == 0\n", "the label `a` in an assert"),
+    ("`;assert VERSION", ";assert VERSION >= 90\nnop 0\n", "VERSION is 92"),
+    ("a label before ROF", "FOR 2\nnop 0\nx ROF\n", "a label before ROF"),
+    ("a start outside", "nop 0\nORG 5\n", "only warns of this start"),
+    ("`DAT x`", "dat 5+3\n", "`DAT #0, 5+3`"),
+    ("`1-2*3+4`", "mov 1-2*3+4, 1\n", "subtracts all that follows"),
+    ("a second `;redcode`", ";redcode\nnop 0\n;redcode\nnop 0\n", "second `;redcode`"),
+    ("`ORG 0` and `END 1`", "ORG 0\nnop 0\nnop 0\nEND 1\n", "starts where END says"),
+    (
+        "prose in a `FOR 0` whose third",
+        "FOR 0\nthis one waits for scanners\nROF\nnop 0\n",
+        "takes the `for` in this text",
+    ),
+    ("a line with only a label before", "start\nn EQU 2\nnop n\n", "takes `start` of the line before"),
+    ("`; assert 0`", "; assert 0\nnop 0\n", "obeys `; assert`"),
+    ("`;name`, `;author`", ";name " + "n" * 61 + "\nnop 0\n", "60 bytes"),
+    ("one operand with opcodes", "mov 1\n", "with this number of operands"),
+    ("a last line with only a label", "jmp last\nlast\n", "drops a last line"),
+    ("a counter with the name of a label", "i nop 0\ni FOR 2\nnop i\nROF\n", "rejects the counter `i`"),
+    ("lines and names of more", f"nop 0, {'+'.join(['1'] * 130)}\n", "cuts lines"),
+]
+# Rows that no source shows.
+OF_MATCHES = ["three and more warriors", "starting positions", "`-F`", "`-l` above 100"]
+
+
+@pytest.mark.parametrize("row, text, expected", DIFFERENT)
+def test_each_row_of_the_table_is_looked_for(row: str, text: str, expected: str) -> None:
+    faults = [fault for fault, _ in errors_of(text.encode(), load_file)]
+    assert any(expected in note for note in read_otherwise(text.encode(), faults))
+
+
+def test_the_table_has_these_rows() -> None:
+    document = (TOP / "docs" / "user" / "LANGUAGE.md").read_text().partition("## Differences from pMARS")[2]
+    rows = re.findall(r"^\| (?!\*\*|\||pMARS|-)(.+?) \|", document, re.M)
+    known = [*(row for row, _, _ in DIFFERENT), *OF_MATCHES]
+    assert len(rows) == len(known) and LOOKED_FOR == len(DIFFERENT)
+    assert all(any(row.startswith(one) for row in rows) for one in known)
+
+
+# What pMARS accepts and this kit rejects, and the same for both; None if it cannot be fixed.
+FIXED = [
+    ("mov 0, \\\n 1 ; x\n", "mov 0, 1\n"),
+    ("x nop 0\ny nop 0\nFOR y-x+1 ; two\ndat 1, 1\nROF\n", "nop 0\nnop 0\ndat 1, 1\ndat 1, 1\n"),
+    ("x jmp z\ny nop 0\nFOR x-y\ndat 1, 1\nROF\nz nop 0\n", "jmp 2\nnop 0\nnop 0\n"),
+    ("a nop 0\na: jmp a\n", "nop 0\njmp -1\n"),
+    ("p q EQU 7 ; both\ndat p, q\n", "dat 7, 7\n"),
+    ("z b FOR 2\ndat b, z\nROF\n", "dat 1, 0\ndat 2, -1\n"),
+    (";assert\nnop 0\n", "nop 0\n"),
+    ("e equ i*2\ni FOR 2\nmov.i e, i\nROF\n", "mov.i 2, 1\nmov.i 4, 2\n"),
+    ("e equ i*2\nnop e\ni FOR 2\nnop e\nROF\n", None),
+]
+
+
+@pytest.mark.parametrize("text, same", FIXED)
+def test_what_is_fixed(text: str, same: str | None) -> None:
+    fixed = fix(text.encode(), load_file)
+    assert [*errors_of(text.encode(), load_file)]
+    if same is None:
+        assert [*errors_of(fixed, load_file)]
+    else:
+        assert load_file(fixed) == load_file(same) and fix(fixed, load_file) == fixed
+
+
+def test_what_cannot_be_fixed_is_reported(run: Run, tmp_path: Path) -> None:
+    (tmp_path / "space.red").write_text("a nop 0 ; x\na ldp 0, 1\n")
+    done = run("explain", "--fix", "space.red")
+    assert done.returncode == 1 and done.stdout.startswith("a nop 0 ; x\n")
+    assert done.stderr.startswith("corewar: space.red: not fixed: line 2: ")
 
 
 def test_fix(run: Run, tmp_path: Path) -> None:
@@ -190,7 +371,7 @@ def test_fix(run: Run, tmp_path: Path) -> None:
         b"x&i jmp x&i", b"x&i__ jmp x&i__"
     )
     assert load_file(fixed) == load_file(source.replace(b"mov.i", b"mov.I"))
-    assert fix(b"i FOR 2\r\nmov.I 0, i\r\nROF") == b"i FOR 2\r\nmov.I 0, i\r\nROF"
+    assert fix(b"i FOR 2\r\nmov.I 0, i\r\nROF", load_file) == b"i FOR 2\r\nmov.I 0, i\r\nROF"
 
 
 def test_it_is_soon_there() -> None:

@@ -16,6 +16,7 @@ from corewar.battle.history import BY_HAND, NOBODY, History, run_lines
 from corewar.engine.calls import HISTORY, Match, State, debug, record, state, touched
 from corewar.engine.sources import read
 from corewar.model.cells import cell_text
+from corewar.model.faults import Fault, Refused
 
 
 @pytest.fixture(autouse=True)
@@ -32,13 +33,22 @@ def same(one: State, other: State) -> bool:
 
 
 def edited(history: History, places: list[tuple[float, str]]) -> tuple[History, list[str]]:
-    """The history after edits at these parts of what is left of it, and the lines that lead to the last one."""
+    """The history after the edits that are possible at these parts of what is left of it, and the lines that lead to
+    the last one.
+    """
     turn, lines = 0, []
     for part, line in places:
         ahead = int(part * (history.end - turn))
-        lines += [*run_lines(ahead), line]
+        lines += run_lines(ahead)
         turn += ahead
-        history = history.edited(turn, line)
+        try:
+            history = history.edited(turn, line)
+            lines.append(line)
+        except Refused:
+            pass
+    # What leads to the last turn without an edit is not part of the last segment.
+    while lines and lines[-1].startswith("run"):
+        lines.pop()
     return history, lines
 
 
@@ -147,3 +157,33 @@ def test_an_edit_leaves_the_other_future() -> None:
     behind, old, new = after.by_hand(0, 100) or pytest.fail("the edit isn't found")
     assert (behind, cell_text(old, 8000), cell_text(new, 8000)) == (6, "ADD.AB #4, $3", "JMP.B $2, $0")
     assert after.by_hand(1, 100) is None and before.by_hand(0, 100) is None
+
+
+@given(matches(), st.floats(0, 1), st.one_of(edits(), st.sampled_from(["edit 61 DAT.F $0, $0", "kill 0 9", "edit 3"])))
+def test_an_edit_is_refused_where_the_debugger_refuses_it(fight: Match, part: float, line: str) -> None:
+    history = History(fight)
+    turn = int(part * history.end)
+    reply = debug(fight, [*run_lines(turn), line]).splitlines()[-1]
+    if reply.startswith(("refused", "unknown")):
+        with pytest.raises(Refused, match="cannot execute"):
+            history.edited(turn, line)
+    else:
+        assert history.edited(turn, line).edits == ((turn, line),)
+
+
+def test_what_is_no_edit_is_rejected() -> None:
+    history = History(Match((read(str(EXAMPLES / "dwarf.red")), read(str(EXAMPLES / "imp.red")))))
+    for line in ("nonsense", "step", "run 10", "undo", "", "edit 3 DAT.F $0, $0\nstep"):
+        with pytest.raises(Refused, match="expected a command that edits"):
+            history.edited(3, line)
+    for line in ("edit 99999 DAT.F $0, $0", "edit bomb DAT.F $0, $0", "edit 3 jmp -3", "kill 0 7"):
+        with pytest.raises(Refused, match="after turn 3$"):
+            history.edited(3, line)
+    for turn in (-1, history.end + 1):
+        for call in (history.state, history.owners, lambda turn: history.edited(turn, "edit 3 DAT.F $0, $0")):
+            with pytest.raises(IndexError):
+                call(turn)
+    with pytest.raises(Fault, match="4 Warriors"):
+        History(Match(()))
+    with pytest.raises(TypeError):
+        debug(history.fight, "step")

@@ -1,9 +1,22 @@
 """Labels and lines of sources beside the core, as the assembler gives them."""
 from __future__ import annotations
 
+import numpy as np
+import pytest
+from battles import edits, matches
+from conftest import EXAMPLES
+from hypothesis import given, strategies as st
+
+from corewar.battle import history as module
 from corewar.battle.history import History
 from corewar.battle.labels import Sources
+from corewar.battle.origins import Origins
 from corewar.engine.calls import Match, assemble, source_lines
+from corewar.engine.sources import read
+from corewar.model.faults import Refused
+
+# The parts of a cell that no instruction changes except by a copy of the whole cell.
+KEPT = ("op", "modifier", "a_mode", "b_mode")
 
 SOURCE = b""";name Loops
 size EQU 2
@@ -34,3 +47,52 @@ def test_labels_of_two_warriors() -> None:
     assert (sources.addresses["0.last"], sources.addresses["1.last"]) == (5, start) and "last" not in sources.addresses
     assert sources.labels[0] in ("first", "second") and sources.labels[start] == "1.last"
     assert (sources.lines[2].warrior, sources.lines[2].number, sources.lines[2].text) == (0, 6, "lab&i MOV lab01, i")
+
+
+@given(matches(), st.integers(0, 2), st.lists(st.tuples(st.floats(0, 1), edits()), max_size=3), st.floats(0, 1))
+def test_origins(fight: Match, round: int, places: list[tuple[float, str]], part: float) -> None:
+    """At any turn and after edits, each cell has the opcode, the modifier and the modes of its origin."""
+    with pytest.MonkeyPatch.context() as patch:
+        patch.setattr(module, "BLOCK", 7)
+        history = History(fight, round)
+        loaded, turn = history.state(0).cells, 0
+        for ahead, line in places:
+            turn += int(ahead * (history.end - turn))
+            try:
+                history = history.edited(turn, line)
+            except Refused:
+                pass
+        turn = int(part * history.end)
+        cells, found = history.state(turn).cells, Origins(history).at(turn)
+        copies = found < history.core
+        assert all(np.array_equal(cells[name][copies], loaded[name][found[copies]]) for name in KEPT)
+        assert history.edits or copies.all()
+
+
+PAIRS = ["dwarf imp", "silk imp", "paper imp", "scanner silk", "vampire spiral", "clear gate"]
+
+
+def test_the_line_of_nearly_each_turn_is_known() -> None:
+    """Also of copies. The rest is empty core, and no cell has the line of another instruction."""
+    known, turns = 0, 0
+    for names in PAIRS:
+        history = History(Match(tuple(read(str(EXAMPLES / f"{name}.red")) for name in names.split())))
+        sources, origins, loaded = Sources(history), Origins(history), history.state(0).cells
+        for block in history.blocks():
+            known += int(np.isin(origins.of(block).executed, [*sources.lines]).sum())
+            turn = (block.first + block.last) // 2
+            cells, found = block.cells(turn), origins.at(turn)
+            assert all(np.array_equal(cells[name], loaded[name][found]) for name in KEPT)
+        turns += history.end
+    assert known > 0.99 * turns
+
+
+def test_a_bomb_has_the_line_of_its_thrower() -> None:
+    """An imp dies on a cell that the other warrior has copied; the imp's own copies have its line."""
+    history = History(Match((read(str(EXAMPLES / "dwarf.red")), read(str(EXAMPLES / "imp.red")))))
+    sources, end = Sources(history), history.end
+    grave = int(history.record(end)["address"])
+    assert sources.told(history, grave, end - 1) == "; Dwarf 12: bomb DAT #0, #0"
+    assert sources.told(history, grave, end - 2, 1) == "; 5: MOV.I 0, 1"
+    edited = history.edited(7, f"edit {grave} NOP.F $0, $0")
+    assert sources.told(edited, grave, 7) == "" and sources.told(history, grave, 7) == ""

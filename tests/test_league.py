@@ -2,6 +2,7 @@
 from __future__ import annotations
 
 import csv
+import hashlib
 import io
 import json
 import os
@@ -9,6 +10,7 @@ import signal
 import sqlite3
 import subprocess
 import time
+from concurrent.futures import Future
 from pathlib import Path
 from xml.etree import ElementTree
 
@@ -19,10 +21,11 @@ from costly import large, slow
 
 import corewar
 from corewar.engine.calls import assemble
-from corewar.league.contest import Contest, Matches, all_pairs
-from corewar.league.places import threads
+from corewar.league.contest import Contest, Matches, all_pairs, digests_of
+from corewar.league.places import Place, threads
 from corewar.league.results import Results
 from corewar.league.table import League
+from corewar.model.faults import Refused
 from corewar.model.settings import HILLS, Settings
 from corewar.pictures.shades import LOST, NO_MATCH, TIED, WON, mixed
 
@@ -333,6 +336,64 @@ def test_a_kept_match_is_of_its_contest(folder: Path) -> None:
     assert kept.is_fought.tolist() == [True, True, False, False, False, False] and turned == 3
     with sqlite3.connect(path) as file, pytest.raises(sqlite3.IntegrityError):
         file.execute("UPDATE fought SET wins = 'many'")
+
+
+def test_a_corrected_name_runs_nothing_again(run: Run, folder: Path) -> None:
+    """A stored match is known without names and authors; a file of version 1.2, which knew them, is still read."""
+    words = ["league", "-r", 4, "--results", "kept.sqlite", "stay.red", "late.red", "dead.red"]
+    table, kept = run(*words).stdout, folder / "kept.sqlite"
+    (folder / "late.red").write_text(FILES["late.red"].replace("later", "latest").replace("Me", "Myself"))
+    assert run(*words).stdout == table.replace("later", "latest").replace("Me", "Myself") and count_kept(kept) == 3
+    with sqlite3.connect(kept) as file:
+        for name in ("stay", "late", "dead"):
+            warrior = assemble((folder / f"{name}.red").read_text(), rounds=4)
+            new, old = digests_of(warrior)
+            assert old == hashlib.sha256(warrior.load).digest() != new
+            for place in ("first", "second"):
+                file.execute(f"UPDATE fought SET {place} = ? WHERE {place} = ?", (old, new))
+    run(*words)
+    assert count_kept(kept) == 3
+
+
+WRONG_COUNTS = [
+    ("wins = 1000", "cannot have 1000 wins"),
+    ("wins = -5, losses = 9", "cannot have -5 wins"),
+    ("ties = 1", "cannot have 4 wins, 1 ties"),
+]
+
+
+@pytest.mark.parametrize("change, expected", WRONG_COUNTS)
+def test_counts_of_a_results_file_are_checked(run: Run, folder: Path, change: str, expected: str) -> None:
+    words = ["league", "-r", 4, "--results", "kept.sqlite", "stay.red", "dead.red"]
+    run(*words)
+    with sqlite3.connect(folder / "kept.sqlite") as file:
+        file.execute(f"UPDATE fought SET {change}")
+    done = run(*words)
+    assert (done.returncode, done.stdout) == (1, "") and expected in done.stderr
+    assert done.stderr.startswith("corewar: kept.sqlite: invalid result: a match of 4 rounds cannot have ")
+
+
+def test_texts_in_a_results_file(run: Run, folder: Path) -> None:
+    words = ["league", "--results", "kept.sqlite", "stay.red", "dead.red"]
+    run(*words)
+    with sqlite3.connect(folder / "kept.sqlite") as file:
+        file.execute("CREATE TABLE loose AS SELECT * FROM fought")
+        file.execute("DROP TABLE fought")
+        file.execute("ALTER TABLE loose RENAME TO fought")
+        file.execute("UPDATE fought SET wins = 'many'")
+    done = run(*words)
+    expected = "corewar: kept.sqlite: invalid result: expected five whole numbers for each of 1 matches\n"
+    assert (done.returncode, done.stdout, done.stderr) == (1, "", expected)
+
+
+@pytest.mark.parametrize("sent", [None, "text", [[1, 2]], [[0, 2, 0, 0, 0]], [[0.5] * 5], [], [[99, 99, 99, 99, 0]]])
+def test_counts_of_a_worker_are_checked(sent: object) -> None:
+    imp = assemble("MOV 0, 1")
+    matches, answer = Matches(Contest(), [imp, imp], all_pairs(2)), Future[object]()
+    answer.set_result(sent)
+    with pytest.raises(Refused, match="^invalid result from a worker: "):
+        list(Place(lambda rows: answer, 1, 1).fight(matches))
+    assert not matches.is_fought.any()
 
 
 def test_it_tells_what_is_kept_the_other_way_round(run: Run, folder: Path) -> None:

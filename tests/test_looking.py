@@ -12,6 +12,7 @@ from conftest import ENVIRONMENT, EXAMPLES, Run, begin
 
 DEATH = """Imp died in turn 7798:
 turn 7798: Imp at 5203: DAT.F #0, #-2800
+    line 12 of Dwarf: bomb DAT #0, #0
 Cell 5203 was last changed in turn 7797:
 turn 7797: Dwarf at 1: MOV.I $2, @2; reads 3 (bomb)
     5203: MOV.I $0, $1 -> DAT.F #0, #-2800

@@ -20,6 +20,7 @@ from corewar.battle.frames import parts
 from corewar.battle.history import BY_HAND, NOBODY, History
 from corewar.engine.calls import Match
 from corewar.model.cells import cell_text
+from corewar.model.faults import Refused
 from corewar.pages.replay import page_of
 
 
@@ -53,7 +54,10 @@ def states(
 def test_frames_are_what_the_machine_says(fight: Match, round: int, count: int, lines: list[str]) -> None:
     history = History(fight, round)
     for line in lines:
-        history = history.edited(history.end // 2, line)
+        try:
+            history = history.edited(history.end // 2, line)
+        except Refused:
+            pass
     ends = parts(0, history.end, count)
     head, frames = unpacked(page_of(history, ends))
     assert (head["size"], head["last"], [frame["turn"] for frame in frames]) == (history.core, history.end, ends)

@@ -79,6 +79,9 @@ def death_told(teller: Teller, warrior: int, count: int) -> Iterator[str]:
         return
     yield f"{name} died in turn {death}:"
     yield from teller.lines(death)
+    line = teller.line(death)
+    if line:
+        yield f"    {line}"
     yield from cause_told(teller, int(history.record(death)["address"]), death - 1)
     turns = [turn for turn, _ in zip(own_turns(history, warrior, death - 1), range(count + FAR))]
     if turns:

@@ -63,6 +63,11 @@ class Teller:
         known, found = [record["address"], *record["process"][: record["queued"]]], reads.addresses[reads.of(turn)]
         return [address for address in dict.fromkeys(found.tolist()) if address not in known]
 
+    def line(self, turn: int) -> str:
+        """Returns the source line of the instruction that a turn executed, with the name of its warrior, or ""."""
+        line = self.sources.line(self.history, int(self.history.record(turn)["address"]), turn - 1)
+        return f"line {line.number} of {self.names[line.warrior]}: {line.text}" if line else ""
+
     def changes(self, turn: int) -> list[str]:
         """Describes the changes of a turn."""
         changes = self.history.block_of(turn).changes
@@ -94,9 +99,9 @@ class Teller:
         if address is None:
             return self.ending()
         block = history.block(turn)
-        name, cell = self.names[block.following(turn)], block.cell(address, turn)
-        told = f"next: {name} at {self.where(address)}: {self.cell(cell)}    {self.sources.told(address, cell)}"
-        return told.rstrip()
+        warrior, cell = block.following(turn), block.cell(address, turn)
+        told = f"next: {self.names[warrior]} at {self.where(address)}: {self.cell(cell)}"
+        return f"{told}    {self.sources.told(history, address, turn, warrior)}".rstrip()
 
     def ending(self) -> str:
         """Describes how the battle ended."""
@@ -123,7 +128,7 @@ class Teller:
         here = Counter((int(at), number) for number, queue in enumerate(queues) for at in queue)
         for address in ((first + offset) % history.core for offset in range(count)):
             mark, label = ">" if address == head else " ", self.sources.labels.get(address, "")
-            source = self.sources.told(address, cells[address])
+            source = self.sources.told(history, address, turn)
             times = [(number, here[address, number]) for number in range(len(self.names)) if here[address, number]]
             plain, painted = self._standing(history.names, times), self._standing(self.names, times)
             told = painted + " " * max(0, 16 - len(plain))

@@ -60,14 +60,14 @@ class Block:
     def __init__(self, first: int, start: State, records: Records, touched: Callable[[], Records]) -> None:
         self.first, self.last, self.start = first, first + len(records), start
         self.changes = changes_of(first, records)
-        self._writes, self._touched = records["change"]["address"].copy(), touched
+        self._writes, self.touched = records["change"]["address"].copy(), touched
         # The writes are four fifths of a record.
         self.records: Records = repack_fields(records[[name for name in records.dtype.names or () if name != "change"]])
 
     @cached_property
     def reads(self) -> Touches:
         """The cells that turns touched without writing them, some more than once. They are read when needed."""
-        touched = self._touched()
+        touched = self.touched()
         address, used = touched["address"], np.arange(touched["address"].shape[1]) < touched["count"][:, None]
         for place in range(self._writes.shape[1]):
             is_written = address == self._writes[:, place, None]

@@ -14,14 +14,20 @@ import numpy as np
 from numpy.typing import NDArray
 
 from ..engine.calls import Match, State, count_turns, record, state, touched
+from ..model.cells import OPCODES
 from ..model.faults import Refused
 from ..model.settings import whole
+from ..model.warriors import printable
 from .blocks import Block
 
+# The size of the debugger's history in places that one redo needs.
+REDO = 4
 # The number of turns of a block, and of blocks in the cache, 5 to 13 MB each.
 BLOCK, KEPT = 65_536, 24
 # The maximum number of turns of one debugger command.
 LONGEST_RUN = 1_000_000
+# The debugger commands that edit a battle.
+EDITS = ("edit", "fill", "move", "kill", "spawn")
 # The owner of a cell: a warrior's number, or one of these.
 NOBODY, BY_HAND = 255, 254
 Owners = NDArray[np.uint8]
@@ -51,9 +57,9 @@ class History:
 
     def __init__(self, fight: Match, round: int = 0) -> None:
         self.fight, self.round, self.core = fight, round, fight.settings.core
+        self.segments = [Segment((), 0, count_turns(fight, round))]
         self.warriors = fight.warriors[round % len(fight.warriors) :] + fight.warriors[: round % len(fight.warriors)]
         self.names = distinct([warrior.called for warrior in self.warriors])
-        self.segments = [Segment((), 0, count_turns(fight, round))]
         self._blocks = lru_cache(maxsize=KEPT)(partial(ask, fight, round))
         self._written: dict[int, tuple[Owners, NDArray[np.int64]]] = {}
 
@@ -82,13 +88,13 @@ class History:
         return tuple((segment.first, segment.lines[-1]) for segment in self.segments[1:])
 
     def _segment(self, turn: int) -> Segment:
-        """Returns the segment of the state after a turn and after the edits made there."""
+        """Returns the segment of the state after a turn and after the edits made there. Raises IndexError."""
+        if not 0 <= turn <= self.end:
+            raise IndexError(f"the battle has turns 0 to {self.end}")
         return next(segment for segment in reversed(self.segments) if segment.first <= turn)
 
     def block(self, turn: int) -> Block:
         """Returns the block of the state after a turn and after the edits made there. Raises IndexError."""
-        if not 0 <= turn <= self.end:
-            raise IndexError(f"the battle has turns 0 to {self.end}")
         segment = self._segment(turn)
         skipped = (turn - segment.first) // BLOCK * BLOCK
         return self._blocks(segment.lines, segment.first, skipped, min(BLOCK, segment.last - segment.first - skipped))
@@ -100,6 +106,7 @@ class History:
     def blocks(self, first: int = 0, last: int | None = None) -> Iterator[Block]:
         """Yields the blocks with the turns after `first`, up to `last` or the end."""
         turn, last = first, self.end if last is None else last
+        self._segment(last)
         while turn < last:
             block = self.block(turn)
             yield block
@@ -215,10 +222,19 @@ class History:
     def edited(self, turn: int, line: str) -> History:
         """Returns the history in which a debugger command edits the battle after a turn.
 
-        - `line`: a command of `mars -e`, such as `edit 3 DAT.F $0, $0` or `kill 1 0`; one that is refused has no effect
+        - `line`: one of the commands `edit`, `fill`, `move`, `kill` and `spawn` of `mars -e`, such as
+          `edit 3 DAT.F $0, $0` or `kill 1 0`; addresses are numbers, and cells are those of a load file
+
+        Raises `Refused` if the line is not an edit or the debugger refuses it there, and `IndexError` if the battle has
+        no such turn.
         """
         segment = self._segment(turn)
-        lines = (*segment.lines, *run_lines(turn - segment.first), line)
+        if line.split()[:1] not in [[word] for word in EDITS] or "\n" in line:
+            raise Refused(f"expected a command that edits ({', '.join(EDITS)}), not `{printable(line)}`")
+        before = (*segment.lines, *run_lines(turn - segment.first))
+        if not self._is_possible(before, line):
+            raise Refused(f"cannot execute `{printable(line)}` after turn {turn}")
+        lines = (*before, line)
         made = History.__new__(History)
         made.__dict__.update({name: value for name, value in vars(self).items() if name != "ending"})
         made.segments = [
@@ -227,6 +243,16 @@ class History:
         ]
         made._written = {at: written for at, written in self._written.items() if at < turn}
         return made
+
+    def _is_possible(self, lines: tuple[str, ...], line: str) -> bool:
+        """Returns whether the debugger accepts a command after others. No call returns its reply in a later round, so
+        an edit that was undone comes first: after a command that is accepted it cannot be redone.
+        """
+        cell = state(self.fight, self.round, lines).cells[0]
+        undone = "edit 0 DAT.F $0, $0" if OPCODES[cell["op"]] == "NOP" else "edit 0 NOP.F $0, $0"
+        done = state(self.fight, self.round, (*lines, line)).cells[0]
+        redone = state(self.fight, self.round, (*lines, undone, "undo", line, "redo"), history=REDO).cells[0]
+        return bool(done == redone)
 
 
 def ask(fight: Match, round: int, lines: tuple[str, ...], first: int, skipped: int, count: int) -> Block:

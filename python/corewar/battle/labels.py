@@ -1,15 +1,17 @@
 """Maps the core of a battle to the sources of its warriors: the line of each loaded cell, and its labels."""
 from __future__ import annotations
 
+import re
 from collections import Counter
 from dataclasses import dataclass
 from functools import cached_property
-
-import numpy as np
+from weakref import WeakKeyDictionary
 
 from ..engine.calls import source_lines, state
 from ..model.faults import Fault
+from ..model.warriors import printable
 from .history import History
+from .origins import Origins
 
 
 @dataclass(frozen=True)
@@ -24,30 +26,41 @@ class Line:
 
 
 class Sources:
-    """The lines and labels of the cells where the warriors were loaded. A load file has neither."""
+    """The lines and labels of the cells where the warriors were loaded, and the lines of all cells that were copied.
+    Load files have neither.
+    """
 
     def __init__(self, history: History) -> None:
         self.lines: dict[int, Line] = {}
         self._labels: list[tuple[int, str, int]] = []
         start = state(history.fight, history.round)
-        self._loaded = start.cells
+        self._origins: WeakKeyDictionary[History, Origins] = WeakKeyDictionary()
         for number, warrior in enumerate(history.warriors):
             first = int(start.queues[number][0]) - warrior.origin
             texts = (warrior.source or b"").decode("latin-1").split("\n")
             for place, (line, labels) in enumerate(self._read(history, number)):
                 address = (first + place) % history.core
-                self.lines[address] = Line(number, line, " ".join(texts[line - 1].partition(";")[0].split()))
+                # Control characters are whitespace of the language, but a terminal would obey them.
+                words = re.findall(r"[^\0- ]+", texts[line - 1].partition(";")[0])
+                self.lines[address] = Line(number, line, printable(" ".join(words)))
                 self._labels += [(number, label, address) for label in labels]
 
-    def told(self, address: int, cell: np.void) -> str:
-        """Returns the number and the text of the line from which a cell was loaded, or "". It begins with `was` if the
-        cell has another opcode now.
+    def line(self, history: History, address: int, turn: int) -> Line | None:
+        """Returns the line from which the instruction at an address was copied, after a turn of a history."""
+        if history not in self._origins:
+            self._origins[history] = Origins(history)
+        return self.lines.get(int(self._origins[history].at(turn)[address]))
+
+    def told(self, history: History, address: int, turn: int, warrior: int | None = None) -> str:
+        """Returns the number and the text of this line, or "". They follow the name of the warrior if it is neither the
+        one given nor, without one, the one that was loaded at the address.
         """
-        line = self.lines.get(address)
+        line, loaded = self.line(history, address, turn), self.lines.get(address)
         if line is None:
             return ""
-        was = "" if cell["op"] == self._loaded[address]["op"] else "was "
-        return f"; {was}{line.number}: {line.text}"
+        known = warrior if warrior is not None else loaded.warrior if loaded else None
+        name = "" if line.warrior == known else f"{history.names[line.warrior]} "
+        return f"; {name}{line.number}: {line.text}"
 
     @staticmethod
     def _read(history: History, number: int) -> list[tuple[int, list[str]]]:

@@ -2,15 +2,17 @@
 from __future__ import annotations
 
 import os
+from collections.abc import Callable, Iterator
 
 import click
 
-from ..engine.sources import read_file, read_warriors
-from ..explain import excerpt, fix, read_faults, read_otherwise, told, told_of
-from ..model.faults import Fault, FileFault, Refused
+from ..engine.sources import Assembler, Overrun, read_file, read_warriors
+from ..explain import LOOKED_FOR, errors_of, excerpt, fix, read_faults, read_otherwise, told, told_of
+from ..model.faults import ASSEMBLY, Fault, FileFault, Refused
 from ..model.warriors import printable
 from .layout import Command
 from .options import Asked, battle_options
+from .telling import tell
 
 EXAMPLES = [
     "corewar explain dwarf.red",
@@ -35,9 +37,7 @@ class Explain(Command):
 @click.command(cls=Explain, examples=EXAMPLES)
 @battle_options(needs_files=False)
 @click.option("--pmars", is_flag=True, help="Report what pMARS reads differently")
-@click.option(
-    "--fix", "is_fixed", is_flag=True, help="Print the source, with each counter renamed that is also a modifier"
-)
+@click.option("--fix", "is_fixed", is_flag=True, help="Print the source, with known differences from pMARS replaced")
 def explain(asked: Asked, pmars: bool, is_fixed: bool) -> int:
     """Explain the errors in files, or those read from standard input.
 
@@ -48,11 +48,10 @@ def explain(asked: Asked, pmars: bool, is_fixed: bool) -> int:
     if (pmars or is_fixed) and not asked.files:
         raise click.UsageError("expected at least one file")
     if is_fixed:
-        click.echo(b"".join(fix(read_file(path)) for path in asked.files), nl=False)
-    elif pmars:
+        return max([fix_file(asked, path) for path in asked.files])
+    if pmars:
         for path in asked.files:
-            notes = read_otherwise(read_file(path)) or ["pMARS reads it in the same way."]
-            write([f"{path}: {note}" for note in notes])
+            compare_file(asked, path)
     elif asked.files:
         # Each file is looked at, also after one with an error.
         return max([explain_file(asked, path) for path in asked.files])
@@ -62,16 +61,65 @@ def explain(asked: Asked, pmars: bool, is_fixed: bool) -> int:
 
 
 def explain_file(asked: Asked, path: str) -> int:
-    """Assembles a file, and explains its error. Returns the exit status."""
+    """Assembles a file, and explains its errors. Returns the exit status."""
+    found = False
+    for fault, text, sentences in errors_in(asked, path):
+        write([f"{path}: {fault}", *excerpt(text, fault.line), *sentences])
+        found = True
+    if not found:
+        write([f"{path}: no error"])
+    return int(found)
+
+
+def compare_file(asked: Asked, path: str) -> None:
+    """Prints what pMARS reads differently in a file."""
+    data = read_file(path)
+    with Assembler(asked.limit) as assembler:
+        faults = [fault for fault, _ in errors_of(data, loader(asked, path, assembler))]
+    notes = read_otherwise(data, faults)
+    write([f"{path}: {note}" for note in notes or [f"none of the {LOOKED_FOR} known differences from pMARS was found"]])
+
+
+def fix_file(asked: Asked, path: str) -> int:
+    """Prints a fixed source, and reports the errors that are left. Returns the exit status."""
+    data = read_file(path)
+    with Assembler(asked.limit) as assembler:
+        load = loader(asked, path, assembler)
+        fixed = fix(data, load)
+        errors = [*errors_of(fixed, load)]
+    click.echo(fixed, nl=False)
+    for fault, sentences in errors:
+        tell("\n".join([f"{path}: not fixed: {fault}", *sentences]))
+    return int(bool(errors))
+
+
+def loader(asked: Asked, path: str, assembler: Assembler) -> Callable[[bytes], bytes]:
+    """Returns what assembles a source within the limits; an overrun of a limit is an error of the file."""
+
+    def load(text: bytes) -> bytes:
+        try:
+            return assembler.assemble(text, asked.settings, asked.rounds)
+        except Overrun as overrun:
+            raise FileFault(path, str(overrun), text) from None
+
+    return load
+
+
+def errors_in(asked: Asked, path: str) -> Iterator[tuple[Fault, bytes, list[str]]]:
+    """Yields the errors of a file, each with the text of the file and its explanation. Raises FileFault."""
     try:
         read_warriors([path], asked.settings, asked.rounds, asked.limit, 2)
+        return
     except FileFault as left:
         if not isinstance(left.fault, Fault):
             raise
-        write([str(left), *excerpt(left.text, left.fault.line), *told(left.fault, left.text)])
-        return 1
-    write([f"{path}: no error"])
-    return 0
+        fault, text = left.fault, left.text
+    if fault.code != ASSEMBLY:
+        yield fault, text, told(fault, text)
+        return
+    with Assembler(asked.limit) as assembler:
+        for error, sentences in errors_of(text, loader(asked, path, assembler)):
+            yield error, text, sentences
 
 
 def explain_lines() -> None:

@@ -21,6 +21,7 @@ from pygments.lexers.esoteric import RedcodeLexer
 from ..battle.conditions import OF_CELLS, OF_WARRIORS
 from ..engine.sources import read_file
 from ..model.faults import Refused
+from ..model.warriors import printable
 from .commands import COMMANDS, Command, Left, execute, find_command
 from .session import Session
 
@@ -69,6 +70,21 @@ def command_of(line: str) -> Command | None:
         return None
 
 
+def as_utf8(line: str) -> str:
+    """Returns a line with `?` for each byte that was typed and is not UTF-8."""
+    return line.encode("utf-8", "replace").decode()
+
+
+class Lines(FileHistory):
+    """The history of lines in a file. A line that cannot be written is lost, and the debugger continues."""
+
+    def store_string(self, string: str) -> None:
+        try:
+            super().store_string(as_utf8(string))
+        except OSError:
+            pass
+
+
 class Runner:
     """Executes lines: those of the debugger, and `source FILE` and `log FILE`, which read and write lines."""
 
@@ -90,7 +106,7 @@ class Runner:
                 self.show("\n".join(execute(self.session, line)))
                 self.keep(line.strip())
         except Refused as fault:
-            self.show(str(fault))
+            self.show("\n".join(map(printable, str(fault).split("\n"))))
 
     def begin_log(self, file: str) -> None:
         """Begins to log executed lines to a new file, which `source` can execute again."""
@@ -155,7 +171,7 @@ def run_prompt(session: Session, coloured: bool) -> None:
     session.paint = paint if coloured else session.paint
     file = state_file()
     prompt: PromptSession[str] = PromptSession(
-        history=FileHistory(str(file)) if file else InMemoryHistory(),
+        history=Lines(str(file)) if file else InMemoryHistory(),
         completer=Words(session),
         complete_while_typing=True,
         lexer=PygmentsLexer(RedcodeLexer) if coloured else None,
@@ -165,8 +181,7 @@ def run_prompt(session: Session, coloured: bool) -> None:
     runner, last = Runner(session, lambda text: print(text, flush=True)), ""
     while True:
         try:
-            line = prompt.prompt(f"turn {session.turn}> ").strip()
-            line = line or last
+            line = as_utf8(prompt.prompt(f"turn {session.turn}> ")).strip() or last
             runner.make(line)
             command = command_of(line)
             last = line if command and command.repeats else ""

@@ -3,13 +3,14 @@ from __future__ import annotations
 
 import re
 from collections.abc import Callable, Sequence
-from dataclasses import dataclass, field, replace
+from dataclasses import dataclass, field
 
 from ..analysis.telling import Teller
 from ..battle.conditions import OF_CELLS, OF_WARRIORS, Condition, search
 from ..battle.history import History
 from ..battle.labels import Sources
 from ..engine.calls import load_file
+from ..explain import told
 from ..model.faults import Fault, Refused
 from ..model.settings import whole
 
@@ -92,6 +93,8 @@ class Session:
         found = re.fullmatch(r"(\.|[\w.]+?)((?:[+-]\d{1,9})*)", text)
         base = found[1] if found else ""
         at = self.history.head(self.turn) if base == "." else self.sources.addresses.get(base, whole(base))
+        if base == "." and at is None:
+            raise Refused("`.` is the cell to execute next, but the battle is over; use a number or a label")
         if found is None or at is None or at >= self.history.core:
             raise Refused(
                 f"`{text}` is not an address: a number below {self.history.core}, a label or `.`, "
@@ -129,11 +132,12 @@ class Session:
         """
         labels = [name for name in self.sources.addresses if name in WORD.findall(line)]
         given = [f"{name} EQU ({self.sources.addresses[name] - address})" for name in labels]
-        settings = replace(self.history.fight.settings, longest=1)
+        fight, source = self.history.fight, "\n".join([*given, line, ""])
         try:
-            load = load_file("\n".join([*given, line, ""]), settings, 1, len(self.names))
+            load = load_file(source, fight.settings, fight.rounds, len(self.names))
         except Fault as fault:
-            raise Refused(f"`{line}` is not an instruction: {str(fault).partition(': ')[2]}") from None
+            kind, cause = str(fault).partition(": ")[2], told(fault, source.encode())[0]
+            raise Refused(f"`{line}` is not an instruction: {kind}: {cause}") from None
         return load.decode().strip().rpartition("\n")[2]
 
     def process(self, warrior: int, text: str) -> int:

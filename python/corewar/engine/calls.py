@@ -237,7 +237,11 @@ def bytes_of(source: str | bytes) -> bytes:
 
 
 def lines_of(lines: Sequence[str]) -> bytes:
-    """Returns the debugger commands as bytes, each with an end of line."""
+    """Returns the debugger commands as bytes, each with an end of line. Raises TypeError for a text, since its letters
+    would be taken for commands.
+    """
+    if isinstance(lines, str):
+        raise TypeError("expected a sequence of debugger commands, not a text")
     return "".join(f"{line}\n" for line in lines).encode()
 
 

@@ -67,8 +67,7 @@ class Assembler:
                 self._pipe.send((source, settings, rounds, warriors))
                 load, fault = self._pipe.recv()
             except (EOFError, OSError):
-                self.end()
-                raise Overrun(f"assembling takes more than {self.limit.seconds} s of CPU time") from None
+                raise self._overrun() from None
         if fault and fault[0] == MEMORY:
             raise Overrun(f"assembling takes more than {self.limit.megabytes} MB of memory")
         if fault:
@@ -79,15 +78,32 @@ class Assembler:
         # A missing library is reported by this call, and not by the process.
         library()
         # A process with threads is not forked, since the new process calls the library.
-        context: Any = multiprocessing.get_context("fork" if threading.active_count() == 1 else "spawn")
-        self._pipe, theirs = context.Pipe()
-        self._process = context.Process(target=serve, args=(theirs, self.limit), daemon=True)
-        self._process.start()
+        way = "fork" if threading.active_count() == 1 else "spawn"
+        context: Any = multiprocessing.get_context(way)
+        ours, theirs = context.Pipe()
+        # A forked process also has our end, and does not notice that we have ended until it closes it.
+        process = context.Process(target=serve, args=(theirs, self.limit, ours if way == "fork" else None), daemon=True)
+        try:
+            process.start()
+        except OSError as fault:
+            raise Refused(f"cannot start the assembler: {fault.strerror}") from None
         theirs.close()
+        self._pipe, self._process = ours, process
+
+    def _overrun(self) -> Overrun:
+        """Returns why the process has ended, and removes it."""
+        self._process.join()
+        code = self._process.exitcode
+        self.end()
+        if code == -signal.SIGXCPU:
+            return Overrun(f"assembling takes more than {self.limit.seconds} s of CPU time")
+        return Overrun(f"the assembler was ended by signal {-code}" if code < 0 else "the assembler has failed")
 
 
-def serve(pipe: Connection, limit: Limit) -> None:
-    """Assembles the sources from a pipe until it is closed."""
+def serve(pipe: Connection, limit: Limit, other: Connection | None) -> None:
+    """Assembles the sources from a pipe until its other end is closed."""
+    if other is not None:
+        other.close()
     signal.signal(signal.SIGINT, signal.SIG_IGN)
     with open("/proc/self/statm") as file:
         taken = int(file.read().split()[0]) * resource.getpagesize()
@@ -101,11 +117,19 @@ def serve(pipe: Connection, limit: Limit) -> None:
         used = resource.getrusage(resource.RUSAGE_SELF)
         lower(resource.RLIMIT_CPU, int(used.ru_utime + used.ru_stime) + 1 + limit.seconds)
         try:
-            pipe.send((load_file(*given), None))
-        except Fault as fault:
-            pipe.send((b"", (fault.code, fault.number, fault.problem, fault.expression, fault.line, fault.warrior)))
-        except MemoryError:
-            pipe.send((b"", (MEMORY,)))
+            pipe.send(answer(*given))
+        except BrokenPipeError:
+            return
+
+
+def answer(*given: Any) -> tuple[bytes, tuple[int, ...] | None]:
+    """Returns the load file of a source, or the numbers of its error."""
+    try:
+        return load_file(*given), None
+    except Fault as fault:
+        return b"", (fault.code, fault.number, fault.problem, fault.expression, fault.line, fault.warrior)
+    except MemoryError:
+        return b"", (MEMORY,)
 
 
 def lower(kind: int, most: int) -> None:

@@ -5,11 +5,13 @@ import re
 from collections.abc import Callable, Iterator
 from unicodedata import name as character_name
 
-from .source import ELSEWHERE, MODIFIERS, NAME, OPCODES, PREDEFINED, Line, Source, like, misspelt
+from .source import ELSEWHERE, MODIFIERS, NAME, OPCODES, PREDEFINED, Line, Loop, Source, like, misspelt
 
 Cause = Callable[[Source, Line], Iterator[str]]
 COMMENT, BEGINS = re.compile(r"//|/\*"), "A comment begins with `;`."
 DASHED = re.compile(r"\s*([A-Za-z_]\w*(?:-\w+)+):?(?=\s)")
+# How a sentence begins if the line to correct is an earlier one.
+IN_LINE = "In line {}, "
 OPENING = ("#", "$", "@", "{", "}", "(")
 
 
@@ -65,14 +67,24 @@ def duplicate(source: Source, line: Line) -> Iterator[str]:
         elif line.labels.count(name) > 1:
             yield f"`{name}` is in this line twice, without an operation in between."
         elif loops:
-            yield f"`{name}` is in a loop with several iterations; write `{name}&{loops[-1].counter or 'i'}`."
+            yield joined(name, loops)
+
+
+def joined(name: str, loops: list[Loop]) -> str:
+    """Returns how a name in loops is made distinct: by the counters of all loops around it, from the outermost one."""
+    head = next((loop.head for loop in loops if not loop.counter), None)
+    where = f"`{name}` is in a loop with several iterations"
+    if head is not None:
+        return f"{where}; give the FOR in line {head.number} a counter, and join the counter to the name with `&`."
+    missing = [loop.counter for loop in loops if loop.counter not in name.split("&")[1:]]
+    return f"{where}; write `{'&'.join([name, *missing])}`."
 
 
 def taken(line: Line, name: str, other: Line) -> str:
     """Returns why a name is in an earlier line."""
     word = misspelt(other)
     if word:
-        return f"In line {other.number}, {word}"
+        return f"{IN_LINE.format(other.number)}{word}"
     if line.word == "EQU" and not other.operation:
         return f"Line {other.number} uses `{name}` before this EQU, so it is read as a label there; move the EQU up."
     return f"`{name}` is already defined in line {other.number}."

@@ -1,74 +1,263 @@
-"""Finds what pMARS reads differently, by the look of a source, and fixes a source so that both read it."""
+"""Finds what pMARS reads differently, by the look of a source. Together the functions look for each row of the table in
+LANGUAGE.md that a source can show.
+"""
 from __future__ import annotations
 
 import re
-from collections.abc import Iterator
+from collections.abc import Callable, Iterable, Iterator
 
-from .source import MODIFIERS, NAME, Line, Loop, Source, read_source
+from ..model.faults import Fault
+from .errors import kind_of
+from .source import MODIFIERS, NAME, OPCODES, Loop, Source, read_source
 
 DIRECTIVE = re.compile(r"\s*;\s+(name|author|assert|redcode)\b", re.I)
+COMMENTED = re.compile(r"\s*;(name|author)\s*(.*)", re.I)
+ASSERT = re.compile(r"\s*;assert\b(.*)", re.I)
+OPTIONAL = ("DAT", "JMP", "SPL", "NOP")
+# The longest name or author, and line, that both programs read in the same way.
+LONGEST_NAME, LONGEST_LINE = 60, 255
+# An operand in which a product is subtracted and something is added after it.
+MINUS = re.compile(r"[\w)] - (?:[+-] )*\w+(?: [*/%] (?:[+-] )*\w+)+ [+-] ")
+# The most loops around a line.
+DEEPEST = 32
+# What a source has in a line that pMARS reads differently.
+Found = Iterator[tuple[int, str]]
+LOOKS: list[Callable[[Source], Found]] = []
+# What pMARS makes of an error of this kit.
+ACCEPTED = {
+    "1 Text 5 BadCount": "pMARS reads a count below 0 as no iteration; write `(count)*(count>0)`.",
+    "6 BadOrigin": "pMARS only warns of this start.",
+    "7 Empty": "pMARS only warns of a source without instructions.",
+    "5 AssertFailed": "In pMARS this assert may hold: VERSION is 92 there and 80 here.",
+    "4 Expression 4 Range": "pMARS may hang on this value.",
+}
+# The number of rows of the table that are looked for: an error shows some of them, and two errors one row.
+LOOKED_FOR = 28
 
 
-def read_otherwise(data: bytes) -> list[str]:
-    """Returns what pMARS reads differently in a source: sentences, each after the number of its line."""
+def look(function: Callable[[Source], Found]) -> Callable[[Source], Found]:
+    """Enters a function into the list."""
+    LOOKS.append(function)
+    return function
+
+
+def read_otherwise(data: bytes, faults: Iterable[Fault] = ()) -> list[str]:
+    """Returns what pMARS reads differently in a source: sentences, each after the number of its line.
+
+    - `faults`: the errors of the source
+    """
     source = read_source(data)
-    found = [(line.number, note) for line in source.lines for note in notes(source, line)]
-    found += [(loop.head.number, note) for loop in source.loops for note in notes_on_loop(source, loop)]
-    return [f"line {number}: {note}" for number, note in sorted(found)]
+    found = {note for one in LOOKS for note in one(source)}
+    for fault in faults:
+        kind, text = kind_of(fault), source.lines[fault.line - 1].text if fault.line <= len(source.lines) else ""
+        if kind in ACCEPTED and (kind != "5 AssertFailed" or "VERSION" in text):
+            found.add((fault.line, ACCEPTED[kind]))
+    return [f"line {number}: {note}" if number else note for number, note in sorted(found)]
 
 
-def notes(source: Source, line: Line) -> Iterator[str]:
-    """Yields what pMARS reads differently in a line."""
-    directive, before = DIRECTIVE.match(line.text), source.lines[line.number - 2] if line.number > 1 else None
-    if directive:
-        yield f"pMARS obeys `; {directive[1]}`, which is a comment here; remove the space."
-    if line.word == "DAT" and line.operands and "," not in line.operands:
-        yield f"pMARS reads `DAT #0, {line.rest[0]}`, this kit `DAT $0, {line.rest[0]}`; write both operands."
-    label = before.labels[-1] if before and before.labels and not before.operation else ""
-    if label and line.word == "FOR" and not line.labels:
-        yield f"pMARS takes `{label}` of the line before as the counter; here it is a label. Give this FOR a counter."
-    if label and line.word == "EQU":
-        yield f"pMARS takes `{label}` of the line before as the name of this EQU; here it is a label. Move the EQU up."
-    for loop in source.loops if line.word == "EQU" else []:
-        if loop.head.number > line.number and loop.counter and names_counter(line, loop.counter):
-            yield (
-                f"pMARS joins the counter `{loop.counter}` where this EQU is used; here the EQU has to be in the loop, "
-                f"with the counter joined to its name."
-            )
+def sides(tokens: list[str]) -> list[list[str]]:
+    """Returns the tokens of each operand."""
+    found: list[list[str]] = [[]] if tokens else []
+    for token in tokens:
+        if token == ",":
+            found.append([])
+        else:
+            found[-1].append(token)
+    return found
 
 
-def names_counter(line: Line, counter: str) -> bool:
-    return any(NAME.match(token) and counter in token.split("&") for token in line.rest)
+def written(tokens: list[str]) -> str:
+    """Returns the text of an operand."""
+    return "".join(tokens)
 
 
-def notes_on_loop(source: Source, loop: Loop) -> Iterator[str]:
-    if is_modifier_in(source, loop):
-        yield (
+@look
+def immediate(source: Source) -> Found:
+    for line in source.lines:
+        operands = sides(line.operands) if line.word in OPCODES else []
+        if len(operands) == 2 and operands[0][:1] in (["<"], [">"], ["{"], ["}"]) and operands[1][:1] == ["#"]:
+            yield line.number, "pMARS reads the B-operand before the side effect of the A-operand, this kit after it."
+
+
+@look
+def opcodes(source: Source) -> Found:
+    for line in source.lines:
+        if line.word == "CMP":
+            yield line.number, "In pMARS a cell with CMP is not equal to one with SEQ, here it is; write SEQ."
+
+
+@look
+def extensions(source: Source) -> Found:
+    for line in source.lines:
+        words = [*([] if line.operation else line.labels), *line.operands]
+        for word in words:
+            if word.upper() in ("LDP", "STP", "PIN") or word in ("PSPACESIZE", "="):
+                yield line.number, f"pMARS knows `{word}`; this kit has neither P-space nor registers."
+
+
+@look
+def modifiers(source: Source) -> Found:
+    for loop in loops_of_modifiers(source):
+        yield loop.head.number, (
             f"pMARS reads `.{loop.counter}` as a modifier; here the counter's number replaces it. "
             f"Write `.{loop.counter.swapcase()}`, or rename the counter with `corewar explain --fix`."
         )
 
 
-def is_modifier_in(source: Source, loop: Loop) -> bool:
-    """Whether a loop's counter has the name of a modifier that is used in the loop."""
-    lines = source.lines[loop.head.number : loop.last - 1]
-    return loop.counter.upper() in MODIFIERS and any(line.rest[:2] == [".", loop.counter] for line in lines)
+def loops_of_modifiers(source: Source) -> list[Loop]:
+    """Returns the loops whose counter has the name of a modifier that is used in the loop."""
+    heads = {loop.head.number: loop for loop in source.loops}
+    open_loops, found = list[Loop](), dict[int, Loop]()
+    for line in source.lines:
+        while open_loops and open_loops[-1].last <= line.number:
+            open_loops.pop()
+        for loop in open_loops[-DEEPEST:] if line.rest[:1] == ["."] else []:
+            if loop.counter.upper() in MODIFIERS and line.rest[1:2] == [loop.counter]:
+                found[loop.head.number] = loop
+        if line.number in heads:
+            open_loops.append(heads[line.number])
+    return [*found.values()]
 
 
-def fix(data: bytes) -> bytes:
-    """Returns the source with each counter renamed that has the name of a modifier of its loop. Comments stay."""
-    source, lines = read_source(data), data.split(b"\n")
-    for loop in source.loops:
-        if is_modifier_in(source, loop):
-            name = f"{loop.counter}_"
-            while re.search(rb"\b%b\b" % name.encode(), data):
-                name += "_"
-            for at in range(loop.head.number - 1, min(loop.last, len(lines))):
-                lines[at] = renamed(lines[at], loop.counter, name)
-    return b"\n".join(lines)
+@look
+def counts(source: Source) -> Found:
+    labels = source.labels()
+    for line in source.lines:
+        for name in line.rest if line.word == "FOR" else []:
+            if name in labels:
+                yield line.number, f"pMARS accepts the label `{name}` in a count; write the number."
+            elif name in source.equates and source.equates[name].number > line.number:
+                yield line.number, f"pMARS reads this count as 0, since the EQU of `{name}` is later; move the EQU up."
 
 
-def renamed(line: bytes, counter: str, name: str) -> bytes:
-    """Returns a line with a counter renamed, except in modifiers and in the comment."""
-    code, mark, comment = line.partition(b";")
-    return re.sub(rb"(?<![\w.])%b(?!\w)" % counter.encode(), name.encode(), code) + mark + comment
+@look
+def equates(source: Source) -> Found:
+    last = {loop.counter: loop.head.number for loop in source.loops}
+    for line in source.lines:
+        if line.word != "EQU":
+            continue
+        words = [word.upper() for word in line.rest]
+        if "FOR" in words or "ROF" in words:
+            yield line.number, "pMARS accepts FOR and ROF in the text of an EQU; write the loop itself."
+        for part in dict.fromkeys(part for token in line.rest if NAME.match(token) for part in token.split("&")):
+            if last.get(part, 0) > line.number:
+                yield line.number, (
+                    f"pMARS joins the counter `{part}` where this EQU is used; here the EQU has to be in the loop, "
+                    "with the counter joined to its name."
+                )
+        if any(label.upper() in OPCODES for label in line.labels):
+            yield line.number, "pMARS rejects an opcode as the name of an EQU; use another name."
+        if len(line.rest) == 3 and line.rest[0].upper() in OPCODES and line.rest[1] == ".":
+            yield line.number, "pMARS rejects an EQU name for an opcode with its modifier; write the opcode itself."
+
+
+@look
+def prose(source: Source) -> Found:
+    is_open = any(loop.last > len(source.lines) for loop in source.loops)
+    for line in source.lines:
+        if line.skipped and line.word == "FOR" and (len(line.labels) > 1 or line.labels and is_open):
+            yield line.number, (
+                "pMARS takes the `for` in this text for a loop and drops what follows; write `;` before it."
+            )
+
+
+@look
+def names(source: Source) -> Found:
+    first: dict[str, int] = {}
+    for line in source.lines:
+        if line.unread or line.skipped:
+            continue
+        if line.word in ("FOR", "EQU") and len(line.labels) > 1:
+            yield line.number, f"pMARS accepts several labels before {line.word}; write each in a line of its own."
+        for name in line.labels if line.word != "FOR" else []:
+            if name in first:
+                yield line.number, f"pMARS drops this second `{name}` with a warning; use another name."
+            first.setdefault(name, line.number)
+        if line.word == "FOR" and line.labels and line.labels[-1] in source.labels():
+            yield line.number, f"pMARS rejects the counter `{line.labels[-1]}`, which is also a label."
+        if re.match(r"\s*\w+\s+:", line.code):
+            yield line.number, "pMARS rejects a space before the `:` of a label."
+
+
+@look
+def asserts(source: Source) -> Found:
+    labels = source.labels()
+    for line in source.lines:
+        found = ASSERT.match(line.text)
+        if found and not found[1].strip():
+            yield line.number, "pMARS only warns of an assert without an expression; remove the line."
+        for name in line.operands if found else []:
+            if name in labels:
+                yield line.number, f"pMARS accepts the label `{name}` in an assert."
+            if name == "VERSION":
+                yield line.number, "VERSION is 92 in pMARS and 80 here."
+
+
+@look
+def ends_of_lines(source: Source) -> Found:
+    for line in source.lines:
+        operands = line.operands if line.word in OPCODES else []
+        if line.word == "ROF" and line.labels:
+            yield line.number, "pMARS accepts a label before ROF; write it in a line of its own."
+        if line.text.rstrip().endswith("\\") and ";" not in line.text:
+            yield line.number, "pMARS joins a line that ends in `\\` with the next one; write one line."
+        if any(one.isdecimal() and other.isdecimal() for one, other in zip(operands, operands[1:])):
+            yield line.number, "pMARS joins numbers that are separated by spaces; here an operator is missing."
+
+
+@look
+def operands(source: Source) -> Found:
+    for line in source.lines:
+        found = sides(line.operands)
+        if line.word == "DAT" and len(found) == 1:
+            text = written(found[0])
+            yield line.number, f"pMARS reads `DAT #0, {text}`, this kit `DAT $0, {text}`; write both operands."
+        if line.word in OPCODES and (
+            not found and line.word in ("DAT", "NOP") or len(found) == 1 and line.word not in OPTIONAL
+        ):
+            yield line.number, f"pMARS rejects {line.word} with this number of operands; write both."
+
+
+@look
+def products(source: Source) -> Found:
+    for line in source.lines:
+        if MINUS.search(" ".join(line.operands)):
+            yield line.number, "pMARS subtracts all that follows this `-`, as in `1-(2*3+4)`; write parentheses."
+
+
+@look
+def directives(source: Source) -> Found:
+    kept = [line for line in source.lines if not line.unread]
+    for line in kept:
+        directive, named = DIRECTIVE.match(line.text), COMMENTED.match(line.text)
+        if directive:
+            yield line.number, f"pMARS obeys `; {directive[1]}`, which is a comment here; remove the space."
+        if named and (len(named[2].encode()) > LONGEST_NAME or not (named[2].isascii() and named[2].isprintable())):
+            yield line.number, f"pMARS keeps any `;{named[1]}`; here it has {LONGEST_NAME} bytes of printable ASCII."
+        if len(line.text) > LONGEST_LINE:
+            yield line.number, f"pMARS cuts lines of more than some {LONGEST_LINE} characters."
+    for line in [line for line in kept if re.match(r"\s*;redcode", line.text, re.I)][1:]:
+        yield line.number, "pMARS ends the warrior at a second `;redcode`; give each warrior a file."
+    starts = {line.word: line for line in kept if line.word in ("ORG", "END") and line.rest}
+    if len(starts) == 2:
+        yield starts["END"].number, "pMARS starts where END says, this kit where ORG says; remove one of them."
+
+
+@look
+def lone_labels(source: Source) -> Found:
+    kept = [line for line in source.lines if line.code.strip() and not line.unread]
+    for before, line in zip(kept, kept[1:]):
+        if not before.labels or before.operation or before.rest or before.number != line.number - 1:
+            continue
+        label = before.labels[-1]
+        if line.word == "FOR" and not line.labels:
+            yield line.number, (
+                f"pMARS takes `{label}` of the line before as the counter; here it is a label. Give this FOR a counter."
+            )
+        if line.word == "EQU":
+            yield line.number, (
+                f"pMARS takes `{label}` of the line before as the name of this EQU; here it is a label. "
+                "Move the EQU up."
+            )
+    if kept and kept[-1].labels and not kept[-1].operation and not kept[-1].rest:
+        yield kept[-1].number, "pMARS drops a last line that is only a label."

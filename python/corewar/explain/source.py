@@ -4,7 +4,8 @@ from __future__ import annotations
 import re
 from collections.abc import Sequence
 from dataclasses import dataclass, field
-from difflib import get_close_matches
+from difflib import SequenceMatcher, get_close_matches
+from operator import itemgetter
 
 OPCODES = "DAT MOV ADD SUB MUL DIV MOD JMP JMZ JMN DJN SEQ CMP SNE SLT SPL NOP".split()
 OPERATIONS = [*OPCODES, *"FOR ROF EQU ORG END".split()]
@@ -15,13 +16,15 @@ ELSEWHERE = "LDP STP PIN XCH PCT STS".split()
 # A name with its joins, a number, or punctuation, also such as the language does not have.
 TOKEN = re.compile(r"(?:\w|&(?=[A-Za-z_]))+|==|!=|<=|>=|&&|\|\||\S", re.ASCII)
 NAME = re.compile(r"[A-Za-z_][\w&]*$", re.ASCII)
+# How many names are compared with a word; a comparison takes 10 to 20 microseconds for each letter.
+MOST_CHOICES = 1000
 # How many words of a line are compared with the names of operations.
 FIRST_WORDS = 20
 
 
 @dataclass
 class Line:
-    """A line; `unread` is the reason if it is not read."""
+    """A line; `unread` is the reason if it is not read, and `skipped` whether it is in a loop whose count is 0."""
 
     number: int
     text: str
@@ -29,6 +32,7 @@ class Line:
     operation: str = ""
     rest: list[str] = field(default_factory=list)
     unread: str = ""
+    skipped: bool = False
 
     @property
     def word(self) -> str:
@@ -70,7 +74,7 @@ class Source:
         """The first line of each label."""
         found: dict[str, Line] = {}
         for line in self.lines:
-            if not line.unread and line.word not in ("EQU", "FOR"):
+            if not line.unread and not line.skipped and line.word not in ("EQU", "FOR"):
                 for label in line.labels:
                     found.setdefault(label, line)
         return found
@@ -87,7 +91,8 @@ def parse_line(number: int, text: str, names: dict[str, Line]) -> Line:
         word, following = tokens[at], "".join(tokens[at + 1 : at + 2])
         at += 1
         is_operation = word.upper() in OPERATIONS or word in names
-        if following.upper() not in ("EQU", "FOR") and is_operation:
+        # An opcode before EQU or FOR is a name, but after a name EQU is the operation, whatever its text begins with.
+        if is_operation and (following.upper() not in ("EQU", "FOR") or word.upper() == "EQU" and line.labels):
             line.operation = word
             break
         line.labels.append(word)
@@ -100,45 +105,59 @@ def read_source(data: bytes) -> Source:
     """Splits the lines of a source. Loops are read once."""
     texts = [text.decode("utf-8", "replace").rstrip("\r") for text in data.removesuffix(b"\n").split(b"\n")]
     first = next((number for number, text in enumerate(texts, 1) if re.match(r"\s*;redcode", text, re.I)), 1)
-    source, open_loops, end = Source(data, [], {}, []), list[Loop](), 0
+    source, open_loops, end, zeros = Source(data, [], {}, []), list[Loop](), 0, 0
     for number, text in enumerate(texts, 1):
         line = parse_line(number, text, source.equates)
         source.lines.append(line)
+        line.skipped = zeros > 0
         if number < first:
             line.unread = f"everything before the `;redcode` in line {first} is ignored"
         elif end:
             line.unread = f"reading stops at the END in line {end}"
         elif line.word == "END":
             end = number
+        elif line.skipped and (line.word not in ("FOR", "ROF") or len(line.labels) > 1):
+            # In a loop that is skipped, only a first or second word begins another one.
+            continue
         elif line.word == "EQU" and line.labels:
             source.equates.setdefault(line.labels[-1], line)
         elif line.word == "FOR":
             open_loops.append(Loop(line, "".join(line.labels[-1:]), len(texts) + 1))
             source.loops.append(open_loops[-1])
+            zeros += line.rest == ["0"]
         elif line.word == "ROF" and open_loops:
+            zeros -= open_loops[-1].head.rest == ["0"]
             open_loops.pop().last = number
     return source
 
 
 def like(word: str, choices: Sequence[str]) -> str | None:
     """Returns the choice that is most similar to a word; the same letters in another order come first."""
-    upper = {choice.upper(): choice for choice in choices}
+    upper = {choice.upper(): choice for choice in choices[:MOST_CHOICES]}
     same = [choice for choice in upper if sorted(choice) == sorted(word.upper())]
     close = same or get_close_matches(word.upper(), upper, n=1)
     return upper[close[0]] if close else None
+
+
+def likeness(word: str, choice: str) -> float:
+    """Returns how similar two words are: 1 if they have the same letters, otherwise less."""
+    same = sorted(word.upper()) == sorted(choice)
+    return 1.0 if same else SequenceMatcher(None, word.upper(), choice).ratio()
 
 
 def misspelt(line: Line) -> str | None:
     """Returns a sentence on a word in place of an operation that is similar to one, or is one of another dialect."""
     if line.operation or not (line.rest or len(line.labels) > 1):
         return None
-    for word in line.labels[:FIRST_WORDS]:
-        meant = like(word, OPERATIONS)
+    words = line.labels[:FIRST_WORDS]
+    for word in words:
         if word.upper() in ELSEWHERE:
             return f"`{word}` is not an opcode of this language; P-space and other extensions are not supported."
-        if meant:
-            return f"`{word}` is read as a label; did you mean `{meant}`?"
-    return None
+    found = [(likeness(word, meant), word, meant) for word in words if (meant := like(word, OPERATIONS))]
+    if not found:
+        return None
+    _, word, meant = max(found, key=itemgetter(0))
+    return f"`{word}` is read as a label; did you mean `{meant}`?"
 
 
 def excerpt(data: bytes, number: int) -> list[str]:

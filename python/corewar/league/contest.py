@@ -11,9 +11,9 @@ from numpy.typing import NDArray
 
 from ..engine.calls import match
 from ..engine.sources import Assembler, Limit, read_warrior
-from ..model.faults import FileFault
+from ..model.faults import FileFault, Refused
 from ..model.settings import FORMULA, NUMBERS, Settings
-from ..model.warriors import Warrior
+from ..model.warriors import HEAD, Warrior
 
 # Rows of five numbers: points, wins, ties and losses of the first warrior, and points of the second one.
 Counts = NDArray[np.int64]
@@ -53,6 +53,33 @@ def fight(contest: Contest, warriors: Mapping[int, Warrior], pairs: Pairs) -> Co
     return counts
 
 
+def checked(counts: object, matches: int, rounds: int) -> Counts:
+    """Returns the counts of a number of matches, which come from a file or from another machine. Raises Refused if they
+    are not the counts of any matches of that many rounds.
+    """
+    try:
+        table = np.array(counts)
+    except (ValueError, OverflowError):
+        table = np.empty(0)
+    if table.shape != (matches, 5) or not (matches == 0 or table.dtype.kind == "i"):
+        raise Refused(f"expected five whole numbers for each of {matches} matches")
+    outcomes = table[:, 1:4]
+    wrong = np.flatnonzero((outcomes < 0).any(axis=1) | (outcomes > rounds).any(axis=1) | (outcomes.sum(1) != rounds))
+    if len(wrong):
+        wins, ties, losses = outcomes[wrong[0]].tolist()
+        raise Refused(f"a match of {rounds} rounds cannot have {wins} wins, {ties} ties and {losses} losses")
+    return table.astype(np.int64)
+
+
+def digests_of(warrior: Warrior) -> tuple[bytes, bytes]:
+    """Returns the digests by which the matches of a warrior are known: of its load file without name and author, on
+    which no result depends, and of the whole load file, by which version 1.2 stored results.
+    """
+    load, head = warrior.load, HEAD.match(warrior.load)
+    nameless = load[: load.index(b"\n") + 1] + load[head.end() :] if head else load
+    return hashlib.sha256(nameless).digest(), hashlib.sha256(load).digest()
+
+
 def enter(contest: Contest, files: Sequence[str], limit: Limit) -> tuple[list[Warrior], list[FileFault]]:
     """Returns the warriors of files, in order, and the errors of the other files. Raises `Fault` for the settings."""
     warriors, faults = [], []
@@ -72,7 +99,8 @@ class Matches:
         self.contest, self.warriors, self.pairs = contest, dict(enumerate(warriors)), pairs
         self.counts: Counts = np.zeros((len(pairs), 5), np.int64)
         self.is_fought: NDArray[np.bool_] = np.zeros(len(pairs), bool)
-        self.digests = [hashlib.sha256(warrior.load).digest() for warrior in warriors]
+        both = [digests_of(warrior) for warrior in warriors]
+        self.digests, self._older = [one for one, _ in both], [other for _, other in both]
 
     def __len__(self) -> int:
         return len(self.pairs)
@@ -92,19 +120,23 @@ class Matches:
         return np.where(wanted[rows] == asked, rows, -1)
 
     def take_kept(self, kept: Iterator[tuple[Any, ...]]) -> int:
-        """Fills in stored results, each two digests and counts. Returns how many are stored only in the other order."""
-        numbers: dict[bytes, list[int]] = {}
-        for number, digest in enumerate(self.digests):
-            numbers.setdefault(digest, []).append(number)
+        """Fills in what was stored, by two digests and counts. Returns how many matches are stored only with the
+        warriors in the other order. Raises Refused if the counts are not those of a match.
+        """
+        numbers: dict[bytes, set[int]] = {}
+        for number, digests in enumerate(zip(self.digests, self._older)):
+            for digest in digests:
+                numbers.setdefault(digest, set()).add(number)
         found = [
             (one, other, *counts)
             for first, second, *counts in kept
             for one in numbers.get(first, ())
             for other in numbers.get(second, ())
         ]
-        table = np.array(found, np.int64).reshape(-1, 7)
-        rows, turned = self.rows_of(table[:, :2]), self.rows_of(table[:, 1::-1])
-        self.fill_in(rows[rows >= 0], table[rows >= 0, 2:])
+        pairs = np.array([row[:2] for row in found], np.intp).reshape(-1, 2)
+        counts = checked([row[2:] for row in found] or np.empty((0, 5)), len(found), self.contest.rounds)
+        rows, turned = self.rows_of(pairs), self.rows_of(pairs[:, ::-1])
+        self.fill_in(rows[rows >= 0], counts[rows >= 0])
         turned = np.unique(turned[turned >= 0])
         return int((~self.is_fought[turned]).sum())
 

@@ -15,7 +15,7 @@ import numpy as np
 from ..engine.binding import library
 from ..model.faults import Refused
 from ..model.warriors import Warrior
-from .contest import Contest, Counts, Matches, Pairs, Rows, fight
+from .contest import Contest, Counts, Matches, Pairs, Rows, checked, fight
 
 # The maximum cycles of a bundle here, a quarter of a second, and the number of bundles that wait for a thread.
 CYCLES = 6_000_000
@@ -37,7 +37,7 @@ class Place:
     cycles: int
     at_a_time: int
     look: Callable[[], None] = lambda: None
-    counts_of: Callable[[Future[Any]], Counts] = Future.result
+    counts_of: Callable[[Future[Any]], object] = Future.result
 
     def fight(self, matches: Matches) -> Iterator[Rows]:
         """Runs the matches that are left. Yields the rows of each bundle with its counts filled in. Raises Refused."""
@@ -51,7 +51,11 @@ class Place:
             done = wait(out, LOOK_EACH, FIRST_COMPLETED).done
             for future in done:
                 rows = out.pop(future)
-                matches.fill_in(rows, self.counts_of(future))
+                counts = self.counts_of(future)
+                try:
+                    matches.fill_in(rows, checked(counts, len(rows), matches.contest.rounds))
+                except Refused as fault:
+                    raise Refused(f"invalid result from a worker: {fault}") from None
                 yield rows
             if not done:
                 self.look()
@@ -90,8 +94,8 @@ def fight_there(wanted: str, contest: Contest, loads: dict[int, bytes], pairs: P
         return str(fault)
 
 
-def counts_there(future: Future[Counts | str]) -> Counts:
-    """The counts of a bundle that a worker has fought."""
+def counts_there(future: Future[Counts | str]) -> object:
+    """Returns what a worker has sent as the counts of a bundle. Raises Refused."""
     try:
         counts = future.result()
     except CancelledError:

@@ -1,8 +1,8 @@
 """Stores results of matches in an SQLite file, so that no match is run twice.
 
-A match is identified by its settings and by the digests of its two load files, in their order, since its results depend
-only on these. Results are written once a second in a transaction, so a process that is killed loses at most those of
-the last second. Several processes may use one file.
+A match is identified by its settings and by the digests of its two load files without names and authors, in their order,
+since its results depend only on these. Results are written once a second, all of them or none, so a process that is
+killed loses at most those of its last second. Several processes may use one file.
 """
 from __future__ import annotations
 
@@ -57,7 +57,10 @@ class Results:
     def find(self) -> int:
         """Fills in the stored matches. Returns how many are stored only in the other order."""
         with self.telling():
-            return self.matches.take_kept(self.file.execute(FIND, [self.contest]))
+            try:
+                return self.matches.take_kept(self.file.execute(FIND, [self.contest]))
+            except Refused as fault:
+                raise Refused(f"{self.path}: invalid result: {fault}") from None
 
     def keep(self, rows: Rows) -> None:
         """Stores the results of some rows."""

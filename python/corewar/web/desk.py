@@ -86,7 +86,7 @@ class Desk:
         grain = max(1, history.end / MOMENTS)
         ages = np.where(written > 0, np.minimum((turn - written) / grain, FADING), FADING).astype(np.uint8)
         head = history.head(turn)
-        line = session.sources.lines.get(head) if head is not None else None
+        line = session.sources.line(history, head, turn) if head is not None else None
         told = {
             "turn": turn,
             "cycle": block.cycle(turn),
@@ -118,7 +118,7 @@ class Desk:
                     "address": at,
                     "label": session.sources.labels.get(at, ""),
                     "text": cell_text(cells[at], history.core),
-                    "line": session.sources.told(at, cells[at]),
+                    "line": session.sources.told(history, at, turn),
                     "owner": int(owners[at]),
                     "processes": counts,
                 }

@@ -1,0 +1,65 @@
+"""Finds all errors of a source. The library reports the first one, so it is asked again with that line replaced."""
+from __future__ import annotations
+
+import re
+from collections.abc import Callable, Iterator
+
+from ..model.faults import Fault
+from .causes import IN_LINE
+from .meanings import told
+from .source import Line, Source, read_source
+
+# The maximum number of errors that are reported for a source.
+MOST = 10
+# After these errors the rest of the source cannot be read.
+LAST = ("1 Text 3 UnclosedFor", "1 Text 9 TooLong", "7 Empty", "8 TooLong")
+# A sentence on a word that is not an opcode: the earlier line that has it, or None, and the word.
+ADVICE = re.compile(IN_LINE.format(r"(\d+)").join(["(?:", ")?`([^`]+)` is (?:read as a label|not an opcode of)"]))
+
+
+def kind_of(fault: Fault) -> str:
+    """Returns the text of an error without its line."""
+    return re.sub(r"^line \d+: ", "", str(fault))
+
+
+def errors_of(data: bytes, load: Callable[[bytes], object]) -> Iterator[tuple[Fault, list[str]]]:
+    """Yields the errors of a source, each with its explanation.
+
+    - `load`: assembles a source; what it raises besides `Fault` ends the search
+    """
+    source, lines, seen = read_source(data), data.split(b"\n"), set[int]()
+    for _ in range(MOST):
+        text = b"\n".join(lines)
+        try:
+            load(text)
+            return
+        except Fault as fault:
+            sentences = told(fault, text)
+            # The cause may be a misspelt word, in this line or in an earlier one.
+            advice = ADVICE.match("".join(sentences[:1]))
+            number = int(advice[1]) if advice and advice[1] else fault.line
+            # A line that is still wrong after it was replaced has names that are wrong elsewhere.
+            if number not in seen:
+                yield fault, sentences
+            if not 0 < number <= len(source.lines) or number in seen or kind_of(fault) in LAST:
+                return
+            seen.add(number)
+            lines[number - 1] = replaced(source.lines[number - 1], source, advice[2] if advice else "").encode()
+
+
+def replaced(line: Line, source: Source, misspelt: str) -> str:
+    """Returns a valid line to read in place of a faulty one, such that the lines after it are read as before. Neither a
+    misspelt opcode nor the words after it are labels.
+    """
+    known = {**source.equates, **source.labels()}
+    labels = line.labels[: line.labels.index(misspelt)] if misspelt in line.labels else line.labels
+    # A word in the place of an operation is not a label.
+    labels = labels if line.operation or misspelt else labels[:-1]
+    own = [name for name in labels if known.get(name, line) is line]
+    if line.word == "FOR":
+        return " ".join([*line.labels[-1:], "FOR 1"])
+    if line.word == "EQU":
+        return " ".join([*line.labels[-1:], "EQU 1"])
+    if line.word in ("ROF", "ORG") or not line.code.strip():
+        return ""
+    return "END" if line.word == "END" else " ".join([*own, "DAT 0, 0"])
