@@ -379,6 +379,7 @@ def test_it_is_soon_there() -> None:
     names, many = [f"q{number}" for number in range(15000)], [f"q{number}" for number in range(9000)]
     deep = "z0 EQU 1\n" + "".join(f"z{number} EQU z{number - 1}\n" for number in range(1, 34))
     sources = {
+        "counters that are modifiers": "i FOR 1\nmov.i 0, i\nROF\n" * 9000,
         "a row of joins": f"i FOR 1\nx{'&i' * 12} DAT 0\nROF\nDAT x{'1' * 60}y\n",
         "labels that are taken": "\n".join(names) + "\n" + " ".join(names) + "\n",
         "names that aren't defined": " ".join(names) + " DAT " + "+".join(f"z{name}" for name in names) + "\n",
@@ -397,6 +398,7 @@ def test_it_is_soon_there() -> None:
         begun = time.process_time()
         assert told(found.value, text.encode()), name
         read_otherwise(text.encode())
+        fix(text.encode(), load_file)
         assert time.process_time() - begun < 20, name
 
 
