@@ -64,6 +64,8 @@ SOURCES = [
     ("// a bomber\nmov 0, 1\n", "line 1: 2 Operation", "A comment begins with `;`."),
     ("mod MOV 0, 1\n", "line 1: 4 Expression 1 Syntax", "`mod` is an opcode and cannot be a label"),
     ("my-loop MOV 0, 1\n", "line 1: 2 Operation", "A name cannot contain `-`; write `my_loop`."),
+    ("mov 0, \\\n1\n", "line 1: 1 Text 2 BadToken", "`corewar explain --fix` joins it"),
+    ("mov 0, [1]\n", "line 1: 1 Text 2 BadToken", "`[` is not a character of the language."),
     # Duplicates.
     ("a dat 0\na dat 0\n", "line 2: 1 Text 7 Duplicate", "`a` is already defined in line 1."),
     ("a EQU 1\na EQU 2\n", "line 2: 1 Text 7 Duplicate", "`a` is already defined in line 1."),
@@ -379,6 +381,7 @@ def test_it_is_soon_there() -> None:
     names, many = [f"q{number}" for number in range(15000)], [f"q{number}" for number in range(9000)]
     deep = "z0 EQU 1\n" + "".join(f"z{number} EQU z{number - 1}\n" for number in range(1, 34))
     sources = {
+        "counters that are modifiers": "i FOR 1\nmov.i 0, i\nROF\n" * 9000,
         "a row of joins": f"i FOR 1\nx{'&i' * 12} DAT 0\nROF\nDAT x{'1' * 60}y\n",
         "labels that are taken": "\n".join(names) + "\n" + " ".join(names) + "\n",
         "names that aren't defined": " ".join(names) + " DAT " + "+".join(f"z{name}" for name in names) + "\n",
@@ -397,6 +400,7 @@ def test_it_is_soon_there() -> None:
         begun = time.process_time()
         assert told(found.value, text.encode()), name
         read_otherwise(text.encode())
+        fix(text.encode(), load_file)
         assert time.process_time() - begun < 20, name
 
 

@@ -14,6 +14,7 @@ from corewar.battle.origins import Origins
 from corewar.engine.calls import Match, assemble, source_lines
 from corewar.engine.sources import read
 from corewar.model.faults import Refused
+from corewar.model.warriors import Warrior
 
 # The parts of a cell that no instruction changes except by a copy of the whole cell.
 KEPT = ("op", "modifier", "a_mode", "b_mode")
@@ -96,3 +97,10 @@ def test_a_bomb_has_the_line_of_its_thrower() -> None:
     assert sources.told(history, grave, end - 2, 1) == "; 5: MOV.I 0, 1"
     edited = history.edited(7, f"edit {grave} NOP.F $0, $0")
     assert sources.told(edited, grave, 7) == "" and sources.told(history, grave, 7) == ""
+
+
+def test_whitespace_of_a_load_file() -> None:
+    """All control characters are whitespace, as the library reads them."""
+    warrior = Warrior(b"NOP 0, 0\n\x01NOP 0, 0\n\x01\nORG \x1b1\nMOV 0, 1\n")
+    assert (len(warrior), warrior.origin) == (3, 1)
+    assert History(Match((warrior,))).state(0).queues[0].tolist() == [1]

@@ -373,6 +373,24 @@ def test_counts_of_a_results_file_are_checked(run: Run, folder: Path, change: st
     assert done.stderr.startswith("corewar: kept.sqlite: invalid result: a match of 4 rounds cannot have ")
 
 
+def test_a_locked_results_file(run: Run, folder: Path) -> None:
+    """Another process may have it for some time, which is reported; Ctrl-C does not wait for it."""
+    words = ["league", "--results", "kept.sqlite", "stay.red", "dead.red"]
+    table = run(*words).stdout
+    for how in (None, signal.SIGINT):
+        with sqlite3.connect(folder / "kept.sqlite", isolation_level=None) as file:
+            file.execute("BEGIN EXCLUSIVE")
+            process = begin(*words, cwd=folder)
+            assert process.stderr is not None
+            assert process.stderr.readline() == "corewar: kept.sqlite is locked by another process; waiting\n"
+            if how:
+                process.send_signal(how)
+                assert process.wait(10) == 130
+            file.execute("ROLLBACK")
+        output, _ = process.communicate(timeout=60)
+        assert output == ("" if how else table)
+
+
 def test_texts_in_a_results_file(run: Run, folder: Path) -> None:
     words = ["league", "--results", "kept.sqlite", "stay.red", "dead.red"]
     run(*words)

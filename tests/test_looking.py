@@ -171,3 +171,20 @@ def test_ctrl_c_ends_a_match(tmp_path: Path) -> None:
         time.sleep(0.5)
         process.send_signal(signal.SIGINT)
         assert process.communicate(timeout=20) == (None, "\ncorewar: stopped\n") and process.returncode == 130
+
+
+def test_a_write_that_changes_nothing(run: Run, tmp_path: Path) -> None:
+    (tmp_path / "same.red").write_text("mov 3, 4\njmp -1\ndat 0\n")
+    assert run("trace", "--from", 1, "--turns", 1, "same.red", "@imp").stdout == (
+        "turn 1: same.red at 0: MOV.I $3, $4; reads 3\n    4: DAT.F $0, $0, as before\n"
+    )
+
+
+def test_folders_are_files_of_warriors(run: Run, tmp_path: Path) -> None:
+    (tmp_path / "hill").mkdir()
+    nothing = run("league", "hill")
+    assert (nothing.returncode, nothing.stderr) == (1, "corewar: hill: no file in this folder ends in .red\n")
+    for name in ("b", "a"):
+        (tmp_path / "hill" / f"{name}.red").write_text(f";name {name}\njmp 0\n")
+    assert run("league", "hill").stdout == run("league", "hill/a.red", "hill/b.red").stdout
+    assert run("challenge", "hill/a.red", "hill").stdout.endswith("sum of 2\n")

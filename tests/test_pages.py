@@ -3,7 +3,9 @@ from __future__ import annotations
 
 import base64
 import json
+import os
 import re
+import resource
 import zlib
 from collections import Counter
 from collections.abc import Iterator
@@ -67,6 +69,32 @@ def test_frames_are_what_the_machine_says(fight: Match, round: int, count: int, 
         assert texts == [cell_text(cell, history.core) for cell in state.cells]
         assert owners == [NOBODY if owner == BY_HAND else owner for owner in history.owners(frame["turn"]).tolist()]
         assert processes == [Counter(queue.tolist()) for queue in state.queues]
+
+
+def test_files_are_replaced_whole_or_not_at_all(run: Run, tmp_path: Path) -> None:
+    """On a full disk the older file stays; a link stays, and nothing else is left in the folder."""
+    words = ("league", "--format", "csv", "-o", "out.csv", "@dwarf", "@imp")
+    (tmp_path / "kept").mkdir()
+    (tmp_path / "kept" / "old.csv").write_text("old")
+    (tmp_path / "out.csv").symlink_to("kept/old.csv")
+    full = run(*words, preexec_fn=lambda: resource.setrlimit(resource.RLIMIT_FSIZE, (10, 10)))
+    assert (full.returncode, full.stderr) == (1, "corewar: out.csv: File too large\n")
+    assert (tmp_path / "kept" / "old.csv").read_text() == "old"
+    (tmp_path / "kept" / "old.csv").chmod(0o640)
+    assert run(*words).returncode == 0 and (tmp_path / "out.csv").is_symlink()
+    new = tmp_path / "kept" / "old.csv"
+    assert new.read_text().startswith("rank,") and new.stat().st_mode & 0o777 == 0o640
+    assert sorted(path.name for path in tmp_path.rglob("*") if path.name != "state") == ["kept", "old.csv", "out.csv"]
+    assert run("league", "-o", "/dev/stdout", "@dwarf", "@imp").stdout.startswith("  rank ")
+    assert run("league", "-o", "/dev/full", "@dwarf", "@imp").stderr == "corewar: /dev/full: No space left on device\n"
+
+
+@pytest.mark.skipif(os.geteuid() == 0, reason="root may write every file")
+def test_a_read_only_file_stays(run: Run, tmp_path: Path) -> None:
+    (tmp_path / "out.csv").write_text("old")
+    (tmp_path / "out.csv").chmod(0o444)
+    told = run("league", "-o", "out.csv", "@dwarf", "@imp")
+    assert told.returncode == 2 and (tmp_path / "out.csv").read_text() == "old"
 
 
 def test_a_page_is_written(run: Run, tmp_path: Path) -> None:

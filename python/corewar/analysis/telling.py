@@ -69,11 +69,15 @@ class Teller:
         return f"line {line.number} of {self.names[line.warrior]}: {line.text}" if line else ""
 
     def changes(self, turn: int) -> list[str]:
-        """Describes the changes of a turn."""
-        changes = self.history.block_of(turn).changes
-        found = (part[changes.of(turn)] for part in (changes.addresses, changes.before, changes.after))
-        return [
-            f"{self.where(int(at))}: {self.cell(before)} -> {self.cell(after)}" for at, before, after in zip(*found)
+        """Describes the writes of a turn, also those that changed nothing."""
+        block = self.history.block_of(turn)
+        found = (
+            part[block.changes.of(turn)]
+            for part in (block.changes.addresses, block.changes.before, block.changes.after)
+        )
+        changes = [f"{self.where(int(at))}: {self.cell(old)} -> {self.cell(new)}" for at, old, new in zip(*found)]
+        return changes + [
+            f"{self.where(at)}: {self.cell(block.cell(at, turn))}, as before" for at in block.rewritten(turn)
         ]
 
     def went(self, turn: int) -> str:

@@ -75,6 +75,13 @@ class Block:
         rows = np.nonzero(used)[0]
         return Touches(self.first + 1 + rows, address[used], self.records["warrior"][rows])
 
+    def rewritten(self, turn: int) -> list[int]:
+        """Returns the cells that a turn wrote and left as they were."""
+        row = turn - self.first - 1
+        written = self._writes[row, : self.records["changes"][row]].tolist()
+        changed = self.changes.addresses[self.changes.of(turn)].tolist()
+        return [address for address in dict.fromkeys(written) if address not in changed]
+
     def count(self, turn: int) -> int:
         """Returns the number of changes up to a turn."""
         return int(np.searchsorted(self.changes.turns, turn, "right"))

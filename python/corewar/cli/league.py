@@ -15,6 +15,7 @@ import numpy as np
 from rich.console import Console
 from rich.progress import BarColumn, MofNCompleteColumn, Progress, TimeRemainingColumn
 
+from ..engine.files import replace_file
 from ..league.contest import Contest, Matches, Rows, all_pairs, enter
 from ..league.places import cluster, threads
 from ..league.results import Results
@@ -136,7 +137,7 @@ def write(text: str, output: str | None) -> None:
     """Writes text with its end of line to a file, or to standard output, with names of files as they were given."""
     told = f"{text}\n".encode("utf-8", "surrogateescape")
     if output:
-        Path(output).write_bytes(told)
+        replace_file(output, told)
     else:
         click.echo(told, nl=False)
 

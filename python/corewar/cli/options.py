@@ -2,7 +2,8 @@
 from __future__ import annotations
 
 import functools
-from collections.abc import Callable
+import os
+from collections.abc import Callable, Iterator, Sequence
 from dataclasses import dataclass, replace
 from pathlib import Path
 from typing import Any
@@ -57,6 +58,15 @@ class Picture(Output):
         if not str(value).endswith(PICTURES):
             self.fail(f"expected a name that ends in {', '.join(PICTURES[:-1])} or {PICTURES[-1]}", param, context)
         return super().convert(value, param, context)
+
+
+def with_folders(files: Sequence[str]) -> Iterator[str]:
+    """Yields files, and in place of each folder the sources in it, by name. Raises FileFault."""
+    for name in files:
+        found = sorted(str(path) for path in Path(name).glob("*.red")) if os.path.isdir(name) else [name]
+        if not found:
+            raise FileFault(name, "no file in this folder ends in .red")
+        yield from found
 
 
 class LimitType(click.ParamType):
@@ -145,7 +155,7 @@ def battle_options(*, one_round: bool = False, needs_files: bool = True) -> Deco
             numbers = {name: given.pop(name) for name in vars(Settings())}
             settings = replace(HILLS[hill], **{name: value for name, value in numbers.items() if value is not None})
             contest: dict[str, Any] = {name: given.pop(name) or 0 for name in ("rounds", "seed", "position", "formula")}
-            return command(Asked(files, settings, round=round_, limit=limit, **contest), **given)
+            return command(Asked(tuple(with_folders(files)), settings, round=round_, limit=limit, **contest), **given)
 
         files = click.argument(
             "files", nargs=-1, required=needs_files, metavar="FILE..." if needs_files else "[FILE]..."

@@ -12,6 +12,8 @@ COMMENT, BEGINS = re.compile(r"//|/\*"), "A comment begins with `;`."
 DASHED = re.compile(r"\s*([A-Za-z_]\w*(?:-\w+)+):?(?=\s)")
 # How a sentence begins if the line to correct is an earlier one.
 IN_LINE = "In line {}, "
+# A character that no token has.
+FOREIGN = re.compile(r"[^\w\0- #$@*{}<>,.+\-/%()&|=!:]", re.ASCII)
 OPENING = ("#", "$", "@", "{", "}", "(")
 
 
@@ -26,6 +28,14 @@ def not_ascii(source: Source, line: Line) -> Iterator[str]:
         if found:
             named = character_name(found[0], "without a name").lower()
             yield f"Column {found.start() + 1} has `{found[0]}`, {named}; use plain ASCII characters."
+
+
+def bad_token(source: Source, line: Line) -> Iterator[str]:
+    found = FOREIGN.search(line.code)
+    if found and found[0] == "\\":
+        yield "A line cannot continue after `\\`; `corewar explain --fix` joins it with the next one."
+    elif found:
+        yield f"`{found[0]}` is not a character of the language."
 
 
 def operation(source: Source, line: Line) -> Iterator[str]:
@@ -143,6 +153,7 @@ def undefined(source: Source, name: str, known: dict[str, Line]) -> str:
 # The functions that look for the causes of an error, by its text.
 CAUSES: dict[str, Cause] = {
     "1 Text 1 NotAscii": not_ascii,
+    "1 Text 2 BadToken": bad_token,
     "1 Text 7 Duplicate": duplicate,
     "2 Operation": operation,
     "4 Expression 1 Syntax": syntax,

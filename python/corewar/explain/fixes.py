@@ -14,6 +14,8 @@ Load = Callable[[bytes], bytes]
 Fix = Callable[[Source, list[str], Load], None]
 # The greatest count of a loop.
 MOST_ITERATIONS = 10_000
+# The maximum number of counts that are computed in a source, each by the assembler.
+MOST_COUNTS = 20
 
 
 def fix(data: bytes, load: Load) -> bytes:
@@ -44,9 +46,10 @@ def join_lines(_: Source, lines: list[str], __: Load) -> None:
 
 def rename_counters(source: Source, lines: list[str], _: Load) -> None:
     """Renames each counter that has the name of a modifier of its loop."""
+    words = {*re.findall(r"\w+", "\n".join(lines))}
     for loop in loops_of_modifiers(source):
         name = f"{loop.counter}_"
-        while any(re.search(rf"\b{name}\b", line) for line in lines):
+        while name in words:
             name += "_"
         for at in range(loop.head.number - 1, min(loop.last, len(lines))):
             code, mark, comment = lines[at].partition(";")
@@ -83,21 +86,27 @@ def remove_asserts(_: Source, lines: list[str], __: Load) -> None:
 
 def move_equates(source: Source, lines: list[str], _: Load) -> None:
     """Moves each EQU that has the counter of a later loop into this loop, and joins the counter to its name."""
+    by_counter: dict[str, list[Loop]] = {}
+    for loop in source.loops:
+        by_counter.setdefault(loop.counter, []).append(loop)
+    users: dict[str, list[int]] = {}
+    for line in source.lines:
+        for name in {*line.labels, line.operation, *line.rest}:
+            users.setdefault(name, []).append(line.number)
     for line, following in zip(source.lines, [*source.lines[1:], Line(0, "")]):
-        loops = [loop for loop in source.loops if loop.counter and loop.counter in counters_of(line)]
+        loops = [loop for counter in counters_of(line) for loop in by_counter.get(counter, ())]
         if line.word != "EQU" or len(line.labels) != 1 or following.word == "EQU" and not following.labels:
             continue
         if len(loops) != 1 or loops[0].head.number < line.number:
             continue
         loop, name = loops[0], line.labels[0]
-        users = [one for one in source.lines if one is not line and name in [*one.labels, one.operation, *one.rest]]
-        if all(loop.head.number < one.number < loop.last for one in users):
+        if all(loop.head.number < number < loop.last for number in users[name] if number != line.number):
             move_equate(lines, line, loop)
 
 
 def counters_of(line: Line) -> list[str]:
-    """Returns the parts of the names in a line."""
-    return [part for token in line.rest if NAME.match(token) for part in token.split("&")]
+    """Returns the parts of the names in a line, each once."""
+    return list(dict.fromkeys(part for token in line.rest if NAME.match(token) for part in token.split("&")))
 
 
 def move_equate(lines: list[str], line: Line, loop: Loop) -> None:
@@ -112,11 +121,12 @@ def move_equate(lines: list[str], line: Line, loop: Loop) -> None:
 
 def compute_counts(source: Source, lines: list[str], load: Load) -> None:
     """Replaces each count that has labels by its number, if the labels are before it."""
-    labels = source.labels()
+    labels, left = source.labels(), MOST_COUNTS
     for loop in source.loops:
         number, expression = loop.head.number, "".join(loop.head.rest)
         used = [labels[name].number for name in loop.head.rest if name in labels]
-        if used and max(used) < number and not source.loops_around(number):
+        if used and max(used) < number and left and not source.loops_around(number):
+            left -= 1
             count = value_of(source, number, expression, load)
             if count is not None:
                 code, mark, comment = lines[number - 1].partition(";")

@@ -163,7 +163,7 @@ def prose(source: Source) -> Found:
 
 @look
 def names(source: Source) -> Found:
-    first: dict[str, int] = {}
+    first, labels = dict[str, int](), source.labels()
     for line in source.lines:
         if line.unread or line.skipped:
             continue
@@ -173,7 +173,7 @@ def names(source: Source) -> Found:
             if name in first:
                 yield line.number, f"pMARS drops this second `{name}` with a warning; use another name."
             first.setdefault(name, line.number)
-        if line.word == "FOR" and line.labels and line.labels[-1] in source.labels():
+        if line.word == "FOR" and line.labels and line.labels[-1] in labels:
             yield line.number, f"pMARS rejects the counter `{line.labels[-1]}`, which is also a label."
         if re.match(r"\s*\w+\s+:", line.code):
             yield line.number, "pMARS rejects a space before the `:` of a label."

@@ -9,12 +9,14 @@ from __future__ import annotations
 import os
 import shlex
 import sqlite3
+import sys
 import time
-from collections.abc import Iterator
+from collections.abc import Callable, Iterator
 from contextlib import contextmanager
-from typing import Any
+from typing import Any, TypeVar
 
 from ..model.faults import Refused
+from ..model.warriors import printable
 from .contest import Matches, Rows
 
 TABLE = """CREATE TABLE IF NOT EXISTS fought (contest TEXT, first BLOB, second BLOB,
@@ -22,9 +24,14 @@ points INTEGER NOT NULL, wins INTEGER NOT NULL, ties INTEGER NOT NULL, losses IN
 PRIMARY KEY (contest, first, second)) STRICT, WITHOUT ROWID"""
 FIND = "SELECT first, second, points, wins, ties, losses, theirs FROM fought WHERE contest = ?"
 KEEP = "INSERT OR IGNORE INTO fought VALUES (?, ?, ?, ?, ?, ?, ?, ?)"
-# How long another process may lock the file, and how long results wait to be written, in seconds.
+# In seconds: how long another process may lock the file, how long one attempt takes, during which Ctrl-C waits, and how
+# long results wait to be written.
 PATIENCE = 60
+TRY_FOR = 1
 WRITE_EACH = 1
+
+
+Done = TypeVar("Done")
 
 
 class Results:
@@ -36,8 +43,8 @@ class Results:
         self.written = time.monotonic()
         with self.telling():
             # Some names do not mean a file to SQLite; an absolute path always does.
-            self.file = sqlite3.connect(os.path.abspath(path), timeout=PATIENCE)
-            self.file.execute(TABLE)
+            self.file = sqlite3.connect(os.path.abspath(path), timeout=TRY_FOR)
+            self.patiently(lambda: self.file.execute(TABLE))
 
     def __enter__(self) -> Results:
         return self
@@ -58,7 +65,7 @@ class Results:
         """Fills in the stored matches. Returns how many are stored only in the other order."""
         with self.telling():
             try:
-                return self.matches.take_kept(self.file.execute(FIND, [self.contest]))
+                return self.matches.take_kept(self.patiently(lambda: self.file.execute(FIND, [self.contest])))
             except Refused as fault:
                 raise Refused(f"{self.path}: invalid result: {fault}") from None
 
@@ -72,6 +79,24 @@ class Results:
 
     def write(self) -> None:
         """Writes the waiting results."""
-        with self.telling(), self.file:
-            self.file.executemany(KEEP, self.new)
+        with self.telling():
+            self.patiently(self._insert)
         self.new, self.written = [], time.monotonic()
+
+    def _insert(self) -> None:
+        with self.file:
+            self.file.executemany(KEEP, self.new)
+
+    def patiently(self, act: Callable[[], Done]) -> Done:
+        """Returns the result of a function, which is tried again while another process has locked the file."""
+        end, is_shown = time.monotonic() + PATIENCE, False
+        while True:
+            try:
+                return act()
+            except sqlite3.OperationalError as fault:
+                # The lowest byte is the error; an extended one has more.
+                if fault.sqlite_errorcode & 255 != sqlite3.SQLITE_BUSY or time.monotonic() > end:
+                    raise
+            if not is_shown:
+                print(f"corewar: {printable(self.path)} is locked by another process; waiting", file=sys.stderr)
+            is_shown = True

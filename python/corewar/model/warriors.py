@@ -9,7 +9,9 @@ from pathlib import Path
 # The header of a load file of version 2.
 HEAD = re.compile(rb";load 2 \d+\n;name (.*)\n;author (.*)\n")
 # A start, which is the index of an instruction.
-START = re.compile(rb"(ORG|END)\b\s*([+-]?\d+)?", re.IGNORECASE)
+START = re.compile(rb"(ORG|END)\b[\0- ]*([+-]?\d+)?", re.IGNORECASE)
+# The whitespace of a load file.
+SPACE = bytes(range(33))
 
 
 def printable(text: str) -> str:
@@ -69,7 +71,7 @@ class Warrior:
         starts: dict[bytes, int] = {}
         cells = 0
         for line in self.load.split(b"\n"):
-            text = line.partition(b";")[0].strip()
+            text = line.partition(b";")[0].strip(SPACE)
             found = START.match(text)
             if found and found[2]:
                 starts[found[1].upper()] = int(found[2])

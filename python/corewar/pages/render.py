@@ -7,6 +7,8 @@ from pathlib import Path
 from jinja2 import Environment, PackageLoader, StrictUndefined
 from markupsafe import Markup
 
+from ..engine.files import replace_file
+
 environment = Environment(
     loader=PackageLoader("corewar.pages"),
     autoescape=True,
@@ -32,4 +34,4 @@ def render(template: str, **fields: object) -> str:
 
 def write_page(path: Path, text: str) -> None:
     """Writes a page. Bytes in names of files that are not text become `?`."""
-    path.write_text(text, encoding="utf-8", errors="replace")
+    replace_file(path, text.encode("utf-8", "replace"))

@@ -9,6 +9,7 @@ from matplotlib.figure import Figure
 from matplotlib.patches import Patch
 from numpy.typing import NDArray
 
+from .saving import save
 from .shades import LOST, TIED, WON, mixed
 
 # The size of a cell, and the maximum size of the matrix, in inches; smaller letters, in points, are left out.
@@ -31,4 +32,4 @@ def draw(titles: Sequence[str], ranks: Sequence[int], balances: NDArray[np.int64
     shades = {"won": WON, "tied": TIED, "lost": LOST}
     patches = [Patch(color=[part / 255 for part in shade], label=name) for name, shade in shades.items()]
     axes.legend(handles=patches, loc="upper left", bbox_to_anchor=(1.01, 1), borderaxespad=0, frameon=False)
-    figure.savefig(path)
+    save(figure, path)

@@ -16,6 +16,7 @@ from ..analysis.captions import fate, outcome, settings_told, title
 from ..battle.frames import Frame, frames
 from ..battle.history import History
 from .colours import LIGHT, coloured
+from .saving import save
 
 # The share of a warrior's colour on cells that it owns, that it wrote, and where its processes are.
 OWNED, WRITTEN, STANDING = 0.3, 0.6, 1.0
@@ -86,4 +87,4 @@ def draw(history: History, view: View, path: str) -> None:
     axes.legend(
         handles=handles, loc="upper center", bbox_to_anchor=(0.5, -0.08), ncols=min(4, len(handles)), fontsize=8
     )
-    figure.savefig(path, metadata={"Date": None} if path.endswith(".svg") else None)
+    save(figure, path)

@@ -3,7 +3,6 @@ from __future__ import annotations
 
 import hashlib
 import os
-import shutil
 from collections import OrderedDict
 from collections.abc import Generator, Iterable
 from contextlib import ExitStack
@@ -15,6 +14,7 @@ import numpy as np
 from numpy.typing import NDArray
 
 from ..engine.calls import Match
+from ..engine.files import replace_file
 from ..engine.sources import Assembler, Limit, Overrun
 from ..explain import told as explained
 from ..league.contest import Contest, Matches, all_pairs
@@ -74,15 +74,7 @@ class Folder:
         there = digest(read(path)) if path.exists() else ""
         if there != seen:
             raise Refused(f"{name} has changed on disk; not overwritten")
-        # A temporary file is written first, so that a full disk leaves the source unchanged.
-        part = path.with_name(f".{path.name}.part")
-        try:
-            part.write_bytes(coded(text))
-            if path.exists():
-                shutil.copymode(path, part)
-            os.replace(part, path)
-        finally:
-            part.unlink(missing_ok=True)
+        replace_file(path, coded(text))
         if name not in sources_of(self.paths):
             self.paths.append(path)
         return digest(text)

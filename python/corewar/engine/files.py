@@ -1,0 +1,42 @@
+"""Writes files. An older file is replaced as a whole, or stays as it is if anything fails, such as on a full disk."""
+from __future__ import annotations
+
+import os
+import secrets
+import stat
+from pathlib import Path
+
+from ..model.faults import FileFault
+
+# Names that stand for open files, which another file cannot replace.
+OPEN_FILES = ("/dev/", "/proc/")
+
+
+def replace_file(path: str | Path, data: bytes) -> None:
+    """Writes a file. A link stays, and the file that it leads to is replaced. Raises FileFault."""
+    name = str(path)
+    try:
+        if name.startswith(OPEN_FILES) or os.path.exists(name) and not os.path.isfile(name):
+            Path(name).write_bytes(data)
+        else:
+            replace(Path(os.path.realpath(name)), data)
+    except OSError as fault:
+        raise FileFault(name, fault.strerror or "cannot write") from None
+
+
+def replace(path: Path, data: bytes) -> None:
+    """Writes a file beside another one, and then in its place. Raises OSError."""
+    if path.exists() and not os.access(path, os.W_OK):
+        raise PermissionError(0, "read-only file")
+    part = path.with_name(f".{secrets.token_hex(8)}.part")
+    # Another program's file or link of this name is not followed.
+    handle = os.open(part, os.O_WRONLY | os.O_CREAT | os.O_EXCL, 0o666)
+    try:
+        with open(handle, "wb") as file:
+            file.write(data)
+        if path.exists():
+            os.chmod(part, stat.S_IMODE(path.stat().st_mode))
+        os.replace(part, path)
+    except BaseException:
+        part.unlink(missing_ok=True)
+        raise
