@@ -1,8 +1,8 @@
 """Stores results of matches in an SQLite file, so that no match is run twice.
 
-A match is identified by its settings and by the digests of its two load files without names and authors, in their order,
-since its results depend only on these. Results are written once a second, all of them or none, so a process that is
-killed loses at most those of its last second. Several processes may use one file.
+A match is identified by its settings and by the digests of its two load files without names and authors, in their
+order, since its results depend only on these. Results are written once a second, all of them or none, so a process that
+is killed loses at most those of its last second. Several processes may use one file.
 """
 from __future__ import annotations
 
