@@ -11,12 +11,12 @@ from typing import Any
 
 import numpy as np
 import pytest
-from battles import matches
+from battles import State, matches, record, state, touched
 from hypothesis import given, strategies as st
 from numpy.typing import NDArray
 
 from corewar.engine.binding import ROOM, array, call, kind, library, slice_of
-from corewar.engine.calls import Match, State, assemble, debug, held, loads, record, state, touched
+from corewar.engine.calls import Match, assemble, debug, held, loads
 from corewar.model.cells import MODES, MODIFIERS, OPCODES
 from corewar.model.faults import Fault
 from corewar.model.settings import Settings

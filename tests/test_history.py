@@ -5,17 +5,32 @@ from collections.abc import Iterator
 
 import numpy as np
 import pytest
-from battles import CELLS, MOVES, edits, is_listed, matches
+from battles import (
+    CELLS,
+    MOVES,
+    State,
+    edit_of,
+    edits,
+    is_listed,
+    matches,
+    record,
+    run_lines,
+    same,
+    state,
+    touched,
+)
 from conftest import EXAMPLES
 from hypothesis import given, strategies as st
 
 from corewar.battle import history as module
 from corewar.battle.conditions import Condition, last_change, search
 from corewar.battle.frames import frames, parts
-from corewar.battle.history import BY_HAND, NOBODY, History, run_lines
-from corewar.engine.calls import HISTORY, Match, State, debug, record, state, touched
+from corewar.battle.history import BY_HAND, NOBODY, History
+from corewar.engine.battles import Battle
+from corewar.engine.calls import HISTORY, Match, assemble, debug
 from corewar.engine.sources import read
-from corewar.model.cells import cell_text
+from corewar.model.cells import Cells, cell_of, cell_text
+from corewar.model.edits import Edit
 from corewar.model.faults import Fault, Refused
 
 
@@ -23,13 +38,7 @@ from corewar.model.faults import Fault, Refused
 def small_blocks(monkeypatch: pytest.MonkeyPatch) -> None:
     monkeypatch.setattr(module, "BLOCK", 7)
     monkeypatch.setattr(module, "KEPT", 3)
-
-
-def same(one: State, other: State) -> bool:
-    parts = [(one.cells, other.cells), (one.deaths, other.deaths), *zip(one.queues, other.queues)]
-    return all(np.array_equal(*part) for part in parts) and (one.turns, one.cycle, one.next, one.over) == (
-        *(other.turns, other.cycle, other.next, other.over),
-    )
+    monkeypatch.setattr(module, "MARKS", 4)
 
 
 def edited(history: History, places: list[tuple[float, str]]) -> tuple[History, list[str]]:
@@ -42,7 +51,7 @@ def edited(history: History, places: list[tuple[float, str]]) -> tuple[History, 
         lines += run_lines(ahead)
         turn += ahead
         try:
-            history = history.edited(turn, line)
+            history = history.edited(turn, edit_of(line, history.core))
             lines.append(line)
         except Refused:
             pass
@@ -50,6 +59,23 @@ def edited(history: History, places: list[tuple[float, str]]) -> tuple[History, 
     while lines and lines[-1].startswith("run"):
         lines.pop()
     return history, lines
+
+
+def told(history: History, turn: int) -> State:
+    """The state after a turn as the block with its record has it."""
+    block = history.block(turn)
+    queues = [block.queue(warrior, turn) for warrior in range(len(history.warriors))]
+    over = history.head(turn) is None
+    return State(
+        *(block.cells(turn), queues, history.deaths(turn), turn, block.cycle(turn), block.following(turn), over)
+    )
+
+
+def sorted_as_written(row: np.void, before: Cells, after: Cells) -> list[int]:
+    """The cells that a turn changed, in the order of their last writes."""
+    written = row["change"]["address"][: row["changes"]].tolist()
+    last = [at for place, at in enumerate(written) if at not in written[place + 1 :]]
+    return [at for at in last if before[at] != after[at]]
 
 
 PLACES = st.lists(st.tuples(st.floats(0, 1), edits()), max_size=3)
@@ -60,12 +86,19 @@ def test_each_state_is_the_machine_s(fight: Match, round: int, places: list[tupl
     history, lines = edited(History(fight, round), places)
     first = history.segments[-1].first
     for turn in range(first, history.end + 1):
-        assert same(history.state(turn), state(fight, round, lines, turn - first))
+        expected = state(fight, round, lines, turn - first)
+        assert same(history.state(turn), expected) and same(told(history, turn), expected)
+        assert np.array_equal(history.deaths(turn), expected.deaths)
     assert np.array_equal(history.ending.cells, history.state(history.end).cells)
     made = record(fight, round, lines, 0, history.end - first + 3)
     for turn in range(first + 1, history.end + 1):
         mine, theirs = history.record(turn), made[turn - first - 1]
         assert all(np.array_equal(mine[name], theirs[name]) for name in mine.dtype.names or ())
+        changes = history.block_of(turn).changes
+        own, before, after = changes.of(turn), history.state(turn - 1).cells, history.state(turn).cells
+        assert changes.addresses[own].tolist() == sorted_as_written(theirs, before, after)
+        assert np.array_equal(changes.before[own], before[changes.addresses[own]])
+        assert np.array_equal(changes.after[own], after[changes.addresses[own]])
 
 
 @given(matches(), st.lists(MOVES, max_size=4), st.integers(0, 60))
@@ -77,7 +110,7 @@ def test_a_state_is_what_the_debugger_lists(fight: Match, lines: list[str], turn
     assert (told[-1] == "battle over") == now.over and sum(" dead " in line for line in told) == len(now.deaths)
 
 
-def steps(history: History) -> Iterator[tuple[int, State, State]]:
+def steps(history: History) -> Iterator[tuple[int, Battle, Battle]]:
     """Each turn, with the states before and after it."""
     for turn in range(1, history.end + 1):
         yield turn, history.state(turn - 1), history.state(turn)
@@ -147,43 +180,123 @@ def test_owners_are_those_of_single_steps(fight: Match) -> None:
         assert np.array_equal(owners, history.owners(turn))
 
 
+def dwarf_and_imp() -> History:
+    return History(Match((read(str(EXAMPLES / "dwarf.red")), read(str(EXAMPLES / "imp.red")))))
+
+
 def test_an_edit_leaves_the_other_future() -> None:
-    fight = Match((read(str(EXAMPLES / "dwarf.red")), read(str(EXAMPLES / "imp.red"))))
-    before = History(fight)
-    after = before.edited(6, "edit 0 JMP.B $2, $0")
+    before = dwarf_and_imp()
+    edit = Edit.set(0, cell_of("JMP.B $2, $0", 8000))
+    after = before.edited(6, edit)
     assert (before.end, after.end) == (7798, 160000)
-    assert before.edits == () and after.edits == ((6, "edit 0 JMP.B $2, $0"),)
+    assert before.edits == () and after.edits == ((6, edit),) and edit.text(8000) == "edit 0 JMP.B $2, $0"
     assert after.owners(6)[0] == BY_HAND and before.owners(6)[0] == 0
     behind, old, new = after.by_hand(0, 100) or pytest.fail("the edit isn't found")
     assert (behind, cell_text(old, 8000), cell_text(new, 8000)) == (6, "ADD.AB #4, $3", "JMP.B $2, $0")
     assert after.by_hand(1, 100) is None and before.by_hand(0, 100) is None
 
 
-@given(matches(), st.floats(0, 1), st.one_of(edits(), st.sampled_from(["edit 61 DAT.F $0, $0", "kill 0 9", "edit 3"])))
+def test_an_impossible_edit_is_refused_by_name() -> None:
+    history = dwarf_and_imp()
+    cell = cell_of("DAT.F $0, $0", 8000)
+    for turn, edit, name in (
+        (3, Edit.set(99999, cell), "Address"),
+        (3, Edit.fill(5, 8000, cell), "Address"),
+        (3, Edit.fill(5, 3, cell), "Address"),
+        (3, Edit.move(1, 0, 8000), "Address"),
+        (3, Edit.set(3, (0, 4, 1, 1, 8000, 0)), "FieldOutside"),
+        (3, Edit.set(3, (16, 4, 1, 1, 0, 0)), "NoSuchEdit"),
+        (3, Edit.add(2, 0), "NoSuchWarrior"),
+        (3, Edit.kill(0, 7), "NoSuchProcess"),
+        (history.end, Edit.add(1, 0), "WarriorDead"),
+    ):
+        with pytest.raises(Fault) as fault:
+            history.edited(turn, edit)
+        assert (fault.value.kind, fault.value.name) == ("refused", name), edit
+    full = History(Match((assemble("SPL 0\nJMP -1"),)))
+    with pytest.raises(Fault, match="^refused 7 QueueFull$"):
+        full.edited(full.end, Edit.add(0, 0))
+
+
+OUTSIDE = st.sampled_from(["edit 61 DAT.F $0, $0", "kill 0 9", "fill 3 2 DAT.F $0, $0", "fill 3 61 NOP.F $0, $0"])
+
+
+@given(matches(), st.floats(0, 1), st.one_of(edits(), OUTSIDE))
 def test_an_edit_is_refused_where_the_debugger_refuses_it(fight: Match, part: float, line: str) -> None:
     history = History(fight)
-    turn = int(part * history.end)
+    turn, edit = int(part * history.end), edit_of(line, fight.settings.core)
     reply = debug(fight, [*run_lines(turn), line]).splitlines()[-1]
     if reply.startswith(("refused", "unknown")):
-        with pytest.raises(Refused, match="cannot execute"):
-            history.edited(turn, line)
+        with pytest.raises(Fault) as fault:
+            history.edited(turn, edit)
+        assert str(fault.value) == reply
     else:
-        assert history.edited(turn, line).edits == ((turn, line),)
+        made = history.edited(turn, edit)
+        assert made.edits == ((turn, edit),) and edit_of(edit.text(fight.settings.core), fight.settings.core) == edit
+        assert same(made.state(turn), state(fight, 0, [*run_lines(turn), line]))
 
 
-def test_what_is_no_edit_is_rejected() -> None:
-    history = History(Match((read(str(EXAMPLES / "dwarf.red")), read(str(EXAMPLES / "imp.red")))))
-    for line in ("nonsense", "step", "run 10", "undo", "", "edit 3 DAT.F $0, $0\nstep"):
-        with pytest.raises(Refused, match="expected a command that edits"):
-            history.edited(3, line)
-    for line in ("edit 99999 DAT.F $0, $0", "edit bomb DAT.F $0, $0", "edit 3 jmp -3", "kill 0 7"):
-        with pytest.raises(Refused, match="after turn 3$"):
-            history.edited(3, line)
+def test_what_is_no_turn_is_rejected() -> None:
+    history, edit = dwarf_and_imp(), Edit.kill(0, 0)
     for turn in (-1, history.end + 1):
-        for call in (history.state, history.owners, lambda turn: history.edited(turn, "edit 3 DAT.F $0, $0")):
+        for call in (history.state, history.owners, lambda turn: history.edited(turn, edit)):
             with pytest.raises(IndexError):
                 call(turn)
     with pytest.raises(Fault, match="4 Warriors"):
         History(Match(()))
     with pytest.raises(TypeError):
         debug(history.fight, "step")
+    for text in ("edit", "jmp -3", "DAT.F $0,$0", "DAT.F $0, $0\n", "DAT.F $0, $١"):
+        with pytest.raises(Refused, match="expected a cell such as"):
+            cell_of(text, 8000)
+
+
+@given(matches(), st.integers(0, 2))
+def test_marks_are_bounded(fight: Match, round: int) -> None:
+    """There are at most as many marks as allowed, at equal distances; the last distance may be shorter."""
+    run = History(fight, round).segments[0].run
+    turns = [Battle.of_bytes(mark).turns for mark in run.marks]
+    assert turns == [*range(0, max(1, run.ending.turns), run.stride)] and len(turns) <= 4
+
+
+@given(matches(), st.integers(0, 2), st.integers(0, 60), st.integers(0, 30), edits())
+def test_a_battle_is_a_value(fight: Match, round: int, first: int, more: int, line: str) -> None:
+    """Equal battles have equal bytes; copies change independently, and an impossible edit changes nothing."""
+    battle, other = Battle(fight, round), Battle(fight, round)
+    battle.play(first)
+    restored, copied = Battle.of_bytes(bytes(battle)), battle.copy()
+    assert battle == restored == copied and same(battle, state(fight, round, turns=first))
+    records, seen = copied.play(more, records=more + 2, touched=more)
+    assert battle == restored and restored.play(more)[0].size == 0 and restored == copied
+    assert np.array_equal(records, record(fight, round, first=first, most=more)[: len(records)])
+    assert np.array_equal(seen, touched(fight, round, first=first, most=more)) and len(seen) == len(records)
+    other.play(first + more)
+    assert other == copied and (other != battle) == (len(records) > 0)
+    try:
+        other.edit(edit_of(line, fight.settings.core))
+    except Fault:
+        assert other == copied
+    other.play()
+    assert other.over
+
+
+def test_a_battle_is_checked() -> None:
+    battle = Battle(dwarf_and_imp().fight)
+    for length, name in ((0, "Short"), (255, "Short"), (len(bytes(battle)) - 1, "Short")):
+        with pytest.raises(Fault) as fault:
+            Battle.of_bytes(bytes(battle)[:length])
+        assert (fault.value.kind, fault.value.name) == ("block", name)
+    with pytest.raises(Fault, match="^block 2 Mark$"):
+        Battle.of_bytes(b"\0" + bytes(battle)[1:])
+    battle.cells[7] = (16, 0, 0, 0, 0, 0)
+    for use in (battle.check, battle.play, lambda: battle.edit(Edit.kill(0, 0))):
+        with pytest.raises(Fault, match="^block 5 Cell$") as fault:
+            use()
+        assert fault.value.line == 7
+    battle.cells[:] = cell_of("MOV.I $0, $1", 8000)
+    battle.check()
+    battle.play()
+    assert (battle.turns, battle.deaths.size) == (160000, 0)
+    for turns in (-1, 1 << 32):
+        with pytest.raises(ValueError):
+            battle.play(turns)

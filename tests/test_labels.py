@@ -3,7 +3,7 @@ from __future__ import annotations
 
 import numpy as np
 import pytest
-from battles import edits, matches
+from battles import edit_of, edits, matches
 from conftest import EXAMPLES
 from hypothesis import given, strategies as st
 
@@ -60,7 +60,7 @@ def test_origins(fight: Match, round: int, places: list[tuple[float, str]], part
         for ahead, line in places:
             turn += int(ahead * (history.end - turn))
             try:
-                history = history.edited(turn, line)
+                history = history.edited(turn, edit_of(line, history.core))
             except Refused:
                 pass
         turn = int(part * history.end)
@@ -95,7 +95,7 @@ def test_a_bomb_has_the_line_of_its_thrower() -> None:
     grave = int(history.record(end)["address"])
     assert sources.told(history, grave, end - 1) == "; Dwarf 12: bomb DAT #0, #0"
     assert sources.told(history, grave, end - 2, 1) == "; 5: MOV.I 0, 1"
-    edited = history.edited(7, f"edit {grave} NOP.F $0, $0")
+    edited = history.edited(7, edit_of(f"edit {grave} NOP.F $0, $0", 8000))
     assert sources.told(edited, grave, 7) == "" and sources.told(history, grave, 7) == ""
 
 

@@ -14,7 +14,7 @@ from pathlib import Path
 from typing import Any
 
 import pytest
-from battles import edits, matches
+from battles import edit_of, edits, matches
 from conftest import EXAMPLES, Run, until
 from hypothesis import given, strategies as st
 
@@ -57,7 +57,7 @@ def test_frames_are_what_the_machine_says(fight: Match, round: int, count: int, 
     history = History(fight, round)
     for line in lines:
         try:
-            history = history.edited(history.end // 2, line)
+            history = history.edited(history.end // 2, edit_of(line, history.core))
         except Refused:
             pass
     ends = parts(0, history.end, count)

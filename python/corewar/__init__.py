@@ -12,9 +12,11 @@ The package calls the library that `scripts/library` builds, and requires cffi a
 """
 from . import league as _league  # (loaded first, so that `corewar.league` stays the call below)
 from .battle.history import History
-from .engine.calls import Match, Row, State, assemble, debug, league, match, population, record, state, touched
+from .engine.battles import Battle
+from .engine.calls import Match, Row, assemble, debug, league, match, population
 from .engine.sources import Limit, read
-from .model.cells import cell_text
+from .model.cells import cell_of, cell_text
+from .model.edits import Edit
 from .model.faults import Fault, FileFault, Refused
 from .model.settings import HILLS, Settings
 from .model.warriors import Warrior
@@ -23,6 +25,6 @@ from .model.warriors import Warrior
 __version__ = "1.3"
 
 __all__ = [
-    "HILLS", "Fault", "FileFault", "History", "Limit", "Match", "Refused", "Row", "Settings", "State", "Warrior",
-    "assemble", "cell_text", "debug", "league", "match", "population", "read", "record", "state", "touched",
+    "HILLS", "Battle", "Edit", "Fault", "FileFault", "History", "Limit", "Match", "Refused", "Row", "Settings",
+    "Warrior", "assemble", "cell_of", "cell_text", "debug", "league", "match", "population", "read",
 ]  # fmt: skip

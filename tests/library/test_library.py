@@ -192,10 +192,11 @@ def test_faults_of_settings():
         (1, 17, "4 Warriors"),
     ):
         assert called(corewar.debug, corewar.Match((imp,) * count), [], history) == f"settings {fault}"
-    assert called(corewar.record, corewar.Match((imp,), rounds=100001), 100000) == "settings 1 Rounds"
-    for call, words in ((corewar.record, {"first": -1}), (corewar.state, {"turns": 1 << 32})):
+    assert called(corewar.Battle, corewar.Match((imp,), rounds=100001), 100000) == "settings 1 Rounds"
+    battle = corewar.Battle(corewar.Match((imp,)))
+    for words in ({"turns": -1}, {"turns": 1 << 32}, {"turns": 1, "records": -1}, {"turns": 1, "touched": 1 << 32}):
         with pytest.raises(ValueError):
-            call(corewar.Match((imp,)), **words)
+            battle.play(**words)
 
 
 def test_contests(tmp_path):
@@ -244,11 +245,11 @@ def test_longer_answers():
     imp, split = corewar.assemble("MOV 0, 1"), corewar.assemble("SPL 0\nJMP -1")
     assert len(corewar.debug(corewar.Match((imp,)), ["list 0 8000"]).splitlines()) == 8000
     told = corewar.debug(corewar.Match((split,)), ["run 20000", "show"])
-    assert len(corewar.state(corewar.Match((split,)), turns=20000).queues[0]) == int(
-        told.split("processes ")[1].split()[0]
-    )
+    battle = corewar.Battle(corewar.Match((split,)))
+    battle.play(20000)
+    assert len(battle.queues[0]) == int(told.split("processes ")[1].split()[0])
     three = corewar.Match((imp,) * 3, seed=7, rounds=4)
-    assert [corewar.state(three, number).queues[-number % 3].tolist() for number in range(4)] == [[0]] * 4
+    assert [corewar.Battle(three, number).queues[-number % 3].tolist() for number in range(4)] == [[0]] * 4
 
 
 def test_threads():

@@ -8,7 +8,7 @@ import numpy as np
 
 from ..battle.history import History
 from ..battle.labels import Sources
-from ..model.cells import cell_text
+from ..model.cells import Cell, cell_text
 
 # How many of many texts are shown.
 FEW = 8
@@ -38,7 +38,7 @@ class Teller:
         self.history, self.sources = history, sources
         self.names = [paint(number, name) for number, name in enumerate(history.names)]
 
-    def cell(self, cell: np.void) -> str:
+    def cell(self, cell: Cell | np.void) -> str:
         return cell_text(cell, self.history.core)
 
     def where(self, address: int) -> str:

@@ -4,12 +4,13 @@ from __future__ import annotations
 from collections.abc import Callable
 from dataclasses import dataclass
 from functools import cached_property
+from typing import Any
 
 import numpy as np
 from numpy.lib.recfunctions import repack_fields
 from numpy.typing import NDArray
 
-from ..engine.calls import State
+from ..engine.battles import Battle
 from ..model.cells import Cells, Records
 
 
@@ -38,18 +39,34 @@ def changes_of(first: int, records: Records) -> Changes:
     """Returns the changes of the turns after `first`. Several writes of a cell in one turn are one change, from the
     cell before the first write to the cell after the last one.
     """
-    change = records["change"]
-    address, before, after = change["address"], change["before"].copy(), change["after"]
-    used = np.arange(3) < records["changes"][:, None]
-    for later in (2, 1):
-        for earlier in reversed(range(later)):
-            same = used[:, later] & used[:, earlier] & (address[:, later] == address[:, earlier])
-            if same.any():
-                before[same, later] = before[same, earlier]
-                used[same, earlier] = False
-    used &= before != after
-    rows = np.nonzero(used)[0]
-    return Changes(first + 1 + rows, address[used], records["warrior"][rows], before[used], after[used])
+    kinds = records.dtype["change"].base
+    places, writes = writes_of(records)
+    rows, address = places // 3, writes[:, 0].copy()
+    before, after = writes[:, 1:4].copy(), writes[:, 4:].copy()
+    is_last = np.ones(len(rows), bool)
+    for ahead in (1, 2):
+        earlier = np.flatnonzero((rows[ahead:] == rows[:-ahead]) & (address[ahead:] == address[:-ahead]))
+        before[earlier + ahead] = writes[earlier, 1:4]
+        is_last[earlier] = False
+    differs = (before[:, 0] != after[:, 0]) | (before[:, 1] != after[:, 1]) | (before[:, 2] != after[:, 2])
+    used = np.flatnonzero(is_last & differs)
+    turns, warriors = first + 1 + rows[used], records["warrior"][rows[used]]
+    cells = [words.take(used, axis=0).view(kinds[name])[:, 0] for name, words in (("before", before), ("after", after))]
+    return Changes(turns, address[used], warriors, *cells)
+
+
+def writes_of(records: Records) -> tuple[NDArray[np.intp], NDArray[np.uint32]]:
+    """Returns the place of each write, three to a turn, and its words: the address, the cell before and the cell after.
+
+    NumPy copies words many times faster than structures.
+    """
+    fields: Any = records.dtype.fields
+    change, start = fields["change"]
+    words = records.view(np.uint32).reshape(len(records), records.itemsize // 4)
+    words = words[:, start // 4 : (start + change.itemsize) // 4].reshape(-1, change.base.itemsize // 4)
+    is_used = np.stack([records["changes"] > place for place in range(3)], axis=1)
+    places = np.flatnonzero(is_used)
+    return places, words.take(places, axis=0)
 
 
 class Block:
@@ -57,7 +74,7 @@ class Block:
     them. `touched` returns the cells that they touch.
     """
 
-    def __init__(self, first: int, start: State, records: Records, touched: Callable[[], Records]) -> None:
+    def __init__(self, first: int, start: Battle, records: Records, touched: Callable[[], Records]) -> None:
         self.first, self.last, self.start = first, first + len(records), start
         self.changes = changes_of(first, records)
         self._writes, self.touched = records["change"]["address"].copy(), touched

@@ -1,47 +1,84 @@
 """The history of a battle: the state after any turn, who changed a cell, and the effects of edits.
 
-The records of turns are read from the library in blocks, each with the state before it. A state is computed from that
-of a block and its records, and a question about many turns is answered by one operation on an array.
+A run of a battle is kept as marks, whole battles at regular distances, and any other state is played from the mark
+before it. The records of turns are read in blocks, and a question about many turns is answered by one operation on an
+array.
 """
 from __future__ import annotations
 
 from collections.abc import Iterator
 from dataclasses import dataclass
-from functools import cached_property, lru_cache, partial
+from functools import lru_cache
 from itertools import count
 
 import numpy as np
 from numpy.typing import NDArray
 
-from ..engine.calls import Match, State, count_turns, record, state, touched
-from ..model.cells import OPCODES
+from ..engine.battles import Battle, of_mark
+from ..engine.calls import Match
+from ..model.edits import Edit
 from ..model.faults import Refused
 from ..model.settings import whole
-from ..model.warriors import printable
 from .blocks import Block
 
-# The size of the debugger's history in places that one redo needs.
-REDO = 4
 # The number of turns of a block, and of blocks in the cache, 5 to 13 MB each.
 BLOCK, KEPT = 65_536, 24
-# The maximum number of turns of one debugger command.
-LONGEST_RUN = 1_000_000
-# The debugger commands that edit a battle.
-EDITS = ("edit", "fill", "move", "kill", "spawn")
+# The maximum number of marks of a run, an even number, and of their bytes together.
+MARKS, MARKED = 64, 64 << 20
 # The owner of a cell: a warrior's number, or one of these.
 NOBODY, BY_HAND = 255, 254
 Owners = NDArray[np.uint8]
 
 
-@dataclass(frozen=True)
-class Segment:
-    """Turns without an edit among them: the debugger commands that lead to its start, the turn after which it starts,
-    and its last turn.
+@dataclass(frozen=True, eq=False)
+class Run:
+    """A battle from its start, or from an edit, to its end.
+
+    - `first`: the turn after which it starts
+    - `marks`: the bytes of the battle there and every `stride` turns later
+    - `ending`: the battle at its end
+    - `edit`, `before`: the edit, and the battle before it; None at the start of the battle
     """
 
-    lines: tuple[str, ...]
     first: int
+    marks: tuple[bytes, ...]
+    stride: int
+    ending: Battle
+    edit: Edit | None = None
+    before: Battle | None = None
+
+    def at(self, turn: int) -> Battle:
+        """Returns a copy of the battle after a turn."""
+        battle = of_mark(self.marks[min((turn - self.first) // self.stride, len(self.marks) - 1)])
+        battle.play(turn - battle.turns)
+        return battle
+
+
+def run_of(battle: Battle, edit: Edit | None = None, before: Battle | None = None) -> Run:
+    """Plays a battle to its end. If the marks become too many, every other one is dropped, and the stride doubles."""
+    first, marks, stride = battle.turns, [bytes(battle)], BLOCK
+    # An even number, so that the battle is at the last mark after every other one is dropped.
+    most = max(2, min(MARKS, MARKED // len(marks[0]) // 2 * 2))
+    battle.play(stride)
+    while not battle.over:
+        marks.append(bytes(battle))
+        if len(marks) > most:
+            marks, stride = marks[::2], 2 * stride
+        battle.play(stride)
+    return Run(first, tuple(marks), stride, battle, edit, before)
+
+
+@dataclass(frozen=True)
+class Segment:
+    """The turns of a run that a history has: up to the next edit, or to the end."""
+
+    run: Run
     last: int
+
+    @property
+    def first(self) -> int:
+        """The turn after which the segment starts."""
+        return self.run.first
 
 
 class History:
@@ -57,10 +94,10 @@ class History:
 
     def __init__(self, fight: Match, round: int = 0) -> None:
         self.fight, self.round, self.core = fight, round, fight.settings.core
-        self.segments = [Segment((), 0, count_turns(fight, round))]
+        self.segments = [whole_segment(run_of(Battle(fight, round)))]
         self.warriors = fight.warriors[round % len(fight.warriors) :] + fight.warriors[: round % len(fight.warriors)]
         self.names = distinct([warrior.called for warrior in self.warriors])
-        self._blocks = lru_cache(maxsize=KEPT)(partial(ask, fight, round))
+        self._blocks = lru_cache(maxsize=KEPT)(ask)
         self._written: dict[int, tuple[Owners, NDArray[np.int64]]] = {}
 
     def warrior(self, named: str) -> int:
@@ -83,9 +120,9 @@ class History:
         return self.segments[-1].last
 
     @property
-    def edits(self) -> tuple[tuple[int, str], ...]:
-        """The edits, each as the turn after which it was made and the debugger command."""
-        return tuple((segment.first, segment.lines[-1]) for segment in self.segments[1:])
+    def edits(self) -> tuple[tuple[int, Edit], ...]:
+        """The edits, each after the number of the turn after which it was made."""
+        return tuple((one.first, one.run.edit) for one in self.segments if one.run.edit)
 
     def _segment(self, turn: int) -> Segment:
         """Returns the segment of the state after a turn and after the edits made there. Raises IndexError."""
@@ -96,8 +133,8 @@ class History:
     def block(self, turn: int) -> Block:
         """Returns the block of the state after a turn and after the edits made there. Raises IndexError."""
         segment = self._segment(turn)
-        skipped = (turn - segment.first) // BLOCK * BLOCK
-        return self._blocks(segment.lines, segment.first, skipped, min(BLOCK, segment.last - segment.first - skipped))
+        first = turn - (turn - segment.first) % BLOCK
+        return self._blocks(segment.run, first, min(BLOCK, segment.last - first))
 
     def block_of(self, turn: int) -> Block:
         """Returns the block with the record of a turn, from 1."""
@@ -126,12 +163,9 @@ class History:
         made: np.void = block.records[turn - block.first - 1]
         return made
 
-    def state(self, turn: int) -> State:
-        """Returns the state after a turn. Raises `IndexError` if the battle has no such turn."""
-        block = self.block(turn)
-        queues = [block.queue(warrior, turn) for warrior in range(len(self.warriors))]
-        over = turn == self.end
-        return State(block.cells(turn), queues, self.deaths(turn), turn, block.cycle(turn), block.following(turn), over)
+    def state(self, turn: int) -> Battle:
+        """Returns the battle after a turn. Raises `IndexError` if the battle has no such turn."""
+        return self._segment(turn).run.at(turn)
 
     def executed(self, turn: int) -> np.void:
         """Returns the cell that a turn executed, as it was before the turn."""
@@ -143,19 +177,22 @@ class History:
         block = self.block(turn)
         return None if turn == self.end else int(block.queue(block.following(turn), turn)[0])
 
-    @cached_property
-    def ending(self) -> State:
-        """The state at the end of the battle."""
-        last = self.segments[-1]
-        return state(self.fight, self.round, last.lines, last.last - last.first)
+    @property
+    def ending(self) -> Battle:
+        """The battle at its end."""
+        return self.segments[-1].run.ending.copy()
+
+    @property
+    def _deaths(self) -> NDArray[np.void]:
+        return self.segments[-1].run.ending.deaths
 
     def deaths(self, turn: int) -> NDArray[np.void]:
         """Returns the deaths up to a turn, in order, as an array with the fields warrior and turns."""
-        return self.ending.deaths[self.ending.deaths["turns"] <= turn]
+        return self._deaths[self._deaths["turns"] <= turn]
 
     def death(self, warrior: int) -> int | None:
         """Returns the turn in which a warrior dies, or None if it survives."""
-        return next((int(turns) for number, turns in self.ending.deaths.tolist() if number == warrior), None)
+        return next((int(turns) for number, turns in self._deaths.tolist() if number == warrior), None)
 
     def is_killed(self, warrior: int) -> bool:
         """Returns whether a warrior was killed by an edit, and not in a turn of its own."""
@@ -190,7 +227,7 @@ class History:
 
     def _loaded(self) -> tuple[Owners, NDArray[np.int64]]:
         """Returns the owners and the turns of the start."""
-        owners, start = np.full(self.core, NOBODY, np.uint8), state(self.fight, self.round)
+        owners, start = np.full(self.core, NOBODY, np.uint8), Battle(self.fight, self.round)
         for number, warrior in enumerate(self.warriors):
             first = int(start.queues[number][0]) - warrior.origin
             owners[(first + np.arange(len(warrior))) % self.core] = number
@@ -199,71 +236,49 @@ class History:
 
     def changed_by_hand(self, turn: int) -> NDArray[np.intp]:
         """Returns the addresses of the cells that the edits after a turn changed."""
-        before = self.segments[0] if turn == 0 else [segment for segment in self.segments if segment.first < turn][-1]
-        if self._segment(turn) is before:
+        runs = [one.run for one in self.segments if one.first == turn and one.run.before]
+        if not runs or runs[0].before is None:
             return np.empty(0, np.intp)
-        cells = state(self.fight, self.round, before.lines, turn - before.first).cells
-        return np.flatnonzero(cells != self.block(turn).start.cells)
+        return np.flatnonzero(runs[0].before.cells != runs[-1].at(turn).cells)
 
     def by_hand(self, address: int, turn: int) -> tuple[int, np.void, np.void] | None:
         """Returns the last change of a cell by an edit up to a turn, or None: the turn after which it was made, and the
         cell before and after.
         """
-        for one, other in reversed([*zip(self.segments, self.segments[1:])]):
-            if other.first <= turn:
-                before = state(self.fight, self.round, one.lines, other.first - one.first).cells[address]
-                after = self._blocks(other.lines, other.first, 0, min(BLOCK, other.last - other.first)).start.cells[
-                    address
-                ]
+        for run in reversed([one.run for one in self.segments]):
+            if run.before and run.first <= turn:
+                before, after = run.before.cells[address], run.at(run.first).cells[address]
                 if before != after:
-                    return other.first, before, after
+                    return run.first, before, after
         return None
 
-    def edited(self, turn: int, line: str) -> History:
-        """Returns the history in which a debugger command edits the battle after a turn.
+    def edited(self, turn: int, edit: Edit) -> History:
+        """Returns the history in which an edit changes the battle after a turn.
 
-        - `line`: one of the commands `edit`, `fill`, `move`, `kill` and `spawn` of `mars -e`, such as
-          `edit 3 DAT.F $0, $0` or `kill 1 0`; addresses are numbers, and cells are those of a load file
-
-        Raises `Refused` if the line is not an edit or the debugger refuses it there, and `IndexError` if the battle has
-        no such turn.
+        Raises `Fault` if the edit is impossible there, such as `refused 2 Address` if the address is outside the core,
+        and `IndexError` if the battle has no such turn.
         """
-        segment = self._segment(turn)
-        if line.split()[:1] not in [[word] for word in EDITS] or "\n" in line:
-            raise Refused(f"expected a command that edits ({', '.join(EDITS)}), not `{printable(line)}`")
-        before = (*segment.lines, *run_lines(turn - segment.first))
-        if not self._is_possible(before, line):
-            raise Refused(f"cannot execute `{printable(line)}` after turn {turn}")
-        lines = (*before, line)
+        before = self.state(turn)
+        after = before.copy()
+        after.edit(edit)
         made = History.__new__(History)
-        made.__dict__.update({name: value for name, value in vars(self).items() if name != "ending"})
-        made.segments = [
-            *[Segment(one.lines, one.first, min(one.last, turn)) for one in self.segments if one.first <= turn],
-            Segment(lines, turn, turn + count_turns(self.fight, self.round, lines)),
-        ]
+        made.__dict__.update(vars(self))
+        kept = [Segment(one.run, min(one.last, turn)) for one in self.segments if one.first <= turn]
+        made.segments = [*kept, whole_segment(run_of(after, edit, before))]
         made._written = {at: written for at, written in self._written.items() if at < turn}
         return made
 
-    def _is_possible(self, lines: tuple[str, ...], line: str) -> bool:
-        """Returns whether the debugger accepts a command after others. No call returns its reply in a later round, so
-        an edit that was undone comes first: after a command that is accepted it cannot be redone.
-        """
-        cell = state(self.fight, self.round, lines).cells[0]
-        undone = "edit 0 DAT.F $0, $0" if OPCODES[cell["op"]] == "NOP" else "edit 0 NOP.F $0, $0"
-        done = state(self.fight, self.round, (*lines, line)).cells[0]
-        redone = state(self.fight, self.round, (*lines, undone, "undo", line, "redo"), history=REDO).cells[0]
-        return bool(done == redone)
+
+def whole_segment(run: Run) -> Segment:
+    return Segment(run, run.ending.turns)
 
 
-def ask(fight: Match, round: int, lines: tuple[str, ...], first: int, skipped: int, count: int) -> Block:
-    """Reads `count` turns of a segment after the first `skipped` ones from the library."""
-    turns = fight, round, lines, skipped
-    return Block(first + skipped, state(*turns), record(*turns, count), partial(touched, *turns, count))
-
-
-def run_lines(turns: int) -> list[str]:
-    """Returns the debugger commands that execute a number of turns."""
-    return [f"run {min(LONGEST_RUN, turns - made)}" for made in range(0, turns, LONGEST_RUN)]
+def ask(run: Run, first: int, count: int) -> Block:
+    """Reads the `count` turns of a run after turn `first` from the library."""
+    start = run.at(first)
+    return Block(
+        first, start, start.copy().play(count, records=count)[0], lambda: start.copy().play(count, touched=count)[1]
+    )
 
 
 def distinct(names: list[str]) -> list[str]:

@@ -7,7 +7,8 @@ from dataclasses import dataclass
 from functools import cached_property
 from weakref import WeakKeyDictionary
 
-from ..engine.calls import source_lines, state
+from ..engine.battles import Battle
+from ..engine.calls import source_lines
 from ..model.faults import Fault
 from ..model.warriors import printable
 from .history import History
@@ -33,7 +34,7 @@ class Sources:
     def __init__(self, history: History) -> None:
         self.lines: dict[int, Line] = {}
         self._labels: list[tuple[int, str, int]] = []
-        start = state(history.fight, history.round)
+        start = Battle(history.fight, history.round)
         self._origins: WeakKeyDictionary[History, Origins] = WeakKeyDictionary()
         for number, warrior in enumerate(history.warriors):
             first = int(start.queues[number][0]) - warrior.origin

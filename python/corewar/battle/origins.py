@@ -8,7 +8,7 @@ from dataclasses import dataclass
 import numpy as np
 from numpy.typing import NDArray
 
-from ..engine.calls import state
+from ..engine.battles import Battle
 from ..model.cells import MODES, MODIFIERS, OPCODES, Cells
 from .blocks import Block
 from .history import History
@@ -45,7 +45,7 @@ class Origins:
 
     def __init__(self, history: History) -> None:
         self.history = history
-        self._ways = ways(state(history.fight, history.round).cells)
+        self._ways = ways(Battle(history.fight, history.round).cells)
         self._traced: dict[int, Traced] = {}
         # The last turn up to which all blocks are traced.
         self._end = 0

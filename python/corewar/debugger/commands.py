@@ -10,6 +10,7 @@ import numpy as np
 from ..analysis.causes import cause_told, change_told, death_told
 from ..analysis.telling import counted
 from ..battle.conditions import Condition, search
+from ..model.edits import Edit
 from ..model.faults import Refused
 from ..model.settings import whole
 from .session import MOST_FILLED, Session
@@ -181,8 +182,8 @@ def edit(session: Session, rest: str) -> Iterator[str]:
     address = session.address(first)
     cell = session.cell(address, line.strip())
     old = session.teller.cell(session.history.block(session.turn).cell(address, session.turn))
-    session.edit(f"edit {address} {cell}")
-    yield f"{session.teller.where(address)}: {old} -> {cell}"
+    session.edit(Edit.set(address, cell))
+    yield f"{session.teller.where(address)}: {old} -> {session.teller.cell(cell)}"
 
 
 @command("fill A B LINE", "set the cells from A to B to a line of source")
@@ -194,8 +195,8 @@ def fill(session: Session, rest: str) -> Iterator[str]:
     if not first <= last < first + MOST_FILLED:
         raise Refused(f"cannot fill {first} to {last}: expected 1 to {MOST_FILLED} cells")
     cell = session.cell(first, words[2])
-    session.edit(f"fill {first} {last} {cell}")
-    yield f"{first} to {last}: {cell}"
+    session.edit(Edit.fill(first, last, cell))
+    yield f"{first} to {last}: {session.teller.cell(cell)}"
 
 
 @command("move W I A", "move process I of warrior W to A; process 0 is the next one")
@@ -204,7 +205,7 @@ def move(session: Session, rest: str) -> Iterator[str]:
     if len(words) != 3:
         raise Refused("expected a warrior, the index of a process and an address")
     warrior = session.warrior(words[0])
-    session.edit(f"move {warrior} {session.process(warrior, words[1])} {session.address(words[2])}")
+    session.edit(Edit.move(warrior, session.process(warrior, words[1]), session.address(words[2])))
     yield from queue(session, words[0])
 
 
@@ -212,7 +213,7 @@ def move(session: Session, rest: str) -> Iterator[str]:
 def kill(session: Session, rest: str) -> Iterator[str]:
     name, _, index = rest.rpartition(" ")
     warrior = session.warrior(name)
-    session.edit(f"kill {warrior} {session.process(warrior, index)}")
+    session.edit(Edit.kill(warrior, session.process(warrior, index)))
     yield from queue(session, name)
 
 
@@ -224,7 +225,7 @@ def spawn(session: Session, rest: str) -> Iterator[str]:
     if not 0 < count < session.history.fight.settings.processes:
         why = f"has {counted(count, 'process')}, the maximum" if count else "is dead"
         raise Refused(f"cannot add a process: {session.names[warrior]} {why}")
-    session.edit(f"spawn {warrior} {address}")
+    session.edit(Edit.add(warrior, address))
     yield from queue(session, name)
 
 
@@ -237,7 +238,7 @@ def futures(session: Session, rest: str) -> Iterator[str]:
         history = session.futures[number]
         session.go(min(session.turn, history.end), history)
     for number, history in enumerate(session.futures):
-        edits = "; ".join(f"after turn {turn}: {line}" for turn, line in history.edits) or "no edits"
+        edits = "; ".join(session.edits(history)) or "no edits"
         yield f"{'>' if history is session.history else ' '} {number}: {edits}; {history.end} turns"
 
 

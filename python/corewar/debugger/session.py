@@ -11,6 +11,8 @@ from ..battle.history import History
 from ..battle.labels import Sources
 from ..engine.calls import load_file
 from ..explain import told
+from ..model.cells import Cell, cell_of
+from ..model.edits import Edit
 from ..model.faults import Fault, Refused
 from ..model.settings import whole
 
@@ -66,11 +68,16 @@ class Session:
         self.past.append((self.history, self.turn))
         self.history, self.turn = self.undone.pop()
 
-    def edit(self, line: str) -> None:
-        """Edits the battle here with a debugger command. What followed is kept as another future."""
-        history = self.history.edited(self.turn, line)
+    def edit(self, edit: Edit) -> None:
+        """Edits the battle here. What followed is kept as another future."""
+        history = self.history.edited(self.turn, edit)
         self.futures.append(history)
         self.go(self.turn, history)
+
+    @staticmethod
+    def edits(history: History) -> list[str]:
+        """Returns the edits of a future as text."""
+        return [f"after turn {turn}: {edit.text(history.core)}" for turn, edit in history.edits]
 
     def search(self, conditions: Sequence[Condition], forward: bool) -> Condition:
         """Goes to the next place where one of the conditions holds, or to the one before."""
@@ -126,7 +133,7 @@ class Session:
         until = "" if condition.last == condition.first else f"..{self.teller.where(condition.last)}"
         return f"{condition.word} {where}{until}" + ("" if condition.by is None else f" by {self.names[condition.by]}")
 
-    def cell(self, address: int, line: str) -> str:
+    def cell(self, address: int, line: str) -> Cell:
         """Returns the cell that a line of source makes at an address, as the debugger reads it. Labels refer to the
         core.
         """
@@ -138,7 +145,7 @@ class Session:
         except Fault as fault:
             kind, cause = str(fault).partition(": ")[2], told(fault, source.encode())[0]
             raise Refused(f"`{line}` is not an instruction: {kind}: {cause}") from None
-        return load.decode().strip().rpartition("\n")[2]
+        return cell_of(load.decode().strip().rpartition("\n")[2], self.history.core)
 
     def process(self, warrior: int, text: str) -> int:
         """Returns the index of a process of a warrior; the next one is 0."""

@@ -5,16 +5,11 @@ from collections.abc import Callable, Sequence
 from dataclasses import dataclass
 from typing import Any
 
-import numpy as np
-from numpy.typing import NDArray
-
-from ..model.cells import Cells, Records
 from ..model.settings import FORMULA, Settings
 from ..model.warriors import Warrior
 from .binding import ROOM, array, call, library, number, slice_of
 
-# The size of the history, in places, of a battle that is only run forwards.
-FORWARD_ALONE = 1
+# The size of the debugger's history in places, if none is given.
 HISTORY = 200_000
 
 
@@ -37,27 +32,6 @@ class Match:
     seed: int = 1
     position: int = 0
     rounds: int = 1
-
-
-@dataclass(frozen=True, eq=False)
-class State:
-    """The state of a battle. Warriors are numbered from 0 in the order of their turns.
-
-    - `cells`: the core, an array with the fields op, modifier, a_mode, b_mode, a and b
-    - `queues`: for each warrior an array with the addresses of its processes, the next one first
-    - `deaths`: an array with the fields warrior and turns, in the order of the deaths
-    - `turns`, `cycle`: the number of turns executed, and of cycles completed
-    - `next`: the warrior whose turn is next
-    - `over`: whether the battle is over
-    """
-
-    cells: Cells
-    queues: list[NDArray[np.uint32]]
-    deaths: NDArray[Any]
-    turns: int
-    cycle: int
-    next: int
-    over: bool
 
 
 @dataclass(frozen=True)
@@ -172,66 +146,6 @@ def debug(fight: Match, lines: Sequence[str], history: int = HISTORY) -> str:
     return text(65536, lambda *room: call("mars_debug", *given, *written, *room)).decode("latin-1")
 
 
-def count_turns(fight: Match, round: int = 0, lines: Sequence[str] = (), history: int = FORWARD_ALONE) -> int:
-    """Returns the number of turns left in the battle of a round after some debugger commands. Raises `Fault`."""
-    return turns_of("mars_record", "MarsRecord", (fight, round, lines, history), 0, 0)[1]
-
-
-def record(
-    fight: Match, round: int = 0, lines: Sequence[str] = (), first: int = 0, most: int = 1, history: int = FORWARD_ALONE
-) -> Records:
-    """Returns the records of turns of a round, as an array with the fields of `MarsRecord` in the API for C.
-
-    - `round`: the round of the match, from 0
-    - `lines`: debugger commands that are executed first, such as `run 1000` or `edit 3 DAT.F $0, $0`
-    - `first`: the number of turns to skip after that
-    - `most`: the maximum number of turns to return; a record has 120 bytes
-    - `history`: the size of the debugger's history in places; above 1 only for commands that undo others
-
-    The fields are warrior, address, next, cycle, died, changes, queued, change (three of address, before and after) and
-    process (two); what does not apply is 0. Raises `Fault` if the match is invalid or memory runs out.
-    """
-    return turns_of("mars_record", "MarsRecord", (fight, round, lines, history), first, most)[0]
-
-
-def touched(
-    fight: Match, round: int = 0, lines: Sequence[str] = (), first: int = 0, most: int = 1, history: int = FORWARD_ALONE
-) -> Records:
-    """Returns the cells that turns read or write, as an array with the fields of `MarsTouched` in the API for C.
-
-    The fields are count, and address (eight), in which a cell may occur more than once; what does not apply is 0. The
-    parameters and errors are those of `record`.
-    """
-    return turns_of("mars_touched", "MarsTouched", (fight, round, lines, history), first, most)[0]
-
-
-def state(
-    fight: Match, round: int = 0, lines: Sequence[str] = (), turns: int = 0, history: int = FORWARD_ALONE
-) -> State:
-    """Returns the state of the battle of a round after some debugger commands and a number of turns.
-
-    - `turns`: the number of turns after the commands; the battle may end earlier
-
-    The other parameters and the errors are those of `record`.
-    """
-    count = len(fight.warriors)
-    given = [*battle(fight, round, lines, history), number(turns)]
-    cells, counts, deaths = array("MarsCell", fight.settings.core), array("size_t", count), array("MarsDeath", count)
-    standing, processes = library()[0].new("MarsStanding *"), array("uint32_t", 4096)
-
-    def ask() -> int:
-        buffers = (("MarsCell", cells), ("size_t", counts), ("uint32_t", processes), ("MarsDeath", deaths))
-        return call("mars_state", *given, *(part for buffer in buffers for part in slice_of(*buffer)), standing)
-
-    if ask() == ROOM:
-        processes = array("uint32_t", standing.processes)
-        ask()
-    queues = np.split(processes[: standing.processes], np.cumsum(counts.astype(np.intp))[:-1])
-    return State(
-        cells, queues, deaths[: standing.deaths], standing.turns, standing.cycle, standing.next, bool(standing.over)
-    )
-
-
 def bytes_of(source: str | bytes) -> bytes:
     return source.encode() if isinstance(source, str) else source
 
@@ -259,21 +173,6 @@ def loads(warriors: Sequence[Warrior]) -> tuple[Any, ...]:
         library()[0].new("size_t[]", [len(file) for file in files]),
         len(files),
     )
-
-
-def battle(fight: Match, round: int, lines: Sequence[str], history: int) -> tuple[Any, ...]:
-    """Returns the first arguments of a call on the battle of a round."""
-    given = held(fight.settings, number(round) + 1, fight.seed, fight.position)
-    return given, *loads(fight.warriors), round, number(history), *slice_of("uint8_t", lines_of(lines))
-
-
-def turns_of(
-    name: str, kind: str, given: tuple[Match, int, Sequence[str], int], first: int, most: int
-) -> tuple[Records, int]:
-    """Returns the array of a call with at most `most` turns of a battle, and how many there are."""
-    made, count = array(kind, most), library()[0].new("size_t *")
-    call(name, *battle(*given), number(first), *slice_of(kind, made), count)
-    return made[: count[0]], int(count[0])
 
 
 def rows(name: str, given: Any, formula: str, warriors: Sequence[Warrior], count: int) -> list[Row]:

@@ -1,14 +1,23 @@
 """Cells, as numbers and as text. The numbers are those of the library's header."""
 from __future__ import annotations
 
+import re
 from typing import Any
 
 import numpy as np
 from numpy.typing import NDArray
 
+from .faults import Refused
+
 OPCODES = "DAT MOV ADD SUB MUL DIV MOD JMP JMZ JMN DJN SEQ SNE SLT SPL NOP".split()
 MODIFIERS = "A B AB BA F X I".split()
 MODES = "#$*@{<}>"
+TEXT = re.compile(
+    rf"({'|'.join(OPCODES)})\.({'|'.join(MODIFIERS)}) ([{re.escape(MODES)}])(-?\d+), ([{re.escape(MODES)}])(-?\d+)",
+    re.ASCII,
+)
+# The numbers of a cell: opcode, modifier, modes and numbers of A and B.
+Cell = tuple[int, int, int, int, int, int]
 # Arrays of cells, and of records of turns or deaths, with the fields of the header.
 Cells = NDArray[Any]
 Records = NDArray[Any]
@@ -19,10 +28,20 @@ def signed(number: int, core: int) -> int:
     return number - core if number > core // 2 else number
 
 
-def cell_text(cell: np.void, core: int) -> str:
+def cell_text(cell: Cell | np.void, core: int) -> str:
     """Returns a cell as text, as `mars` lists it: `cell_text(history.state(0).cells[0], 8000)` is `"MOV.I $0, $1"`.
 
     `core` is the core size; numbers above half of it are printed as negative ones.
     """
-    op, modifier, a_mode, b_mode, a, b = cell.tolist()
+    op, modifier, a_mode, b_mode, a, b = cell.tolist() if isinstance(cell, np.void) else cell
     return f"{OPCODES[op]}.{MODIFIERS[modifier]} {MODES[a_mode]}{signed(a, core)}, {MODES[b_mode]}{signed(b, core)}"
+
+
+def cell_of(text: str, core: int) -> Cell:
+    """Returns the numbers of a cell that is written as `cell_text` returns it. Raises `Refused` for any other text."""
+    found = TEXT.fullmatch(text)
+    if found is None:
+        raise Refused(f"expected a cell such as `MOV.I $0, $1`, not `{text}`")
+    op, modifier, a_mode, a, b_mode, b = found.groups()
+    kinds = OPCODES.index(op), MODIFIERS.index(modifier), MODES.index(a_mode), MODES.index(b_mode)
+    return *kinds, int(a) % core, int(b) % core

@@ -19,7 +19,7 @@ KINDS: dict[int, tuple[str, list[str]]] = {
     11: ("block", "Short Mark Parameters Warriors Cell Queue Deaths Clock Head".split()),
     12: ("refused", "NoSuchEdit Address FieldOutside NoSuchWarrior NoSuchProcess WarriorDead QueueFull".split()),
 }
-MEMORY, SETTINGS, PARAMETERS, FORMULA, ASSEMBLY, LOAD, SCORE = 1, 2, 3, 4, 5, 6, 9
+MEMORY, SETTINGS, PARAMETERS, FORMULA, ASSEMBLY, LOAD, SCORE, EDIT = 1, 2, 3, 4, 5, 6, 9, 12
 
 
 class Refused(Exception):

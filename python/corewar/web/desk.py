@@ -47,7 +47,7 @@ class Desk:
         session, history = self.session, self.session.history
         futures = [
             {
-                "edits": [f"after turn {turn}: {line}" for turn, line in one.edits],
+                "edits": session.edits(one),
                 "end": one.end,
                 "here": one is history,
             }

@@ -1,0 +1,152 @@
+"""A battle as a value: a block of words that the library plays, edits and checks in place."""
+from __future__ import annotations
+
+from typing import Any
+
+import numpy as np
+from numpy.typing import NDArray
+
+from ..model.cells import Cells, Records
+from ..model.edits import SET, Edit
+from ..model.faults import EDIT, Fault
+from .binding import array, call, kind, library, number, slice_of
+from .calls import Match, held, loads
+
+Words = NDArray[np.uint32]
+# The number of words before the cells, and a number of turns that no battle exceeds.
+HEADER, ALL = 64, (1 << 32) - 1
+# The number of an edit's error if an address is outside the core or the first one is above the last.
+ADDRESS = 2
+
+
+class Battle:
+    """A battle as a value. Warriors are numbered from 0 in the order of their turns.
+
+    - `fight`: the match
+    - `round`: the round, from 0
+
+    The battle is at the start of the round, and `play` and `edit` change it in place. Its core, queues and deaths are
+    views of its words, so a program may also write to them; the next call checks the words, as `check` does at once.
+    `bytes(battle)` are the words without unused capacity, the `MarsBattle` of the API for C: equal battles have equal
+    bytes. Raises `Fault` if the match is invalid.
+    """
+
+    def __init__(self, fight: Match, round: int = 0) -> None:
+        settings = held(fight.settings, number(round) + 1, fight.seed, fight.position)
+        self._words: Words = array("uint32_t", library()[1].mars_words(settings, len(fight.warriors)))
+        call("mars_start", settings, *loads(fight.warriors), round, *self._slice())
+
+    @staticmethod
+    def of_bytes(data: bytes) -> Battle:
+        """Returns the battle with these bytes. Raises `Fault` if they are not a battle."""
+        words = np.frombuffer(bytearray(data), np.uint32, len(data) // 4)
+        call("mars_check", *slice_of("uint32_t", words))
+        return resumed(words)
+
+    def __bytes__(self) -> bytes:
+        return self._words[: self._head["words"]].tobytes()
+
+    def __eq__(self, other: object) -> bool:
+        return isinstance(other, Battle) and bytes(self) == bytes(other)
+
+    __hash__ = None  # type: ignore[assignment]  # (a battle changes)
+
+    def _slice(self) -> tuple[Any, int]:
+        return slice_of("uint32_t", self._words)
+
+    @property
+    def _head(self) -> np.void:
+        head: np.void = self._words[:HEADER].view(kind("MarsBattle"))[0]
+        return head
+
+    @property
+    def turns(self) -> int:
+        """The number of turns executed."""
+        return int(self._head["turns"])
+
+    @property
+    def cycle(self) -> int:
+        """The number of cycles completed."""
+        return int(self._head["cycle"])
+
+    @property
+    def next(self) -> int:
+        """The warrior whose turn is next."""
+        return int(self._head["next"])
+
+    @property
+    def over(self) -> bool:
+        """Whether no turn is left."""
+        return bool(self._head["over"])
+
+    @property
+    def cells(self) -> Cells:
+        """The core, an array with the fields op, modifier, a_mode, b_mode, a and b."""
+        return self._words[HEADER : HEADER + 3 * self._head["core"]].view(kind("MarsCell"))
+
+    @property
+    def queues(self) -> list[NDArray[np.uint32]]:
+        """For each warrior an array with the addresses of its processes, the next one first."""
+        head = self._head
+        counts = head["queue"][: head["warriors"]].astype(np.intp)
+        return np.split(self._words[HEADER + 3 * head["core"] : head["words"]], np.cumsum(counts)[:-1])
+
+    @property
+    def deaths(self) -> NDArray[Any]:
+        """The deaths in their order, an array with the fields warrior and turns."""
+        deaths: NDArray[Any] = self._head["death"][: self._head["deaths"]]
+        return deaths
+
+    def copy(self) -> Battle:
+        """Returns a copy, which changes independently."""
+        return resumed(self._words)
+
+    def check(self) -> None:
+        """Raises `Fault` if something that was written to the battle is invalid."""
+        call("mars_check", *self._slice())
+
+    def play(self, turns: int = ALL, records: int = 0, touched: int = 0) -> tuple[Records, Records]:
+        """Executes a number of turns, by default all that are left.
+
+        - `records`: the maximum number of records to return, those of the first turns; a record has 120 bytes
+        - `touched`: the maximum number of rows with touched cells to return
+
+        Returns an array with the fields of `MarsRecord` and one with those of `MarsTouched` in the API for C. Raises
+        `Fault` if something that was written to the battle is invalid.
+        """
+        before = self.turns
+        made, seen = array("MarsRecord", records), array("MarsTouched", touched)
+        rows = *slice_of("MarsRecord", made), *slice_of("MarsTouched", seen)
+        call("mars_play", *self._slice(), number(turns), *rows)
+        count = self.turns - before
+        return made[:count], seen[:count]
+
+    def edit(self, edit: Edit) -> None:
+        """Makes an edit, also if the battle is over.
+
+        Raises `Fault`, and changes nothing, if the edit is impossible: `refused 2 Address`, `3 FieldOutside`,
+        `4 NoSuchWarrior`, `5 NoSuchProcess`, `6 WarriorDead` or `7 QueueFull`.
+        """
+        is_fill = edit.what == SET and edit.last != edit.address
+        if is_fill and not edit.address <= edit.last < self._head["core"]:
+            raise Fault(EDIT, ADDRESS)
+        places = [number(edit.what), number(edit.warrior), number(edit.place), number(edit.address)]
+        call("mars_edit", *self._slice(), library()[0].new("MarsEdit *", [*places, list(edit.cell)]))
+        if is_fill:
+            # The library has checked the new cell.
+            self.cells[edit.address : edit.last + 1] = self.cells[edit.address]
+
+
+def of_mark(data: bytes) -> Battle:
+    """Returns the battle of bytes that are known to be one."""
+    return resumed(np.frombuffer(data, np.uint32))
+
+
+def resumed(words: Words) -> Battle:
+    """Returns the battle of words that are known to be one, with the capacity that it needs."""
+    head = words[:HEADER].view(kind("MarsBattle"))[0]
+    core, warriors, processes, length = (int(head[name]) for name in ("core", "warriors", "processes", "words"))
+    made = Battle.__new__(Battle)
+    made._words = array("uint32_t", HEADER + 3 * core + warriors * processes)
+    made._words[:length] = words[:length]
+    return made
