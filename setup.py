@@ -1,12 +1,23 @@
 """Builds what pyproject.toml cannot express: a wheel with libmars.so.1 and mars.h, which any Python on x86-64 Linux calls by cffi."""
+import runpy
 import shutil
 from pathlib import Path
 
+import cffi
 from setuptools import Distribution, setup
 from setuptools.command.build_py import build_py
 from wheel.bdist_wheel import bdist_wheel
 
 INSIDE = ["build/libmars.so.1", "include/mars.h"]
+READER = "python/corewar/engine/header.py"
+
+
+def write_types(header, path):
+    """Writes the types of the header as a module, so that the package parses no header when it starts."""
+    ffi = cffi.FFI()
+    ffi.set_source("corewar.engine.declared", None)
+    ffi.cdef(runpy.run_path(READER)["declarations"](Path(header).read_text()))
+    ffi.emit_python_code(str(path))
 
 
 class BuildPackage(build_py):
@@ -18,6 +29,7 @@ class BuildPackage(build_py):
             if not Path(name).is_file():
                 raise SystemExit(f"{name} is not built; scripts/library proves and builds it")
             shutil.copy(name, Path(self.build_lib, "corewar", "engine"))
+        write_types(INSIDE[1], Path(self.build_lib, "corewar", "engine", "declared.py"))
 
 
 class Wheel(bdist_wheel):

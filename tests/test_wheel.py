@@ -64,6 +64,12 @@ def test_it_calls_its_own_library(environment: Path) -> None:
     assert told.startswith(f"{environment}/lib/") and f"{told.split()[0]}/libmars.so.1\n" in told
 
 
+def test_no_header_is_parsed(environment: Path) -> None:
+    """A start without the parser, which -OO would break, since it depends on docstrings."""
+    code = "import sys, corewar; corewar.assemble('MOV 0, 1'); print('pycparser' in sys.modules)"
+    assert started(environment, "python", "-OO", "-c", code) == "False\n"
+
+
 def test_commands_run_from_any_folder(environment: Path, tmp_path: Path) -> None:
     files = [EXAMPLES / "dwarf.red", EXAMPLES / "imp.red"]
     fought = started(environment, "corewar", "fight", "-r", "10", *files)

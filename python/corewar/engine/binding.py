@@ -8,9 +8,9 @@ file, or include/mars.h of the same folders. A call releases the interpreter loc
 from __future__ import annotations
 
 import os
-import re
 from collections.abc import Sequence
 from functools import lru_cache
+from importlib import import_module
 from pathlib import Path
 from threading import Lock
 from typing import Any
@@ -20,12 +20,15 @@ import numpy as np
 from numpy.typing import NDArray
 
 from ..model.faults import Fault, Refused
+from .header import declarations
 
 # The result of a call whose buffer is too short, which is not an error.
 ROOM = 10
 OPENING = Lock()
 HERE = Path(__file__).resolve()
 CHECKOUT = HERE.parents[3]
+# The types of the header that setup.py puts into a wheel.
+READY = HERE.with_name("declared.py")
 # The possible prefixes of `make install`, first the one in which this file is installed.
 INSTALLED = [*HERE.parents[5:6], Path("/usr/local"), Path("/usr")]
 
@@ -55,12 +58,7 @@ def opened() -> tuple[Any, Any]:
     shared = found("MARS_LIBRARY", built)
     if shared is None:
         raise NoLibrary("cannot find libmars.so; build it with scripts/library or set MARS_LIBRARY")
-    headers = [folder / "include" / "mars.h" for folder in (CHECKOUT, *INSTALLED)]
-    header = found("MARS_HEADER", [HERE.parent / "mars.h", *headers])
-    if header is None:
-        raise NoLibrary("cannot find mars.h; install it with `make install` or set MARS_HEADER")
-    ffi = cffi.FFI()
-    ffi.cdef(declarations(Path(header).read_text()))
+    ffi, header = types()
     try:
         calls: Any = ffi.dlopen(shared)
     except OSError as fault:
@@ -71,12 +69,19 @@ def opened() -> tuple[Any, Any]:
     return ffi, calls
 
 
-def declarations(header: str) -> str:
-    """Returns the header without the lines for the preprocessor, except for the version."""
-    plain = re.sub(r"#ifdef __cplusplus\n.*?\n#endif", "", header, flags=re.S)
-    return "\n".join(
-        line for line in plain.splitlines() if not line.startswith("#") or line.startswith("#define MARS_VERSION")
-    )
+def types() -> tuple[Any, str]:
+    """Returns the types of the header for cffi, and where they are from. A wheel has them ready, so that no header is
+    parsed at each start.
+    """
+    if READY.is_file() and "MARS_HEADER" not in os.environ:
+        return import_module(f".{READY.stem}", __package__).ffi, str(READY)
+    headers = [folder / "include" / "mars.h" for folder in (CHECKOUT, *INSTALLED)]
+    header = found("MARS_HEADER", [HERE.parent / "mars.h", *headers])
+    if header is None:
+        raise NoLibrary("cannot find mars.h; install it with `make install` or set MARS_HEADER")
+    ffi = cffi.FFI()
+    ffi.cdef(declarations(Path(header).read_text()))
+    return ffi, header
 
 
 @lru_cache(maxsize=None)
