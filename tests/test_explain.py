@@ -22,6 +22,7 @@ from corewar.model.settings import Settings
 SOURCES = [
     # Misspelt opcodes, also if another line has the error.
     ("MVO #1, 2\n", "line 1: 2 Operation", "`MVO` is read as a label; did you mean `MOV`?"),
+    ("scan EQU 5\njpm scan\n", "line 2: 2 Operation", "`jpm` is read as a label; did you mean `JMP`?"),
     (
         "go MVO bomb, 2\nbomb dat 0\n",
         "line 2: 1 Text 7 Duplicate",

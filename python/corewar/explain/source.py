@@ -147,7 +147,8 @@ def likeness(word: str, choice: str) -> float:
 
 def misspelt(line: Line) -> str | None:
     """Returns a sentence on a word in place of an operation that is similar to one, or is one of another dialect."""
-    if line.operation or not (line.rest or len(line.labels) > 1):
+    # An EQU name in place of the operation may be the operand of a misspelt one.
+    if line.operation.upper() in OPERATIONS or not (line.rest or line.operation or len(line.labels) > 1):
         return None
     words = line.labels[:FIRST_WORDS]
     for word in words:
