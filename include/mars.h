@@ -83,9 +83,10 @@ typedef struct {
 } MarsRow;
 
 /* A cell of the core. Opcode, modifier and modes are indices, from 0, in these lists:
- * op        DAT MOV ADD SUB MUL DIV MOD JMP JMZ JMN DJN SEQ SNE SLT SPL NOP
- * modifier  A B AB BA F X I
- * mode      # $ * @ { < } > */
+ *
+ *   op        DAT MOV ADD SUB MUL DIV MOD JMP JMZ JMN DJN SEQ SNE SLT SPL NOP
+ *   modifier  A B AB BA F X I
+ *   mode      # $ * @ { < } > */
 typedef struct {
     uint8_t op;
     uint8_t modifier;
@@ -116,9 +117,14 @@ typedef struct {
     uint32_t process[2];  /* addresses of the processes that were queued */
 } MarsRecord;
 
-/* The cells that a turn reads or writes: the instruction; for A the cells that an indirect mode uses, within the read limit and within
- * the write limit, and the one that is copied; the same for B; and the target of B for writing. They are listed whether the opcode
- * uses them or not, and a cell may be listed several times. */
+/* The cells that a turn reads or writes, in this order:
+ *
+ *   the instruction
+ *   A: if its mode is indirect, its pointer within the read limit and its pointer within the write limit; then the cell that is copied
+ *   B: likewise
+ *   the target of B for writing
+ *
+ * They are listed whether the opcode uses them or not, and a cell may be listed several times. */
 typedef struct {
     uint32_t count;      /* number of addresses, 4 to 8 */
     uint32_t address[8]; /* in this order; unused ones are 0 */
@@ -140,15 +146,15 @@ typedef struct {
     size_t deaths;    /* number of deaths */
 } MarsStanding;
 
-/* Why a call wasn't done; what doesn't apply is 0. */
+/* Why a call failed. Fields that do not apply are 0. */
 typedef struct {
-    uint32_t code;       /* the call's answer */
-    uint32_t number;     /* of the fault, as above */
+    uint32_t code;       /* the result of the call */
+    uint32_t number;     /* number of the error, as listed above for its code */
     uint32_t problem;    /* of MARS_ASSEMBLY 1: 1 NotAscii, 2 BadToken, 3 UnclosedFor, 4 RofAlone, 5 BadCount, 6 LabelInCount,
                             7 Duplicate, 8 EquDepth, 9 TooLong, 10 Expression; of MARS_BLOCK 3: as for MARS_PARAMETERS */
     uint32_t expression; /* of MARS_ASSEMBLY 4, or of problem 10: as for a formula */
-    uint64_t line;       /* of a source or a load file, from 1; of MARS_BLOCK 5: the address of the first wrong cell */
-    uint64_t warrior;    /* the index of a load file, from 0; of MARS_BLOCK 6: the first warrior whose queue is wrong */
+    uint64_t line;       /* line of a source or a load file, from 1; of MARS_BLOCK 5: address of the first wrong cell */
+    uint64_t warrior;    /* index of a load file, from 0; of MARS_BLOCK 6: first warrior whose queue is wrong */
 } MarsFault;
 
 /* A battle: a block of 32-bit words that the caller owns. The block has the whole state of the battle, without pointers or padding,
@@ -243,7 +249,7 @@ uint32_t mars_edit(uint32_t *battle, size_t words, const MarsEdit *edit, MarsFau
 /* Checks that the first words are a battle. Returns MARS_BLOCK if not. */
 uint32_t mars_check(const uint32_t *battle, size_t words, MarsFault *fault);
 
-/* Assembles a source to a load file of version 2, into the front of the buffer. *length is its length in bytes, also where the
+/* Assembles a source to a load file of version 2, into the front of the buffer. *length is its length in bytes, also if the
  * call returns MARS_ROOM. `warriors` is the value of WARRIORS, and settings->rounds that of ROUNDS. Seed and position are ignored. */
 uint32_t mars_assemble(const MarsSettings *settings, uint32_t warriors,
                        const uint8_t *source, size_t source_length,

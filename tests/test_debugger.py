@@ -58,7 +58,7 @@ def test_moves() -> None:
     ):
         execute(session, line)
         assert session.turn == turn, line
-    assert refused(session, "until 5") == "cycle 5 is not completed after turn 7798"
+    assert refused(session, "until 5") == "cycle 5 is already completed in turn 7798; use `goto` with an earlier turn"
     assert execute(session, "goto end")[-1] == "the battle is over: Dwarf lives"
     assert refused(session, "goto 7799") == "the battle has turns 0 to 7798"
     assert refused(session, "step imp") == "Imp has no turn after turn 7798"
@@ -119,7 +119,7 @@ def test_edits_make_futures() -> None:
     assert refused(session, "edit . dat 0") == (
         "`.` is the cell to execute next, but the battle is over; use a number or a label"
     )
-    assert refused(session, "fill 5 3 nop") == "cannot fill 5 to 3: expected 1 to 1000000 cells"
+    assert refused(session, "fill 5 3 nop") == "cannot fill 5 to 3: the first address is above the last"
 
 
 def test_what_is_told() -> None:

@@ -158,7 +158,7 @@ class History:
             turn = block.first
 
     def record(self, turn: int) -> np.void:
-        """Returns the record of a turn, from 1, without its writes; the fields are those of `record`."""
+        """Returns the record of a turn, from 1, without its writes, with the fields of `MarsRecord` in the API for C."""
         block = self.block_of(turn)
         made: np.void = block.records[turn - block.first - 1]
         return made
@@ -191,7 +191,9 @@ class History:
         return self._deaths[self._deaths["turns"] <= turn]
 
     def death(self, warrior: int) -> int | None:
-        """Returns the turn in which a warrior dies, or None if it survives."""
+        """Returns the turn in which a warrior dies, or None if it survives. Raises `IndexError` if there is none."""
+        if not 0 <= warrior < len(self.names):
+            raise IndexError(f"the battle has warriors 0 to {len(self.names) - 1}")
         return next((int(turns) for number, turns in self._deaths.tolist() if number == warrior), None)
 
     def is_killed(self, warrior: int) -> bool:

@@ -2,6 +2,7 @@
 from __future__ import annotations
 
 import os
+import sys
 from collections.abc import Callable, Iterator
 
 import click
@@ -89,7 +90,8 @@ def fix_file(asked: Asked, path: str) -> int:
         errors = [*errors_of(fixed, load)]
     click.echo(fixed, nl=False)
     for fault, sentences in errors:
-        tell("\n".join([f"{path}: not fixed: {fault}", *sentences]))
+        tell(f"{path}: not fixed: {fault}")
+        click.echo("".join(f"  {printable(sentence)}\n" for sentence in sentences), err=True, nl=False)
     return int(bool(errors))
 
 
@@ -124,6 +126,8 @@ def errors_in(asked: Asked, path: str) -> Iterator[tuple[Fault, bytes, list[str]
 
 def explain_lines() -> None:
     """Explains the error messages of standard input. Raises Refused if there are none."""
+    if sys.stdin.isatty():
+        raise click.UsageError("expected at least one file, or error messages on standard input")
     text = read_file("-").decode("utf-8", "replace")
     found = [*read_faults(text.splitlines())]
     if not found:

@@ -13,6 +13,7 @@ NUMBERS_OF_MARS = {number.word: (number.least, number.greatest) for number in NU
 }
 TOGETHER = f"""Each argument is valid by itself. Together they have to follow these rules:
 - There are 1 to {MOST_WARRIORS} files; --league requires at least two, -F exactly two and --load one.
+- The position of -F is at least the minimum distance, and at most the core size minus it.
 - No option is given twice.
 - -e, --league and --load exclude each other; -F excludes --league and --load.
 - A formula that begins with `-` is joined to its option, as in --score=-S."""

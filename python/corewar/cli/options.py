@@ -154,7 +154,8 @@ def battle_options(*, one_round: bool = False, needs_files: bool = True) -> Deco
         def asking(*, files: tuple[str, ...], hill: str, limit: Limit, round_: int = 0, **given: Any) -> Any:
             numbers = {name: given.pop(name) for name in vars(Settings())}
             settings = replace(HILLS[hill], **{name: value for name, value in numbers.items() if value is not None})
-            contest: dict[str, Any] = {name: given.pop(name) or 0 for name in ("rounds", "seed", "position", "formula")}
+            contest: dict[str, Any] = {name: given.pop(name) for name in ("rounds", "seed", "position", "formula")}
+            contest["position"] = contest["position"] or 0
             return command(Asked(tuple(with_folders(files)), settings, round=round_, limit=limit, **contest), **given)
 
         files = click.argument(

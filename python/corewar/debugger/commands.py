@@ -123,7 +123,9 @@ def until(session: Session, rest: str) -> Iterator[str]:
             session.go(int(found[0]))
             yield from here(session)
             return
-    raise Refused(f"cycle {cycle} is not completed after turn {session.turn}")
+    if passed:
+        raise Refused(f"cycle {cycle} is already completed in turn {session.turn}; use `goto` with an earlier turn")
+    raise Refused(f"the battle ends before cycle {cycle} is completed")
 
 
 @command("continue [CONDITION]", "go to the next breakpoint, or to where the condition holds next", "c", repeats=True)
@@ -192,8 +194,10 @@ def fill(session: Session, rest: str) -> Iterator[str]:
     if len(words) != 3:
         raise Refused("expected two addresses and a line of source")
     first, last = session.address(words[0]), session.address(words[1])
-    if not first <= last < first + MOST_FILLED:
-        raise Refused(f"cannot fill {first} to {last}: expected 1 to {MOST_FILLED} cells")
+    if last < first:
+        raise Refused(f"cannot fill {first} to {last}: the first address is above the last")
+    if last - first >= MOST_FILLED:
+        raise Refused(f"cannot fill {first} to {last}: expected at most {MOST_FILLED} cells")
     cell = session.cell(first, words[2])
     session.edit(Edit.fill(first, last, cell))
     yield f"{first} to {last}: {session.teller.cell(cell)}"
@@ -300,7 +304,7 @@ CONDITIONS = """A CONDITION, for continue, reverse-continue and break:
   ends W          warrior W lost a process
   dies W          warrior W died
 An address A is a number, a label, `.` (the cell to execute next), or one of these with +N or -N.
-A warrior W is a number or a name. Commands can be abbreviated. An empty line repeats the last command."""
+A warrior W is a number or a name. Commands can be abbreviated. An empty line repeats the last command that moves or lists."""
 
 
 @command("help [COMMAND]", "list all commands, or explain one", "h", "?")

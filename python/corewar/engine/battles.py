@@ -125,7 +125,8 @@ class Battle:
         """Makes an edit, also if the battle is over.
 
         Raises `Fault`, and changes nothing, if the edit is impossible: `refused 2 Address`, `3 FieldOutside`,
-        `4 NoSuchWarrior`, `5 NoSuchProcess`, `6 WarriorDead` or `7 QueueFull`.
+        `4 NoSuchWarrior`, `5 NoSuchProcess`, `6 WarriorDead` or `7 QueueFull`; `1 NoSuchEdit` if the kind of the edit
+        or a part of its cell does not exist.
         """
         is_fill = edit.what == SET and edit.last != edit.address
         if is_fill and not edit.address <= edit.last < self._head["core"]:

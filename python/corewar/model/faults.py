@@ -23,13 +23,16 @@ MEMORY, SETTINGS, PARAMETERS, FORMULA, ASSEMBLY, LOAD, SCORE, EDIT = 1, 2, 3, 4,
 
 
 class Refused(Exception):
-    """The base class of all errors of the package. Its text is one line."""
+    """The base class of the errors of the library and of files. Its text is one line.
+
+    A number that no call can take, such as a negative one, raises `ValueError` instead.
+    """
 
 
 class Fault(Refused):
     """An error of a call of the library. Its text is what `mars` prints after the name of the file.
 
-    - `code`: the result of the call, as listed in the API for C; `kind` is its name
+    - `code`: the result of the call, as listed in the API for C; `kind` is the first word of most texts
     - `number`: the number of the error; `name` is its name, or "" if it has none
     - `problem`, `expression`: the numbers of nested errors, or 0
     - `line`: the line of a source or a load file, from 1, or 0 if the error has no line
