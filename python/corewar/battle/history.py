@@ -158,7 +158,7 @@ class History:
             turn = block.first
 
     def record(self, turn: int) -> np.void:
-        """Returns the record of a turn, from 1, without its writes, with the fields of `MarsRecord` in the API for C."""
+        """Returns the record of a turn, from 1, without its writes, with the fields of `MarsRecord`."""
         block = self.block_of(turn)
         made: np.void = block.records[turn - block.first - 1]
         return made

@@ -304,7 +304,8 @@ CONDITIONS = """A CONDITION, for continue, reverse-continue and break:
   ends W          warrior W lost a process
   dies W          warrior W died
 An address A is a number, a label, `.` (the cell to execute next), or one of these with +N or -N.
-A warrior W is a number or a name. Commands can be abbreviated. An empty line repeats the last command that moves or lists."""
+A warrior W is a number or a name. Commands can be abbreviated. An empty line repeats the last command that
+moves or lists."""
 
 
 @command("help [COMMAND]", "list all commands, or explain one", "h", "?")
