@@ -90,7 +90,7 @@ wheel: $(LIBRARY)
 	rm -rf build/wheel
 	$(call copy,.,build/wheel/kit,pyproject.toml setup.py README.md python include build/libmars.so.1)
 	$(call licences,build/wheel/kit/licences)
-	SOURCE_DATE_EPOCH=$$(git -c safe.directory='*' log -1 --format=%ct 2>/dev/null || date +%s) \
+	SOURCE_DATE_EPOCH=$$(git -c safe.directory='*' log -1 --format=%ct 2>/dev/null || stat -c %Y CHANGELOG.md) \
 		/usr/bin/python3 -m pip wheel --no-deps --no-build-isolation --no-cache-dir -q -w build build/wheel/kit
 	rm -r build/wheel
 

@@ -177,6 +177,12 @@ def test_names_in_loops() -> None:
     assert "give the FOR in line 1 a counter" in sentences[0]
 
 
+def test_a_label_of_another_line_is_not_lost() -> None:
+    """A misspelt opcode after a label leaves no second error, even if the label is similar to an opcode, too."""
+    ((fault, _),) = errors_of(b"top stx 0, 1\n jmp top\n", load_file)
+    assert str(fault) == "line 1: 2 Operation"
+
+
 def test_all_errors_of_a_file(run: Run, tmp_path: Path) -> None:
     (tmp_path / "three.red").write_text("go mvo 0, 1\n jmp og\n mov.q 0, 1\n")
     done = run("explain", "three.red")
@@ -374,7 +380,9 @@ def test_fix(run: Run, tmp_path: Path) -> None:
         b"x&i jmp x&i", b"x&i__ jmp x&i__"
     )
     assert load_file(fixed) == load_file(source.replace(b"mov.i", b"mov.I"))
-    assert fix(b"i FOR 2\r\nmov.I 0, i\r\nROF", load_file) == b"i FOR 2\r\nmov.I 0, i\r\nROF"
+    unread = b"a cat\n  /\\_/\\\n;redcode\nMOV 0, 1\nEND\nlast \\\nline\n"
+    for valid in (b"i FOR 2\r\nmov.I 0, i\r\nROF", unread):
+        assert fix(valid, load_file) == valid
 
 
 def test_it_is_soon_there() -> None:

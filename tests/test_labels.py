@@ -7,7 +7,7 @@ from battles import edit_of, edits, matches
 from conftest import EXAMPLES
 from hypothesis import given, strategies as st
 
-from corewar.battle import history as module
+from corewar.battle import history as module, labels
 from corewar.battle.history import History
 from corewar.battle.labels import Sources
 from corewar.battle.origins import Origins
@@ -48,6 +48,17 @@ def test_labels_of_two_warriors() -> None:
     assert (sources.addresses["0.last"], sources.addresses["1.last"]) == (5, start) and "last" not in sources.addresses
     assert sources.labels[0] in ("first", "second") and sources.labels[start] == "1.last"
     assert (sources.lines[2].warrior, sources.lines[2].number, sources.lines[2].text) == (0, 6, "lab&i MOV lab01, i")
+
+
+def test_late_lines_are_those_of_unchanged_cells(monkeypatch: pytest.MonkeyPatch) -> None:
+    """Tracing has a limit, and after it only cells that nothing has changed have a line."""
+    history = History(Match((read(str(EXAMPLES / "dwarf.red")), assemble("MOV 0, 1"))))
+    sources = Sources(history)
+    traced = {address: sources.line(history, address, 100) for address in range(8)}
+    monkeypatch.setattr(labels, "MOST_TRACED", 99)
+    late = {address: sources.line(history, address, 100) for address in range(8)}
+    assert [address for address in range(8) if late[address]] == [0, 1, 2]
+    assert all(line == traced[address] for address, line in late.items() if line) and traced[3] and traced[7]
 
 
 @given(matches(), st.integers(0, 2), st.lists(st.tuples(st.floats(0, 1), edits()), max_size=3), st.floats(0, 1))

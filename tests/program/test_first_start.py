@@ -68,7 +68,16 @@ class Place:
         for name in ("mars", "crates.txt", "HANDLES"):
             shutil.copy(os.path.join(TOP, name), folder)
         os.mkdir(os.path.join(folder, "scripts"))
-        for name in ("library", "prove", "machine.py", "program.py", "progress.py", "proving.py", "rooms.py", "webassembly.py"):
+        for name in (
+            "library",
+            "prove",
+            "machine.py",
+            "program.py",
+            "progress.py",
+            "proving.py",
+            "rooms.py",
+            "webassembly.py",
+        ):
             shutil.copy(os.path.join(TOP, "scripts", name), os.path.join(folder, "scripts"))
         for crate in stands_on(os.path.join(TOP, "crates.txt"), ""):
             for part in ("src", "specs", "proofs"):

@@ -11,8 +11,12 @@ from ..engine.battles import Battle
 from ..engine.calls import source_lines
 from ..model.faults import Fault
 from ..model.warriors import printable
-from .history import History
+from .history import BY_HAND, History
 from .origins import Origins
+
+# Copies are traced turn by turn, which takes some 3 seconds and 50 MB for this number of turns. After it only a cell
+# that has not changed since it was loaded has a line.
+MOST_TRACED = 1_000_000
 
 
 @dataclass(frozen=True)
@@ -48,6 +52,9 @@ class Sources:
 
     def line(self, history: History, address: int, turn: int) -> Line | None:
         """Returns the line from which the instruction at an address was copied, after a turn of a history."""
+        if turn > MOST_TRACED:
+            owners, turns = history.written(turn)
+            return None if turns[address] or owners[address] == BY_HAND else self.lines.get(address)
         if history not in self._origins:
             self._origins[history] = Origins(history)
         return self.lines.get(int(self._origins[history].at(turn)[address]))

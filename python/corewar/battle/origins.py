@@ -4,6 +4,7 @@ executed.
 from __future__ import annotations
 
 from dataclasses import dataclass
+from weakref import proxy
 
 import numpy as np
 from numpy.typing import NDArray
@@ -44,7 +45,8 @@ class Origins:
     """
 
     def __init__(self, history: History) -> None:
-        self.history = history
+        # Origins are stored by their history, which they must not keep alive.
+        self.history = proxy(history)
         self._ways = ways(Battle(history.fight, history.round).cells)
         self._traced: dict[int, Traced] = {}
         # The last turn up to which all blocks are traced.

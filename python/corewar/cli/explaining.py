@@ -13,7 +13,7 @@ from ..model.faults import ASSEMBLY, Fault, FileFault, Refused
 from ..model.warriors import printable
 from .layout import Command
 from .options import Asked, battle_options
-from .telling import tell
+from .telling import tell, tell_fault
 
 EXAMPLES = [
     "corewar explain dwarf.red",
@@ -48,6 +48,8 @@ def explain(asked: Asked, pmars: bool, is_fixed: bool) -> int:
     """
     if (pmars or is_fixed) and not asked.files:
         raise click.UsageError("expected at least one file")
+    if pmars and is_fixed:
+        raise click.UsageError("--fix and --pmars exclude each other")
     if is_fixed:
         return max([fix_file(asked, path) for path in asked.files])
     if pmars:
@@ -64,9 +66,13 @@ def explain(asked: Asked, pmars: bool, is_fixed: bool) -> int:
 def explain_file(asked: Asked, path: str) -> int:
     """Assembles a file, and explains its errors. Returns the exit status."""
     found = False
-    for fault, text, sentences in errors_in(asked, path):
-        write([f"{path}: {fault}", *excerpt(text, fault.line), *sentences])
-        found = True
+    try:
+        for fault, text, sentences in errors_in(asked, path):
+            write([f"{path}: {fault}", *excerpt(text, fault.line), *sentences])
+            found = True
+    except FileFault as unread:
+        tell_fault(unread)
+        return 1
     if not found:
         write([f"{path}: no error"])
     return int(found)

@@ -63,7 +63,13 @@ class Picture(Output):
 def with_folders(files: Sequence[str]) -> Iterator[str]:
     """Yields files, and in place of each folder the sources in it, by name. Raises FileFault."""
     for name in files:
-        found = sorted(str(path) for path in Path(name).glob("*.red")) if os.path.isdir(name) else [name]
+        found = [name]
+        if os.path.isdir(name):
+            try:
+                paths = [Path(name, one) for one in sorted(os.listdir(name)) if one.endswith(".red")]
+            except OSError as fault:
+                raise FileFault(name, fault.strerror or "cannot read") from None
+            found = [str(path) for path in paths if path.is_file()]
         if not found:
             raise FileFault(name, "no file in this folder ends in .red")
         yield from found

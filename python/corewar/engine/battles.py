@@ -132,7 +132,7 @@ class Battle:
         if is_fill and not edit.address <= edit.last < self._head["core"]:
             raise Fault(EDIT, ADDRESS)
         places = [number(edit.what), number(edit.warrior), number(edit.place), number(edit.address)]
-        call("mars_edit", *self._slice(), library()[0].new("MarsEdit *", [*places, list(edit.cell)]))
+        call("mars_edit", *self._slice(), library()[0].new("MarsEdit *", [*places, list(map(number, edit.cell))]))
         if is_fill:
             # The library has checked the new cell.
             self.cells[edit.address : edit.last + 1] = self.cells[edit.address]

@@ -29,8 +29,15 @@ def replace(path: Path, data: bytes) -> None:
     if path.exists() and not os.access(path, os.W_OK):
         raise PermissionError(0, "read-only file")
     part = path.with_name(f".{secrets.token_hex(8)}.part")
-    # Another program's file or link of this name is not followed.
-    handle = os.open(part, os.O_WRONLY | os.O_CREAT | os.O_EXCL, 0o666)
+    try:
+        # Another program's file or link of this name is not followed.
+        handle = os.open(part, os.O_WRONLY | os.O_CREAT | os.O_EXCL, 0o666)
+    except PermissionError:
+        if not path.exists():
+            raise
+        # The folder accepts no new file, but this file may be written.
+        path.write_bytes(data)
+        return
     try:
         with open(handle, "wb") as file:
             file.write(data)

@@ -36,11 +36,12 @@ def changed(line: str, old: str, new: str) -> str:
     return re.sub(rf"(?<![\w.&]){old}(?![\w&])", new, code) + mark + comment
 
 
-def join_lines(_: Source, lines: list[str], __: Load) -> None:
+def join_lines(source: Source, lines: list[str], _: Load) -> None:
     """Joins each line that ends in a backslash with the next one."""
+    unread = {line.number - 1 for line in source.lines if line.unread}
     for at in reversed(range(len(lines) - 1)):
         text = lines[at].rstrip()
-        if text.endswith("\\") and ";" not in text:
+        if text.endswith("\\") and ";" not in text and at not in unread:
             lines[at : at + 2] = [f"{text[:-1].rstrip()} {lines[at + 1].lstrip()}"]
 
 

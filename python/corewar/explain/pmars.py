@@ -196,6 +196,8 @@ def asserts(source: Source) -> Found:
 @look
 def ends_of_lines(source: Source) -> Found:
     for line in source.lines:
+        if line.unread:
+            continue
         operands = line.operands if line.word in OPCODES else []
         if line.word == "ROF" and line.labels:
             yield line.number, "pMARS accepts a label before ROF; write it in a line of its own."

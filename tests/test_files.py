@@ -1,0 +1,27 @@
+"""Tests how files are written."""
+from __future__ import annotations
+
+import os
+from pathlib import Path
+from typing import Any
+
+import pytest
+
+from corewar.engine.files import replace_file
+from corewar.model.faults import FileFault
+
+
+def test_a_file_is_replaced_in_a_folder_that_accepts_no_new_file(
+    tmp_path: Path, monkeypatch: pytest.MonkeyPatch
+) -> None:
+    (tmp_path / "old").write_text("old")
+
+    def refuse(path: Any, flags: int, mode: int = 0o777) -> int:
+        raise PermissionError(13, "Permission denied")
+
+    with monkeypatch.context() as patch:
+        patch.setattr(os, "open", refuse)
+        replace_file(tmp_path / "old", b"new")
+        with pytest.raises(FileFault, match="Permission denied"):
+            replace_file(tmp_path / "none", b"new")
+    assert [path.read_bytes() for path in tmp_path.iterdir()] == [b"new"]
