@@ -25,3 +25,12 @@ def test_a_file_is_replaced_in_a_folder_that_accepts_no_new_file(
         with pytest.raises(FileFault, match="Permission denied"):
             replace_file(tmp_path / "none", b"new")
     assert [path.read_bytes() for path in tmp_path.iterdir()] == [b"new"]
+
+
+def test_a_read_only_file_stays(tmp_path: Path, monkeypatch: pytest.MonkeyPatch) -> None:
+    """The system's answer is replaced, since root may write every file."""
+    (tmp_path / "old").write_text("old")
+    monkeypatch.setattr(os, "access", lambda path, mode: False)
+    with pytest.raises(FileFault, match="read-only file"):
+        replace_file(tmp_path / "old", b"new")
+    assert (tmp_path / "old").read_text() == "old"

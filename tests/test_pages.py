@@ -3,7 +3,6 @@ from __future__ import annotations
 
 import base64
 import json
-import os
 import re
 import resource
 import zlib
@@ -87,14 +86,6 @@ def test_files_are_replaced_whole_or_not_at_all(run: Run, tmp_path: Path) -> Non
     assert sorted(path.name for path in tmp_path.rglob("*") if path.name != "state") == ["kept", "old.csv", "out.csv"]
     assert run("league", "-o", "/dev/stdout", "@dwarf", "@imp").stdout.startswith("  rank ")
     assert run("league", "-o", "/dev/full", "@dwarf", "@imp").stderr == "corewar: /dev/full: No space left on device\n"
-
-
-@pytest.mark.skipif(os.geteuid() == 0, reason="root may write every file")
-def test_a_read_only_file_stays(run: Run, tmp_path: Path) -> None:
-    (tmp_path / "out.csv").write_text("old")
-    (tmp_path / "out.csv").chmod(0o444)
-    told = run("league", "-o", "out.csv", "@dwarf", "@imp")
-    assert told.returncode == 2 and (tmp_path / "out.csv").read_text() == "old"
 
 
 def test_a_page_is_written(run: Run, tmp_path: Path) -> None:
