@@ -1,4 +1,4 @@
-"""Tests that the tables of options in the reference are those of the programs' own help."""
+"""Tests that the pages which scripts write are current: the tables of options in the reference, and the API pages."""
 from __future__ import annotations
 
 import subprocess
@@ -12,6 +12,11 @@ SCRIPT = TOP / "scripts" / "reference"
 
 def test_tables_are_current() -> None:
     done = subprocess.run([SCRIPT, "--check", PROGRAM], capture_output=True, text=True)
+    assert (done.stdout, done.stderr, done.returncode) == ("", "", 0)
+
+
+def test_api_pages_are_current() -> None:
+    done = subprocess.run([TOP / "scripts" / "api", "--check"], capture_output=True, text=True)
     assert (done.stdout, done.stderr, done.returncode) == ("", "", 0)
 
 
