@@ -52,8 +52,7 @@ def started(environment: Path, *words: object, given: str = "", folder: object =
 
 
 def test_it_is_the_same_again() -> None:
-    if not WHEEL.is_file():
-        made("wheel")
+    made("wheel")
     first = WHEEL.read_bytes()
     made("wheel")
     assert first == WHEEL.read_bytes()
