@@ -1,7 +1,7 @@
-/* The Core War kit as a library: an assembler, matches, leagues, populations, the debugger, and records of turns.
+/* The Core War kit as a library: an assembler, matches, leagues, populations, the debugger, records of turns, and battles as values.
  *
  * Each call returns 0 (MARS_DONE) if it succeeds. Otherwise it returns the number of an error, stores this number with details in
- * *fault, and leaves rows and buffers unchanged. An error has the same number in every call. If there are several errors, the first
+ * *fault, and leaves rows, buffers and battles unchanged. An error has the same number in every call. If there are several errors, the first
  * one in this order is returned: the numbers of warriors, of rows and of places of the history; the parameters; rounds, seed and
  * position; the formula; the load files in order, and bytes left over after them; the round; then errors that only the match shows.
  *
