@@ -178,9 +178,9 @@ def test_names_in_loops() -> None:
 
 
 def test_a_label_of_another_line_is_not_lost() -> None:
-    """A misspelt opcode after a label leaves no second error, even if the label is similar to an opcode, too."""
-    ((fault, _),) = errors_of(b"top stx 0, 1\n jmp top\n", load_file)
-    assert str(fault) == "line 1: 2 Operation"
+    """A label that an operand names is not taken for a misspelt opcode, and leaves no second error."""
+    ((fault, sentences),) = errors_of(b"top stx 0, 1\n jmp top\n", load_file)
+    assert str(fault) == "line 1: 2 Operation" and "`top`" not in sentences[0]
 
 
 def test_all_errors_of_a_file(run: Run, tmp_path: Path) -> None:

@@ -39,7 +39,7 @@ def bad_token(source: Source, line: Line) -> Iterator[str]:
 
 
 def operation(source: Source, line: Line) -> Iterator[str]:
-    dashed, word = DASHED.match(line.code), misspelt(line)
+    dashed, word = DASHED.match(line.code), misspelt(source, line)
     if COMMENT.search(line.code):
         yield BEGINS
     elif dashed:
@@ -65,7 +65,7 @@ def modifier(source: Source, line: Line, named: str) -> Iterator[str]:
 
 
 def duplicate(source: Source, line: Line) -> Iterator[str]:
-    word, labels, loops = misspelt(line), source.labels(), source.loops_around(line.number)
+    word, labels, loops = misspelt(source, line), source.labels(), source.loops_around(line.number)
     if word:
         yield word
     for name in dict.fromkeys(line.labels):
@@ -73,7 +73,7 @@ def duplicate(source: Source, line: Line) -> Iterator[str]:
         if name in PREDEFINED:
             yield f"`{name}` is predefined; use another name."
         elif other.number < line.number:
-            yield taken(line, name, other)
+            yield taken(source, line, name, other)
         elif line.labels.count(name) > 1:
             yield f"`{name}` is in this line twice, without an operation in between."
         elif loops:
@@ -90,9 +90,9 @@ def joined(name: str, loops: list[Loop]) -> str:
     return f"{where}; write `{'&'.join([name, *missing])}`."
 
 
-def taken(line: Line, name: str, other: Line) -> str:
+def taken(source: Source, line: Line, name: str, other: Line) -> str:
     """Returns why a name is in an earlier line."""
-    word = misspelt(other)
+    word = misspelt(source, other)
     if word:
         return f"{IN_LINE.format(other.number)}{word}"
     if line.word == "EQU" and not other.operation:

@@ -52,12 +52,7 @@ def replaced(line: Line, source: Source, misspelt: str) -> str:
     misspelt opcode nor the words after it are labels.
     """
     known = {**source.equates, **source.labels()}
-    others = (other.code for other in source.lines if other is not line)
-    if misspelt in line.labels and any(re.search(rf"(?<!\w){re.escape(misspelt)}(?!\w)", code) for code in others):
-        # It is a label after all, since another line has it.
-        labels = line.labels[: line.labels.index(misspelt) + 1]
-    else:
-        labels = line.labels[: line.labels.index(misspelt)] if misspelt in line.labels else line.labels
+    labels = line.labels[: line.labels.index(misspelt)] if misspelt in line.labels else line.labels
     # A word in the place of an operation is not a label.
     labels = labels if line.operation or misspelt else labels[:-1]
     own = [name for name in labels if known.get(name, line) is line]

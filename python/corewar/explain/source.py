@@ -79,6 +79,10 @@ class Source:
                     found.setdefault(label, line)
         return found
 
+    def is_operand(self, name: str) -> bool:
+        """Returns whether an operand of a line has this name. Then it is not a misspelt opcode."""
+        return any(name in line.rest for line in self.lines)
+
     def loops_around(self, number: int) -> list[Loop]:
         return [loop for loop in self.loops if loop.head.number < number < loop.last]
 
@@ -145,12 +149,12 @@ def likeness(word: str, choice: str) -> float:
     return 1.0 if same else SequenceMatcher(None, word.upper(), choice).ratio()
 
 
-def misspelt(line: Line) -> str | None:
+def misspelt(source: Source, line: Line) -> str | None:
     """Returns a sentence on a word in place of an operation that is similar to one, or is one of another dialect."""
     # An EQU name in place of the operation may be the operand of a misspelt one.
     if line.operation.upper() in OPERATIONS or not (line.rest or line.operation or len(line.labels) > 1):
         return None
-    words = line.labels[:FIRST_WORDS]
+    words = [word for word in line.labels[:FIRST_WORDS] if not source.is_operand(word)]
     for word in words:
         if word.upper() in ELSEWHERE:
             return f"`{word}` is not an opcode of this language; P-space and other extensions are not supported."
