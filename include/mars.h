@@ -1,14 +1,14 @@
 /* The Core War kit as a library: an assembler, matches, leagues, populations, the debugger, records of turns, and battles as values.
  *
  * Each call returns 0 (MARS_DONE) if it succeeds. Otherwise it returns the number of an error, stores this number with details in
- * *fault, and leaves rows, buffers and battles unchanged. An error has the same number in every call. If there are several errors, the first
- * one in this order is returned: the numbers of warriors, of rows and of places of the history; the parameters; rounds, seed and
- * position; the formula; the load files in order, and bytes left over after them; the round; then errors that only the match shows.
+ * *fault, and leaves rows, buffers, cells and battles unchanged. An error has the same number in every call. If there are several errors,
+ * the first one in this order is returned: the numbers of warriors and of rows; the parameters; rounds, seed and position; the formula;
+ * the warriors in order, and cells left over after them; the round; then errors that only the match shows.
  *
- * Nothing outlives a call and nothing is shared, so several threads may call at once, each with its own rows, buffers and *fault.
- * A call gets its memory from malloc and realloc and frees all of it; these calls must belong to one allocator and align as C requires.
- * A stack of 64 KiB is sufficient: no measured call used more than 40 KiB. Do not call the library from a signal handler, or in the
- * forked child of a process with threads.
+ * Nothing outlives a call and nothing is shared, so several threads may call at once, each with its own memory. A call gets its memory
+ * from malloc and realloc and frees all of it; these calls must belong to one allocator and align as C requires. A stack of 64 KiB is
+ * sufficient: no measured call used more than 40 KiB. Do not call the library from a signal handler, or in the forked child of a process
+ * with threads. mars.wasm exports mars_alloc and mars_free, which take and give back memory for arguments, as malloc and free do.
  *
  * The caller guarantees that each pointer is valid for as many readable (const) or writable values as the length after it says, that it
  * is aligned for its type, and that output overlaps no other argument. A pointer with the length 0 may be null; no other pointer may
@@ -26,38 +26,147 @@ extern "C" {
 
 /* The version of this header: 1000 for each major version, and the minor one. A minor version adds to what is there, a major one
  * changes it. */
-#define MARS_VERSION 1003
+#define MARS_VERSION 2000
 
 /* The version of the library that is called. */
 uint32_t mars_version(void);
 
-/* The results of calls, and the meaning of `number` in MarsFault for each. */
+/* The limits of settings and arguments; each is the greatest value. */
+enum {
+    MARS_MAX_CORE = 1048576,
+    MARS_MAX_PROCESSES = 65536,
+    MARS_MAX_CYCLES = 10000000,
+    MARS_MAX_WARRIORS = 16, /* in one battle */
+    MARS_MAX_LEAGUE = 65536,
+    MARS_MAX_ROUNDS = 100000,
+    MARS_MAX_SEED = 2147483646,
+    MARS_MAX_HISTORY = 1000000,
+    MARS_MAX_FORMULA = 256 /* bytes */
+};
+
+/* The opcodes, modifiers and modes of cells. SEQ is also written CMP. */
+enum {
+    MARS_DAT, MARS_MOV, MARS_ADD, MARS_SUB, MARS_MUL, MARS_DIV, MARS_MOD, MARS_JMP,
+    MARS_JMZ, MARS_JMN, MARS_DJN, MARS_SEQ, MARS_SNE, MARS_SLT, MARS_SPL, MARS_NOP
+};
+enum { MARS_A, MARS_B, MARS_AB, MARS_BA, MARS_F, MARS_X, MARS_I };
+enum {
+    MARS_IMMEDIATE,        /* # */
+    MARS_DIRECT,           /* $ */
+    MARS_A_INDIRECT,       /* * */
+    MARS_B_INDIRECT,       /* @ */
+    MARS_A_PREDECREMENT,   /* { */
+    MARS_B_PREDECREMENT,   /* < */
+    MARS_A_POSTINCREMENT,  /* } */
+    MARS_B_POSTINCREMENT   /* > */
+};
+
+/* The results of calls. `number` of MarsFault is a value of the enumeration that follows. */
 enum {
     MARS_DONE = 0,
     MARS_OUT_OF_MEMORY = 1,
-    /* 1 rounds, 2 seed, 3 position, 4 number of warriors, 5 lengths and load files differ, 6 history, 7 number of rows, 8 round */
-    MARS_SETTINGS = 2,
-    /* 1 CoreSize, 2 Processes, 3 Cycles, 4 Limit, 5 Length, 6 Distance */
-    MARS_PARAMETERS = 3,
-    /* 1 Syntax, 2 Unknown, 3 DivideByZero, 4 Range, 5 Depth */
-    MARS_FORMULA = 4,
-    /* 1 Text, 2 Operation, 3 Operand, 4 Expression, 5 AssertFailed, 6 BadOrigin, 7 Empty, 8 TooLong */
-    MARS_ASSEMBLY = 5,
-    /* 1 Syntax, 2 TooLong, 3 Empty, 4 BadOrigin, 6 Version */
-    MARS_LOAD = 6,
-    /* 1 NoRoom, 2 BadSeed */
-    MARS_PLACEMENT = 7,
-    /* 3 Overlap, 4 StartOutside, 5 FieldOutside */
-    MARS_BATTLE = 8,
-    /* as for a formula */
-    MARS_SCORE = 9,
-    /* a buffer is shorter than what is to be written; *length, *standing or mars_words says how long that is */
-    MARS_ROOM = 10,
-    /* words that are not a battle (MarsBattle lists the reasons): 1 Short, 2 Mark, 3 Parameters, 4 Warriors, 5 Cell, 6 Queue,
-     * 7 Deaths, 8 Clock, 9 Head */
-    MARS_BLOCK = 11,
-    /* 1 NoSuchEdit, 2 Address, 3 FieldOutside, 4 NoSuchWarrior, 5 NoSuchProcess, 6 WarriorDead, 7 QueueFull */
-    MARS_EDIT = 12
+    MARS_SETTINGS = 2,   /* a number is out of its range: MARS_SETTINGS_.. */
+    MARS_PARAMETERS = 3, /* a parameter of the core is out of its range: MARS_PARAMETERS_.. */
+    MARS_FORMULA = 4,    /* the formula is wrong: MARS_EXPRESSION_.. */
+    MARS_ASSEMBLY = 5,   /* the source is wrong: MARS_ASSEMBLY_.., at fault->line */
+    MARS_LOAD = 6,       /* the load file is wrong: MARS_LOAD_.., at fault->line */
+    MARS_PLACEMENT = 7,  /* the warriors cannot be placed: MARS_PLACEMENT_.. */
+    MARS_BATTLE = 8,     /* the battle cannot start: MARS_BATTLE_.. */
+    MARS_SCORE = 9,      /* the formula has no value for a round, or a sum does not fit in 64 bits: MARS_EXPRESSION_.. */
+    MARS_ROOM = 10,      /* a buffer is shorter than what is to be written; *length, *program or mars_words says how long that is */
+    MARS_BLOCK = 11,     /* the words are not a battle: MARS_BLOCK_.. */
+    MARS_EDIT = 12,      /* the edit is impossible: MARS_EDIT_.. */
+    MARS_WARRIOR = 13    /* the cells, the start or a name of fault->warrior is wrong: MARS_WARRIOR_.. */
+};
+enum {
+    MARS_SETTINGS_ROUNDS = 1,
+    MARS_SETTINGS_SEED,
+    MARS_SETTINGS_POSITION, /* it is given for other than two warriors, or is out of its range */
+    MARS_SETTINGS_WARRIORS, /* the number of warriors */
+    MARS_SETTINGS_LENGTHS,  /* the lengths of the warriors together are not the number of cells */
+    MARS_SETTINGS_HISTORY,
+    MARS_SETTINGS_ROWS,     /* the number of rows */
+    MARS_SETTINGS_ROUND
+};
+enum {
+    MARS_PARAMETERS_CORE_SIZE = 1,
+    MARS_PARAMETERS_PROCESSES,
+    MARS_PARAMETERS_CYCLES,
+    MARS_PARAMETERS_LIMIT,
+    MARS_PARAMETERS_LENGTH,
+    MARS_PARAMETERS_DISTANCE
+};
+enum {
+    MARS_EXPRESSION_SYNTAX = 1,
+    MARS_EXPRESSION_UNKNOWN, /* a name that is not defined */
+    MARS_EXPRESSION_DIVIDE_BY_ZERO,
+    MARS_EXPRESSION_RANGE,   /* a number does not fit in 64 bits, or in 32 bits in a source */
+    MARS_EXPRESSION_DEPTH
+};
+enum {
+    MARS_ASSEMBLY_TEXT = 1, /* fault->problem is MARS_TEXT_.. */
+    MARS_ASSEMBLY_OPERATION,
+    MARS_ASSEMBLY_OPERAND,
+    MARS_ASSEMBLY_EXPRESSION, /* fault->expression is MARS_EXPRESSION_.. */
+    MARS_ASSEMBLY_ASSERT_FAILED,
+    MARS_ASSEMBLY_BAD_ORIGIN,
+    MARS_ASSEMBLY_EMPTY,
+    MARS_ASSEMBLY_TOO_LONG
+};
+enum {
+    MARS_TEXT_NOT_ASCII = 1,
+    MARS_TEXT_BAD_TOKEN,
+    MARS_TEXT_UNCLOSED_FOR,
+    MARS_TEXT_ROF_ALONE,
+    MARS_TEXT_BAD_COUNT,
+    MARS_TEXT_LABEL_IN_COUNT,
+    MARS_TEXT_DUPLICATE,
+    MARS_TEXT_EQU_DEPTH,
+    MARS_TEXT_TOO_LONG,
+    MARS_TEXT_EXPRESSION /* fault->expression is MARS_EXPRESSION_.. */
+};
+enum {
+    MARS_LOAD_SYNTAX = 1,
+    MARS_LOAD_TOO_LONG,
+    MARS_LOAD_EMPTY,
+    MARS_LOAD_BAD_ORIGIN,
+    MARS_LOAD_VERSION = 6
+};
+enum {
+    MARS_PLACEMENT_NO_ROOM = 1,
+    MARS_PLACEMENT_BAD_SEED
+};
+enum {
+    MARS_BATTLE_OVERLAP = 3,
+    MARS_BATTLE_START_OUTSIDE,
+    MARS_BATTLE_FIELD_OUTSIDE
+};
+enum {
+    MARS_BLOCK_SHORT = 1,  /* there are fewer words than the header or the parts need */
+    MARS_BLOCK_MARK,       /* `mark` is not MARS_MARK: another byte order, or another version of the layout */
+    MARS_BLOCK_PARAMETERS, /* a parameter is out of its range: fault->problem is MARS_PARAMETERS_.. */
+    MARS_BLOCK_WARRIORS,   /* `warriors` is not from 1 to 16 */
+    MARS_BLOCK_CELL,       /* a cell has an opcode, modifier or mode that does not exist, or a number outside the core; fault->line is its address */
+    MARS_BLOCK_QUEUE,      /* a warrior has more processes than `processes`, or one outside the core; fault->warrior is the warrior */
+    MARS_BLOCK_DEATHS,     /* the deaths do not name each warrior without a process exactly once, and no other warrior */
+    MARS_BLOCK_CLOCK,      /* `turns`, `cycle` and `next` do not agree with each other or with the living warriors */
+    MARS_BLOCK_HEAD        /* `words`, `over`, `unused` or an unused place of `queue` or `death` has a wrong value */
+};
+enum {
+    MARS_EDIT_NO_SUCH_EDIT = 1, /* `what` is not from 1 to 4, or the new cell has an opcode, modifier or mode that does not exist */
+    MARS_EDIT_ADDRESS,          /* `address` is outside the core */
+    MARS_EDIT_FIELD_OUTSIDE,    /* a number of the new cell is outside the core */
+    MARS_EDIT_NO_SUCH_WARRIOR,
+    MARS_EDIT_NO_SUCH_PROCESS,  /* the warrior has no process with this index */
+    MARS_EDIT_WARRIOR_DEAD,     /* the warrior is dead, so it gets no process */
+    MARS_EDIT_QUEUE_FULL        /* the warrior has as many processes as `processes` allows */
+};
+enum {
+    MARS_WARRIOR_LENGTH = 1, /* the number of cells is not from 1 to settings->longest */
+    MARS_WARRIOR_START,      /* the start is not the index of a cell */
+    MARS_WARRIOR_CELL,       /* a cell has an opcode, modifier or mode that does not exist; fault->line is its index in the warrior */
+    MARS_WARRIOR_FIELD,      /* a cell has a number outside the core; fault->line is its index in the warrior */
+    MARS_WARRIOR_NAME        /* a name has more than 60 bytes, or one that is not a printable character of ASCII */
 };
 
 /* The settings of a match. */
@@ -74,6 +183,19 @@ typedef struct {
     uint32_t position;    /* address of the second of two warriors in each round, from `distance` to the core size minus it; 0: drawn */
 } MarsSettings;
 
+/* A warrior: its cells are in an array of MarsCell, those of several warriors one after another in their order. */
+typedef struct {
+    uint32_t length; /* number of cells, 1 to settings->longest */
+    uint32_t start;  /* index of the cell at which its process starts, from 0 */
+} MarsWarrior;
+
+/* A program, besides its cells. */
+typedef struct {
+    MarsWarrior warrior;
+    uint8_t name[64]; /* at most 60 printable characters of ASCII, then zeros */
+    uint8_t author[64];
+} MarsProgram;
+
 /* The result of a warrior. */
 typedef struct {
     int64_t points;  /* sum of its scores by the formula */
@@ -82,15 +204,11 @@ typedef struct {
     uint64_t losses; /* rounds not survived */
 } MarsRow;
 
-/* A cell of the core. Opcode, modifier and modes are indices, from 0, in these lists:
- *
- *   op        DAT MOV ADD SUB MUL DIV MOD JMP JMZ JMN DJN SEQ SNE SLT SPL NOP
- *   modifier  A B AB BA F X I
- *   mode      # $ * @ { < } > */
+/* A cell of the core. */
 typedef struct {
-    uint8_t op;
-    uint8_t modifier;
-    uint8_t a_mode;
+    uint8_t op;       /* MARS_DAT to MARS_NOP */
+    uint8_t modifier; /* MARS_A to MARS_I */
+    uint8_t a_mode;   /* MARS_IMMEDIATE to MARS_B_POSTINCREMENT */
     uint8_t b_mode;
     uint32_t a; /* both numbers are addresses relative to the cell, from 0 to the core size minus 1 */
     uint32_t b;
@@ -104,7 +222,7 @@ typedef struct {
 } MarsChange;
 
 /* The record of a turn; fields that do not apply are 0. Warriors are numbered from 0 in the order of their turns: in round K these are
- * load file K modulo the number of warriors, then those after it, then those before it. */
+ * the warrior with index K modulo the number of warriors, then those after it, then those before it. */
 typedef struct {
     uint32_t warrior;     /* warrior of the turn */
     uint32_t address;     /* address of the process that was executed */
@@ -136,25 +254,15 @@ typedef struct {
     uint32_t turns;
 } MarsDeath;
 
-/* The state of a battle. */
-typedef struct {
-    uint32_t turns;   /* number of turns that all warriors have executed together */
-    uint32_t cycle;   /* number of completed cycles */
-    uint32_t next;    /* warrior whose turn is next */
-    uint32_t over;    /* 1 if no turn is left */
-    size_t processes; /* number of processes of all warriors together */
-    size_t deaths;    /* number of deaths */
-} MarsStanding;
-
 /* Why a call failed. Fields that do not apply are 0. */
 typedef struct {
     uint32_t code;       /* the result of the call */
-    uint32_t number;     /* number of the error, as listed above for its code */
-    uint32_t problem;    /* of MARS_ASSEMBLY 1: 1 NotAscii, 2 BadToken, 3 UnclosedFor, 4 RofAlone, 5 BadCount, 6 LabelInCount,
-                            7 Duplicate, 8 EquDepth, 9 TooLong, 10 Expression; of MARS_BLOCK 3: as for MARS_PARAMETERS */
-    uint32_t expression; /* of MARS_ASSEMBLY 4, or of problem 10: as for a formula */
-    uint64_t line;       /* line of a source or a load file, from 1; of MARS_BLOCK 5: address of the first wrong cell */
-    uint64_t warrior;    /* index of a load file, from 0; of MARS_BLOCK 6: first warrior whose queue is wrong */
+    uint32_t number;     /* number of the error, of the enumeration for its code */
+    uint32_t problem;    /* of MARS_ASSEMBLY_TEXT: MARS_TEXT_..; of MARS_BLOCK_PARAMETERS: MARS_PARAMETERS_.. */
+    uint32_t expression; /* of MARS_ASSEMBLY_EXPRESSION and MARS_TEXT_EXPRESSION: MARS_EXPRESSION_.. */
+    uint64_t line;       /* line of a source or a load file, from 1; of MARS_BLOCK_CELL: address of the first wrong cell; of
+                            MARS_WARRIOR_CELL and MARS_WARRIOR_FIELD: index of the first wrong cell */
+    uint64_t warrior;    /* of MARS_WARRIOR: index of the warrior, from 0; of MARS_BLOCK_QUEUE: first warrior whose queue is wrong */
 } MarsFault;
 
 /* A battle: a block of 32-bit words that the caller owns. The block has the whole state of the battle, without pointers or padding,
@@ -167,17 +275,7 @@ typedef struct {
  * So the first `words` words are the battle. The calls ignore the words after them. Equal battles have equal words.
  *
  * A caller may write to any part, or make a whole battle. The next call checks it: if the words are not a battle, the call returns
- * MARS_BLOCK and does nothing else. The reasons, by fault->number:
- *
- *   1 Short        there are fewer words than the header or the parts need
- *   2 Mark         `mark` is not MARS_MARK: another byte order, or another version of the layout
- *   3 Parameters   a limit is out of the range that MarsSettings states; fault->problem says which
- *   4 Warriors     `warriors` is not from 1 to 16
- *   5 Cell         a cell has an opcode, modifier or mode that does not exist, or a number outside the core; fault->line is its address
- *   6 Queue        a warrior has more processes than `processes`, or one outside the core; fault->warrior is the warrior
- *   7 Deaths       the deaths do not name each warrior without a process exactly once, and no other warrior
- *   8 Clock        `turns`, `cycle` and `next` do not agree with each other or with the living warriors
- *   9 Head         `words`, `over`, `unused` or an unused place of `queue` or `death` has a wrong value */
+ * MARS_BLOCK and does nothing else. */
 typedef struct {
     uint32_t mark;        /* MARS_MARK */
     uint32_t words;       /* length of the battle in words: 64, 3 for each cell and 1 for each process */
@@ -202,29 +300,81 @@ typedef struct {
 /* The first word of a battle: the bytes M, A, R and 1, the version of the layout; M is the lowest byte. */
 enum { MARS_MARK = 22167885 };
 
-/* An edit of a battle. It uses only the fields that its kind needs:
- *
- *   1 sets a cell      `address` and `cell`
- *   2 moves a process  `warrior`, `place`, and `address` for its new address
- *   3 kills a process  `warrior` and `place`; a warrior whose last process is killed dies
- *   4 adds a process   `warrior` and `address`, at the end of the queue */
+/* The kinds of edits. An edit uses only the fields that its kind needs. */
+enum {
+    MARS_SET_CELL = 1, /* `address` and `cell` */
+    MARS_MOVE_PROCESS, /* `warrior`, `place`, and `address` for its new address */
+    MARS_KILL_PROCESS, /* `warrior` and `place`; a warrior whose last process is killed dies */
+    MARS_ADD_PROCESS   /* `warrior` and `address`, at the end of the queue */
+};
+
+/* An edit of a battle. */
 typedef struct {
-    uint32_t what;    /* 1 to 4 */
+    uint32_t what;    /* MARS_SET_CELL to MARS_ADD_PROCESS */
     uint32_t warrior;
     uint32_t place;   /* index of the process in its queue; the front has index 0 */
     uint32_t address; /* 0 to the core size less 1 */
     MarsCell cell;
 } MarsEdit;
 
+/* ---- Programs ---- */
+
+/* Assembles a source. Its cells are written to the front of `cells`, and the number of cells, the start and the names to *program, also if
+ * the call returns MARS_ROOM because there are fewer than program->warrior.length cells. `warriors` is the value of WARRIORS, and
+ * settings->rounds that of ROUNDS. Seed and position are ignored. */
+uint32_t mars_assemble(const MarsSettings *settings, uint32_t warriors,
+                       const uint8_t *source, size_t source_length,
+                       MarsCell *cells, size_t cell_count, MarsProgram *program, MarsFault *fault);
+
+/* Maps the cells of a warrior to the lines of its source. The buffer begins with a line of text for each cell, in order: the decimal
+ * number of the line in the source, from 1, then each of its labels after a space, then LF. A line in a loop occurs once per iteration,
+ * with joins and counters replaced. An instruction from an EQU name has the line that uses the name as its operation. A label on a
+ * line without an instruction belongs to the next instruction, if there is one. *length is the length of the text, also if the call
+ * returns MARS_ROOM. The other arguments and the errors are those of mars_assemble. */
+uint32_t mars_lines(const MarsSettings *settings, uint32_t warriors,
+                    const uint8_t *source, size_t source_length,
+                    uint8_t *buffer, size_t buffer_length, size_t *length, MarsFault *fault);
+
+/* Reads a load file of version 1 or 2, like mars_assemble. Only the parameters of the core are used of the settings. */
+uint32_t mars_read_load(const MarsSettings *settings, const uint8_t *load, size_t load_length,
+                        MarsCell *cells, size_t cell_count, MarsProgram *program, MarsFault *fault);
+
+/* Writes the load file, of version 2, of a program that has these cells. *length is its length in bytes, also if the call returns
+ * MARS_ROOM. Returns MARS_SETTINGS if program->warrior.length is not the number of cells, and MARS_WARRIOR if a name is wrong, or the
+ * cells or the start. */
+uint32_t mars_write_load(const MarsSettings *settings, const MarsCell *cells, size_t cell_count, const MarsProgram *program,
+                         uint8_t *buffer, size_t buffer_length, size_t *length, MarsFault *fault);
+
+/* ---- Contests ---- */
+
+/* Runs a match of 1 to 16 warriors. `cells` has the cells of all warriors, and there is a row for each warrior, in the same order.
+ * `formula` is the score of each survivor, such as "(W*W-1)/S", with W warriors and S survivors. */
+uint32_t mars_match(const MarsSettings *settings, const uint8_t *formula, size_t formula_length,
+                    const MarsCell *cells, size_t cell_count, const MarsWarrior *warriors, size_t warrior_count,
+                    MarsRow *rows, size_t row_count, MarsFault *fault);
+
+/* Runs a league of up to 65536 warriors: a match of every two. There is a row for each warrior, and no position. With one warrior, or
+ * none, there are no matches. */
+uint32_t mars_league(const MarsSettings *settings, const uint8_t *formula, size_t formula_length,
+                     const MarsCell *cells, size_t cell_count, const MarsWarrior *warriors, size_t warrior_count,
+                     MarsRow *rows, size_t row_count, MarsFault *fault);
+
+/* Runs a match of each candidate with each opponent; the candidate is the first warrior. The first `row_count` warriors are candidates,
+ * the others are opponents. Each row is the sum of a candidate's rows. */
+uint32_t mars_population(const MarsSettings *settings, const uint8_t *formula, size_t formula_length,
+                         const MarsCell *cells, size_t cell_count, const MarsWarrior *warriors, size_t warrior_count,
+                         MarsRow *rows, size_t row_count, MarsFault *fault);
+
+/* ---- Battles ---- */
+
 /* Returns the maximum length in words of a battle with these settings and this number of warriors: no number of turns and edits
- * exceeds it. Returns 0 if the settings are out of range, or if `warriors` is not from 1 to 16. Since version 1003, like the next
- * four calls. */
+ * exceeds it. Returns 0 if the settings are out of range, or if `warriors` is not from 1 to 16. */
 size_t mars_words(const MarsSettings *settings, uint32_t warriors);
 
-/* Writes the battle of a round, as it starts, to the first words of `battle`. The load files are as for mars_match; `round` is from 0
- * to the rounds less 1. Returns MARS_ROOM if there are fewer words than mars_words returns. */
+/* Writes the battle of a round, as it starts, to the first words of `battle`. The warriors are as for mars_match; `round` is from 0 to the
+ * rounds less 1. Returns MARS_ROOM if there are fewer words than mars_words returns. */
 uint32_t mars_start(const MarsSettings *settings,
-                    const uint8_t *loads, size_t loads_length, const size_t *lengths, size_t warriors,
+                    const MarsCell *cells, size_t cell_count, const MarsWarrior *warriors, size_t warrior_count,
                     uint32_t round, uint32_t *battle, size_t words, MarsFault *fault);
 
 /* Makes `turns` turns of a battle in place, or as many as are left if these are fewer. Row k of `records` and of `touched` gets turn k,
@@ -234,90 +384,19 @@ uint32_t mars_start(const MarsSettings *settings,
 uint32_t mars_play(uint32_t *battle, size_t words, uint32_t turns,
                    MarsRecord *records, size_t record_count, MarsTouched *touched, size_t touched_count, MarsFault *fault);
 
-/* Makes an edit of a battle in place, also if the battle is over. A dead warrior stays dead. Returns MARS_EDIT with number 1 if `what` is
- * not from 1 to 4, or if a new cell has an opcode, modifier or mode that does not exist; then MARS_BLOCK and MARS_ROOM as mars_play;
- * then MARS_EDIT with the first number that applies:
- *
- *   2 Address        `address` is outside the core
- *   3 FieldOutside   a number of the new cell is outside the core
- *   4 NoSuchWarrior  there is no such warrior
- *   5 NoSuchProcess  the warrior has no process with this index
- *   6 WarriorDead    the warrior is dead, so it gets no process
- *   7 QueueFull      the warrior has as many processes as `processes` allows */
+/* Makes an edit of a battle in place, also if the battle is over. A dead warrior stays dead. Returns MARS_EDIT with
+ * MARS_EDIT_NO_SUCH_EDIT first, then MARS_BLOCK and MARS_ROOM as mars_play, then MARS_EDIT with the first of the other numbers that
+ * applies. */
 uint32_t mars_edit(uint32_t *battle, size_t words, const MarsEdit *edit, MarsFault *fault);
 
 /* Checks that the first words are a battle. Returns MARS_BLOCK if not. */
 uint32_t mars_check(const uint32_t *battle, size_t words, MarsFault *fault);
 
-/* Assembles a source to a load file of version 2, into the front of the buffer. *length is its length in bytes, also if the
- * call returns MARS_ROOM. `warriors` is the value of WARRIORS, and settings->rounds that of ROUNDS. Seed and position are ignored. */
-uint32_t mars_assemble(const MarsSettings *settings, uint32_t warriors,
-                       const uint8_t *source, size_t source_length,
-                       uint8_t *buffer, size_t buffer_length, size_t *length, MarsFault *fault);
-
-/* Maps the cells of a warrior to the lines of its source. The buffer begins with a line of text for each cell, in order: the decimal
- * number of the line in the source, from 1, then each of its labels after a space, then LF. A line in a loop occurs once per iteration,
- * with joins and counters replaced. An instruction from an EQU name has the line that uses the name as its operation. A label on a
- * line without an instruction belongs to the next instruction, if there is one. Arguments and results are those of mars_assemble;
- * *length is the length of the text. Since version 1001. */
-uint32_t mars_lines(const MarsSettings *settings, uint32_t warriors,
-                    const uint8_t *source, size_t source_length,
+/* Debugs a battle, which stays as it is: `lines` has the debugger's commands, and the buffer gets its replies. `history` is the size of
+ * the history in places, 1 to 1000000; 160 bytes for each place are allocated at once, and touched as turns are executed. *length is the
+ * length of the replies, also if the call returns MARS_ROOM. Returns MARS_SETTINGS if `history` is out of its range, then MARS_BLOCK. */
+uint32_t mars_debug(const uint32_t *battle, size_t words, uint32_t history, const uint8_t *lines, size_t lines_length,
                     uint8_t *buffer, size_t buffer_length, size_t *length, MarsFault *fault);
-
-/* Runs a match of 1 to 16 warriors. `loads` has their load files, one after the other, `lengths` has the length of each in bytes, and
- * there is a row for each, in the same order. `formula` is the score of each survivor, such as "(W*W-1)/S", with W warriors and S
- * survivors. */
-uint32_t mars_match(const MarsSettings *settings, const uint8_t *formula, size_t formula_length,
-                    const uint8_t *loads, size_t loads_length, const size_t *lengths, size_t warriors,
-                    MarsRow *rows, size_t row_count, MarsFault *fault);
-
-/* Runs a league of up to 65536 warriors: a match of every two. There is a row for each warrior, and no position. With one warrior, or
- * none, there are no matches. */
-uint32_t mars_league(const MarsSettings *settings, const uint8_t *formula, size_t formula_length,
-                     const uint8_t *loads, size_t loads_length, const size_t *lengths, size_t warriors,
-                     MarsRow *rows, size_t row_count, MarsFault *fault);
-
-/* Runs a match of each candidate with each opponent; the candidate is the first warrior. The first `row_count` load files are candidates,
- * the others are opponents. Each row is the sum of a candidate's rows. Each load file is read once. */
-uint32_t mars_population(const MarsSettings *settings, const uint8_t *formula, size_t formula_length,
-                         const uint8_t *loads, size_t loads_length, const size_t *lengths, size_t warriors,
-                         MarsRow *rows, size_t row_count, MarsFault *fault);
-
-/* Debugs the battle of the first round: `lines` has the debugger's commands, and the buffer gets its replies. `history` is the size of
- * the history in places, 1 to 1000000; 160 bytes for each place are allocated at once, and touched as turns are executed. `rounds` is
- * checked, although only one round is debugged. *length is the length of the replies, also if the call returns MARS_ROOM. */
-uint32_t mars_debug(const MarsSettings *settings,
-                    const uint8_t *loads, size_t loads_length, const size_t *lengths, size_t warriors,
-                    uint32_t history, const uint8_t *lines, size_t lines_length,
-                    uint8_t *buffer, size_t buffer_length, size_t *length, MarsFault *fault);
-
-/* Records turns. First the battle of a round, from 0 to the number of rounds minus 1, is debugged by the lines, as mars_debug does,
- * without replies. From there the battle continues: `first` turns are not recorded, and then row k gets turn first + k, counted from 0,
- * while there are rows and turns. *count is the number of turns from `first` to the end, so min(*count, row_count) rows are written;
- * the others stay unchanged. Without rows only *count is written. If the call does not return 0, *count is unchanged, too. */
-uint32_t mars_record(const MarsSettings *settings,
-                     const uint8_t *loads, size_t loads_length, const size_t *lengths, size_t warriors,
-                     uint32_t round, uint32_t history, const uint8_t *lines, size_t lines_length,
-                     uint32_t first, MarsRecord *rows, size_t row_count, size_t *count, MarsFault *fault);
-
-/* Lists the cells that turns read or write, with the same arguments as mars_record and a row for each of the same turns. Since version
- * 1002. */
-uint32_t mars_touched(const MarsSettings *settings,
-                      const uint8_t *loads, size_t loads_length, const size_t *lengths, size_t warriors,
-                      uint32_t round, uint32_t history, const uint8_t *lines, size_t lines_length,
-                      uint32_t first, MarsTouched *rows, size_t row_count, size_t *count, MarsFault *fault);
-
-/* Writes the state of the same battle after another `turns` turns, or at its end if fewer are left: the cells of the core; the number
- * of processes of each warrior; the addresses of these processes, one queue after the other, the front of each first; and the deaths in
- * order. Each buffer begins with its values; the rest of it is unchanged. The number of cells is the core size, that of counts is the
- * number of warriors, and there are at most as many deaths. *standing has the numbers of processes and deaths, also if the call
- * returns MARS_ROOM because a buffer is too short. */
-uint32_t mars_state(const MarsSettings *settings,
-                    const uint8_t *loads, size_t loads_length, const size_t *lengths, size_t warriors,
-                    uint32_t round, uint32_t history, const uint8_t *lines, size_t lines_length, uint32_t turns,
-                    MarsCell *cells, size_t cell_count, size_t *counts, size_t count_count,
-                    uint32_t *processes, size_t process_count, MarsDeath *deaths, size_t death_count,
-                    MarsStanding *standing, MarsFault *fault);
 
 #ifdef __cplusplus
 }

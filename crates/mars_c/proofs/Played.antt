@@ -1,10 +1,9 @@
 -- Turns that are made one after the other.
-use Rattle.std.proofs.Common.{◌≡◌, ℕ, zero, suc, ◌+◌, ◌-◌, ◌≤◌, ◌<◌, ◌∙◌, Bool, true, false, if◌then◌else◌, List, [], ◌∷◌, ◌++◌, length, take, drop, set, get_or, Some, None, Ok, Err, ap, refl, arith, append_assoc}
+use Rattle.std.proofs.Common.{◌≡◌, ℕ, zero, suc, ◌+◌, ◌-◌, ◌<◌, Bool, true, false, if◌then◌else◌, List, [], ◌∷◌, ◌++◌, length, take, drop, set, get_or, Some, None, Ok, Err, refl, arith, append_assoc}
 use Rattle.std.proofs.lemmas.List.{take_more_set, drop-set-lt, drop_more}
 use Rattle.mars_core.specs.State.{State, is_over_of}
 use Rattle.mars_core.specs.Turn.{turn_of, after_turns}
-use Rattle.mars_core.proofs.CallerLemmas.{turns-turn_of}
-use Rattle.mars_c.specs.Records.{IsLeft, recorded}
+use Rattle.mars_c.specs.Records.{recorded}
 
 -- a turn that was made, or wasn't, by the battle's answer and by what a row tells of it
 pub made_first : {A E : Type 0} (over : Bool) (e : E) (y x : A) → Ok x ≡ (if over then Err e else Ok y) → (over ≡ false) × (x ≡ y)
@@ -46,50 +45,6 @@ add_by false m n s running inner = rw running inner
 pub add_turns : (m n : ℕ) (s : State) → after_turns n (after_turns m s) ≡ after_turns (m + n) s
 add_turns zero n s = let e : 0 + n ≡ n = omega arith in rw e refl
 add_turns (suc m) n s = let e : suc m + n ≡ suc (m + n) = omega arith in rw e (add_by (is_over_of s) m n s refl (add_turns m n (turn_of s)))
-
--- turns never fall
-turns_rise : (n : ℕ) (s : State) → s.turns ≤ (after_turns n s).turns
-turns_rise zero s = omega arith
-turns_rise (suc n) s = elim (is_over_of s) as (λ over. s.turns ≤ (if over then s else after_turns n (turn_of s)).turns) [
-  | true ↦ omega arith
-  | false ↦ omega (arith, turns-turn_of s, turns_rise n (turn_of s))
-]
-
--- one turn more is left before a turn
-runs_more : (n : ℕ) (s : State) → is_over_of s ≡ false → IsLeft (turn_of s) n → (k : ℕ) → k < suc n → is_over_of (after_turns k s) ≡ false
-runs_more n s running inner zero less = running
-runs_more n s running inner (suc k) less = rw (turn_first k s running) (inner.runs k (omega arith))
-
-left_more : (n : ℕ) (s : State) → is_over_of s ≡ false → IsLeft (turn_of s) n → IsLeft s (suc n)
-left_more n s running inner = record { ends = rw (turn_first n s running) inner.ends; runs = runs_more n s running inner }
-
-no_more : (s : State) → is_over_of s ≡ true → IsLeft s (s.turns - s.turns)
-no_more s over = let none : s.turns - s.turns ≡ 0 = omega arith in rw none (record { ends = over; runs = λ k less. absurd (omega arith) })
-
--- how many turns are left, by the turns of the end
-left_by : (over : Bool) (m : ℕ) (s : State) → is_over_of s ≡ over
-    → (is_over_of (after_turns m (turn_of s)) ≡ true → IsLeft (turn_of s) ((after_turns m (turn_of s)).turns - (turn_of s).turns))
-    → is_over_of (after_turns (suc m) s) ≡ true → IsLeft s ((after_turns (suc m) s).turns - s.turns)
-left_by true m s over inner end = rw (over_stays (suc m) s over) (no_more s over)
-left_by false m s running inner end =
-    let last = after_turns m (turn_of s) in
-    let same : after_turns (suc m) s ≡ last = turn_first m s running in
-    let got : IsLeft (turn_of s) (last.turns - (turn_of s).turns) = inner (rw same at end) in
-    let risen : (turn_of s).turns ≤ last.turns = turns_rise m (turn_of s) in
-    let one : (turn_of s).turns ≡ s.turns + 1 = turns-turn_of s in
-    let many : last.turns - s.turns ≡ suc (last.turns - (turn_of s).turns) = omega arith in
-    rw (same, many) (left_more (last.turns - (turn_of s).turns) s running got)
-
-left : (m : ℕ) (s : State) → is_over_of (after_turns m s) ≡ true → IsLeft s ((after_turns m s).turns - s.turns)
-left zero s end = no_more s end
-left (suc m) s end = left_by (is_over_of s) m s refl (left m (turn_of s)) end
-
--- what is left behind some turns and a run to the end
-pub played : (p r e : State) (k most : ℕ) → r ≡ after_turns k p → e ≡ after_turns most r → is_over_of e ≡ true → (p.turns ≤ e.turns) × IsLeft p (e.turns - p.turns)
-played p r e k most behind last over =
-    let all : e ≡ after_turns (k + most) p = last ∙ ap (λ (s : State). after_turns most s) behind ∙ add_turns k most p in
-    let ends : is_over_of (after_turns (k + most) p) ≡ true = rw all at over in
-    (rw all (turns_rise (k + most) p), rw all (left (k + most) p ends))
 
 -- rows that turns are told in
 module _ {Row : Type 0} (row_of : State → Row) where

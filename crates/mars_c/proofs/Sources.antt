@@ -1,4 +1,4 @@
--- A load file, and the lines of a source, fail as its assembly does.
+-- The lines of a source fail as its assembly does.
 use Rattle.std.proofs.Common.{◌≡◌, ℕ, List, Result, Ok, Err, ap}
 use Rattle.mars_cell.specs.Parameters.{Parameters}
 use Rattle.mars_cell.specs.ParameterFaults.{checked_parameters}
@@ -6,7 +6,6 @@ use Rattle.redcode_text.specs.Results.{◌>>=◌}
 use Rattle.redcode_text.specs.Expansion.{ProgramValue, expansion}
 use Rattle.redcode_text.specs.Lines.{Predefined}
 use Rattle.redcode_asm.specs.Assembly.{assembly, predefined, text_read, warrior_of}
-use Rattle.redcode_asm.specs.LoadFiles.{assembled_load}
 use Rattle.redcode_asm.specs.Outcomes.{FailsAt}
 use Rattle.redcode_asm.specs.SourceLines.{assembled_lines, program_lines, source_lines}
 use Rattle.redcode_asm.specs.declared.fault.AsmFault.{AsmFault}
@@ -20,10 +19,6 @@ use Rattle.mars_c.specs.declared.settings.MarsSettings.{MarsSettings}
 made_of : {A B : Type 0} (r : Result A AsmFault) (f : A → B) (fault : AsmFault) → (r >>= λ x. Ok (f x)) ≡ Err fault → r ≡ Err fault
 made_of (Ok x) f fault told = cc
 made_of (Err e) f fault told = let same : e ≡ fault = cc in ap (λ x. Err x) same
-
-pub load_fails : (p : Parameters) (rounds warriors : ℕ) (source : List ℕ) (fault : AsmFault)
-    → assembled_load p rounds warriors source ≡ Err fault → assembly p rounds warriors source ≡ Err fault
-load_fails p rounds warriors source fault told = made_of (assembly p rounds warriors source) _ fault told
 
 lines_by : (ps : Predefined) (p : Parameters) (read : Result ProgramValue AsmFault) (fault : AsmFault)
     → (read >>= assembled_lines ps p) ≡ Err fault → (read >>= warrior_of ps p) ≡ Err fault

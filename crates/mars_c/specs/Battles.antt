@@ -1,9 +1,8 @@
--- The battle of a round, and where the debugger's lines lead it.
+-- The battle of a round, and what the debugger answers over a battle.
 use Rattle.std.specs.Prelude.{◌≡◌, ◌<◌, ◌≤◌, ℕ, zero, suc, codes, List, [], length, Ok, Option, Result, Some}
 use Rattle.mars_cell.specs.Parameters.{Parameters}
 use Rattle.mars_cell.specs.Warriors.{WarriorValue}
 use Rattle.mars_core.specs.State.{State}
-use Rattle.mars_core.specs.Turn.{after_turns}
 use Rattle.mars_match.specs.Battles.{started}
 use Rattle.mars_match.specs.Rounds.{placed_for}
 use Rattle.mars_match.specs.declared.fault.MatchFault.{MatchFault}
@@ -14,7 +13,9 @@ use Rattle.mars_app.specs.Debugger.Transcript.{Completes}
 use Rattle.mars_app.specs.Debugging.{session_at}
 use Rattle.mars_match.specs.Placement.{FitsTwo}
 use Rattle.mars_c.specs.Settings.{IsSetup}
-use Rattle.mars_c.specs.Contests.{AreLoads}
+use Rattle.mars_c.specs.Entrants.{AreEntrants}
+use Rattle.mars_c.specs.declared.cells.MarsCell.{MarsCell}
+use Rattle.mars_c.specs.declared.warriors.MarsWarrior.{MarsWarrior}
 use Rattle.mars_c.specs.declared.settings.MarsSettings.{MarsSettings}
 
 -- the starts of a round: each one before it has drawn its own
@@ -31,10 +32,10 @@ abbrev pub IsRound : Setup → List WarriorValue → ℕ → State → Type 0
 IsRound setup ws round s = (starts : List ℕ) × (placed_in setup.params (length ws) setup.plan.fixed round setup.plan.seed ≡ Ok starts)
     × (started setup.params ws starts round ≡ Ok s)
 
--- the battle of a round of these load files, as it starts
-abbrev pub IsStart : MarsSettings → List ℕ → List ℕ → ℕ → State → Type 0
-IsStart s loads lengths round start = (setup : Setup) × (ws : List WarriorValue)
-    × IsSetup s (codes "0") setup × AreLoads setup.params loads lengths ws × FitsTwo setup.params (length ws) setup.plan.fixed × (round < s.rounds)
+-- the battle of a round of these warriors, as it starts
+abbrev pub IsStart : MarsSettings → List MarsCell → List MarsWarrior → ℕ → State → Type 0
+IsStart s cells entrants round start = (setup : Setup) × (ws : List WarriorValue)
+    × IsSetup s (codes "0") setup × AreEntrants setup.params cells entrants ws × FitsTwo setup.params (length ws) setup.plan.fixed × (round < s.rounds)
     × IsRound setup ws round start
 
 -- how many places a history may keep
@@ -45,15 +46,3 @@ IsHistory places = (1 ≤ places) × (places ≤ 1000000)
 abbrev pub IsDebugged : State → ℕ → List ℕ → SessionState → List ℕ → Type 0
 IsDebugged start history lines session text = (left : Option (List ℕ))
     × Completes start.params.core_size (Some lines) left (session_at history start) (Some []) session (Some text)
-
--- the debugger's lines lead from the start of a battle to a state
-abbrev pub IsLed : State → ℕ → List ℕ → State → Type 0
-IsLed start history lines s = (session : SessionState) × (text : List ℕ) × IsDebugged start history lines session text × (s ≡ session.history.present.state)
-
--- where the debugger's lines lead the battle of a round of these load files
-abbrev pub IsAsked : MarsSettings → List ℕ → List ℕ → ℕ → ℕ → List ℕ → State → Type 0
-IsAsked s loads lengths round history lines state = (start : State) × IsHistory history × IsStart s loads lengths round start × IsLed start history lines state
-
--- the state so many turns after where the lines lead
-abbrev pub IsPlayed : MarsSettings → List ℕ → List ℕ → ℕ → ℕ → List ℕ → ℕ → State → Type 0
-IsPlayed s loads lengths round history lines turns state = (from : State) × IsAsked s loads lengths round history lines from × (state ≡ after_turns turns from)

@@ -12,9 +12,11 @@ use Rattle.mars_c.specs.Codes.{block_fault_of}
 use Rattle.mars_c.specs.Records.{recorded}
 use Rattle.mars_c.specs.Refusals.{AreWarriors, Misses, RefusesRound}
 use Rattle.mars_c.specs.declared.faults.BlockRefusal.{BlockRefusal}
-use Rattle.mars_c.specs.declared.faults.BlockRefusal.TheVariants.{OutOfMemory, Block, Capacity, NoSuchEdit, Edit as OfEdit}
+use Rattle.mars_c.specs.declared.faults.BlockRefusal.TheVariants.{OutOfMemory, Block, Capacity, NoSuchEdit, Edit as OfEdit, History}
 use Rattle.mars_c.specs.declared.faults.CallRefusal.{CallRefusal}
 use Rattle.mars_c.specs.declared.faults.MarsFault.{MarsFault}
+use Rattle.mars_c.specs.declared.cells.MarsCell.{MarsCell}
+use Rattle.mars_c.specs.declared.warriors.MarsWarrior.{MarsWarrior}
 use Rattle.mars_c.specs.declared.edits.MarsEdit.{MarsEdit}
 use Rattle.mars_c.specs.declared.ranges.SettingsFault.TheVariants.{Warriors}
 use Rattle.mars_c.specs.declared.settings.MarsSettings.{MarsSettings}
@@ -45,23 +47,23 @@ Means numbers (edit.KillProcess warrior place) = (numbers.what ≡ 3) × (warrio
 Means numbers (edit.Spawn warrior address) = (numbers.what ≡ 4) × (warrior ≡ numbers.warrior) × (address ≡ numbers.address)
 
 -- the block holds the battle of a round as it starts
-abbrev pub HoldsStart : MarsSettings → List ℕ → List ℕ → ℕ → List ℕ → List ℕ → Type 0
-HoldsStart settings loads lengths round before after = (s : State) × IsStart settings loads lengths round s
+abbrev pub HoldsStart : MarsSettings → List MarsCell → List MarsWarrior → ℕ → List ℕ → List ℕ → Type 0
+HoldsStart settings cells entrants round before after = (s : State) × IsStart settings cells entrants round s
     × (capacity_of s ≤ length before) × IsWritten s before after
 
 -- the battle of a round needs more capacity than the words have
-abbrev pub OverflowsStart : MarsSettings → List ℕ → List ℕ → ℕ → List ℕ → Type 0
-OverflowsStart settings loads lengths round words = (s : State) × IsStart settings loads lengths round s × (length words < capacity_of s)
+abbrev pub OverflowsStart : MarsSettings → List MarsCell → List MarsWarrior → ℕ → List ℕ → Type 0
+OverflowsStart settings cells entrants round words = (s : State) × IsStart settings cells entrants round s × (length words < capacity_of s)
 
 -- the edit that the numbers mean is made in the block
 abbrev pub HoldsEdited : MarsEdit → List ℕ → List ℕ → Type 0
 HoldsEdited numbers before after = (s : State) × (e : Edit) × IsPlayable s before × Means numbers e
     × (edit_fault s e ≡ None) × IsWritten (edited s e) before after
 
--- the battle of a round of these load files is not started
-abbrev pub RefusesStart : MarsSettings → List ℕ → List ℕ → ℕ → CallRefusal → Type 0
-RefusesStart settings loads lengths round refusal =
-    Misses Warriors (AreWarriors (length lengths)) refusal ⊎ RefusesRound settings loads lengths round refusal
+-- the battle of a round of these warriors is not started
+abbrev pub RefusesStart : MarsSettings → List MarsCell → List MarsWarrior → ℕ → CallRefusal → Type 0
+RefusesStart settings cells entrants round refusal =
+    Misses Warriors (AreWarriors (length entrants)) refusal ⊎ RefusesRound settings cells entrants round refusal
 
 -- the words do not begin with the block of a battle
 abbrev pub RefusesWords : List ℕ → BlockRefusal → Type 0
@@ -70,6 +72,7 @@ RefusesWords words (Block fault) = (fault ≢ block.OutOfMemory) × ((s : State)
 RefusesWords words Capacity = ⊥
 RefusesWords words NoSuchEdit = ⊥
 RefusesWords words (OfEdit fault) = ⊥
+RefusesWords words History = ⊥
 
 -- nothing can be played in the words: they do not begin with a block, or have less capacity than its battle needs
 abbrev pub RefusesPlay : List ℕ → BlockRefusal → Type 0
@@ -78,6 +81,7 @@ RefusesPlay words (Block fault) = RefusesWords words (Block fault)
 RefusesPlay words Capacity = (s : State) × Spells s words × (length words < capacity_of s)
 RefusesPlay words NoSuchEdit = ⊥
 RefusesPlay words (OfEdit fault) = ⊥
+RefusesPlay words History = ⊥
 
 -- the numbers mean no edit, nothing can be played in the words, or the machine refuses the edit
 abbrev pub RefusesEdit : List ℕ → MarsEdit → BlockRefusal → Type 0
@@ -86,6 +90,7 @@ RefusesEdit words numbers (Block fault) = RefusesWords words (Block fault)
 RefusesEdit words numbers Capacity = RefusesPlay words Capacity
 RefusesEdit words numbers NoSuchEdit = (e : Edit) → Means numbers e → ⊥
 RefusesEdit words numbers (OfEdit fault) = (s : State) × (e : Edit) × IsPlayable s words × Means numbers e × (edit_fault s e ≡ Some fault)
+RefusesEdit words numbers History = ⊥
 
 -- the error is that of a refusal with a cause
 abbrev pub Reports : (BlockRefusal → Type 0) → MarsFault → Type 0

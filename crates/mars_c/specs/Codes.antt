@@ -22,8 +22,10 @@ use Rattle.mars_c.specs.declared.faults.MarsFault.{MarsFault}
 use Rattle.mars_c.specs.declared.faults.BlockRefusal.{BlockRefusal}
 use Rattle.mars_c.specs.declared.faults.BlockRefusal.TheVariants as refused
 use Rattle.mars_c.specs.declared.faults.CallRefusal.{CallRefusal}
-use Rattle.mars_c.specs.declared.faults.CallRefusal.TheVariants.{OutOfMemory, Settings, Parameters, Formula, Assembly, Load, Placement, Battle, Score}
+use Rattle.mars_c.specs.declared.faults.CallRefusal.TheVariants.{OutOfMemory, Settings, Parameters, Formula, Assembly, Load, Placement, Battle, Score, Warrior}
 use Rattle.mars_c.specs.declared.ranges.SettingsFault.{SettingsFault}
+use Rattle.mars_c.specs.declared.warriors.EntrantFault.{EntrantFault}
+use Rattle.mars_c.specs.declared.warriors.EntrantFault.TheVariants as entrant
 use Rattle.mars_c.specs.declared.ranges.SettingsFault.TheVariants as settings
 
 abbrev pub settings_number : SettingsFault → ℕ
@@ -63,6 +65,20 @@ load_number load.Version = 6
 abbrev pub load_line : LoadFault → ℕ
 load_line (load.Syntax line) = line
 load_line fault = 0
+
+abbrev pub entrant_number : EntrantFault → ℕ
+entrant_number entrant.Length = 1
+entrant_number entrant.Start = 2
+entrant_number (entrant.Cell index) = 3
+entrant_number (entrant.Field index) = 4
+entrant_number entrant.Name = 5
+entrant_number entrant.OutOfMemory = 6
+
+-- the index of the first wrong cell of a warrior; 0 for other errors
+abbrev pub entrant_line : EntrantFault → ℕ
+entrant_line (entrant.Cell index) = index
+entrant_line (entrant.Field index) = index
+entrant_line fault = 0
 
 abbrev pub placement_number : PlaceFault → ℕ
 placement_number place.NoRoom = 1
@@ -166,10 +182,11 @@ fault_of (Assembly fault) = record {
   line = fault.line;
   warrior = 0;
 }
-fault_of (Load index fault) = record { code = 6; number = load_number fault; problem = 0; expression = 0; line = load_line fault; warrior = index }
+fault_of (Load fault) = record { code = 6; number = load_number fault; problem = 0; expression = 0; line = load_line fault; warrior = 0 }
 fault_of (Placement fault) = numbered 7 (placement_number fault)
 fault_of (Battle fault) = numbered 8 (battle_number fault)
 fault_of (Score fault) = numbered 9 (expression_number fault)
+fault_of (Warrior index fault) = record { code = 13; number = entrant_number fault; problem = 0; expression = 0; line = entrant_line fault; warrior = index }
 
 -- the error that a caller gets if a call on a block is refused
 abbrev pub block_fault_of : BlockRefusal → MarsFault
@@ -185,3 +202,4 @@ block_fault_of (refused.Block fault) = record {
 block_fault_of refused.Capacity = numbered 10 0
 block_fault_of refused.NoSuchEdit = numbered 12 1
 block_fault_of (refused.Edit fault) = numbered 12 (edit_number fault)
+block_fault_of refused.History = numbered 2 6

@@ -1,8 +1,9 @@
--- Worked examples, as theorems: faults, cells and records as numbers, where the warriors of a later round are laid, when a battle has one turn left,
--- what is out of its range, and populations.
-use Rattle.std.specs.Prelude.{◌≡◌, ℕ, zero, suc, ◌<◌, ◌≤◌, pos, refl, true, false, List, [], ◌∷◌, None, Some, Ok, Err, codes, slice_get}
-use Rattle.std.specs.List.{concat}
+-- Worked examples, as theorems: errors, cells, programs and records as numbers, warriors in an array, the positions of a later round, what is out of its range, and
+-- populations.
+use Rattle.std.specs.Prelude.{◌≡◌, ℕ, zero, suc, pos, refl, All, List, [], ◌∷◌, None, Some, Ok, Err, codes, replicate}
 use Rattle.std.proofs.Common.{arith, subst}
+use Rattle.std.proofs.lemmas.List.Elements.{All-cons, All-nil}
+use Rattle.mars_cell.specs.Cells.{FitsCore}
 use Rattle.mars_cell.specs.ParameterFaults.{checked_parameters}
 use Rattle.mars_cell.specs.Parameters.{Parameters}
 use Rattle.mars_cell.specs.Warriors.{WarriorValue}
@@ -22,9 +23,7 @@ use Rattle.redcode_text.specs.Tokens.{scanned}
 use Rattle.redcode_text.specs.declared.fault.ExprFault.TheVariants.{DivideByZero, Range}
 use Rattle.redcode_text.specs.declared.fault.TextProblem.TheVariants.{Expression}
 use Rattle.mars_core.specs.Start.{start_state, overlap}
-use Rattle.mars_core.specs.State.{is_over_of}
 use Rattle.mars_core.specs.Touched.{touched}
-use Rattle.mars_core.specs.Turn.{after_turns}
 use Rattle.mars_core.specs.Examples.{the_machine, battle_of, cell_of, imp, of_eight, eight, lone}
 use Rattle.mars_core.specs.declared.battle.block.BlockFault.TheVariants as block
 use Rattle.mars_core.specs.declared.battle.edit.Edit.TheVariants.{KillProcess}
@@ -45,23 +44,35 @@ use Rattle.mars_c.specs.Cells.{plain_cell}
 use Rattle.mars_c.specs.Blocks.{Means, played_rows}
 use Rattle.mars_c.specs.Codes.{block_fault_of, fault_of, numbered}
 use Rattle.mars_c.specs.Contests.{population}
-use Rattle.mars_c.specs.Records.{AreRows, IsLeft, change_of, turn_row}
+use Rattle.mars_c.specs.Entrants.{AreEntrants, named, plain_name, plain_program}
+use Rattle.mars_c.specs.Records.{change_of, turn_row}
 use Rattle.mars_c.specs.Touches.{touched_row}
 use Rattle.mars_c.specs.Refusals.{IsOutside, fight_refusal}
-use Rattle.mars_c.specs.States.{counts_of, fits_in, plain_standing}
 use Rattle.mars_c.specs.declared.faults.BlockRefusal.TheVariants as blocks
-use Rattle.mars_c.specs.declared.faults.CallRefusal.TheVariants.{Assembly, Battle, Load, OutOfMemory, Placement, Score}
+use Rattle.mars_c.specs.declared.faults.CallRefusal.TheVariants.{Assembly, Battle, Load, OutOfMemory, Placement, Score, Warrior}
 use Rattle.mars_c.specs.declared.ranges.SettingsFault.TheVariants.{Lengths, Position, Rounds, Seed}
+use Rattle.mars_c.specs.declared.cells.MarsCell.{MarsCell}
 use Rattle.mars_c.specs.declared.settings.MarsSettings.{MarsSettings}
+use Rattle.mars_c.specs.declared.warriors.EntrantFault.TheVariants as entrant
+use Rattle.mars_c.specs.declared.warriors.MarsWarrior.{MarsWarrior}
 
 -- a limit of 0 is the core size, and each other number its own
 pub settings_are_parameters : parameters_in (record { core = 8000; processes = 64; cycles = 80000; read_limit = 0; write_limit = 300; longest = 100; distance = 200; rounds = 1; seed = 2; position = 3 })
     ≡ record { core_size = 8000; processes = 64; cycles = 80000; read_limit = 8000; write_limit = 300; max_length = 100; distance = 200 }
 settings_are_parameters = refl
 
--- line 3 of the second load file
-pub load_file_is_told : fault_of (Load 1 (Syntax 3)) ≡ record { code = 6; number = 1; problem = 0; expression = 0; line = 3; warrior = 1 }
+-- line 3 of a load file
+pub load_file_is_told : fault_of (Load (Syntax 3)) ≡ record { code = 6; number = 1; problem = 0; expression = 0; line = 3; warrior = 0 }
 load_file_is_told = refl
+
+-- cell 4 of the second warrior has a number outside the core; the third one has a wrong start
+pub warriors_are_told : (fault_of (Warrior 1 (entrant.Field 4)) ≡ record { code = 13; number = 4; problem = 0; expression = 0; line = 4; warrior = 1 })
+    × (fault_of (Warrior 2 entrant.Start) ≡ record { code = 13; number = 2; problem = 0; expression = 0; line = 0; warrior = 2 })
+warriors_are_told = (refl, refl)
+
+-- the history of a debugger is the sixth of the settings
+pub history_is_told : block_fault_of blocks.History ≡ numbered 2 6
+history_is_told = refl
 
 -- the count of a loop in line 2 divides by zero
 pub source_is_told : fault_of (Assembly (record { line = 2; problem = Text (Expression DivideByZero) })) ≡ record { code = 5; number = 1; problem = 10; expression = 3; line = 2; warrior = 0 }
@@ -150,33 +161,12 @@ pub row_of_a_death : turn_row (lone of_eight (eight []) (6 ∷ [])) ≡ record {
 unfolding the_machine
 row_of_a_death = refl
 
-none_before : (k : ℕ) → k < 1 → is_over_of (after_turns k (lone of_eight (eight []) (6 ∷ []))) ≡ false
-unfolding the_machine
-none_before zero less = refl
-none_before (suc k) less = absurd (omega (arith, less))
-
-pub a_turn_is_left : IsLeft (lone of_eight (eight []) (6 ∷ [])) 1
-unfolding the_machine
-a_turn_is_left = record { ends = refl; runs = none_before }
-
--- two rows are there, and one turn is left: the first row has it, told by how many turns were made, and the second stays
-turn_told : (k : ℕ) → k < 1 → k < 2 → slice_get (0 ∷ 7 ∷ []) k ≡ Some (after_turns k (lone of_eight (eight []) (6 ∷ []))).turns
-turn_told zero less inside = refl
-turn_told (suc k) less inside = absurd (omega (arith, less))
-
-row_stays : (k : ℕ) → 1 ≤ k → slice_get {X = ℕ} (0 ∷ 7 ∷ []) k ≡ slice_get {X = ℕ} (7 ∷ 7 ∷ []) k
-row_stays zero more = absurd (omega (arith, more))
-row_stays (suc k) more = refl
-
 -- of two turns at most, one is left; of one turn or none, the second or both rows stay
 pub rows_are_played : (played_rows (λ s. s.turns) 2 (lone of_eight (eight []) (6 ∷ [])) (7 ∷ 7 ∷ []) ≡ 0 ∷ 7 ∷ [])
     × (played_rows (λ s. s.turns) 1 (lone of_eight (eight []) (6 ∷ [])) (7 ∷ 7 ∷ []) ≡ 0 ∷ 7 ∷ [])
     × (played_rows (λ s. s.turns) 0 (lone of_eight (eight []) (6 ∷ [])) (7 ∷ 7 ∷ []) ≡ 7 ∷ 7 ∷ [])
 unfolding the_machine
 rows_are_played = (refl, refl, refl)
-
-pub rows_begin_there : AreRows (λ s. s.turns) (lone of_eight (eight []) (6 ∷ [])) 1 (7 ∷ 7 ∷ []) (0 ∷ 7 ∷ [])
-rows_begin_there = record { many = refl; written = turn_told; kept = row_stays }
 
 -- one round of one cycle in a core of four cells, by a formula
 abbrev by_formula : List ℕ → Setup
@@ -212,26 +202,6 @@ fixed_position_stays = refl
 pub second_round_begins_with_the_second : (begun (by_formula (codes "0")) (stay ∷ dead ∷ []) 1 >>= λ s. Ok s.queues) ≡ Ok ((2 ∷ []) ∷ (0 ∷ []) ∷ [])
 unfolding starts_of next_seed drawn start_state overlap the_machine
 second_round_begins_with_the_second = refl
-
--- three warriors, of whom the second is dead
-pub queues_lie_one_behind_the_other : concat ((4 ∷ 5 ∷ []) ∷ [] ∷ (7 ∷ []) ∷ []) ≡ 4 ∷ 5 ∷ 7 ∷ []
-queues_lie_one_behind_the_other = refl
-
-pub each_queue_is_counted : counts_of ((4 ∷ 5 ∷ []) ∷ [] ∷ (7 ∷ []) ∷ []) ≡ 2 ∷ 0 ∷ 1 ∷ []
-each_queue_is_counted = refl
-
--- a core of eight cells, one warrior with two processes, no death
-pub state_fits : fits_in (lone of_eight (eight []) (6 ∷ 7 ∷ [])) 8 1 2 0 ≡ true
-unfolding the_machine
-state_fits = refl
-
-pub processes_do_not_fit : fits_in (lone of_eight (eight []) (6 ∷ 7 ∷ [])) 9 9 1 9 ≡ false
-unfolding the_machine
-processes_do_not_fit = refl
-
-pub standing_is_told : plain_standing (lone of_eight (eight []) (6 ∷ 7 ∷ [])) ≡ record { turns = 0; cycle = 0; next = 0; over = 0; processes = 2; deaths = 0 }
-unfolding the_machine
-standing_is_told = refl
 
 -- settings of nano, with so many rounds, this seed and this position
 abbrev nano : ℕ → ℕ → ℕ → MarsSettings
@@ -273,9 +243,40 @@ positions_are_judged = (
   λ outside. outside.2 tt,
 )
 
--- two load files of 2 and 1 bytes, and three or four bytes
-pub lengths_are_judged : IsOutside (nano 1 1 0) 2 (1 ∷ 2 ∷ 3 ∷ 4 ∷ []) (2 ∷ 1 ∷ []) Lengths × (IsOutside (nano 1 1 0) 2 (1 ∷ 2 ∷ 3 ∷ []) (2 ∷ 1 ∷ []) Lengths → ⊥)
+-- MOV.I $0, $1 as numbers
+abbrev numbers : MarsCell
+numbers = record { op = 1; modifier = 6; a_mode = 1; b_mode = 1; a = 0; b = 1 }
+
+abbrev of_length : ℕ → ℕ → MarsWarrior
+of_length length start = record { length = length; start = start }
+
+-- warriors of 2 and 1 cells, and three or four cells
+pub lengths_are_judged : IsOutside (nano 1 1 0) 2 (numbers ∷ numbers ∷ numbers ∷ numbers ∷ []) (of_length 2 0 ∷ of_length 1 0 ∷ []) Lengths
+    × (IsOutside (nano 1 1 0) 2 (numbers ∷ numbers ∷ numbers ∷ []) (of_length 2 0 ∷ of_length 1 0 ∷ []) Lengths → ⊥)
 lengths_are_judged = (λ same. cc, λ outside. outside refl)
+
+-- a warrior of imps
+abbrev imps : ℕ → ℕ → WarriorValue
+imps length start = record { name = []; author = []; cells = replicate length imp; start = start }
+
+-- the second of two warriors begins at its second cell
+fit : (n : ℕ) → All (FitsCore 80) (replicate n imp)
+fit zero = All-nil (FitsCore 80)
+fit (suc n) = All-cons (FitsCore 80) imp (replicate n imp) (record { a = omega arith; b = omega arith }) (fit n)
+
+pub warriors_lie_one_after_another : AreEntrants (parameters_in (nano 1 1 0)) (numbers ∷ numbers ∷ numbers ∷ []) (of_length 1 0 ∷ of_length 2 1 ∷ []) (imps 1 0 ∷ imps 2 1 ∷ [])
+warriors_lie_one_after_another = (
+  omega arith,
+  record { cells_same = refl; fits = fit 1; short = omega arith; start_same = refl; inside = omega arith; name_same = refl; author_same = refl },
+  (omega arith, record { cells_same = refl; fits = fit 2; short = omega arith; start_same = refl; inside = omega arith; name_same = refl; author_same = refl }, refl),
+)
+
+-- a name is followed by zeros, and ends before the first
+pub name_is_padded : named (plain_name (codes "Imp")) ≡ codes "Imp"
+name_is_padded = refl
+
+pub program_is_told : (plain_program (record { name = codes "Imp"; author = []; cells = imp ∷ imp ∷ []; start = 1 })).warrior ≡ of_length 2 1
+program_is_told = refl
 
 -- want of memory is one refusal, wherever it came
 pub fights_are_refused : (fight_refusal (fight.Place NoRoom) ≡ Placement NoRoom) × (fight_refusal (fight.Battle FieldOutside) ≡ Battle FieldOutside)

@@ -1,7 +1,7 @@
 -- Records of turns as numbers.
-use Rattle.std.specs.Prelude.{◌≡◌, ◌<◌, ◌≤◌, ℕ, true, false, if◌then◌else◌, List, [], ◌∷◌, length, Option, None, Some, slice_get, slice_index_or}
+use Rattle.std.specs.Prelude.{ℕ, if◌then◌else◌, List, [], ◌∷◌, length, Option, None, Some, slice_get, slice_index_or}
 use Rattle.mars_core.specs.State.{State, is_over_of}
-use Rattle.mars_core.specs.Turn.{turn_of, turn_record, after_turns}
+use Rattle.mars_core.specs.Turn.{turn_of, turn_record}
 use Rattle.mars_core.specs.declared.record.Atom.{Atom}
 use Rattle.mars_core.specs.declared.record.Work.{Work}
 use Rattle.mars_core.specs.declared.record.Work.TheVariants.{Turn, SetCell, MoveProcess, KillProcess, Spawn}
@@ -53,15 +53,3 @@ turn_row s = plain_record (turn_record s) (turn_of s).cycle
 abbrev pub recorded : {Row : Type 0} → (State → Row) → State → List Row → List Row
 recorded row_of s [] = []
 recorded row_of s (row ∷ rows) = if is_over_of s then row ∷ rows else row_of s ∷ recorded row_of (turn_of s) rows
-
--- so many turns are left: after them the battle is over, and not before
-pub record IsLeft (s : State) (n : ℕ) : Type 0 where
-  pub ends : is_over_of (after_turns n s) ≡ true
-  pub runs : (k : ℕ) → k < n → is_over_of (after_turns k s) ≡ false
-
--- Rows hold the turns from a state on, of which so many are left: row k the record of turn k, counted from 0. Where there are more rows, these
--- are as they were.
-pub record AreRows {Row : Type 0} (row_of : State → Row) (s : State) (left : ℕ) (before after : List Row) : Type 0 where
-  pub many : length after ≡ length before
-  pub written : (k : ℕ) → k < left → k < length before → slice_get after k ≡ Some (row_of (after_turns k s))
-  pub kept : (k : ℕ) → left ≤ k → slice_get after k ≡ slice_get before k

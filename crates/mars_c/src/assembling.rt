@@ -1,34 +1,50 @@
-//! Sources, made into load files, and the lines in which their instructions stand.
-ghost use Rattle.std.specs.Prelude.{IfErr, IfOk};
-ghost use Rattle.mars_c.specs.Contests.{AreLines, IsLoadFile};
-ghost use Rattle.mars_c.specs.Refusals.{RefusesSource};
+//! Programs of sources and load files, load files of programs, and the lines in which a source has its instructions.
+ghost use Rattle.std.specs.Prelude.{◌≡◌, ◌≢◌, IfErr, IfOk};
+ghost use Rattle.mars_c.specs.Entrants.{IsEntrant, named, plain_program};
+ghost use Rattle.mars_c.specs.Programs.{AreLines, IsAssembled, IsLoadFile, IsLoaded};
+ghost use Rattle.mars_c.specs.Refusals.{IsNoProgram, RefusesLoad, RefusesSource, RefusesWriting};
 
+use crate::cells::MarsCell;
 use crate::faults::{CallRefusal, refused_source};
+use crate::ranges::SettingsFault;
 use crate::settings::{MarsSettings, parameters};
-use redcode_asm::{assemble_load, source_lines};
+use crate::warriors::{EntrantFault, Made, MarsProgram, name_in, warrior_of};
+use mars_cell::{LoadFault, Params, Warrior, read_load, write_load};
+use redcode_asm::{assemble, source_lines};
 use std::alloc::Global;
 
-/// The load file of a source.
-pub fn load_file(
+/// Returns a warrior with its program.
+fn made_of(warrior: Warrior) -> Result<Made, CallRefusal>
+    ensures made { IfOk result (λ made. (made.warrior ≡ warrior) × (made.program ≡ plain_program warrior)) }
+    ensures memory { IfErr result (λ refusal. refusal ≡ CallRefusal.OutOfMemory) }
+{
+    match Made::of(warrior) {
+        Ok(made) => Ok(made),
+        Err(_) => Err(CallRefusal::OutOfMemory),
+    }
+}
+
+/// Returns the program that a source is assembled to.
+pub fn assembled(
     alloc: Global,
     settings: &MarsSettings,
     warriors: u32,
     source: &[u8],
-) -> Result<Vec<u8>, CallRefusal>
-    ensures made { IfOk result (λ text. IsLoadFile settings.now warriors source.now text.items) }
+) -> Result<Made, CallRefusal>
+    ensures made { IfOk result (λ made. IsAssembled settings.now warriors source.now made.warrior × (made.program ≡ plain_program made.warrior)) }
     ensures refused { IfErr result (RefusesSource settings.now warriors source.now) }
 {
     let params = match parameters(settings) {
         Ok(params) => params,
         Err(fault) => return Err(CallRefusal::Parameters(fault)),
     };
-    match assemble_load(alloc, source, &params, settings.rounds, warriors) {
-        Ok(text) => Ok(text),
+    match assemble(alloc, source, &params, settings.rounds, warriors) {
+        Ok(warrior) => made_of(warrior),
         Err(fault) => Err(refused_source(fault)),
     }
 }
 
-/// Where the instructions of a source stand in it.
+/// Returns the lines of a source in which its instructions stand.
 pub fn lines(
     alloc: Global,
     settings: &MarsSettings,
@@ -45,5 +61,64 @@ pub fn lines(
     match source_lines(alloc, source, &params, settings.rounds, warriors) {
         Ok(text) => Ok(text),
         Err(fault) => Err(refused_source(fault)),
+    }
+}
+
+/// Returns the program of a load file.
+pub fn loaded(alloc: Global, settings: &MarsSettings, text: &[u8]) -> Result<Made, CallRefusal>
+    ensures read { IfOk result (λ made. IsLoaded settings.now text.now made.warrior × (made.program ≡ plain_program made.warrior)) }
+    ensures refused { IfErr result (RefusesLoad settings.now text.now) }
+{
+    let params = match parameters(settings) {
+        Ok(params) => params,
+        Err(fault) => return Err(CallRefusal::Parameters(fault)),
+    };
+    match read_load(alloc, text, &params) {
+        Ok(warrior) => made_of(warrior),
+        Err(LoadFault::OutOfMemory) => Err(CallRefusal::OutOfMemory),
+        Err(fault) => Err(CallRefusal::Load(fault)),
+    }
+}
+
+/// Returns the warrior with these cells and the start and the names of a program.
+fn named_warrior(
+    alloc: Global,
+    params: &Params,
+    cells: &[MarsCell],
+    program: &MarsProgram,
+) -> Result<Warrior, EntrantFault>
+    ensures warrior { IfOk result (IsEntrant params.now cells.now program.now.warrior.start (named program.now.name) (named program.now.author)) }
+    ensures refused { IfErr result (λ fault. fault ≢ EntrantFault.OutOfMemory → IsNoProgram params.now cells.now program.now fault) }
+{
+    let name = name_in(alloc, &program.name)?;
+    let author = name_in(alloc, &program.author)?;
+    warrior_of(alloc, params, cells, program.warrior.start, name, author)
+}
+
+/// Returns the load file of cells and a program.
+pub fn written(
+    alloc: Global,
+    settings: &MarsSettings,
+    cells: &[MarsCell],
+    program: &MarsProgram,
+) -> Result<Vec<u8>, CallRefusal>
+    ensures text { IfOk result (λ text. IsLoadFile settings.now cells.now program.now text.items) }
+    ensures refused { IfErr result (RefusesWriting settings.now cells.now program.now) }
+{
+    let params = match parameters(settings) {
+        Ok(params) => params,
+        Err(fault) => return Err(CallRefusal::Parameters(fault)),
+    };
+    if program.warrior.length as usize != cells.len() {
+        return Err(CallRefusal::Settings(SettingsFault::Lengths));
+    }
+    let warrior = match named_warrior(alloc, &params, cells, program) {
+        Ok(warrior) => warrior,
+        Err(EntrantFault::OutOfMemory) => return Err(CallRefusal::OutOfMemory),
+        Err(fault) => return Err(CallRefusal::Warrior(0, fault)),
+    };
+    match write_load(alloc, &warrior, params.core_size()) {
+        Ok(text) => Ok(text),
+        Err(_) => Err(CallRefusal::OutOfMemory),
     }
 }

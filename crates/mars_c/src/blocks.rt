@@ -14,8 +14,8 @@ ghost use Rattle.mars_c.specs.Touches.{touched_row};
 
 use crate::battles::start_of;
 use crate::edits::{MarsEdit, edit_of};
+use crate::entrants::Entrants;
 use crate::faults::{BlockRefusal, CallRefusal};
-use crate::loading::LoadFiles;
 use crate::playing::{TurnRow, tell_turns};
 use crate::records::MarsRecord;
 use crate::settings::{MarsSettings, parameters, warriors_fault};
@@ -38,20 +38,20 @@ pub fn words_of(settings: &MarsSettings, warriors: u32) -> usize
     }
 }
 
-/// Returns the battle of a round of load files, as it starts.
+/// Returns the battle of a round, as it starts.
 pub fn started(
     alloc: Global,
     settings: &MarsSettings,
-    loads: LoadFiles<'_>,
+    entrants: Entrants<'_>,
     round: u32,
 ) -> Result<Battle, CallRefusal>
-    ensures start { let l = loads.entry in IfOk result (IsStart settings.now l.loads.now l.lengths.now round) }
-    ensures refused { let l = loads.entry in IfErr result (RefusesStart settings.now l.loads.now l.lengths.now round) }
+    ensures start { let e = entrants.entry in IfOk result (IsStart settings.now e.cells.now e.warriors.now round) }
+    ensures refused { let e = entrants.entry in IfErr result (RefusesStart settings.now e.cells.now e.warriors.now round) }
 {
-    if let Some(fault) = warriors_fault(loads.lengths.len()) {
+    if let Some(fault) = warriors_fault(entrants.warriors.len()) {
         return Err(CallRefusal::Settings(fault));
     }
-    start_of(alloc, settings, loads, round)
+    start_of(alloc, settings, entrants, round)
 }
 
 /// Writes the block of a battle, if the words have the capacity that the battle needs. Returns whether they have.
@@ -68,7 +68,7 @@ pub fn put_if_fits(battle: &Battle, words: &mut [u32]) -> bool
 }
 
 /// Returns the battle whose block the words begin with.
-fn read(alloc: Global, words: &[u32]) -> Result<Battle, BlockRefusal>
+pub fn read(alloc: Global, words: &[u32]) -> Result<Battle, BlockRefusal>
     ensures battle { IfOk result (λ battle. Spells battle words.now) }
     ensures refused { IfErr result (RefusesWords words.now) }
 {

@@ -1,33 +1,36 @@
-//! The debugger over the first round's battle.
+//! The debugger over a battle in a block.
 ghost use Rattle.std.specs.Prelude.{IfErr, IfOk};
-ghost use Rattle.mars_c.specs.Debugging.{Debugs};
-ghost use Rattle.mars_c.specs.Refusals.{RefusesDebugging};
+ghost use Rattle.mars_c.specs.Debugging.{Debugs, RefusesDebugging};
 
-use crate::battles::{asked_fault, debugged, start_of};
-use crate::faults::CallRefusal;
-use crate::loading::LoadFiles;
-use crate::settings::MarsSettings;
+use crate::battles::debugged;
+use crate::blocks::read;
+use crate::faults::BlockRefusal;
 use std::alloc::Global;
 
-/// The transcript of the debugger's lines over the battle of the first round.
+/// Maximum number of places of a history.
+const LONGEST_HISTORY: u32 = 1_000_000;
+
+/// Returns what the debugger answers to lines over the battle whose block the words begin with.
 pub fn transcript(
     alloc: Global,
-    settings: &MarsSettings,
-    loads: LoadFiles<'_>,
+    words: &[u32],
     history: u32,
     lines: &[u8],
-) -> Result<Vec<u8>, CallRefusal>
-    ensures told { let l = loads.entry in IfOk result (λ text. Debugs settings.now l.loads.now l.lengths.now history lines.now text.items) }
-    ensures refused { let l = loads.entry in IfErr result (RefusesDebugging settings.now l.loads.now l.lengths.now 0 history) }
+) -> Result<Vec<u8>, BlockRefusal>
+    ensures text { IfOk result (λ text. Debugs words.now history lines.now text.items) }
+    ensures refused { IfErr result (RefusesDebugging words.now history) }
 {
-    if let Some(fault) = asked_fault(loads.lengths.len(), history) {
-        return Err(CallRefusal::Settings(fault));
+    if history < 1 || history > LONGEST_HISTORY {
+        return Err(BlockRefusal::History);
     }
-    let battle = start_of(alloc, settings, loads, 0)?;
+    let battle = match read(alloc, words) {
+        Ok(battle) => battle,
+        Err(refusal) => return Err(refusal),
+    };
     let mut transcript = Vec::new(alloc);
     match debugged(alloc, battle, history, lines, &mut transcript) {
         Some(session) => drop(session),
-        None => return Err(CallRefusal::OutOfMemory),
+        None => return Err(BlockRefusal::OutOfMemory),
     }
     Ok(transcript)
 }

@@ -1,13 +1,10 @@
 //! Edits as numbers.
-ghost use Rattle.std.specs.Prelude.{◌≡◌, ◌≢◌, IfNone, IfSome};
-ghost use Rattle.mars_cell.specs.declared.instruction.Cell.{Cell as CellValue};
+ghost use Rattle.std.specs.Prelude.{IfNone, IfSome};
 ghost use Rattle.mars_core.specs.declared.battle.edit.Edit.{Edit as EditValue};
 ghost use Rattle.mars_c.specs.Blocks.{Means};
-ghost use Rattle.mars_c.specs.Cells.{plain_cell};
 
-use crate::cells::MarsCell;
-use mars_cell::Cell;
-use mars_core::{Edit, mode_of, modifier_of, op_of};
+use crate::cells::{MarsCell, cell_of};
+use mars_core::Edit;
 
 /// Edit of a battle. An edit reads only the fields that it needs.
 #[repr(C)]
@@ -23,21 +20,6 @@ pub struct MarsEdit {
     pub address: u32,
     /// New cell: 1.
     pub cell: MarsCell,
-}
-
-/// Returns the cell with these numbers, or `None` if a number stands for no opcode, modifier or mode.
-fn cell_of(numbers: &MarsCell) -> Option<Cell>
-    ensures some { IfSome result (λ cell. plain_cell cell ≡ numbers.now) }
-    ensures none { IfNone result ((cell : CellValue) → plain_cell cell ≢ numbers.now) }
-{
-    Some(Cell {
-        op: op_of(u32::from(numbers.op))?,
-        modifier: modifier_of(u32::from(numbers.modifier))?,
-        a_mode: mode_of(u32::from(numbers.a_mode))?,
-        b_mode: mode_of(u32::from(numbers.b_mode))?,
-        a: numbers.a,
-        b: numbers.b,
-    })
 }
 
 /// Returns the edit that the numbers mean, or `None` if they mean none.

@@ -1,31 +1,24 @@
 //! What C calls.
-ghost use Rattle.std.specs.Prelude.{◌≡◌, ◌≢◌, ◌≤◌, false, length, true};
-ghost use Rattle.mars_c.specs.Contests.{BeginsWith, HoldsLeague, HoldsLines, HoldsLoadFile, HoldsMatch, HoldsSums, Overflows, OverflowsLines, OverflowsLoadFile};
-ghost use Rattle.mars_c.specs.Debugging.{HoldsRows, HoldsState, HoldsTranscript, OverflowsState, OverflowsTranscript};
-ghost use Rattle.mars_c.specs.Refusals.{RefusesDebugging, RefusesLeague, RefusesMatch, RefusesPopulation, RefusesSource, Tells};
-ghost use Rattle.mars_c.specs.Records.{turn_row};
-ghost use Rattle.mars_c.specs.States.{AreKept};
-ghost use Rattle.mars_c.specs.Touches.{touched_row};
+ghost use Rattle.std.specs.Prelude.{◌≡◌, ◌≢◌, ◌≤◌, ◌<◌, ◌++◌, drop, false, length, map, true};
+ghost use Rattle.mars_c.specs.Cells.{plain_cell};
+ghost use Rattle.mars_c.specs.Contests.{HoldsLeague, HoldsMatch, HoldsSums};
+ghost use Rattle.mars_c.specs.Programs.{AreLines, BeginsWith, HoldsProgram, HoldsText, IsAssembled, IsLoadFile, IsLoaded, Overflows, OverflowsProgram, OverflowsText};
+ghost use Rattle.mars_c.specs.Refusals.{RefusesLeague, RefusesLoad, RefusesMatch, RefusesPopulation, RefusesSource, RefusesWriting, Tells};
 
 mod blocks;
 
-use crate::assembling::{lines, load_file};
-use crate::battles::{LedRound, battle_of, state_of};
-use crate::cells::MarsCell;
+use crate::assembling::{assembled, lines, loaded, written};
+use crate::cells::{MarsCell, put_cells};
 use crate::contests::{league_into, match_into};
-use crate::debugging::transcript;
-use crate::faults::{CallRefusal, MarsFault, given, told};
-use crate::loading::LoadFiles;
-use crate::playing::give_rows_of_turns;
+use crate::entrants::Entrants;
+use crate::faults::{MarsFault, given, told};
 use crate::population::population_into;
-use crate::records::MarsRecord;
 use crate::rows::MarsRow;
 use crate::settings::MarsSettings;
-use crate::states::{MarsDeath, MarsStanding, parts_of};
-use crate::touches::MarsTouched;
+use crate::warriors::{Made, MarsProgram, MarsWarrior};
 use std::alloc::Global;
 
-/// Writes a text to the front of a buffer, where it fits. Tells its length, and whether it fits.
+/// Writes a text to the front of a buffer, if it fits. Returns whether it fits, and its length in `length`.
 fn give_text(text: &[u8], buffer: &mut [u8], length: &mut usize) -> bool
     ensures fits { result ≡ true → BeginsWith text.now length.new buffer.old buffer.new }
     ensures short { result ≡ false → Overflows text.now length.new buffer.old }
@@ -39,7 +32,24 @@ fn give_text(text: &[u8], buffer: &mut [u8], length: &mut usize) -> bool
     true
 }
 
-/// Tells the caller a fault, whose code is the call's answer.
+/// Writes a program, and its cells to the front of the places, if they fit. Returns whether they fit.
+fn give_program(made: &Made, places: &mut [MarsCell], program: &mut MarsProgram) -> bool
+    ensures program { program.new ≡ made.now.program }
+    ensures fits { result ≡ true → length made.now.warrior.cells ≤ length places.old }
+    ensures cells { result ≡ true → places.new ≡ map plain_cell made.now.warrior.cells ++ drop (length made.now.warrior.cells) places.old }
+    ensures short { result ≡ false → length places.old < length made.now.warrior.cells }
+    ensures kept { result ≡ false → places.new ≡ places.old }
+{
+    *program = made.program;
+    let cells = made.warrior.cells();
+    if cells.len() > places.len() {
+        return false;
+    }
+    put_cells(cells, places);
+    true
+}
+
+/// Stores an error for the caller. Returns its code.
 fn answer(place: &mut MarsFault, fault: MarsFault) -> u32
     ensures fault { place.new ≡ fault }
     ensures code { result ≡ fault.code }
@@ -49,41 +59,41 @@ fn answer(place: &mut MarsFault, fault: MarsFault) -> u32
 }
 
 /// The version: 1,000 for each major one, and the minor one. It is MARS_VERSION of `include/mars.h`.
-const VERSION: u32 = 1003;
+const VERSION: u32 = 2000;
 
-/// Tells the version of the library.
+/// Returns the version of the library.
 #[unsafe(no_mangle)]
 pub extern "C" fn mars_version() -> u32
-    ensures { result ≡ 1003 }
+    ensures { result ≡ 2000 }
 {
     VERSION
 }
 
-/// Assembles a source to its load file.
+/// Assembles a source to the cells of its warrior.
 #[unsafe(no_mangle)]
 pub extern "C" fn mars_assemble(
     alloc: Global,
     settings: &MarsSettings,
     warriors: u32,
     source: &[u8],
-    buffer: &mut [u8],
-    length: &mut usize,
+    cells: &mut [MarsCell],
+    program: &mut MarsProgram,
     fault: &mut MarsFault,
 ) -> u32
     ensures told { result ≡ fault.new.code }
-    ensures done { result ≡ 0 → HoldsLoadFile settings.now warriors source.now length.new buffer.old buffer.new }
-    ensures refused { 1 ≤ result → result ≤ 9 → Tells (RefusesSource settings.now warriors source.now) fault.new }
-    ensures room { result ≡ 10 → OverflowsLoadFile settings.now warriors source.now length.new buffer.old }
-    ensures kept { result ≢ 0 → buffer.new ≡ buffer.old }
-    ensures few { result ≤ 10 }
+    ensures done { result ≡ 0 → HoldsProgram (IsAssembled settings.now warriors source.now) program.new cells.old cells.new }
+    ensures refused { result ≢ 0 → result ≢ 10 → Tells (RefusesSource settings.now warriors source.now) fault.new }
+    ensures room { result ≡ 10 → OverflowsProgram (IsAssembled settings.now warriors source.now) program.new cells.old }
+    ensures kept { result ≢ 0 → cells.new ≡ cells.old }
+    ensures unread { result ≢ 0 → result ≢ 10 → program.new ≡ program.old }
 {
-    match load_file(alloc, settings, warriors, source) {
-        Ok(text) => answer(fault, given(give_text(&text, buffer, length))),
+    match assembled(alloc, settings, warriors, source) {
+        Ok(made) => answer(fault, given(give_program(&made, cells, program))),
         Err(refusal) => answer(fault, told(refusal)),
     }
 }
 
-/// Tells where the instructions of a source stand in it.
+/// Returns the lines of a source in which its instructions stand.
 #[unsafe(no_mangle)]
 pub extern "C" fn mars_lines(
     alloc: Global,
@@ -95,11 +105,10 @@ pub extern "C" fn mars_lines(
     fault: &mut MarsFault,
 ) -> u32
     ensures told { result ≡ fault.new.code }
-    ensures done { result ≡ 0 → HoldsLines settings.now warriors source.now length.new buffer.old buffer.new }
-    ensures refused { 1 ≤ result → result ≤ 9 → Tells (RefusesSource settings.now warriors source.now) fault.new }
-    ensures room { result ≡ 10 → OverflowsLines settings.now warriors source.now length.new buffer.old }
+    ensures done { result ≡ 0 → HoldsText (AreLines settings.now warriors source.now) length.new buffer.old buffer.new }
+    ensures refused { result ≢ 0 → result ≢ 10 → Tells (RefusesSource settings.now warriors source.now) fault.new }
+    ensures room { result ≡ 10 → OverflowsText (AreLines settings.now warriors source.now) length.new buffer.old }
     ensures kept { result ≢ 0 → buffer.new ≡ buffer.old }
-    ensures few { result ≤ 10 }
 {
     match lines(alloc, settings, warriors, source) {
         Ok(text) => answer(fault, given(give_text(&text, buffer, length))),
@@ -107,222 +116,114 @@ pub extern "C" fn mars_lines(
     }
 }
 
-/// Fights a match of 1 to 16 load files.
+/// Reads the cells of a load file.
 #[unsafe(no_mangle)]
-pub extern "C" fn mars_match(
+pub extern "C" fn mars_read_load(
     alloc: Global,
     settings: &MarsSettings,
-    formula: &[u8],
-    loads: &[u8],
-    lengths: &[usize],
-    rows: &mut [MarsRow],
+    load: &[u8],
+    cells: &mut [MarsCell],
+    program: &mut MarsProgram,
     fault: &mut MarsFault,
 ) -> u32
     ensures told { result ≡ fault.new.code }
-    ensures refused { 1 ≤ result → result ≤ 9 → Tells (RefusesMatch settings.now formula.now loads.now lengths.now (length rows.old)) fault.new }
-    ensures done { result ≡ 0 → HoldsMatch settings.now formula.now loads.now lengths.now rows.new }
-    ensures kept { result ≢ 0 → rows.new ≡ rows.old }
-    ensures few { result ≤ 9 }
+    ensures done { result ≡ 0 → HoldsProgram (IsLoaded settings.now load.now) program.new cells.old cells.new }
+    ensures refused { result ≢ 0 → result ≢ 10 → Tells (RefusesLoad settings.now load.now) fault.new }
+    ensures room { result ≡ 10 → OverflowsProgram (IsLoaded settings.now load.now) program.new cells.old }
+    ensures kept { result ≢ 0 → cells.new ≡ cells.old }
+    ensures unread { result ≢ 0 → result ≢ 10 → program.new ≡ program.old }
 {
-    match match_into(alloc, settings, formula, LoadFiles { loads, lengths }, rows) {
-        Ok(()) => answer(fault, given(true)),
+    match loaded(alloc, settings, load) {
+        Ok(made) => answer(fault, given(give_program(&made, cells, program))),
         Err(refusal) => answer(fault, told(refusal)),
     }
 }
 
-/// Fights a league of up to 65,536 load files.
+/// Writes the load file of cells and a program.
 #[unsafe(no_mangle)]
-pub extern "C" fn mars_league(
+pub extern "C" fn mars_write_load(
     alloc: Global,
     settings: &MarsSettings,
-    formula: &[u8],
-    loads: &[u8],
-    lengths: &[usize],
-    rows: &mut [MarsRow],
-    fault: &mut MarsFault,
-) -> u32
-    ensures told { result ≡ fault.new.code }
-    ensures refused { 1 ≤ result → result ≤ 9 → Tells (RefusesLeague settings.now formula.now loads.now lengths.now (length rows.old)) fault.new }
-    ensures done { result ≡ 0 → HoldsLeague settings.now formula.now loads.now lengths.now rows.new }
-    ensures kept { result ≢ 0 → rows.new ≡ rows.old }
-    ensures few { result ≤ 9 }
-{
-    match league_into(alloc, settings, formula, LoadFiles { loads, lengths }, rows) {
-        Ok(()) => answer(fault, given(true)),
-        Err(refusal) => answer(fault, told(refusal)),
-    }
-}
-
-/// Fights a match of each candidate with each opponent.
-#[unsafe(no_mangle)]
-pub extern "C" fn mars_population(
-    alloc: Global,
-    settings: &MarsSettings,
-    formula: &[u8],
-    loads: &[u8],
-    lengths: &[usize],
-    rows: &mut [MarsRow],
-    fault: &mut MarsFault,
-) -> u32
-    ensures told { result ≡ fault.new.code }
-    ensures refused { 1 ≤ result → result ≤ 9 → Tells (RefusesPopulation settings.now formula.now loads.now lengths.now (length rows.old)) fault.new }
-    ensures done { result ≡ 0 → HoldsSums settings.now formula.now loads.now lengths.now rows.new }
-    ensures kept { result ≢ 0 → rows.new ≡ rows.old }
-    ensures few { result ≤ 9 }
-{
-    match population_into(alloc, settings, formula, LoadFiles { loads, lengths }, rows) {
-        Ok(()) => answer(fault, given(true)),
-        Err(refusal) => answer(fault, told(refusal)),
-    }
-}
-
-/// Debugs the battle of the first round.
-#[unsafe(no_mangle)]
-pub extern "C" fn mars_debug(
-    alloc: Global,
-    settings: &MarsSettings,
-    loads: &[u8],
-    lengths: &[usize],
-    history: u32,
-    lines: &[u8],
+    cells: &[MarsCell],
+    program: &MarsProgram,
     buffer: &mut [u8],
     length: &mut usize,
     fault: &mut MarsFault,
 ) -> u32
     ensures told { result ≡ fault.new.code }
-    ensures refused { 1 ≤ result → result ≤ 9 → Tells (RefusesDebugging settings.now loads.now lengths.now 0 history) fault.new }
-    ensures done { result ≡ 0 → HoldsTranscript settings.now loads.now lengths.now history lines.now length.new buffer.old buffer.new }
-    ensures room { result ≡ 10 → OverflowsTranscript settings.now loads.now lengths.now history lines.now length.new buffer.old }
+    ensures done { result ≡ 0 → HoldsText (IsLoadFile settings.now cells.now program.now) length.new buffer.old buffer.new }
+    ensures refused { result ≢ 0 → result ≢ 10 → Tells (RefusesWriting settings.now cells.now program.now) fault.new }
+    ensures room { result ≡ 10 → OverflowsText (IsLoadFile settings.now cells.now program.now) length.new buffer.old }
     ensures kept { result ≢ 0 → buffer.new ≡ buffer.old }
-    ensures few { result ≤ 10 }
 {
-    match transcript(
-        alloc,
-        settings,
-        LoadFiles { loads, lengths },
-        history,
-        lines,
-    ) {
+    match written(alloc, settings, cells, program) {
         Ok(text) => answer(fault, given(give_text(&text, buffer, length))),
         Err(refusal) => answer(fault, told(refusal)),
     }
 }
 
-/// Records the turns of the battle of a round, from where the debugger's lines lead it.
+/// Runs a match of 1 to 16 warriors.
 #[unsafe(no_mangle)]
-pub extern "C" fn mars_record(
+pub extern "C" fn mars_match(
     alloc: Global,
     settings: &MarsSettings,
-    loads: &[u8],
-    lengths: &[usize],
-    round: u32,
-    history: u32,
-    lines: &[u8],
-    first: u32,
-    rows: &mut [MarsRecord],
-    count: &mut usize,
+    formula: &[u8],
+    cells: &[MarsCell],
+    warriors: &[MarsWarrior],
+    rows: &mut [MarsRow],
     fault: &mut MarsFault,
 ) -> u32
     ensures told { result ≡ fault.new.code }
-    ensures refused { 1 ≤ result → result ≤ 9 → Tells (RefusesDebugging settings.now loads.now lengths.now round history) fault.new }
-    ensures done { result ≡ 0 → HoldsRows turn_row settings.now loads.now lengths.now round history lines.now first count.new rows.old rows.new }
+    ensures refused { result ≢ 0 → Tells (RefusesMatch settings.now formula.now cells.now warriors.now (length rows.old)) fault.new }
+    ensures done { result ≡ 0 → HoldsMatch settings.now formula.now cells.now warriors.now rows.new }
     ensures kept { result ≢ 0 → rows.new ≡ rows.old }
-    ensures uncounted { result ≢ 0 → count.new ≡ count.old }
-    ensures few { result ≤ 9 }
 {
-    let asked = LedRound {
-        loads: LoadFiles { loads, lengths },
-        round,
-        history,
-        lines,
-    };
-    match battle_of(alloc, settings, asked) {
-        Ok(battle) => {
-            give_rows_of_turns(battle, first, rows, count);
-            answer(fault, given(true))
-        }
+    match match_into(alloc, settings, formula, Entrants { cells, warriors }, rows) {
+        Ok(()) => answer(fault, given(true)),
         Err(refusal) => answer(fault, told(refusal)),
     }
 }
 
-/// Tells which cells the turns of the battle of a round read or write, from where the debugger's lines lead it.
+/// Runs a league of up to 65,536 warriors.
 #[unsafe(no_mangle)]
-pub extern "C" fn mars_touched(
+pub extern "C" fn mars_league(
     alloc: Global,
     settings: &MarsSettings,
-    loads: &[u8],
-    lengths: &[usize],
-    round: u32,
-    history: u32,
-    lines: &[u8],
-    first: u32,
-    rows: &mut [MarsTouched],
-    count: &mut usize,
+    formula: &[u8],
+    cells: &[MarsCell],
+    warriors: &[MarsWarrior],
+    rows: &mut [MarsRow],
     fault: &mut MarsFault,
 ) -> u32
     ensures told { result ≡ fault.new.code }
-    ensures refused { 1 ≤ result → result ≤ 9 → Tells (RefusesDebugging settings.now loads.now lengths.now round history) fault.new }
-    ensures done { result ≡ 0 → HoldsRows touched_row settings.now loads.now lengths.now round history lines.now first count.new rows.old rows.new }
+    ensures refused { result ≢ 0 → Tells (RefusesLeague settings.now formula.now cells.now warriors.now (length rows.old)) fault.new }
+    ensures done { result ≡ 0 → HoldsLeague settings.now formula.now cells.now warriors.now rows.new }
     ensures kept { result ≢ 0 → rows.new ≡ rows.old }
-    ensures uncounted { result ≢ 0 → count.new ≡ count.old }
-    ensures few { result ≤ 9 }
 {
-    let asked = LedRound {
-        loads: LoadFiles { loads, lengths },
-        round,
-        history,
-        lines,
-    };
-    match battle_of(alloc, settings, asked) {
-        Ok(battle) => {
-            give_rows_of_turns(battle, first, rows, count);
-            answer(fault, given(true))
-        }
+    match league_into(alloc, settings, formula, Entrants { cells, warriors }, rows) {
+        Ok(()) => answer(fault, given(true)),
         Err(refusal) => answer(fault, told(refusal)),
     }
 }
 
-/// Shows where the battle of a round stands, so many turns from where the debugger's lines lead it.
+/// Runs a match of each candidate with each opponent.
 #[unsafe(no_mangle)]
-pub extern "C" fn mars_state(
+pub extern "C" fn mars_population(
     alloc: Global,
     settings: &MarsSettings,
-    loads: &[u8],
-    lengths: &[usize],
-    round: u32,
-    history: u32,
-    lines: &[u8],
-    turns: u32,
-    cells: &mut [MarsCell],
-    counts: &mut [usize],
-    processes: &mut [u32],
-    deaths: &mut [MarsDeath],
-    standing: &mut MarsStanding,
+    formula: &[u8],
+    cells: &[MarsCell],
+    warriors: &[MarsWarrior],
+    rows: &mut [MarsRow],
     fault: &mut MarsFault,
 ) -> u32
     ensures told { result ≡ fault.new.code }
-    ensures refused { 1 ≤ result → result ≤ 9 → Tells (RefusesDebugging settings.now loads.now lengths.now round history) fault.new }
-    ensures done { result ≡ 0 → HoldsState settings.now loads.now lengths.now round history lines.now turns
-        cells.old cells.new counts.old counts.new processes.old processes.new deaths.old deaths.new standing.new }
-    ensures room { result ≡ 10 → OverflowsState settings.now loads.now lengths.now round history lines.now turns
-        cells.old counts.old processes.old deaths.old standing.new }
-    ensures kept { result ≢ 0 → AreKept cells.old cells.new counts.old counts.new processes.old processes.new deaths.old deaths.new }
-    ensures few { result ≤ 10 }
+    ensures refused { result ≢ 0 → Tells (RefusesPopulation settings.now formula.now cells.now warriors.now (length rows.old)) fault.new }
+    ensures done { result ≡ 0 → HoldsSums settings.now formula.now cells.now warriors.now rows.new }
+    ensures kept { result ≢ 0 → rows.new ≡ rows.old }
 {
-    let asked = LedRound {
-        loads: LoadFiles { loads, lengths },
-        round,
-        history,
-        lines,
-    };
-    match state_of(alloc, settings, asked, turns) {
-        Ok(battle) => match parts_of(alloc, &battle) {
-            Some(parts) => {
-                *standing = parts.standing;
-                answer(fault, given(parts.give(cells, counts, processes, deaths)))
-            }
-            None => answer(fault, told(CallRefusal::OutOfMemory)),
-        },
+    match population_into(alloc, settings, formula, Entrants { cells, warriors }, rows) {
+        Ok(()) => answer(fault, given(true)),
         Err(refusal) => answer(fault, told(refusal)),
     }
 }

@@ -1,5 +1,5 @@
 //! Why a call wasn't done, and what a caller is told of it.
-ghost use Rattle.std.specs.Prelude.{◌≡◌, ◌≤◌, if◌then◌else◌};
+ghost use Rattle.std.specs.Prelude.{◌≡◌, ◌≢◌, ◌≤◌, if◌then◌else◌};
 ghost use Rattle.mars_c.specs.Codes.{block_fault_of, fault_of, numbered as spec_numbered};
 ghost use Rattle.mars_c.specs.Refusals.{fight_refusal, refusal_at};
 ghost use Rattle.mars_c.specs.declared.faults.BlockRefusal.TheVariants as refused;
@@ -11,6 +11,7 @@ use crate::numbers::{
     problem_numbers,
 };
 use crate::ranges::SettingsFault;
+use crate::warriors::EntrantFault;
 use mars_cell::{LoadFault, ParamFault};
 use mars_core::{BattleFault, BlockFault, EditFault};
 use mars_match::{MatchFault, PlaceFault};
@@ -25,11 +26,12 @@ pub enum CallRefusal {
     Parameters(ParamFault),
     Formula(ExprFault),
     Assembly(AsmFault),
-    /// The load file of this index, from 0.
-    Load(usize, LoadFault),
+    Load(LoadFault),
     Placement(PlaceFault),
     Battle(BattleFault),
     Score(ExprFault),
+    /// The warrior of this index, from 0.
+    Warrior(usize, EntrantFault),
 }
 
 /// Why a call on a block is refused.
@@ -43,6 +45,8 @@ pub enum BlockRefusal {
     /// The numbers mean no edit.
     NoSuchEdit,
     Edit(EditFault),
+    /// The history is not from 1 to 1,000,000 places.
+    History,
 }
 
 /// What a caller is told. What doesn't apply is 0.
@@ -59,7 +63,7 @@ pub struct MarsFault {
     pub expression: u32,
     /// The line of a source or of a load file, from 1.
     pub line: u64,
-    /// The index of a load file, from 0.
+    /// The index of a warrior, from 0.
     pub warrior: u64,
 }
 
@@ -91,13 +95,23 @@ fn assembly(fault: AsmFault) -> MarsFault
 }
 
 /// What a caller is told of a load file's fault.
-fn load(index: usize, fault: LoadFault) -> MarsFault
-    ensures { result ≡ fault_of (variant.Load index fault) }
+fn load(fault: LoadFault) -> MarsFault
+    ensures { result ≡ fault_of (variant.Load fault) }
 {
     MarsFault {
         line: load_line(fault),
-        warrior: index as u64,
         ..numbered(6, load_number(fault))
+    }
+}
+
+/// Returns the error that a caller gets if a warrior is wrong.
+fn entrant(index: usize, fault: EntrantFault) -> MarsFault
+    ensures { result ≡ fault_of (variant.Warrior index fault) }
+{
+    MarsFault {
+        line: fault.line(),
+        warrior: index as u64,
+        ..numbered(13, fault.number())
     }
 }
 
@@ -105,7 +119,7 @@ fn load(index: usize, fault: LoadFault) -> MarsFault
 pub fn told(refusal: CallRefusal) -> MarsFault
     ensures fault { result ≡ fault_of refusal }
     ensures some { 1 ≤ result.code }
-    ensures few { result.code ≤ 9 }
+    ensures not_room { result.code ≢ 10 }
 {
     match refusal {
         CallRefusal::OutOfMemory => numbered(1, 0),
@@ -113,10 +127,11 @@ pub fn told(refusal: CallRefusal) -> MarsFault
         CallRefusal::Parameters(fault) => numbered(3, parameter_number(fault)),
         CallRefusal::Formula(fault) => numbered(4, expression_number(fault)),
         CallRefusal::Assembly(fault) => assembly(fault),
-        CallRefusal::Load(index, fault) => load(index, fault),
+        CallRefusal::Load(fault) => load(fault),
         CallRefusal::Placement(fault) => numbered(7, placement_number(fault)),
         CallRefusal::Battle(fault) => numbered(8, battle_number(fault)),
         CallRefusal::Score(fault) => numbered(9, expression_number(fault)),
+        CallRefusal::Warrior(index, fault) => entrant(index, fault),
     }
 }
 
@@ -142,6 +157,7 @@ pub fn block_fault(refusal: BlockRefusal) -> MarsFault
         BlockRefusal::Capacity => numbered(10, 0),
         BlockRefusal::NoSuchEdit => numbered(12, 1),
         BlockRefusal::Edit(fault) => numbered(12, edit_number(fault)),
+        BlockRefusal::History => numbered(2, 6),
     }
 }
 

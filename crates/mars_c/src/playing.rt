@@ -2,7 +2,7 @@
 ghost use Rattle.std.specs.Prelude.{◌≡◌, if◌then◌else◌, length, None, Some};
 ghost use Rattle.mars_core.specs.State.{State, is_over_of};
 ghost use Rattle.mars_core.specs.Turn.{after_turns, turn_of};
-ghost use Rattle.mars_c.specs.Records.{AreRows, IsLeft, recorded};
+ghost use Rattle.mars_c.specs.Records.{recorded};
 
 use mars_core::Battle;
 
@@ -27,17 +27,4 @@ pub fn tell_turns<R: TurnRow>(battle: &mut Battle, rows: &mut [R])
         };
         rows[i] = row;
     }
-}
-
-/// Plays so many turns of a battle, tells of those that follow, as many as there are rows for, and how many follow in all.
-pub fn give_rows_of_turns<R: TurnRow>(battle: Battle, first: u32, rows: &mut [R], count: &mut usize)
-    ensures count { IsLeft (after_turns first battle) count.new }
-    ensures rows { AreRows R.row_of (after_turns first battle) count.new rows.old rows.new }
-{
-    let mut battle = battle;
-    battle.run(first);
-    let before = battle.turns();
-    tell_turns(&mut battle, rows);
-    battle.run_to_end();
-    *count = (battle.turns() - before) as usize;
 }

@@ -5,6 +5,8 @@ ghost use Rattle.mars_core.specs.Limits.{most_warriors};
 ghost use Rattle.mars_match.specs.Placement.{FitsTwo};
 ghost use Rattle.mars_c.specs.Settings.{AreRounds, IsSeed, IsSetup, limit_of, parameters_in, position_of};
 ghost use Rattle.mars_c.specs.Refusals.{AreWarriors, IsOutside, RefusesEntry};
+ghost use Rattle.mars_c.specs.declared.cells.MarsCell.{MarsCell as CellNumbers};
+ghost use Rattle.mars_c.specs.declared.warriors.MarsWarrior.{MarsWarrior as WarriorNumbers};
 
 use crate::faults::CallRefusal;
 use crate::ranges::SettingsFault;
@@ -83,7 +85,7 @@ pub fn warriors_fault(warriors: usize) -> Option<SettingsFault>
 fn numbers_fault(settings: &MarsSettings) -> Option<SettingsFault>
     ensures rounds { result ≡ None → AreRounds settings.now.rounds }
     ensures seed { result ≡ None → IsSeed settings.now.seed }
-    ensures outside { (warriors : ℕ) (loads lengths : List ℕ) → IfSome result (IsOutside settings.now warriors loads lengths) }
+    ensures outside { (warriors : ℕ) (cells : List CellNumbers) (entrants : List WarriorNumbers) → IfSome result (IsOutside settings.now warriors cells entrants) }
 {
     if settings.rounds < 1 || settings.rounds > MOST_ROUNDS {
         return Some(SettingsFault::Rounds);
@@ -102,8 +104,8 @@ fn position(
 ) -> Result<Option<u32>, SettingsFault>
     ensures fits { IfOk result (λ fixed. FitsTwo params.now warriors fixed) }
     ensures value { IfOk result (λ fixed. fixed ≡ position_of settings.now.position) }
-    ensures outside { (loads lengths : List ℕ) → checked_parameters (parameters_in settings.now) ≡ Ok params.now
-        → IfErr result (IsOutside settings.now warriors loads lengths) }
+    ensures outside { (cells : List CellNumbers) (entrants : List WarriorNumbers) → checked_parameters (parameters_in settings.now) ≡ Ok params.now
+        → IfErr result (IsOutside settings.now warriors cells entrants) }
 {
     let position = settings.position;
     if position == 0 {
@@ -125,7 +127,7 @@ pub fn make_setup(
 ) -> Result<Setup, CallRefusal>
     ensures fits { IfOk result (λ t. FitsTwo t.params warriors t.plan.fixed) }
     ensures setup { IfOk result (λ t. IsSetup settings.now formula.now t) }
-    ensures refused { (loads lengths : List ℕ) → IfErr result (RefusesEntry settings.now formula.now warriors loads lengths) }
+    ensures refused { (cells : List CellNumbers) (entrants : List WarriorNumbers) → IfErr result (RefusesEntry settings.now formula.now warriors cells entrants) }
 {
     let params = match parameters(settings) {
         Ok(params) => params,

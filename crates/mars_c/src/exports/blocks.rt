@@ -1,24 +1,29 @@
 //! Calls on blocks for C.
-ghost use Rattle.std.specs.Prelude.{◌≡◌, ◌≢◌, ◌≤◌, ◌+◌, ◌*◌, Ok};
+ghost use Rattle.std.specs.Prelude.{◌≡◌, ◌≢◌, ◌+◌, ◌*◌, Ok};
 ghost use Rattle.mars_cell.specs.Parameters.{Parameters};
 ghost use Rattle.mars_cell.specs.ParameterFaults.{checked_parameters};
 ghost use Rattle.mars_core.specs.State.{State};
 ghost use Rattle.mars_core.specs.Turn.{after_turns};
 ghost use Rattle.mars_core.specs.Block.{Spells, head_words};
 ghost use Rattle.mars_c.specs.Blocks.{HoldsEdited, HoldsStart, IsPlayable, IsWritten, OverflowsStart, RefusesEdit, RefusesPlay, RefusesStart, RefusesWords, Reports, played_rows};
+ghost use Rattle.mars_c.specs.Debugging.{Debugs, RefusesDebugging};
+ghost use Rattle.mars_c.specs.Programs.{HoldsText, OverflowsText};
 ghost use Rattle.mars_c.specs.Records.{turn_row};
 ghost use Rattle.mars_c.specs.Refusals.{AreWarriors, Tells};
 ghost use Rattle.mars_c.specs.Settings.{parameters_in};
 ghost use Rattle.mars_c.specs.Touches.{touched_row};
 
 use crate::blocks::{check, edit_in, play_in, put_if_fits, started, words_of};
+use crate::cells::MarsCell;
+use crate::debugging::transcript;
 use crate::edits::MarsEdit;
-use crate::exports::answer;
+use crate::entrants::Entrants;
+use crate::exports::{answer, give_text};
 use crate::faults::{MarsFault, block_fault, given, told};
-use crate::loading::LoadFiles;
 use crate::records::MarsRecord;
 use crate::settings::MarsSettings;
 use crate::touches::MarsTouched;
+use crate::warriors::MarsWarrior;
 use std::alloc::Global;
 
 /// Returns the maximum length of the block of a battle, in words.
@@ -36,20 +41,19 @@ pub extern "C" fn mars_words(settings: &MarsSettings, warriors: u32) -> usize
 pub extern "C" fn mars_start(
     alloc: Global,
     settings: &MarsSettings,
-    loads: &[u8],
-    lengths: &[usize],
+    cells: &[MarsCell],
+    warriors: &[MarsWarrior],
     round: u32,
     battle: &mut [u32],
     fault: &mut MarsFault,
 ) -> u32
     ensures told { result ≡ fault.new.code }
-    ensures refused { 1 ≤ result → result ≤ 9 → Tells (RefusesStart settings.now loads.now lengths.now round) fault.new }
-    ensures done { result ≡ 0 → HoldsStart settings.now loads.now lengths.now round battle.old battle.new }
-    ensures room { result ≡ 10 → OverflowsStart settings.now loads.now lengths.now round battle.old }
+    ensures refused { result ≢ 0 → result ≢ 10 → Tells (RefusesStart settings.now cells.now warriors.now round) fault.new }
+    ensures done { result ≡ 0 → HoldsStart settings.now cells.now warriors.now round battle.old battle.new }
+    ensures room { result ≡ 10 → OverflowsStart settings.now cells.now warriors.now round battle.old }
     ensures kept { result ≢ 0 → battle.new ≡ battle.old }
-    ensures few { result ≤ 10 }
 {
-    match started(alloc, settings, LoadFiles { loads, lengths }, round) {
+    match started(alloc, settings, Entrants { cells, warriors }, round) {
         Ok(start) => answer(fault, given(put_if_fits(&start, battle))),
         Err(refusal) => answer(fault, told(refusal)),
     }
@@ -105,6 +109,29 @@ pub extern "C" fn mars_check(alloc: Global, battle: &[u32], fault: &mut MarsFaul
 {
     match check(alloc, battle) {
         Ok(()) => answer(fault, given(true)),
+        Err(refusal) => answer(fault, block_fault(refusal)),
+    }
+}
+
+/// Debugs the battle in a block, which stays as it is.
+#[unsafe(no_mangle)]
+pub extern "C" fn mars_debug(
+    alloc: Global,
+    battle: &[u32],
+    history: u32,
+    lines: &[u8],
+    buffer: &mut [u8],
+    length: &mut usize,
+    fault: &mut MarsFault,
+) -> u32
+    ensures told { result ≡ fault.new.code }
+    ensures refused { result ≢ 0 → result ≢ 10 → Reports (RefusesDebugging battle.now history) fault.new }
+    ensures done { result ≡ 0 → HoldsText (Debugs battle.now history lines.now) length.new buffer.old buffer.new }
+    ensures room { result ≡ 10 → OverflowsText (Debugs battle.now history lines.now) length.new buffer.old }
+    ensures kept { result ≢ 0 → buffer.new ≡ buffer.old }
+{
+    match transcript(alloc, battle, history, lines) {
+        Ok(text) => answer(fault, given(give_text(&text, buffer, length))),
         Err(refusal) => answer(fault, block_fault(refusal)),
     }
 }

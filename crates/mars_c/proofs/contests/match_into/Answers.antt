@@ -5,11 +5,11 @@ use Rattle.mars_c.proofs.contests.match_into.Goals as goal
 
 pub returns-in_err-table-clause-refused : goal.returns-in_err-table-clause-refused
 returns-in_err-table-clause-refused c =
-    let told : RefusesMatch c.args.settings.now c.args.formula.now c.args.loads.loads.now c.args.loads.lengths.now (length c.args.place.now) c.in_err-table.field-0.0 =
+    let told : RefusesMatch c.args.settings.now c.args.formula.now c.args.entrants.cells.now c.args.entrants.warriors.now (length c.args.place.now) c.in_err-table.field-0.0 =
     inr (inr c.in_err-table.ensures.refused) in
     search rules
 
 pub returns-clause-refused : goal.returns-clause-refused
 returns-clause-refused c =
-    inr (inr (inl (memory c.args.settings.now c.args.formula.now (length c.args.loads.lengths.now) c.args.loads.loads.now c.args.loads.lengths.now c.in-Err.fault c.refused_fight.result
+    inr (inr (inl (memory c.args.settings.now c.args.formula.now (length c.args.entrants.warriors.now) c.args.entrants.cells.now c.args.entrants.warriors.now c.in-Err.fault c.refused_fight.result
     c.refused_fight.ensures c.in-Err.ensures.memory)))

@@ -1,0 +1,57 @@
+-- Programs of sources and load files as numbers, and texts in buffers.
+use Rattle.std.specs.Prelude.{◌≡◌, ◌≤◌, ◌<◌, ℕ, List, ◌++◌, drop, length, map, Ok}
+use Rattle.mars_cell.specs.Load.{load}
+use Rattle.mars_cell.specs.Parameters.{Parameters}
+use Rattle.mars_cell.specs.ParameterFaults.{checked_parameters}
+use Rattle.mars_cell.specs.Warriors.{WarriorValue}
+use Rattle.mars_cell.specs.Written.{load_text}
+use Rattle.redcode_asm.specs.Assembly.{assembly}
+use Rattle.redcode_asm.specs.SourceLines.{source_lines}
+use Rattle.mars_c.specs.Cells.{plain_cell}
+use Rattle.mars_c.specs.Entrants.{IsEntrant, named, plain_program}
+use Rattle.mars_c.specs.Settings.{parameters_in}
+use Rattle.mars_c.specs.declared.cells.MarsCell.{MarsCell}
+use Rattle.mars_c.specs.declared.settings.MarsSettings.{MarsSettings}
+use Rattle.mars_c.specs.declared.warriors.MarsProgram.{MarsProgram}
+
+-- the buffer begins with a text of this length; after it, the buffer is unchanged
+abbrev pub BeginsWith : List ℕ → ℕ → List ℕ → List ℕ → Type 0
+BeginsWith text count before after = (count ≡ length text) × (count ≤ length before) × (after ≡ text ++ drop count before)
+
+-- a text of this length is longer than the buffer
+abbrev pub Overflows : List ℕ → ℕ → List ℕ → Type 0
+Overflows text count buffer = (count ≡ length text) × (length buffer < count)
+
+-- the buffer holds a text of this kind
+abbrev pub HoldsText : (List ℕ → Type 0) → ℕ → List ℕ → List ℕ → Type 0
+HoldsText Is count before after = (text : List ℕ) × Is text × BeginsWith text count before after
+
+-- a text of this kind is longer than the buffer
+abbrev pub OverflowsText : (List ℕ → Type 0) → ℕ → List ℕ → Type 0
+OverflowsText Is count buffer = (text : List ℕ) × Is text × Overflows text count buffer
+
+-- the places hold the cells of a program of this kind, and the program has its numbers and names
+abbrev pub HoldsProgram : (WarriorValue → Type 0) → MarsProgram → List MarsCell → List MarsCell → Type 0
+HoldsProgram Is program before after = (w : WarriorValue) × Is w × (program ≡ plain_program w)
+    × (length w.cells ≤ length before) × (after ≡ map plain_cell w.cells ++ drop (length w.cells) before)
+
+-- a program of this kind has more cells than there are places, and the program has its numbers and names
+abbrev pub OverflowsProgram : (WarriorValue → Type 0) → MarsProgram → List MarsCell → Type 0
+OverflowsProgram Is program places = (w : WarriorValue) × Is w × (program ≡ plain_program w) × (length places < length w.cells)
+
+-- the program that a source is assembled to
+abbrev pub IsAssembled : MarsSettings → ℕ → List ℕ → WarriorValue → Type 0
+IsAssembled s warriors source w = (p : Parameters) × (checked_parameters (parameters_in s) ≡ Ok p) × (assembly p s.rounds warriors source ≡ Ok w)
+
+-- the program of a load file
+abbrev pub IsLoaded : MarsSettings → List ℕ → WarriorValue → Type 0
+IsLoaded s text w = (p : Parameters) × (checked_parameters (parameters_in s) ≡ Ok p) × (load p.core_size p.max_length text ≡ Ok w)
+
+-- the load file of these cells and this program
+abbrev pub IsLoadFile : MarsSettings → List MarsCell → MarsProgram → List ℕ → Type 0
+IsLoadFile s cells program text = (p : Parameters) × (w : WarriorValue) × (checked_parameters (parameters_in s) ≡ Ok p) × (program.warrior.length ≡ length cells)
+    × IsEntrant p cells program.warrior.start (named program.name) (named program.author) w × (text ≡ load_text p.core_size w)
+
+-- the lines of a source in which its instructions stand
+abbrev pub AreLines : MarsSettings → ℕ → List ℕ → List ℕ → Type 0
+AreLines s warriors source text = (p : Parameters) × (checked_parameters (parameters_in s) ≡ Ok p) × (source_lines p s.rounds warriors source ≡ Ok text)
