@@ -12,6 +12,7 @@ use Rattle.mars_core.proofs.CallerLemmas.{shape-turn_of}
 use Rattle.mars_core.specs.declared.battle.start.BattleFault.{BattleFault}
 use Rattle.mars_match.specs.Battles.{unless, end_of, started, fought, in_load_order, survivors_of_round, round_fault, round_start, rotated}
 use Rattle.mars_match.specs.Code.Lineups.{HasRoom}
+use Rattle.mars_match.specs.Fates.{ended}
 use Rattle.mars_match.proofs.Rotations.{length-rotated}
 
 shape-after_turns : (n : ℕ) (s : State) → SameShape (after_turns n s) s
@@ -50,6 +51,11 @@ unless_ok (Some f) a b e = absurd (cc)
 pub fought_from_started : (p : Parameters) (warriors : List WarriorValue) (starts : List ℕ) (k : ℕ) (s : State) → started p warriors starts k ≡ Ok s → fought p warriors starts k ≡ Ok (in_load_order (k % length warriors) (end_of s))
 unfolding survivors_of_round
 fought_from_started p warriors starts k s e =
+    let both = unless_ok (round_fault p warriors starts k) (round_start p warriors starts k) s e in
+    rw (both.0, both.1) refl
+
+pub ended_from_started : (p : Parameters) (warriors : List WarriorValue) (starts : List ℕ) (k : ℕ) (s : State) → started p warriors starts k ≡ Ok s → ended p warriors starts k ≡ Ok (end_of s)
+ended_from_started p warriors starts k s e =
     let both = unless_ok (round_fault p warriors starts k) (round_start p warriors starts k) s e in
     rw (both.0, both.1) refl
 

@@ -1,3 +1,4 @@
 -- What laws and the crates above stand on, and no function of this crate.
 pub mod FullCores
 pub mod RoundCounts
+pub mod Survivors

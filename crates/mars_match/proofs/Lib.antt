@@ -3,6 +3,7 @@ pub mod Candidates
 pub mod Draws
 pub mod Ends
 pub mod ForLaws
+pub mod Gathered
 pub mod Keeping
 pub mod LeagueTotals
 pub mod Outcomes

@@ -4,3 +4,4 @@ pub mod Listings
 pub mod Rounds
 pub mod Contests
 pub mod Populations
+pub mod Fates

@@ -1,16 +1,18 @@
 -- Laws of the definitions.
-use Rattle.std.specs.Prelude.{◌≡◌, ℕ, zero, suc, ◌+◌, ◌*◌, ◌-◌, ◌≤◌, ℤ, List, [], ◌∷◌, length, false, Option, Ok, All, AllPairs}
+use Rattle.std.specs.Prelude.{◌≡◌, ℕ, zero, suc, ◌+◌, ◌*◌, ◌-◌, ◌≤◌, ℤ, List, [], ◌∷◌, length, map, false, Option, Ok, All, AllPairs}
 use Rattle.std.specs.Int.Signed.{lt_z}
-use Rattle.std.specs.List.{filter}
+use Rattle.std.specs.List.{filter, flat_map}
 use Rattle.std.specs.List.Sorted.{IsPermutation, IsNonDecreasing}
 use Rattle.mars_cell.specs.Parameters.{Parameters}
 use Rattle.mars_cell.specs.Warriors.{WarriorValue}
 use Rattle.redcode_text.specs.Tokens.{Scanned}
-use Rattle.mars_match.specs.Placement.{ascending, starts_in_order}
-use Rattle.mars_match.specs.Rounds.{table_of}
+use Rattle.mars_match.specs.Fates.{fates}
+use Rattle.mars_match.specs.Placement.{FitsTwo, ascending, starts_in_order}
+use Rattle.mars_match.specs.Rounds.{Outcome, outcomes, table_of}
 use Rattle.mars_match.specs.Leagues.{league_of}
 use Rattle.mars_match.specs.Results.{ranked, has_points}
 use Rattle.mars_match.specs.Tables.{RowValue}
+use Rattle.mars_match.specs.declared.fates.Fate.{Fate}
 
 -- the ascending order of values has the same values, and doesn't fall; no other list does
 pub record IsTheOrder (values : List ℕ) : Type 0 where
@@ -53,3 +55,9 @@ EachRoundIsCounted = (p : Parameters) (warriors : List WarriorValue) (formula : 
 abbrev pub EachMatchIsCounted : Type 0
 EachMatchIsCounted = (p : Parameters) (warriors : List WarriorValue) (formula : Scanned) (fixed : Option ℕ) (n seed : ℕ) (rows : List RowValue) →
     league_of p warriors formula fixed n seed ≡ Ok rows → All (λ row. rounds_of row ≡ n * (length warriors - 1)) rows
+
+-- if a match has outcomes, it has fates, and each round's survivors are those who lived: so the rows of a match are sums over its fates
+abbrev pub FatesAreOutcomes : Type 0
+FatesAreOutcomes = (p : Parameters) (warriors : List WarriorValue) (formula : Scanned) (fixed : Option ℕ) (n k seed : ℕ) (all : List Outcome) →
+    1 ≤ length warriors → FitsTwo p (length warriors) fixed → outcomes p warriors formula fixed n k seed ≡ Ok all →
+    (made : List Fate) × (fates p warriors fixed n k seed ≡ Ok made) × (map (λ (f : Fate). f.survived) made ≡ flat_map (λ (o : Outcome). o.lived) all)

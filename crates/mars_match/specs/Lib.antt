@@ -5,6 +5,7 @@ pub mod Battles
 pub mod Rounds
 pub mod Leagues
 pub mod Populations
+pub mod Fates
 pub mod Results
 pub mod Answers
 pub mod Laws

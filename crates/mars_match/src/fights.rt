@@ -5,6 +5,7 @@ ghost use Rattle.mars_core.specs.State.{State};
 ghost use Rattle.mars_match.specs.Answers.{IsAnswer};
 ghost use Rattle.mars_match.specs.Battles.{rotated, end_of, in_load_order, count_fault, unless, started, fought};
 ghost use Rattle.mars_match.specs.Code.Lineups.{HasRoom};
+ghost use Rattle.mars_match.specs.Fates.{ended};
 ghost use Rattle.mars_core.specs.Start.{start_state, start_fault};
 ghost use Rattle.mars_core.specs.Limits.{most_warriors};
 
@@ -206,6 +207,7 @@ pub fn fight_round(
     requires { IfSome last (λ battle. HasRoom params.now (length round.lineup.now) battle.value) }
     ensures survivors { let r = round.entry in IsAnswer (λ (battle : Box State Global). in_load_order (r.number % length r.lineup.now) battle.value)
         (fought params.now r.lineup.now r.starts.now r.number) result }
+    ensures state { let r = round.entry in IsAnswer (λ (battle : Box State Global). battle.value) (ended params.now r.lineup.now r.starts.now r.number) result }
     ensures room { IfOk result (λ battle. HasRoom params.now (length round.entry.lineup.now) battle.value) }
 
     // In the memory of a last battle none is asked for.

@@ -1,5 +1,5 @@
 //! Laws of the definitions: they make no calls.
-ghost use Rattle.mars_match.specs.Laws.{EachHasOneOrder, EachMatchIsCounted, EachRoundIsCounted, FullCoresLeaveNoChoice, RanksByPoints};
+ghost use Rattle.mars_match.specs.Laws.{EachHasOneOrder, EachMatchIsCounted, EachRoundIsCounted, FatesAreOutcomes, FullCoresLeaveNoChoice, RanksByPoints};
 
 /// Each list of values has one ascending order: the same values, none of them less than one before it.
 pub fn each_has_one_order()
@@ -25,4 +25,9 @@ pub fn each_round_is_counted()
 /// In each row of a league wins, ties and losses are together the rounds of its warrior's matches, one with each of the others.
 pub fn each_match_is_counted()
     ensures { EachMatchIsCounted }
+{}
+
+/// Those who survive by the fates of a match are those who live by its outcomes, so its rows are sums over its fates.
+pub fn fates_are_outcomes()
+    ensures { FatesAreOutcomes }
 {}

@@ -2,6 +2,7 @@
 ghost use Rattle.std.specs.Prelude.{◌≡◌, ◌-◌, ◌≤◌, IfSome, IsTrue, Some};
 ghost use Rattle.mars_cell.specs.Warriors.{IsName};
 
+mod fates;
 mod fights;
 mod leagues;
 mod matches;

@@ -6,7 +6,8 @@ use super::{BY_DEFAULT, DEAD, STAY, fought, sizes};
 use mars_cell::{Warrior, read_cell};
 use mars_core::BattleFault;
 use mars_match::{
-    MatchFault, PlaceFault, Plan, Setup, Sum, Table, league, place, population, rounds,
+    Fate, MatchFault, PlaceFault, Plan, Setup, Sum, Table, fight_rounds, league, place, population,
+    rounds,
 };
 use redcode_asm::Formula;
 use std::alloc::Global;
@@ -132,6 +133,37 @@ fn table_of_rounds(
         }
         Ok(table) => Ok(table),
     }
+}
+
+/// The fates of a match, with a second try.
+fn fates_of_rounds(
+    rt: &impl Abort,
+    alloc: Global,
+    setup: &Setup,
+    warriors: &[Warrior],
+) -> Result<Vec<Fate>, MatchFault>
+    requires { setup.now.plan.fixed ≡ None }
+{
+    match fight_rounds(alloc, setup, warriors) {
+        Err(fault) => {
+            assert!(rt; is_of_memory(fault));
+            fight_rounds(alloc, setup, warriors)
+        }
+        Ok(fates) => Ok(fates),
+    }
+}
+
+#[test]
+fn fates_are_told(rt: HostRuntime) -> Result<(), Fail> {
+    let setup = setup_of(rt.alloc(), 2)?;
+    let warriors = warriors_of(rt.alloc(), &[STAY, DEAD, IMP])?;
+    let fates = fates_of_rounds(&rt, rt.alloc(), &setup, warriors.as_slice())
+        .ok()
+        .ok_or("fates")?;
+    assert_eq!(rt; fates.len(), 6);
+    assert!(rt; fates[0].survived && !fates[1].survived && fates[2].survived);
+    drop(warriors);
+    Ok(())
 }
 
 /// The table of a league, with a second try.

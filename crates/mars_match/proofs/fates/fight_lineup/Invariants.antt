@@ -1,0 +1,14 @@
+use Rattle.std.proofs.Common.{◌≡◌, ◌-◌, IfSome, length}
+use Rattle.mars_match.specs.Code.Lineups.{HasRoom}
+use Rattle.mars_match.specs.Fates.{fates}
+use Rattle.mars_match.proofs.Gathered.{gathered}
+use Rattle.mars_match.proofs.fates.fight_lineup.Given as goal
+
+-- the rounds that are left lead to the fates of all
+abbrev pub invariant-loop-number : goal.invariant-loop-number
+invariant-loop-number l = record {
+  made : gathered l.fates.items (fates l.setup.params l.lineup l.setup.plan.fixed (l.setup.plan.rounds - l.number) l.number l.seed)
+      ≡ fates l.setup.params l.lineup l.setup.plan.fixed l.setup.plan.rounds 0 l.setup.plan.seed;
+  starts : length l.starts.items ≡ length l.lineup;
+  room : IfSome l.last (λ battle. HasRoom l.setup.params (length l.lineup) battle.value);
+}

@@ -1,0 +1,133 @@
+//! How each warrior fares in each round of a match.
+ghost use Rattle.std.specs.Prelude.{◌≡◌, ◌++◌, ◌+◌, ◌-◌, ◌*◌, ◌%◌, ◌<◌, ◌≤◌, ◌≢◌, Box, IfErr, IfOk, IfSome, MatchResult, Vec, length, vec_len};
+ghost use Rattle.std.specs.Global.{Global};
+ghost use Rattle.mars_core.specs.Limits.{most_warriors};
+ghost use Rattle.mars_core.specs.State.{State};
+ghost use Rattle.mars_match.specs.Answers.{IsAnswer};
+ghost use Rattle.mars_match.specs.Code.Lineups.{HasRoom};
+ghost use Rattle.mars_match.specs.Fates.{fate_of as spec_fate_of, fates, fates_from, fates_of, place_of as spec_place_of, turns_until as spec_turns_until};
+ghost use Rattle.mars_match.specs.Placement.{FitsTwo};
+ghost use Rattle.mars_match.specs.declared.fates.Fate.{Fate as FateValue};
+
+use crate::fault::MatchFault;
+use crate::fights::{Lineup, Round, check_count, fight_round, is_alive};
+use crate::setup::Setup;
+use mars_cell::Warrior;
+use mars_core::{Battle, Death};
+use std::alloc::Global;
+
+/// Fate of a warrior in a round.
+#[derive(Clone, Copy, Debug, PartialEq, Eq)]
+pub struct Fate {
+    /// Whether it lives at the end.
+    pub survived: bool,
+    /// Number of turns that all warriors had made when it died, including its last one; if it survived, of all turns of the round.
+    pub turns: u32,
+    /// Address of its first cell.
+    pub start: u32,
+}
+
+/// Returns the number of turns that had been made when a warrior died, by its place in the order of turns, or `all` if it lives.
+fn turns_until(deaths: &[Death], place: usize, all: u32) -> u32
+    ensures { result ≡ spec_turns_until deaths.now place all }
+{
+    for death in deaths {
+        if death.warrior as usize == place {
+            return death.turns;
+        }
+    }
+    all
+}
+
+/// Returns the place of a warrior in the order of turns, if warrior `first` has the first turn.
+fn place_of(count: usize, first: usize, warrior: usize) -> usize
+    requires { first ≤ count }
+    ensures { result ≡ spec_place_of count first warrior }
+{
+    if first <= warrior {
+        return warrior - first;
+    }
+    count - (first - warrior)
+}
+
+/// Returns the fate of a warrior in a battle that is over, in which warrior `first` had the first turn.
+fn fate_of(battle: &Battle, first: usize, warrior: usize, start: u32) -> Fate
+    requires first { first < length battle.now.queues }
+    requires warrior { warrior < length battle.now.queues }
+    ensures { result ≡ spec_fate_of battle.now first warrior start }
+{
+    let place = place_of(battle.warriors(), first, warrior);
+    Fate {
+        survived: is_alive(battle, first, warrior),
+        turns: turns_until(battle.deaths(), place, battle.turns()),
+        start,
+    }
+}
+
+/// Appends the fates of a round in load order.
+fn append_fates(
+    fates: &mut Vec<Fate>,
+    battle: &Battle,
+    first: usize,
+    starts: &[u32],
+) -> Result<(), MatchFault>
+    requires first { first < length battle.now.queues }
+    requires many { length starts.now ≡ length battle.now.queues }
+    ensures { MatchResult result (λ _. fates.new.items ≡ fates.old.items ++ fates_from battle.now first 0 starts.now) (λ fault. fault ≡ MatchFault.OutOfMemory) }
+{
+    for warrior in 0..starts.len() {
+        let fate = fate_of(battle, first, warrior, starts[warrior]);
+        if fates.push(fate).is_err() {
+            return Err(MatchFault::OutOfMemory);
+        }
+    }
+    Ok(())
+}
+
+/// Returns the fates of all rounds of a match.
+fn fight_lineup(alloc: Global, setup: &Setup, lineup: &Lineup) -> Result<Vec<Fate>, MatchFault>
+    requires some { 1 ≤ length lineup.now }
+    requires few { length lineup.now ≤ most_warriors }
+    requires fixed { IfSome setup.now.plan.fixed (λ position. length lineup.now ≡ 2) }
+    ensures { let plan = setup.now.plan in IsAnswer (λ (fates : Vec FateValue Global). fates.items)
+        (fates setup.now.params lineup.now plan.fixed plan.rounds 0 plan.seed) result }
+{
+    let Ok(mut starts) = vec![in alloc; 0u32; lineup.len()] else {
+        return Err(MatchFault::OutOfMemory);
+    };
+    let mut fates = Vec::new(alloc);
+    let mut seed = setup.plan.seed;
+    let mut last = None;
+    for number in 0..setup.plan.rounds {
+        seed = setup.place_round(seed, starts.as_mut_slice())?;
+        let starts = starts.as_slice();
+        let round = Round {
+            lineup,
+            starts,
+            number,
+        };
+        let battle = fight_round(alloc, &setup.params, round, last)?;
+        append_fates(&mut fates, &battle, number as usize % lineup.len(), starts)?;
+        last = Some(battle);
+    }
+    Ok(fates)
+}
+
+/// Returns the fate of each warrior in each round of a match, in load order, one round after another. The rounds are those of `rounds` for
+/// the same setup, and no formula is evaluated. If a round cannot be held, the first error is returned. It takes the memory of one battle
+/// and of the fates.
+pub fn fight_rounds(
+    alloc: Global,
+    setup: &Setup,
+    warriors: &[Warrior],
+) -> Result<Vec<Fate>, MatchFault>
+    requires fixed { FitsTwo setup.now.params (length warriors.now) setup.now.plan.fixed }
+    ensures { let plan = setup.now.plan in IsAnswer (λ (fates : Vec FateValue Global). fates.items)
+        (fates_of setup.now.params warriors.now plan.fixed plan.rounds plan.seed) result }
+{
+    check_count(warriors.len())?;
+    let Ok(lineup) = Lineup::new(alloc, warriors) else {
+        return Err(MatchFault::OutOfMemory);
+    };
+    fight_lineup(alloc, setup, &lineup)
+}

@@ -1,0 +1,48 @@
+//! How warriors fare in each round.
+use super::{BY_DEFAULT, DEAD, STAY, one_cells, sizes};
+use mars_match::{Fate, MatchFault, Plan, Setup, fight_rounds};
+use redcode_asm::Formula;
+use std::alloc::Global;
+use std::process::Abort;
+use std::test::Fail;
+
+/// The setup of a match of two rounds in a core that three warriors fill.
+fn two_rounds(alloc: Global) -> Result<Setup, Fail> {
+    let formula = Formula::new(alloc, BY_DEFAULT.as_bytes())
+        .ok()
+        .ok_or("formula")?;
+    Ok(Setup {
+        params: sizes(6, 2)?,
+        plan: Plan {
+            rounds: 2,
+            seed: 1,
+            fixed: None,
+            formula,
+        },
+    })
+}
+
+#[test]
+fn each_warrior_has_a_fate_in_each_round(rt: HostRuntime) -> Result<(), Fail> {
+    let setup = two_rounds(rt.alloc())?;
+    let warriors = one_cells(rt.alloc(), 6, &[STAY, DEAD, STAY])?;
+    let fates = fight_rounds(rt.alloc(), &setup, warriors.as_slice())
+        .ok()
+        .ok_or("fates")?;
+    assert!(rt; fates.len() == 6);
+    // Ten cycles of two turns, and the turn of the dead warrior: its second in round 0, its first in round 1.
+    assert!(rt; fates[0].survived && fates[0].turns == 21 && fates[0].start == 0);
+    assert!(rt; !fates[1].survived && fates[1].turns == 2);
+    assert!(rt; fates[2].survived && fates[2].turns == 21);
+    assert!(rt; !fates[4].survived && fates[4].turns == 1);
+    assert!(rt; fates[1].start + fates[2].start == 6);
+    Ok(())
+}
+
+#[test]
+fn no_warrior_has_no_fate(rt: HostRuntime) -> Result<(), Fail> {
+    let setup = two_rounds(rt.alloc())?;
+    let fates: Result<Vec<Fate>, MatchFault> = fight_rounds(rt.alloc(), &setup, &[]);
+    assert!(rt; fates.is_err());
+    Ok(())
+}
