@@ -76,7 +76,8 @@ enum {
     MARS_ROOM = 10,      /* a buffer is shorter than what is to be written; *length, *program or mars_words says how long that is */
     MARS_BLOCK = 11,     /* the words are not a battle: MARS_BLOCK_.. */
     MARS_EDIT = 12,      /* the edit is impossible: MARS_EDIT_.. */
-    MARS_WARRIOR = 13    /* the cells, the start or a name of fault->warrior is wrong: MARS_WARRIOR_.. */
+    MARS_WARRIOR = 13,   /* the cells, the start or a name of fault->warrior is wrong: MARS_WARRIOR_.. */
+    MARS_LINEUP = 14     /* the lineup with the index fault->warrior is wrong: MARS_LINEUP_.. */
 };
 enum {
     MARS_SETTINGS_ROUNDS = 1,
@@ -146,7 +147,7 @@ enum {
     MARS_BLOCK_MARK,       /* `mark` is not MARS_MARK: another byte order, or another version of the layout */
     MARS_BLOCK_PARAMETERS, /* a parameter is out of its range: fault->problem is MARS_PARAMETERS_.. */
     MARS_BLOCK_WARRIORS,   /* `warriors` is not from 1 to 16 */
-    MARS_BLOCK_CELL,       /* a cell has an opcode, modifier or mode that does not exist, or a number outside the core; fault->line is its address */
+    MARS_BLOCK_CELL,       /* a cell is wrong, as in MARS_WARRIOR_CELL and MARS_WARRIOR_FIELD; fault->line is its address */
     MARS_BLOCK_QUEUE,      /* a warrior has more processes than `processes`, or one outside the core; fault->warrior is the warrior */
     MARS_BLOCK_DEATHS,     /* the deaths do not name each warrior without a process exactly once, and no other warrior */
     MARS_BLOCK_CLOCK,      /* `turns`, `cycle` and `next` do not agree with each other or with the living warriors */
@@ -167,6 +168,10 @@ enum {
     MARS_WARRIOR_CELL,       /* a cell has an opcode, modifier or mode that does not exist; fault->line is its index in the warrior */
     MARS_WARRIOR_FIELD,      /* a cell has a number outside the core; fault->line is its index in the warrior */
     MARS_WARRIOR_NAME        /* a name has more than 60 bytes, or one that is not a printable character of ASCII */
+};
+enum {
+    MARS_LINEUP_COUNT = 1, /* the number of warriors is not from 1 to 16 */
+    MARS_LINEUP_INDEX      /* there is no warrior with an index */
 };
 
 /* The settings of a match. */
@@ -203,6 +208,20 @@ typedef struct {
     uint64_t ties;   /* rounds survived with others */
     uint64_t losses; /* rounds not survived */
 } MarsRow;
+
+/* The match of a lineup: its warriors, and the seed of its first round. */
+typedef struct {
+    uint32_t seed;        /* 1 to 2147483646; 0: that of the settings */
+    uint32_t count;       /* number of warriors, 1 to 16 */
+    uint32_t warrior[16]; /* indices of the warriors, from 0; those after `count` are not used */
+} MarsLineup;
+
+/* How a warrior fares in a round. */
+typedef struct {
+    uint32_t survived; /* 1 if it lives at the end, else 0 */
+    uint32_t turns;    /* number of turns that all warriors had made when it died, including its last one; if it survived, of all turns */
+    uint32_t start;    /* address of its first cell */
+} MarsOutcome;
 
 /* A cell of the core. */
 typedef struct {
@@ -364,6 +383,16 @@ uint32_t mars_league(const MarsSettings *settings, const uint8_t *formula, size_
 uint32_t mars_population(const MarsSettings *settings, const uint8_t *formula, size_t formula_length,
                          const MarsCell *cells, size_t cell_count, const MarsWarrior *warriors, size_t warrior_count,
                          MarsRow *rows, size_t row_count, MarsFault *fault);
+
+/* Runs the match of each lineup, and returns how each of its warriors fares in each round. `cells` has the cells of all warriors; a lineup
+ * names up to 16 of them. The outcomes are those of the first lineup's first round, in the order of the lineup, then those of its other
+ * rounds, then those of the other lineups: settings->rounds times the warriors of all lineups. The sums over the rounds are the rows of
+ * mars_match. In a round of two warriors, the one that dies has lived for (turns - 1) / 2 complete cycles. A position is only for lineups of
+ * two. Returns MARS_LINEUP for the first wrong lineup, before the other errors. */
+uint32_t mars_outcomes(const MarsSettings *settings,
+                       const MarsCell *cells, size_t cell_count, const MarsWarrior *warriors, size_t warrior_count,
+                       const MarsLineup *lineups, size_t lineup_count,
+                       MarsOutcome *outcomes, size_t outcome_count, MarsFault *fault);
 
 /* ---- Battles ---- */
 

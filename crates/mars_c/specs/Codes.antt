@@ -22,7 +22,9 @@ use Rattle.mars_c.specs.declared.faults.MarsFault.{MarsFault}
 use Rattle.mars_c.specs.declared.faults.BlockRefusal.{BlockRefusal}
 use Rattle.mars_c.specs.declared.faults.BlockRefusal.TheVariants as refused
 use Rattle.mars_c.specs.declared.faults.CallRefusal.{CallRefusal}
-use Rattle.mars_c.specs.declared.faults.CallRefusal.TheVariants.{OutOfMemory, Settings, Parameters, Formula, Assembly, Load, Placement, Battle, Score, Warrior}
+use Rattle.mars_c.specs.declared.faults.CallRefusal.TheVariants.{OutOfMemory, Settings, Parameters, Formula, Assembly, Load, Placement, Battle, Score, Warrior, Lineup}
+use Rattle.mars_c.specs.declared.outcomes.LineupFault.{LineupFault}
+use Rattle.mars_c.specs.declared.outcomes.LineupFault.TheVariants as lineup
 use Rattle.mars_c.specs.declared.ranges.SettingsFault.{SettingsFault}
 use Rattle.mars_c.specs.declared.warriors.EntrantFault.{EntrantFault}
 use Rattle.mars_c.specs.declared.warriors.EntrantFault.TheVariants as entrant
@@ -73,6 +75,10 @@ entrant_number (entrant.Cell index) = 3
 entrant_number (entrant.Field index) = 4
 entrant_number entrant.Name = 5
 entrant_number entrant.OutOfMemory = 6
+
+abbrev pub lineup_number : LineupFault → ℕ
+lineup_number lineup.Count = 1
+lineup_number lineup.Index = 2
 
 -- the index of the first wrong cell of a warrior; 0 for other errors
 abbrev pub entrant_line : EntrantFault → ℕ
@@ -187,6 +193,7 @@ fault_of (Placement fault) = numbered 7 (placement_number fault)
 fault_of (Battle fault) = numbered 8 (battle_number fault)
 fault_of (Score fault) = numbered 9 (expression_number fault)
 fault_of (Warrior index fault) = record { code = 13; number = entrant_number fault; problem = 0; expression = 0; line = entrant_line fault; warrior = index }
+fault_of (Lineup index fault) = record { code = 14; number = lineup_number fault; problem = 0; expression = 0; line = 0; warrior = index }
 
 -- the error that a caller gets if a call on a block is refused
 abbrev pub block_fault_of : BlockRefusal → MarsFault

@@ -1,6 +1,6 @@
 -- Worked examples, as theorems: errors, cells, programs and records as numbers, warriors in an array, the positions of a later round, what is out of its range, and
 -- populations.
-use Rattle.std.specs.Prelude.{◌≡◌, ℕ, zero, suc, pos, refl, All, List, [], ◌∷◌, None, Some, Ok, Err, codes, replicate}
+use Rattle.std.specs.Prelude.{◌≡◌, ℕ, zero, suc, pos, refl, true, false, All, List, [], ◌∷◌, None, Some, Ok, Err, codes, replicate}
 use Rattle.std.proofs.Common.{arith, subst}
 use Rattle.std.proofs.lemmas.List.Elements.{All-cons, All-nil}
 use Rattle.mars_cell.specs.Cells.{FitsCore}
@@ -47,11 +47,14 @@ use Rattle.mars_c.specs.Contests.{population}
 use Rattle.mars_c.specs.Entrants.{AreEntrants, named, plain_name, plain_program}
 use Rattle.mars_c.specs.Records.{change_of, turn_row}
 use Rattle.mars_c.specs.Touches.{touched_row}
+use Rattle.mars_c.specs.Outcomes.{indices_of, plain_fate, rows_for, seeded}
 use Rattle.mars_c.specs.Refusals.{IsOutside, fight_refusal}
 use Rattle.mars_c.specs.declared.faults.BlockRefusal.TheVariants as blocks
-use Rattle.mars_c.specs.declared.faults.CallRefusal.TheVariants.{Assembly, Battle, Load, OutOfMemory, Placement, Score, Warrior}
+use Rattle.mars_c.specs.declared.faults.CallRefusal.TheVariants.{Assembly, Battle, Lineup, Load, OutOfMemory, Placement, Score, Warrior}
 use Rattle.mars_c.specs.declared.ranges.SettingsFault.TheVariants.{Lengths, Position, Rounds, Seed}
 use Rattle.mars_c.specs.declared.cells.MarsCell.{MarsCell}
+use Rattle.mars_c.specs.declared.outcomes.LineupFault.TheVariants as lineup
+use Rattle.mars_c.specs.declared.outcomes.MarsLineup.{MarsLineup}
 use Rattle.mars_c.specs.declared.settings.MarsSettings.{MarsSettings}
 use Rattle.mars_c.specs.declared.warriors.EntrantFault.TheVariants as entrant
 use Rattle.mars_c.specs.declared.warriors.MarsWarrior.{MarsWarrior}
@@ -69,6 +72,10 @@ load_file_is_told = refl
 pub warriors_are_told : (fault_of (Warrior 1 (entrant.Field 4)) ≡ record { code = 13; number = 4; problem = 0; expression = 0; line = 4; warrior = 1 })
     × (fault_of (Warrior 2 entrant.Start) ≡ record { code = 13; number = 2; problem = 0; expression = 0; line = 0; warrior = 2 })
 warriors_are_told = (refl, refl)
+
+-- the third lineup has an index that no warrior has
+pub lineup_is_told : fault_of (Lineup 2 lineup.Index) ≡ record { code = 14; number = 2; problem = 0; expression = 0; line = 0; warrior = 2 }
+lineup_is_told = refl
 
 -- the history of a debugger is the sixth of the settings
 pub history_is_told : block_fault_of blocks.History ≡ numbered 2 6
@@ -288,3 +295,22 @@ fights_are_refused = (refl, refl, refl, refl, refl, refl)
 pub candidates_come_first : population (by_formula (codes "(W*W-1)/S")) 1 (stay ∷ dead ∷ dead ∷ []) ≡ Ok (record { points = pos 6; wins = 2; ties = 0; losses = 0 } ∷ [])
 unfolding table_of starts_of drawn next_seed survivors_of_round end_of scanned value_of tree_within the_machine
 candidates_come_first = refl
+
+-- a lineup's seed, and that of the settings if it has none
+pub seeds_of_lineups : ((seeded (nano 3 7 0) 9).seed ≡ 9) × ((seeded (nano 3 7 0) 0).seed ≡ 7)
+seeds_of_lineups = (refl, refl)
+
+-- the first two of three indices count
+abbrev of_two : MarsLineup
+of_two = record { seed = 0; count = 2; warrior = 4 ∷ 1 ∷ 9 ∷ [] }
+
+pub lineup_has_two : indices_of of_two ≡ 4 ∷ 1 ∷ []
+lineup_has_two = refl
+
+-- three rounds of two and of two warriors
+pub rows_are_counted : rows_for (nano 3 7 0) (of_two ∷ of_two ∷ []) ≡ 12
+rows_are_counted = refl
+
+pub fates_are_numbers : (plain_fate (record { survived = true; turns = 5; start = 9 }) ≡ record { survived = 1; turns = 5; start = 9 })
+    × ((plain_fate (record { survived = false; turns = 5; start = 9 })).survived ≡ 0)
+fates_are_numbers = (refl, refl)

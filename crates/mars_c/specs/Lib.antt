@@ -10,5 +10,6 @@ pub mod Touches
 pub mod Blocks
 pub mod Debugging
 pub mod Refusals
+pub mod Outcomes
 pub mod Codes
 pub mod Examples

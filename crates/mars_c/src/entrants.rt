@@ -24,7 +24,7 @@ pub struct Entrants<'e> {
 }
 
 /// Returns the warriors, which have no names.
-fn read_all(
+pub fn read_all(
     alloc: Global,
     params: &Params,
     entrants: Entrants<'_>,

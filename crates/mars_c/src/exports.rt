@@ -2,6 +2,7 @@
 ghost use Rattle.std.specs.Prelude.{◌≡◌, ◌≢◌, ◌≤◌, ◌<◌, ◌++◌, drop, false, length, map, true};
 ghost use Rattle.mars_c.specs.Cells.{plain_cell};
 ghost use Rattle.mars_c.specs.Contests.{HoldsLeague, HoldsMatch, HoldsSums};
+ghost use Rattle.mars_c.specs.Outcomes.{HoldsOutcomes, RefusesOutcomes};
 ghost use Rattle.mars_c.specs.Programs.{AreLines, BeginsWith, HoldsProgram, HoldsText, IsAssembled, IsLoadFile, IsLoaded, Overflows, OverflowsProgram, OverflowsText};
 ghost use Rattle.mars_c.specs.Refusals.{RefusesLeague, RefusesLoad, RefusesMatch, RefusesPopulation, RefusesSource, RefusesWriting, Tells};
 
@@ -12,6 +13,7 @@ use crate::cells::{MarsCell, put_cells};
 use crate::contests::{league_into, match_into};
 use crate::entrants::Entrants;
 use crate::faults::{MarsFault, given, told};
+use crate::outcomes::{MarsLineup, MarsOutcome, outcomes_into};
 use crate::population::population_into;
 use crate::rows::MarsRow;
 use crate::settings::MarsSettings;
@@ -223,6 +225,28 @@ pub extern "C" fn mars_population(
     ensures kept { result ≢ 0 → rows.new ≡ rows.old }
 {
     match population_into(alloc, settings, formula, Entrants { cells, warriors }, rows) {
+        Ok(()) => answer(fault, given(true)),
+        Err(refusal) => answer(fault, told(refusal)),
+    }
+}
+
+/// Returns how each warrior of each lineup fares in each round.
+#[unsafe(no_mangle)]
+pub extern "C" fn mars_outcomes(
+    alloc: Global,
+    settings: &MarsSettings,
+    cells: &[MarsCell],
+    warriors: &[MarsWarrior],
+    lineups: &[MarsLineup],
+    outcomes: &mut [MarsOutcome],
+    fault: &mut MarsFault,
+) -> u32
+    ensures told { result ≡ fault.new.code }
+    ensures refused { result ≢ 0 → Tells (RefusesOutcomes settings.now cells.now warriors.now lineups.now (length outcomes.old)) fault.new }
+    ensures done { result ≡ 0 → HoldsOutcomes settings.now cells.now warriors.now lineups.now outcomes.new }
+    ensures kept { result ≢ 0 → outcomes.new ≡ outcomes.old }
+{
+    match outcomes_into(alloc, settings, Entrants { cells, warriors }, lineups, outcomes) {
         Ok(()) => answer(fault, given(true)),
         Err(refusal) => answer(fault, told(refusal)),
     }

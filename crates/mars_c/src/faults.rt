@@ -7,9 +7,10 @@ ghost use Rattle.mars_c.specs.declared.faults.CallRefusal.TheVariants as variant
 
 use crate::numbers::{
     assembly_number, battle_number, block_line, block_number, block_problem, block_warrior,
-    edit_number, expression_number, load_line, load_number, parameter_number, placement_number,
+    edit_number, expression_number, lineup_number, load_line, load_number, parameter_number, placement_number,
     problem_numbers,
 };
+use crate::outcomes::LineupFault;
 use crate::ranges::SettingsFault;
 use crate::warriors::EntrantFault;
 use mars_cell::{LoadFault, ParamFault};
@@ -32,6 +33,8 @@ pub enum CallRefusal {
     Score(ExprFault),
     /// The warrior of this index, from 0.
     Warrior(usize, EntrantFault),
+    /// The lineup of this index, from 0.
+    Lineup(usize, LineupFault),
 }
 
 /// Why a call on a block is refused.
@@ -63,7 +66,7 @@ pub struct MarsFault {
     pub expression: u32,
     /// The line of a source or of a load file, from 1.
     pub line: u64,
-    /// The index of a warrior, from 0.
+    /// The index of a warrior or of a lineup, from 0.
     pub warrior: u64,
 }
 
@@ -115,6 +118,16 @@ fn entrant(index: usize, fault: EntrantFault) -> MarsFault
     }
 }
 
+/// Returns the error that a caller gets if a lineup is wrong.
+fn lineup(index: usize, fault: LineupFault) -> MarsFault
+    ensures { result ≡ fault_of (variant.Lineup index fault) }
+{
+    MarsFault {
+        warrior: index as u64,
+        ..numbered(14, lineup_number(fault))
+    }
+}
+
 /// What a caller is told of a refusal.
 pub fn told(refusal: CallRefusal) -> MarsFault
     ensures fault { result ≡ fault_of refusal }
@@ -132,6 +145,7 @@ pub fn told(refusal: CallRefusal) -> MarsFault
         CallRefusal::Battle(fault) => numbered(8, battle_number(fault)),
         CallRefusal::Score(fault) => numbered(9, expression_number(fault)),
         CallRefusal::Warrior(index, fault) => entrant(index, fault),
+        CallRefusal::Lineup(index, fault) => lineup(index, fault),
     }
 }
 

@@ -17,6 +17,7 @@ mod entrants;
 mod exports;
 mod faults;
 mod numbers;
+mod outcomes;
 mod playing;
 mod population;
 mod ranges;

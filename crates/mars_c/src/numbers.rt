@@ -2,6 +2,7 @@
 ghost use Rattle.std.specs.Prelude.{◌≡◌};
 ghost use Rattle.mars_c.specs.Codes as codes;
 
+use crate::outcomes::LineupFault;
 use mars_cell::{LoadFault, ParamFault};
 use mars_core::{BattleFault, BlockFault, EditFault};
 use mars_match::PlaceFault;
@@ -16,6 +17,12 @@ pub fn parameter_number(fault: ParamFault) -> u32
 
 pub fn expression_number(fault: ExprFault) -> u32
     ensures { result ≡ codes.expression_number fault }
+{
+    fault as u32 + 1
+}
+
+pub fn lineup_number(fault: LineupFault) -> u32
+    ensures { result ≡ codes.lineup_number fault }
 {
     fault as u32 + 1
 }

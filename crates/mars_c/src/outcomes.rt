@@ -1,0 +1,224 @@
+//! How warriors fare in each round of many matches.
+ghost use Rattle.std.specs.Prelude.{◌≡◌, ◌++◌, ◌≤◌, ℕ, All, IfErr, IfOk, IfSome, List, None, OnErr, OnOk, Some, length, map, slice_get};
+ghost use Rattle.mars_match.specs.declared.fates.Fate.{Fate as FateValue};
+ghost use Rattle.mars_c.specs.Outcomes.{AreChosen, AreFought, HoldsOutcomes, IsFought, IsLineup, IsNoLineup, IsWrongLineup, RefusesLineup, RefusesOutcomes, indices_of, plain_fate, rows_for, seeded as spec_seeded};
+ghost use Rattle.mars_c.specs.Refusals.{Misses};
+ghost use Rattle.mars_c.specs.declared.outcomes.MarsLineup.{MarsLineup as LineupNumbers};
+ghost use Rattle.mars_c.specs.declared.ranges.SettingsFault.TheVariants as settings_fault;
+ghost use Rattle.mars_core.specs.Limits.{most_warriors};
+
+use crate::entrants::{Entrants, read_all};
+use crate::faults::{CallRefusal, refused_fight};
+use crate::ranges::SettingsFault;
+use crate::settings::{MarsSettings, make_setup, parameters};
+use mars_cell::Warrior;
+use mars_core::MOST_WARRIORS;
+use mars_match::{Fate, fight_rounds};
+use std::alloc::Global;
+
+/// Match of a batch: its warriors, and the seed of its first round.
+#[repr(C)]
+#[derive(Clone, Copy)]
+pub struct MarsLineup {
+    /// Seed, 1 to 2,147,483,646; 0 for that of the settings.
+    pub seed: u32,
+    /// Number of warriors, 1 to 16.
+    pub count: u32,
+    /// Indices of the warriors, from 0; the places after them are not used.
+    pub warrior: [u32; 16],
+}
+
+/// Fate of a warrior in a round.
+#[repr(C)]
+#[derive(Clone, Copy)]
+pub struct MarsOutcome {
+    /// 1 if it lives at the end.
+    pub survived: u32,
+    /// Number of turns that all warriors had made when it died, including its last one; if it survived, of all turns of the round.
+    pub turns: u32,
+    /// Address of its first cell.
+    pub start: u32,
+}
+
+/// Why a lineup is wrong.
+#[derive(Clone, Copy)]
+pub enum LineupFault {
+    /// The number of warriors is not from 1 to 16.
+    Count,
+    /// An index is not that of a warrior.
+    Index,
+}
+
+impl MarsOutcome {
+    /// Returns the numbers of a fate.
+    fn of(fate: &Fate) -> MarsOutcome
+        ensures { result ≡ plain_fate fate.now }
+    {
+        MarsOutcome {
+            survived: if fate.survived { 1 } else { 0 },
+            turns: fate.turns,
+            start: fate.start,
+        }
+    }
+}
+
+/// Returns the settings with the seed of a lineup, unless that is 0.
+fn seeded(settings: &MarsSettings, seed: u32) -> MarsSettings
+    ensures { result ≡ spec_seeded settings.now seed }
+{
+    if seed == 0 {
+        return *settings;
+    }
+    MarsSettings { seed, ..*settings }
+}
+
+/// Returns why a lineup among `count` warriors is wrong.
+fn lineup_fault(lineup: &MarsLineup, count: usize) -> Option<LineupFault>
+    ensures right { result ≡ None → IsLineup count lineup.now }
+    ensures wrong { IfSome result (IsNoLineup count lineup.now) }
+{
+    if lineup.count < 1 || lineup.count as usize > MOST_WARRIORS {
+        return Some(LineupFault::Count);
+    }
+    for place in 0..lineup.count as usize {
+        if lineup.warrior[place] as usize >= count {
+            return Some(LineupFault::Index);
+        }
+    }
+    None
+}
+
+/// Checks all lineups among `count` warriors.
+fn check_lineups(lineups: &[MarsLineup], count: usize) -> Result<(), CallRefusal>
+    ensures right { OnOk result (All (IsLineup count) lineups.now) }
+    ensures wrong { IfErr result (IsWrongLineup count lineups.now) }
+{
+    for i in 0..lineups.len() {
+        if let Some(fault) = lineup_fault(&lineups[i], count) {
+            return Err(CallRefusal::Lineup(i, fault));
+        }
+    }
+    Ok(())
+}
+
+/// Checks that there is a place for each warrior of each lineup in each round.
+fn check_rows(settings: &MarsSettings, lineups: &[MarsLineup], places: usize) -> Result<(), CallRefusal>
+    requires { All (λ lineup. lineup.count ≤ most_warriors) lineups.now }
+    ensures wrong { IfErr result (Misses settings_fault.Rows (places ≡ rows_for settings.now lineups.now)) }
+{
+    let mut rest = places;
+    for lineup in lineups {
+        let rows = settings.rounds as usize * lineup.count as usize;
+        if rows > rest {
+            return Err(CallRefusal::Settings(SettingsFault::Rows));
+        }
+        rest -= rows;
+    }
+    if rest > 0 {
+        return Err(CallRefusal::Settings(SettingsFault::Rows));
+    }
+    Ok(())
+}
+
+/// Returns copies of the warriors of a lineup.
+fn choose(
+    alloc: Global,
+    warriors: &[Warrior],
+    lineup: &MarsLineup,
+) -> Result<Vec<Warrior>, CallRefusal>
+    requires { IsLineup (length warriors.now) lineup.now }
+    ensures chosen { IfOk result (λ chosen. AreChosen warriors.now (indices_of lineup.now) chosen.items) }
+    ensures many { IfOk result (λ chosen. length chosen.items ≡ lineup.now.count) }
+    ensures memory { IfErr result (λ refusal. refusal ≡ CallRefusal.OutOfMemory) }
+{
+    let mut chosen = Vec::new(alloc);
+    for place in 0..lineup.count as usize {
+        let Ok(warrior) = warriors[lineup.warrior[place] as usize].copy() else {
+            return Err(CallRefusal::OutOfMemory);
+        };
+        let Ok(()) = chosen.push(warrior) else {
+            return Err(CallRefusal::OutOfMemory);
+        };
+    }
+    Ok(chosen)
+}
+
+/// Returns the fates of a lineup's match.
+fn fight_lineup(
+    alloc: Global,
+    settings: &MarsSettings,
+    warriors: &[Warrior],
+    lineup: &MarsLineup,
+) -> Result<Vec<Fate>, CallRefusal>
+    requires { IsLineup (length warriors.now) lineup.now }
+    ensures fought { IfOk result (λ fates. IsFought settings.now warriors.now lineup.now fates.items) }
+    ensures refused { IfErr result (RefusesLineup settings.now warriors.now lineup.now) }
+{
+    let count = lineup.count as usize;
+    let setup = make_setup(alloc, &seeded(settings, lineup.seed), b"0", count)?;
+    let chosen = choose(alloc, warriors, lineup)?;
+    match fight_rounds(alloc, &setup, &chosen) {
+        Ok(fates) => Ok(fates),
+        Err(fault) => Err(refused_fight(fault)),
+    }
+}
+
+/// Appends the numbers of fates.
+fn append(outcomes: &mut Vec<MarsOutcome>, fates: &[Fate]) -> Result<(), CallRefusal>
+    ensures appended { OnOk result (outcomes.new.items ≡ outcomes.old.items ++ map plain_fate fates.now) }
+    ensures memory { IfErr result (λ refusal. refusal ≡ CallRefusal.OutOfMemory) }
+{
+    for fate in fates {
+        if outcomes.push(MarsOutcome::of(fate)).is_err() {
+            return Err(CallRefusal::OutOfMemory);
+        }
+    }
+    Ok(())
+}
+
+/// Returns the numbers of the fates of all matches, one match after another.
+fn fight_all(
+    alloc: Global,
+    settings: &MarsSettings,
+    warriors: &[Warrior],
+    lineups: &[MarsLineup],
+) -> Result<Vec<MarsOutcome>, CallRefusal>
+    requires { All (IsLineup (length warriors.now)) lineups.now }
+    ensures fought { IfOk result (λ outcomes. (fates : List FateValue) × AreFought settings.now warriors.now lineups.now fates × (outcomes.items ≡ map plain_fate fates)) }
+    ensures refused { IfErr result (λ refusal. (index : ℕ) × (lineup : LineupNumbers) × (slice_get lineups.now index ≡ Some lineup) × RefusesLineup settings.now warriors.now lineup refusal) }
+{
+    let mut outcomes = Vec::new(alloc);
+    for i in 0..lineups.len() {
+        let fates = fight_lineup(alloc, settings, warriors, &lineups[i])?;
+        append(&mut outcomes, &fates)?;
+    }
+    Ok(outcomes)
+}
+
+/// Writes the fates of all matches to the places.
+pub fn outcomes_into(
+    alloc: Global,
+    settings: &MarsSettings,
+    entrants: Entrants<'_>,
+    lineups: &[MarsLineup],
+    places: &mut [MarsOutcome],
+) -> Result<(), CallRefusal>
+    ensures done { let e = entrants.entry in OnOk result (HoldsOutcomes settings.now e.cells.now e.warriors.now lineups.now places.new) }
+    ensures kept { OnErr result (places.new ≡ places.old) }
+    ensures refused { let e = entrants.entry in IfErr result (RefusesOutcomes settings.now e.cells.now e.warriors.now lineups.now (length places.old)) }
+{
+    check_lineups(lineups, entrants.warriors.len())?;
+    check_rows(settings, lineups, places.len())?;
+    let params = match parameters(settings) {
+        Ok(params) => params,
+        Err(fault) => return Err(CallRefusal::Parameters(fault)),
+    };
+    let warriors = read_all(alloc, &params, entrants)?;
+    let outcomes = fight_all(alloc, settings, &warriors, lineups)?;
+    if outcomes.len() != places.len() {
+        // There is a place for each fate: this is never reached, and any error would do.
+        return Err(CallRefusal::OutOfMemory);
+    }
+    places.copy_from_slice(&outcomes);
+    Ok(())
+}
