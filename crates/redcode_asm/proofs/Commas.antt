@@ -26,15 +26,6 @@ pub parts-whole : (ts : List Token) → parts_at_commas ts ≡ prepend [] (parts
 parts-whole [] = refl
 parts-whole (t ∷ ts) = whole-by (is_comma t.kind) t (parts_at_commas ts)
 
-pub parts-first : (t : Token) (ts : List Token) (b : Bool) → is_comma t.kind ≡ b → parts_at_commas (t ∷ ts) ≡ parts_by b t (parts_at_commas ts)
-parts-first t ts b e = ap (λ b. parts_by b t (parts_at_commas ts)) e
-
--- at the end
-pub parts-end : (ts : List Token) (i : ℕ) → length ts ≤ i → prepend (take i ts) (parts_at_commas (drop i ts)) ≡ ts ∷ []
-parts-end ts i past =
-    let none = drop_all i ts past in
-    ap (λ rest. prepend (take i ts) (parts_at_commas rest)) none ∙ ap (λ front. front ∷ []) (ap (λ rest. take i ts ++ rest) (sym none) ∙ take-append-drop i ts)
-
 -- ---- operands
 
 abbrev refused : Result Operands AsmProblem

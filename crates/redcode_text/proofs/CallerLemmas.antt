@@ -6,8 +6,7 @@ use Rattle.redcode_text.specs.declared.token.Token.{Token}
 use Rattle.redcode_text.specs.Equates.{Equate, substitution}
 use Rattle.redcode_text.specs.Tokens.{without_line}
 use Rattle.redcode_text.specs.Expression.{kinds}
-use Rattle.redcode_text.proofs.ForLaws.Agreement.{gives-weaker, pairwise-itself}
-use Rattle.redcode_text.proofs.ForLaws.Likeness.{Equal, LikeEquate, equal-index, kind-like, same-kinds}
+use Rattle.redcode_text.proofs.ForLaws.Likeness.{Equal, LikeEquate, equal-index, kind-like}
 use Rattle.redcode_text.proofs.ForLaws.Replacements.{replaced-alike}
 pub use Rattle.redcode_text.proofs.ForLaws.PrintedNames.{program-printed}
 pub use Rattle.redcode_text.proofs.ForLaws.Moved.{kinds-moved, moved_tokens, substitution-moved}
@@ -35,20 +34,3 @@ pub use Rattle.redcode_text.proofs.ForLaws.Likeness.{SameKinds}
 
 pub length-kinds : (ts us : List Token) → kinds ts ≡ kinds us → length ts ≡ length us
 length-kinds ts us e = sym (length-map ts (λ t. t.kind)) ∙ ap length e ∙ length-map us (λ t. t.kind)
-
-are-like : (ts us : List Token) → kinds ts ≡ kinds us → SameKinds ts us
-are-like [] [] e = tt
-are-like [] (u ∷ us) e = absurd (omega (arith, length-kinds [] (u ∷ us) e))
-are-like (t ∷ ts) [] e = absurd (omega (arith, length-kinds (t ∷ ts) [] e))
-are-like (t ∷ ts) (u ∷ us) e =
-    let first : t.kind ≡ u.kind = cc in
-    let rest : kinds ts ≡ kinds us = cc in
-    (first, are-like ts us rest)
-
--- tokens of the same kinds are replaced by tokens of the same kinds
-pub replaced-like : (equates : List Equate) (ts us : List Token) → kinds ts ≡ kinds us → BothGive (λ (xs ys : List Token). kinds xs ≡ kinds ys) (without_line (substitution equates ts)) (without_line (substitution equates us))
-replaced-like equates ts us e =
-    let one : Token → Token → Type 0 = λ t u. t.kind ≡ u.kind in
-    gives-weaker SameKinds (λ xs ys. kinds xs ≡ kinds ys) (without_line (substitution equates ts)) (without_line (substitution equates us))
-    (replaced-alike Equal one equal-index (λ t u. kind-like t.kind u.kind) equates equates
-    (pairwise-itself (LikeEquate Equal one) (λ e. (refl, pairwise-itself SameKinds (pairwise-itself one (λ t. refl)) e.lines)) equates) ts us (are-like ts us e)) same-kinds

@@ -62,15 +62,3 @@ module _ (row : SourceRow) (st : Reading) where
 -- the same with what is kept of it
 pub as-said : (what : Said) (row : SourceRow) (st : Reading) → what ≡ said row.bytes → comment_line row st ≡ said_line what row st
 as-said what row st e = comment-said row st ∙ ap (λ s. said_line s row st) (sym e)
-
-given : (l old : List ℕ) (n : ℕ) → n ≡ length l → (n == 0) ≡ false → unless_empty l old ≡ l
-given [] old n e h = let c : true ≡ false = sym (ap (λ m. m == 0) e) ∙ h in cc
-given (b ∷ bs) old n e h = refl
-
-empty : (l old : List ℕ) (n : ℕ) → n ≡ length l → (n == 0) ≡ true → unless_empty l old ≡ old
-empty [] old n e h = refl
-empty (b ∷ bs) old n e h = let z : n ≡ 0 = eqb-true n 0 h in absurd (omega (arith, e, z))
-
-module _ (st : Reading) (text value : List ℕ) (n : ℕ) (is : printed_value text ≡ value) (len : n ≡ length value) where
-  pub name-given : (n == 0) ≡ false → with_name_text text st ≡ record st { name = value }
-  name-given h = ap (λ l. record st { name = l }) (ap (λ l. unless_empty l st.name) is ∙ given value st.name n len h)

@@ -33,13 +33,6 @@ for-at rows i j at d hi hj row ends =
     paired-drop rows i d (ForLine at) hi row
     ∙ ap (opened (row_of (get_or rows i d)) (here_from rows (i + 1))) (ends.waiting ∙ rof-at rows j d hj ends.at_end)
 
-nothing : {A : Type 0} (l : List A) → length l ≡ 0 → l ≡ []
-nothing [] e = refl
-nothing (x ∷ l) e = absurd (omega arith)
-
-past : (rows : List code.SourceRow) (i : ℕ) → length rows ≤ i → drop i rows ≡ []
-past rows i h = nothing (drop i rows) (let z : length (drop i rows) ≡ 0 = omega (arith, length-drop i rows) in z)
-
 -- ---- where items end
 
 pub ends-rof : (rows : List code.SourceRow) (i : ℕ) (d : code.SourceRow) → i < length rows → RofLine ≡ line_kind (row_of (get_or rows i d)).bytes → EndsAt rows i i

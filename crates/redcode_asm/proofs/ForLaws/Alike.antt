@@ -14,7 +14,7 @@ use Rattle.redcode_text.specs.Expansion.{ProgramValue}
 use Rattle.redcode_text.specs.Expression.{kinds, value_of}
 use Rattle.redcode_text.specs.Equates.{substitution}
 use Rattle.redcode_text.specs.Tokens.{without_line}
-use Rattle.redcode_text.proofs.CallerLemmas.{BothGive, Pairwise, length-kinds, replaced-like}
+use Rattle.redcode_text.proofs.CallerLemmas.{BothGive, Pairwise, length-kinds}
 use Rattle.redcode_asm.specs.Assembly.{cell_from, expressed, is_comma, mode_of, modifier_first, modifier_in, operand_value, parts_at_commas, replaced, split_mode, texted}
 use Rattle.redcode_asm.specs.declared.fault.AsmProblem.{AsmProblem}
 use Rattle.redcode_asm.proofs.ForLaws.Parts.{AreAsEmpty, pairwise-made}
@@ -86,41 +86,3 @@ pub cell-like : (m : ℕ) (names : ℕ → Option ℤ) (o : Op) (given : Option 
     → cell_from m names o given ts ≡ cell_from m names o given us
 cell-like m names o given ts us e =
     pairwise-made m names names given LikeKinds kinds-empty (operand-like m names) o ts us (kinds-empty ts us e) (given-like ts us e)
-
--- ---- a modifier, and replaced names
-
--- a result is like this one, which is a value
-pub record IsLike {A : Type 0} (first : A) (tokens : List Token) (result : Result (A × List Token) AsmProblem) : Type 0 where
-  pub rest : List Token
-  pub is : result ≡ Ok (first, rest)
-  pub like : kinds tokens ≡ kinds rest
-
-pub record IsReplaced (tokens : List Token) (result : Result (List Token) AsmProblem) : Type 0 where
-  pub made : List Token
-  pub is : result ≡ Ok made
-  pub like : kinds tokens ≡ kinds made
-
-pub replaced-alike : (source : ProgramValue) (ts us made : List Token) → kinds ts ≡ kinds us → replaced source ts ≡ Ok made → IsReplaced made (replaced source us)
-replaced-alike source ts us made e h = go (without_line (substitution source.equates ts)) (without_line (substitution source.equates us)) (replaced-like source.equates ts us e) h
-  where
-    go : (x y : Result (List Token) TextProblem) → BothGive (λ (ts us : List Token). kinds ts ≡ kinds us) x y → texted x ≡ Ok made → IsReplaced made (texted y)
-    go (Ok a) (Ok b) l h = record { made = b; is = refl; like = (let same : a ≡ made = cc in ap kinds (sym same) ∙ l) }
-    go (Ok a) (Err f) l h = absurd l
-    go (Err e) (Ok b) l h = absurd l
-    go (Err e) (Err f) l h = cc
-
-module _ (names : List (List ℕ)) where
-  first-like : (ts us : List Token) (r : Option Modifier × List Token) → kinds ts ≡ kinds us → modifier_first names ts ≡ Ok r → IsLike r.0 r.1 (modifier_first names us)
-  first-like [] [] r e h = cc
-  first-like [] (u ∷ us) r e h = absurd (omega (arith, length-kinds [] (u ∷ us) e))
-  first-like (t ∷ ts) [] r e h = absurd (omega (arith, length-kinds (t ∷ ts) [] e))
-  first-like (t ∷ ts) (u ∷ us) r e h =
-      let first : t.kind ≡ u.kind = cc in
-      let rest : kinds ts ≡ kinds us = cc in
-      subst (λ k. IsLike r.0 r.1 (modifier_in names k >>= λ m. Ok (Some m, us))) first (go (modifier_in names t.kind) rest h)
-    where
-      go : (x : Result Modifier AsmProblem) → kinds ts ≡ kinds us → (x >>= λ m. Ok (Some m, ts)) ≡ Ok r → IsLike r.0 r.1 (x >>= λ m. Ok (Some m, us))
-      go (Ok m) l g =
-          let same : (Some m, ts) ≡ r = cc in
-          record { rest = us; is = ap (λ q. Ok (q.0, us)) same; like = ap (λ q. kinds q.1) (sym same) ∙ l }
-      go (Err f) l g = cc

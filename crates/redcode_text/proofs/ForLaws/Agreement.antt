@@ -61,10 +61,6 @@ pub pairwise-mapped : {A B : Type 0} (R : A → B → Type 0) (f : A → B) → 
 pairwise-mapped R f h [] = tt
 pairwise-mapped R f h (x ∷ xs) = (h x, pairwise-mapped R f h xs)
 
-pub pairwise-itself : {A : Type 0} (R : A → A → Type 0) → ((x : A) → R x x) → (xs : List A) → Pairwise R xs xs
-pairwise-itself R h [] = tt
-pairwise-itself R h (x ∷ xs) = (h x, pairwise-itself R h xs)
-
 -- what two tests keep, that say the same of what agrees
 pub pairwise-filter : {A B : Type 0} (R : A → B → Type 0) (f : A → Bool) (g : B → Bool) → ((x : A) (y : B) → R x y → f x ≡ g y)
     → (xs : List A) (ys : List B) → Pairwise R xs ys
@@ -178,12 +174,6 @@ both-then R S (Ok x) (Ok y) f g h k = k x y h
 both-then R S (Ok x) (Err e) f g h k = absurd h
 both-then R S (Err d) (Ok y) f g h k = absurd h
 both-then R S (Err d) (Err e) f g h k = h
-
-pub gives-weaker : {A B E : Type 0} (R S : A → B → Type 0) (r : Result A E) (s : Result B E) → BothGive R r s → ((x : A) (y : B) → R x y → S x y) → BothGive S r s
-gives-weaker R S (Ok x) (Ok y) h k = k x y h
-gives-weaker R S (Ok x) (Err e) h k = absurd h
-gives-weaker R S (Err d) (Ok y) h k = absurd h
-gives-weaker R S (Err d) (Err e) h k = h
 
 pub both-elim : {A B E : Type 0} (R : A → B → Type 0) (c d : Bool) (x y : Result A E) (z w : Result B E) → c ≡ d → BothGive R x z → BothGive R y w
     → BothGive R (elim c as (λ _. Result A E) [ true ↦ x | false ↦ y ]) (elim d as (λ _. Result B E) [ true ↦ z | false ↦ w ])

@@ -40,12 +40,6 @@ none-of word op (o ∷ ops) e known = go (str_eq_ignore_ascii_case word o) refl 
     go false is none false f k h = h none k
 
 module _ (counter : List ℕ) (name : IsCounterName counter) (ds : List ℕ) where
-  abbrev behind_name : List ℕ
-  behind_name = codes " FOR " ++ ds
-
-  abbrev line : List ℕ
-  line = counter ++ behind_name
-
   pub l : IsLetters counter
   l = letters counter name
 

@@ -120,9 +120,6 @@ module _ (counter : List ℕ) (name : IsCounterName counter) where
           behind = omega arith;
         }))))
 
-    text : List ℕ
-    text = counter ++ (codes " FOR " ++ d ∷ ds)
-
     first-token : (names : List (List ℕ)) → Alone (λ (f : Found). (f.len ≡ length counter) × IsNamed f.kind f.names) (token_at loops names (counter ++ (codes " FOR " ++ d ∷ ds)))
     first-token names =
         let rest = l.others ++ (codes " FOR " ++ d ∷ ds) in

@@ -82,9 +82,6 @@ module _ (counter : List ℕ) (name : IsCounterName counter) where
         (rows_from number at lines, (paired (rows_from r.0 r.1 rest)).here, rows-written round (omega arith) body all joins parts.0 k b number at, ap (λ (p : Pairing). p.here) is, more.2) in
         (more.0, more.1, one, ap (λ (p : Pairing). p.waiting) is ∙ more.3)
 
-    abbrev head_bytes : ℕ → List ℕ
-    head_bytes n = counter ++ (codes " FOR " ++ decimal n)
-
     loop-paired : (n number at : ℕ) → (k : ℕ) × (b : ℕ) × (i : ℕ) × (j : ℕ) × (rof : SourceRow) ×
         (paired (rows_from number at (counter_lines counter n body ++ after)) ≡ record {
           here = Loop (record { number = number; at = at; bytes = counter ++ (codes " FOR " ++ decimal n) }) (onto (rows_from k b body) Nothing) rof (paired (rows_from i j after)).here;

@@ -71,6 +71,3 @@ like-kind _ _ h = absurd h
 
 abbrev pub SameKinds : List Token → List Token → Type 0
 SameKinds ts us = Pairwise (λ (t u : Token). t.kind ≡ u.kind) ts us
-
-pub same-kinds : (ts us : List Token) → SameKinds ts us → kinds ts ≡ kinds us
-same-kinds ts us h = pairwise-map (λ (t u : Token). t.kind ≡ u.kind) (λ t. t.kind) (λ t. t.kind) (λ t u e. e) ts us h

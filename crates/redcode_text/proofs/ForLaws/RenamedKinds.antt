@@ -149,9 +149,6 @@ module _ (ps : Predefined) (rename : List ℕ → List ℕ) (r : IsRenaming ps r
   SamePlace bs _ _ = ⊥
 
   module _ (bs : List ℕ) where
-    other : List ℕ
-    other = renamed_text rename bs
-
     firsts : drop (first_word_at (renamed_text rename bs)) (renamed_text rename bs) ≡ renamed_text rename (drop (first_word_at bs) bs)
     firsts = ap (λ n. drop n (renamed_text rename bs)) (first-is (renamed_text rename bs)) ∙ first-cut ps rename r bs ∙ sym (ap (λ n. renamed_text rename (drop n bs)) (first-is bs))
 

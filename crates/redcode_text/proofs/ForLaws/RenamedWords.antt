@@ -143,26 +143,6 @@ module _ (ps : Predefined) (rename : List ℕ → List ℕ) (r : IsRenaming ps r
       go true h w = h ∙ ap begins_name (append_assoc word (b ∷ []) bs)
       go false h w = other word
 
-  -- the word at the front of a renamed text, and the rest
-  pub renamed-parts : (word bs : List ℕ) → renamed_from rename word bs ≡ renamed_from rename word (raw_of bs) ++ renamed_text rename (rest_of bs)
-  renamed-parts word [] = sym (ap (λ l. rename word ++ l) empty-stays ∙ append-nil (rename word))
-  renamed-parts word (b ∷ bs) = go (is_word_byte b) ((b == 38) && begins_name bs) refl (λ w. renamed-parts w bs)
-    where
-      raw : Bool → List ℕ
-      raw t = elim t as (λ _. List ℕ) [ true ↦ b ∷ raw_of bs | false ↦ [] ]
-
-      rest : Bool → List ℕ
-      rest t = elim t as (λ _. List ℕ) [ true ↦ rest_of bs | false ↦ b ∷ bs ]
-
-      go : (t u : Bool) → is_word_byte b ≡ t → ((w : List ℕ) → renamed_from rename w bs ≡ renamed_from rename w (raw_of bs) ++ renamed_text rename (rest_of bs))
-          → step t word b bs ≡ renamed_from rename word (raw (t || u)) ++ renamed_text rename (rest (t || u))
-      go true u e h = h (word ++ b ∷ []) ∙ ap (λ t. step t word b (raw_of bs) ++ renamed_text rename (rest_of bs)) (sym e)
-      go false true e h =
-          ap (λ l. rename word ++ b ∷ l) (h [])
-          ∙ sym (append_assoc (rename word) (b ∷ renamed_text rename (raw_of bs)) (renamed_text rename (rest_of bs)))
-          ∙ ap (λ t. step t word b (raw_of bs) ++ renamed_text rename (rest_of bs)) (sym e)
-      go false false e h = ap (λ l. rename word ++ l) (sym (other-stays b bs e))
-
   pub raw-renamed : (word bs : List ℕ) → list_all is_word_byte word ≡ true → raw_of (renamed_from rename word bs) ≡ renamed_from rename word (raw_of bs)
   raw-renamed word [] all = ap raw_of (sym (append-nil (rename word))) ∙ raw-front (rename word) [] (r.words word all) ∙ append-nil (rename word)
   raw-renamed word (b ∷ bs) all = go (is_word_byte b) ((b == 38) && begins_name bs) refl refl (λ w. raw-renamed w bs)
