@@ -1,9 +1,5 @@
 -- What laws and the crates above stand on, and no function of this crate.
 pub mod Alike
-pub mod AlikeCells
-pub mod AlikeLines
-pub mod AlikePrograms
-pub mod AlikeSources
 pub mod FreeNames
 pub mod InFront
 pub mod LoadAssembled

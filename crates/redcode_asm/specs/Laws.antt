@@ -21,9 +21,8 @@ use Rattle.redcode_text.specs.declared.token.TokenKind.{TokenKind}
 use Rattle.redcode_text.specs.declared.token.TokenKind.TheVariants.{Number, Name}
 use Rattle.redcode_text.specs.declared.token.TokenKind.TheVariants as token
 use Rattle.redcode_text.specs.Expression.{kinds}
-use Rattle.redcode_text.specs.Alike.{AreAlike}
 use Rattle.redcode_text.specs.Expansion.{ProgramValue, expansion}
-use Rattle.redcode_text.specs.Laws.{HasItsJoins, IsBodyLine, IsCounterName, IsInstructionLine, IsLine, IsRenaming, JoinsAreRenamed, copies, counter_lines, loop_lines, renamed, text_of_lines, written_rounds}
+use Rattle.redcode_text.specs.Laws.{IsLine, IsRenaming, JoinsAreRenamed, renamed, text_of_lines}
 use Rattle.redcode_text.specs.Lines.{Line, Predefined, directive_value, is_instruction, name_at, predefined_value, with_current_line}
 use Rattle.redcode_asm.specs.Assembly.{Placed, assembly, at_line, cell_of, cells_of, instructions, predefined, warrior_of}
 use Rattle.redcode_asm.specs.Formula.{formula_of, score_of}
@@ -68,29 +67,6 @@ abbrev pub RenamedSourcesAreTheSame : Type 0
 RenamedSourcesAreTheSame = (p : Parameters) (rounds warriors : ℕ) (rename : List ℕ → List ℕ) (source : List ℕ)
     → IsRenaming (predefined p rounds warriors) rename → KeepsModifiers rename → JoinsAreRenamed rename source
     → assembly p rounds warriors (renamed rename source) ≡ assembly p rounds warriors source
-
--- two sources whose programs are the same, name for name, are assembled to the same warrior
-abbrev pub AlikeSourcesAssembleAlike : Type 0
-AlikeSourcesAssembleAlike = (p : Parameters) (rounds warriors : ℕ) (one other : List ℕ) (s t : ProgramValue) (w : WarriorValue)
-    → expansion (predefined p rounds warriors) one ≡ Ok s → expansion (predefined p rounds warriors) other ≡ Ok t → AreAlike s t
-    → assembly p rounds warriors one ≡ Ok w → assembly p rounds warriors other ≡ Ok w
-
--- A loop without a counter, written out by hand, gives the same warrior: where a source with the loop is assembled, so is the source with as many
--- copies of the loop's body in its place. It holds one way only: written out, there are fewer lines and tokens to count.
-abbrev pub LoopsAreWrittenOut : Type 0
-LoopsAreWrittenOut = (p : Parameters) (rounds warriors n : ℕ) (before body after : List (List ℕ)) (w : WarriorValue)
-    → n < 2 ^ 63 → All IsLine before → All IsLine body → All IsLine after → All IsBodyLine body
-    → assembly p rounds warriors (text_of_lines (before ++ (loop_lines n body ++ after))) ≡ Ok w
-    → assembly p rounds warriors (text_of_lines (before ++ (copies n body ++ after))) ≡ Ok w
-
--- A loop with a counter, written out by hand, gives the same warrior: where a source with the loop is assembled, so is the source with the loop's body
--- for each round in its place, the round standing for the counter, and its digits for the counter's joins. It holds one way only, as without a counter.
-abbrev pub CounterLoopsAreWrittenOut : Type 0
-CounterLoopsAreWrittenOut = (p : Parameters) (rounds warriors : ℕ) (counter : List ℕ) (n : ℕ) (before body after : List (List ℕ)) (w : WarriorValue)
-    → IsCounterName counter → n < 2 ^ 63 → All IsLine before → All IsLine body → All IsLine after → All IsInstructionLine body → All (HasItsJoins counter) body
-    → All IsInstructionLine (written_rounds counter 1 n body)
-    → assembly p rounds warriors (text_of_lines (before ++ (counter_lines counter n body ++ after))) ≡ Ok w
-    → assembly p rounds warriors (text_of_lines (before ++ (written_rounds counter 1 n body ++ after))) ≡ Ok w
 
 -- a program with one more line, in front of its lines
 abbrev pub with_line_in_front : Line → ProgramValue → ProgramValue

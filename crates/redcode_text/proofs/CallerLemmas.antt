@@ -19,12 +19,7 @@ pub use Rattle.redcode_text.specs.Trees.{spelling, is_prefix, IsLevelled}
 pub use Rattle.redcode_text.proofs.Trees.{rank-≤5}
 pub use Rattle.redcode_text.proofs.Shapes.{shaped}
 pub use Rattle.redcode_text.proofs.Splits.{tree-spelled}
-pub use Rattle.redcode_text.proofs.ForLaws.Agreement.{Agree, AgreeOption, BothGive, Pairwise, Same, agree-after, agree-bind, agree-same, agree-value, pairwise-filter, pairwise-last, pairwise-length, pairwise-map}
-pub use Rattle.redcode_text.proofs.ForLaws.AlikeValues.{substitution-same, value-same}
-pub use Rattle.redcode_text.proofs.Named.{AreDistinct, IsNamed}
-pub use Rattle.redcode_text.proofs.ForLaws.SameNames.{SameAssert, SameEquate, SameKind, SameLine, SameName, SameToken, SameTokens, asserts-same, equates-same, index-same, lines-same}
-pub use Rattle.redcode_text.proofs.ForLaws.SourcePrograms.{loops-written-out, source-named}
-pub use Rattle.redcode_text.proofs.ForLaws.CountedOut.{counter-loops}
+pub use Rattle.redcode_text.proofs.ForLaws.Agreement.{AgreeOption, BothGive, Pairwise, pairwise-filter, pairwise-length, pairwise-map}
 pub use Rattle.redcode_text.proofs.ForLaws.RenamedKinds.{operation-same, value-renamed}
 pub use Rattle.redcode_text.proofs.ForLaws.RenamedPrograms.{RenamedAssert, RenamedEquate, RenamedLine, RenamedProgram, source-renamed}
 pub use Rattle.redcode_text.proofs.ForLaws.RenamedReadings.{name-renamed}

@@ -1,19 +1,8 @@
 -- What laws and the crates above stand on, and no function of this crate.
 pub mod Agreement
-pub mod AlikeLines
-pub mod AlikeNames
-pub mod AlikeReadings
-pub mod AlikeSteps
-pub mod AlikeTokens
 pub mod AlikeValues
 pub mod Alone
 pub mod BehindEnd
-pub mod CountedHeads
-pub mod CountedOut
-pub mod CountedRows
-pub mod CountedSteps
-pub mod CountedTokens
-pub mod CountedTrees
 pub mod Follows
 pub mod HeadLines
 pub mod KeptNames
@@ -22,7 +11,6 @@ pub mod LikeLines
 pub mod LikeReadings
 pub mod Likeness
 pub mod LineRead
-pub mod LoneLoops
 pub mod Moved
 pub mod PlainRows
 pub mod PrintedNames
@@ -40,16 +28,7 @@ pub mod RenamedTokens
 pub mod RenamedTrees
 pub mod RenamedWords
 pub mod Replacements
-pub mod SameNames
 pub mod ShapedTrees
-pub mod Simulations
-pub mod SourcePrograms
 pub mod TokensRead
 pub mod Unread
-pub mod WrittenOut
-pub mod WrittenReadings
-pub mod WrittenScans
-pub mod WrittenTexts
-pub mod WrittenTokens
 pub mod WrittenTrees
-pub mod WrittenWords

@@ -13,7 +13,6 @@ use Rattle.redcode_text.specs.declared.fault.ExprFault.{ExprFault}
 use Rattle.redcode_text.specs.declared.fault.ExprFault.TheVariants.{Syntax, Depth}
 use Rattle.redcode_text.specs.declared.fault.TextFault.{TextFault}
 use Rattle.redcode_text.specs.declared.fault.TextProblem.{TextProblem}
-use Rattle.redcode_text.specs.Alike.{AreAlike}
 use Rattle.redcode_text.specs.Bytes.{ampersand, line_feed}
 use Rattle.redcode_text.specs.Expression.{Tree, kinds, shape, start, tree_within}
 use Rattle.redcode_text.specs.Trees.{IsLevelled, IsWithin, spelling}
@@ -66,35 +65,6 @@ text_of_lines lines = flat_map (λ line. line ++ line_feed ∷ []) lines
 abbrev pub IsLine : List ℕ → Type 0
 IsLine line = list_any (λ b. b == line_feed) line ≡ false
 
-abbrev pub is_loop_kind : LineKind → Bool
-is_loop_kind RofLine = true
-is_loop_kind (ForLine at) = true
-is_loop_kind _ = false
-
--- a line that is neither FOR nor ROF, and doesn't begin `;redcode`
-pub record IsBodyLine (line : List ℕ) : Type 0 where
-  pub kind : is_loop_kind (line_kind line) ≡ false
-  pub plain : has_directive (codes "redcode") line ≡ false
-
--- the lines of a loop of n rounds without a counter
-abbrev pub loop_lines : ℕ → List (List ℕ) → List (List ℕ)
-loop_lines n body = (codes "FOR " ++ decimal n) ∷ (body ++ codes "ROF" ∷ [])
-
--- these lines n times, one after another
-abbrev pub copies : ℕ → List (List ℕ) → List (List ℕ)
-copies zero lines = []
-copies (suc n) lines = lines ++ copies n lines
-
--- A loop without a counter, written out by hand, gives the same program: where a source with the loop is read, so is the source with as many
--- copies of the loop's body in its place, to a program that is the same, name for name. Before and behind it may stand any lines, so it may be
--- inside other loops. It holds one way only: written out, there are fewer lines and tokens to count, so that the limits are farther off. Every
--- number of a source is below 2^63; of larger ones `decimal` has the last 64 digits alone.
-abbrev pub LoopsAreWrittenOut : Type 0
-LoopsAreWrittenOut = (ps : Predefined) (n : ℕ) (before body after : List (List ℕ)) (s : ProgramValue)
-    → n < 2 ^ 63 → All IsLine before → All IsLine body → All IsLine after → All IsBodyLine body
-    → expansion ps (text_of_lines (before ++ (loop_lines n body ++ after))) ≡ Ok s
-    → (t : ProgramValue) × (expansion ps (text_of_lines (before ++ (copies n body ++ after))) ≡ Ok t) × AreAlike s t
-
 -- ---- other names
 
 -- a text behind part of a word, with each word renamed: as many letters, digits and `_` as stand together
@@ -141,109 +111,6 @@ KeepsDigits rename = (word : List ℕ) (digit : ℕ) → is_ascii_digit digit �
 -- where joins may stand, digits stay
 abbrev pub JoinsAreRenamed : (List ℕ → List ℕ) → List ℕ → Type 0
 JoinsAreRenamed rename bytes = list_any (λ b. b == ampersand) bytes ≡ true → KeepsDigits rename
-
--- ---- counters written in place
-
--- the joins of a word, with the digits of a round in place of those of the counter
-abbrev pub written_joins : List ℕ → ℕ → List (List ℕ) → List ℕ
-written_joins counter round [] = []
-written_joins counter round (name ∷ names) = (if bytes_eq counter name then round_digits round else ampersand ∷ name) ++ written_joins counter round names
-
-abbrev pub written_parts : List ℕ → ℕ → List (List ℕ) → List ℕ
-written_parts counter round [] = []
-written_parts counter round (front ∷ names) = front ++ written_joins counter round names
-
--- a word with its joins, or the round where the word is the counter
-abbrev pub written_word : List ℕ → ℕ → List ℕ → List ℕ
-written_word counter round word = if bytes_eq counter word then decimal round else written_parts counter round (parts_at_joins word)
-
--- whether a text begins with `&&`, which is no join
-abbrev pub begins_and : List ℕ → Bool
-begins_and bytes = bytes_eq (take 2 bytes) (ampersand ∷ ampersand ∷ [])
-
--- a text with each word written so; `skip` bytes of it belong to what stands before
-abbrev pub written_from : List ℕ → ℕ → ℕ → List ℕ → List ℕ
-written_from counter round skip [] = []
-written_from counter round (suc skip) (b ∷ bs) = written_from counter round skip bs
-written_from counter round zero (b ∷ bs) =
-    elim (begins_word (b ∷ bs)) [
-      | true ↦ written_word counter round (take (word_len (b ∷ bs)) (b ∷ bs)) ++ written_from counter round (word_len bs) bs
-      | false ↦ elim (begins_and (b ∷ bs)) [ true ↦ b ∷ b ∷ written_from counter round 1 bs | false ↦ b ∷ written_from counter round 0 bs ]
-    ]
-
-abbrev pub written_text : List ℕ → ℕ → List ℕ → List ℕ
-written_text counter round bytes = written_from counter round 0 bytes
-
--- whether each join of a word is the counter's
-abbrev pub are_its_joins : List ℕ → List (List ℕ) → Bool
-are_its_joins counter [] = true
-are_its_joins counter (front ∷ names) = list_all (bytes_eq counter) names
-
--- whether each join of a text is
-abbrev pub has_its_joins : List ℕ → ℕ → List ℕ → Bool
-has_its_joins counter skip [] = true
-has_its_joins counter (suc skip) (b ∷ bs) = has_its_joins counter skip bs
-has_its_joins counter zero (b ∷ bs) =
-    elim (begins_word (b ∷ bs)) [
-      | true ↦ are_its_joins counter (parts_at_joins (take (word_len (b ∷ bs)) (b ∷ bs))) && has_its_joins counter (word_len bs) bs
-      | false ↦ elim (begins_and (b ∷ bs)) [ true ↦ has_its_joins counter 1 bs | false ↦ has_its_joins counter 0 bs ]
-    ]
-
--- tokens, and the names with theirs, without the places
-abbrev pub unplaced_scan : Result Scanned TextProblem → Result (List TokenKind × List (List ℕ)) TextProblem
-unplaced_scan (Ok s) = Ok (kinds s.tokens, s.names)
-unplaced_scan (Err e) = Err e
-
--- In a round of a loop a text has the tokens of the text with the round written in place of the counter, and its digits in place of the counter's
--- joins; or it has the same fault. A name that a join makes ends in a digit, so the counter's name doesn't, and no counter is called by a number.
--- Joins of other counters are left out: `x&j&i` couldn't be written, since the digits would belong to the name `j`.
-abbrev pub CountersAreWrittenInPlace : Type 0
-CountersAreWrittenInPlace = (counter : List ℕ) (round line at to room : ℕ) (loops : List OpenLoop) (names : List (List ℕ)) (bytes : List ℕ)
-    → list_all is_word_byte counter ≡ true → round < 2 ^ 63 → round_of loops (decimal round) ≡ None → ((word : List ℕ) (digit : ℕ) → is_ascii_digit digit ≡ true → bytes_eq counter (word ++ digit ∷ []) ≡ false)
-    → has_its_joins counter 0 bytes ≡ true
-    → unplaced_scan (tokens (record { counter = Some counter; round = round } ∷ loops) line at room names bytes)
-    ≡ unplaced_scan (tokens loops line to room names (written_text counter round bytes))
-
--- ---- loops with a counter written out
-
--- a line in a round: without its comment, and with the round in place of the counter
-abbrev pub written_line : List ℕ → ℕ → List ℕ → List ℕ
-written_line counter round line = written_text counter round (before_comment line)
-
--- these lines in n rounds, from one on, one after another
-abbrev pub written_rounds : List ℕ → ℕ → ℕ → List (List ℕ) → List (List ℕ)
-written_rounds counter round zero lines = []
-written_rounds counter round (suc n) lines = map (written_line counter round) lines ++ written_rounds counter (round + 1) n lines
-
--- the lines of a loop of n rounds with a counter
-abbrev pub counter_lines : List ℕ → ℕ → List (List ℕ) → List (List ℕ)
-counter_lines counter n body = (counter ++ (codes " FOR " ++ decimal n)) ∷ (body ++ codes "ROF" ∷ [])
-
--- a name that is no operation, and doesn't end in a digit
-pub record IsCounterName (counter : List ℕ) : Type 0 where
-  pub begins : begins_name counter ≡ true
-  pub word : list_all is_word_byte counter ≡ true
-  pub free : list_any (str_eq_ignore_ascii_case counter) operations ≡ false
-  pub bare : (word : List ℕ) (digit : ℕ) → is_ascii_digit digit ≡ true → bytes_eq counter (word ++ digit ∷ []) ≡ false
-
--- a line that is no FOR, ROF or EQU, and no comment alone
-pub record IsInstructionLine (line : List ℕ) : Type 0 where
-  pub kind : line_kind line ≡ OtherLine
-  pub plain : is_comment line ≡ false
-
--- whether each join of a line is the counter's
-abbrev pub HasItsJoins : List ℕ → List ℕ → Type 0
-HasItsJoins counter line = has_its_joins counter 0 (before_comment line) ≡ true
-
--- A loop with a counter, written out by hand, gives the same program: where a source with the loop is read, so is the source with the loop's body for
--- each round in its place, to a program that is the same, name for name. The body and what is written are lines of instructions alone, and each join in the body
--- is the counter's. Before and behind it may stand any lines. It holds one way only, as without a counter.
-abbrev pub CounterLoopsAreWrittenOut : Type 0
-CounterLoopsAreWrittenOut = (ps : Predefined) (counter : List ℕ) (n : ℕ) (before body after : List (List ℕ)) (s : ProgramValue)
-    → IsCounterName counter → n < 2 ^ 63 → All IsLine before → All IsLine body → All IsLine after → All IsInstructionLine body → All (HasItsJoins counter) body
-    → All IsInstructionLine (written_rounds counter 1 n body)
-    → expansion ps (text_of_lines (before ++ (counter_lines counter n body ++ after))) ≡ Ok s
-    → (t : ProgramValue) × (expansion ps (text_of_lines (before ++ (written_rounds counter 1 n body ++ after))) ≡ Ok t) × AreAlike s t
 
 -- ---- the shape of an expression
 

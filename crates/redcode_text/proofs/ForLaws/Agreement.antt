@@ -77,14 +77,6 @@ pairwise-filter R f g same (x ∷ xs) (y ∷ ys) h =
     go true k = (h.0, k)
     go false k = k
 
-pub pairwise-last : {A B : Type 0} (R : A → B → Type 0) (o : Option A) (p : Option B) (xs : List A) (ys : List B) → AgreeOption R o p
-    → Pairwise R xs ys
-    → AgreeOption R (last_or o xs) (last_or p ys)
-pairwise-last R o p [] [] h k = h
-pairwise-last R o p [] (y ∷ ys) h k = absurd k
-pairwise-last R o p (x ∷ xs) [] h k = absurd k
-pairwise-last R o p (x ∷ xs) (y ∷ ys) h k = pairwise-last R (Some x) (Some y) xs ys k.0 k.1
-
 pub pairwise-weaker : {A B : Type 0} (R S : A → B → Type 0) → ((x : A) (y : B) → R x y → S x y) → (xs : List A) (ys : List B)
     → Pairwise R xs ys → Pairwise S xs ys
 pairwise-weaker R S k [] [] h = tt
@@ -113,51 +105,6 @@ pairwise-both R S f g k [] [] h = tt
 pairwise-both R S f g k [] (y ∷ ys) h = absurd h
 pairwise-both R S f g k (x ∷ xs) [] h = absurd h
 pairwise-both R S f g k (x ∷ xs) (y ∷ ys) h = (k x y h.0, pairwise-both R S f g k xs ys h.1)
-
--- ---- results
-
--- two values that agree, or two faults
-abbrev pub Agree : {A B E F : Type 0} → (A → B → Type 0) → Result A E → Result B F → Type 0
-Agree R (Ok x) (Ok y) = R x y
-Agree R (Ok x) (Err e) = ⊥
-Agree R (Err d) (Ok y) = ⊥
-Agree R (Err d) (Err e) = ⊤
-
--- the same value
-abbrev pub Same : {A : Type 0} → A → A → Type 0
-Same x y = x ≡ y
-
-pub agree-bind : {A B C D E F : Type 0} (R : A → B → Type 0) (S : C → D → Type 0) (r : Result A E) (s : Result B F) (f : A → Result C E)
-    (g : B → Result D F)
-    → Agree R r s → ((x : A) (y : B) → R x y → Agree S (f x) (g y)) → Agree S (r >>= f) (s >>= g)
-agree-bind R S (Ok x) (Ok y) f g h k = k x y h
-agree-bind R S (Ok x) (Err e) f g h k = absurd h
-agree-bind R S (Err d) (Ok y) f g h k = absurd h
-agree-bind R S (Err d) (Err e) f g h k = tt
-
-pub agree-after : {A C D E : Type 0} (S : C → D → Type 0) (r s : Result A E) (f : A → Result C E) (g : A → Result D E) → r ≡ s
-    → ((x : A) → Agree S (f x) (g x))
-    → Agree S (r >>= f) (s >>= g)
-agree-after {A} {C} {D} {E} S r s f g same k = subst (λ (q : Result A E). Agree S (r >>= f) (q >>= g)) same (go r)
-  where
-    go : (q : Result A E) → Agree S (q >>= f) (q >>= g)
-    go (Ok x) = k x
-    go (Err e) = tt
-
-pub agree-same : {A E : Type 0} (r s : Result A E) → r ≡ s → Agree (Same {A = A}) r s
-agree-same {A} {E} r s same = subst (λ (q : Result A E). Agree (Same {A = A}) r q) same (go r)
-  where
-    go : (q : Result A E) → Agree (Same {A = A}) q q
-    go (Ok x) = refl
-    go (Err e) = tt
-
--- where the first is a value, the second is one that agrees
-pub agree-value : {A B E F : Type 0} (R : A → B → Type 0) (r : Result A E) (s : Result B F) (x : A) → Agree R r s → r ≡ Ok x
-    → (y : B) × (s ≡ Ok y) × R x y
-agree-value R (Ok z) (Ok y) x h e = let same : z ≡ x = cc in (y, refl, subst (λ w. R w y) same h)
-agree-value R (Ok z) (Err f) x h e = absurd h
-agree-value R (Err d) (Ok y) x h e = absurd h
-agree-value R (Err d) (Err f) x h e = cc
 
 -- ---- results with the same fault
 

@@ -12,27 +12,10 @@ use Rattle.redcode_text.specs.Code.Climbing.{State, move, operand, run, wants}
 use Rattle.redcode_text.specs.Equates.{Equate, substitution}
 use Rattle.redcode_text.specs.Expression.{kinds, known, next_state, shape, start, value_of}
 use Rattle.redcode_text.specs.Tokens.{without_line}
-use Rattle.redcode_text.proofs.ForLaws.Agreement.{Agree, BothGive, Pairwise}
+use Rattle.redcode_text.proofs.ForLaws.Agreement.{BothGive, Pairwise}
 use Rattle.redcode_text.proofs.ForLaws.Likeness.{LikeKind, LikeTokens}
 use Rattle.redcode_text.proofs.ForLaws.Replacements.{replaced-alike}
 use Rattle.redcode_text.proofs.Evaluates.{evaluates, value_of-misshapen}
-use Rattle.redcode_text.proofs.Named.{AreDistinct}
-use Rattle.redcode_text.proofs.ForLaws.SameNames.{SameEquate, SameName, SameToken, SameTokens, index-same}
-
--- ---- EQU names replaced
-
-agree-lines : {A : Type 0} (R : A → A → Type 0) (x y : Result A TextFault) → BothGive R (without_line x) (without_line y) → Agree R x y
-agree-lines R (Ok x) (Ok y) h = h
-agree-lines R (Ok x) (Err e) h = absurd h
-agree-lines R (Err d) (Ok y) h = absurd h
-agree-lines R (Err d) (Err e) h = tt
-
--- the same tokens are replaced by the same
-pub substitution-same : (names others : List (List ℕ)) → AreDistinct names → AreDistinct others → (es fs : List Equate) → Pairwise (SameEquate names others) es fs → (ts us : List Token)
-    → SameTokens names others ts us → Agree (SameTokens names others) (substitution es ts) (substitution fs us)
-substitution-same names others distinct apart es fs equates ts us h =
-    agree-lines (SameTokens names others) (substitution es ts) (substitution fs us)
-    (replaced-alike (SameName names others) (SameToken names others) (λ n m k l. index-same names others distinct apart n k m l) (λ t u k. k) es fs equates ts us h)
 
 -- ---- values
 
@@ -72,7 +55,3 @@ module _ (N : ℕ → ℕ → Type 0) (f g : ℕ → Option ℤ) (same : (n m : 
       go (Ok tt) e =
           sym (evaluates f (kinds ts) (pos 0) e) ∙ run-like (wants (pos 0) [] []) ts us h ∙ evaluates g (kinds us) (pos 0) (like ∙ e)
       go (Err x) e = value_of-misshapen f (kinds ts) x e ∙ sym (value_of-misshapen g (kinds us) x (like ∙ e))
-
-pub value-same : (names others : List (List ℕ)) (f g : ℕ → Option ℤ) → ((n m : ℕ) → SameName names others n m → f n ≡ g m) → (ts us : List Token) → SameTokens names others ts us
-    → value_of f (kinds ts) ≡ value_of g (kinds us)
-value-same names others f g same ts us h = value-like (SameName names others) f g same ts us h

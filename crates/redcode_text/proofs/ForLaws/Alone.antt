@@ -20,14 +20,6 @@ pub alone-then : {A B E : Type 0} (P : A → Type 0) (Q : B → Type 0) (r : Res
 alone-then P Q (Ok a) f h k = k a h
 alone-then P Q (Err e) f h k = tt
 
-pub alone-made : {A E : Type 0} (P : A → Type 0) (a : A) (r : Result A E) → Alone P r → r ≡ Ok a → P a
-alone-made P a (Ok x) h e = let same : x ≡ a = cc in subst P same h
-alone-made P a (Err f) h e = cc
-
-pub alone-weaker : {A E : Type 0} (P Q : A → Type 0) (r : Result A E) → Alone P r → ((a : A) → P a → Q a) → Alone Q r
-alone-weaker P Q (Ok a) h k = k a h
-alone-weaker P Q (Err e) h k = tt
-
 pub no-matter : {A E : Type 0} (r : Result A E) → Alone (λ (a : A). ⊤) r
 no-matter (Ok a) = tt
 no-matter (Err e) = tt

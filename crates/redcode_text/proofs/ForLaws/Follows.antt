@@ -32,12 +32,6 @@ follows-then {A} {B} {C} {D} {E} {exact} {R} {S} {r} {s} f g h k = go r refl
     go (Ok x) e = let v = h.value x e in subst (λ w. Follows exact S (f x) (w >>= g)) (sym v.1) (k x v.0 v.2)
     go (Err d) e = record { value = λ z i. absurd (cc); fault = λ is c i. let same : d ≡ c = cc in ap (λ w. w >>= g) (h.fault is d e) ∙ ap Err same }
 
--- by way of a third
-pub follows-on : {A B C E : Type 0} {exact : Bool} {R : A → B → Type 0} {S : B → C → Type 0} {r : Result A E} {s : Result B E} {t : Result C E} → Follows exact R r s → Follows exact S s t
-    → Follows exact (λ x z. (y : B) × R x y × S y z) r t
-follows-on h k =
-    record { value = λ x e. let v = h.value x e in let w = k.value v.0 v.1 in (w.0, w.1, (v.0, v.2, w.2)); fault = λ is d e. k.fault is d (h.fault is d e) }
-
 pub follows-weaker : {A B E : Type 0} {exact : Bool} {R S : A → B → Type 0} {r : Result A E} {s : Result B E} → Follows exact R r s → ((x : A) (y : B) → R x y → S x y) → Follows exact S r s
 follows-weaker h k = record { value = λ x e. let v = h.value x e in (v.0, v.1, k x v.0 v.2); fault = h.fault }
 
@@ -108,12 +102,6 @@ follows-limit {A} {B} {E} {exact} {R} test met n m e x y few h = go exact few
     go : (exact : Bool) → Fewer exact n m → Follows exact R (one (test n)) (two (test m))
     go true few = follows-if one two (ap test few) follows-fault (follows-ok h)
     go false few = less (test n) (test m) (met n m few)
-
--- room that the second has where the first has it
-pub follows-room : {A B E : Type 0} {R : A → B → Type 0} (c d : Bool) (e : E) (x : A) (y : B) → (c ≡ true → d ≡ true) → R x y → Follows false R (cond c (Ok x) (Err e)) (cond d (Ok y) (Err e))
-follows-room false d e x y i h = follows-none
-follows-room true true e x y i h = follows-ok h
-follows-room true false e x y i h = absurd (true≢false (sym (i refl)))
 
 -- ---- as other results
 

@@ -39,10 +39,6 @@ PlacedToken N Q t u = LikeKind N t.kind u.kind × Q t.from u.from
 abbrev pub AnyPlace : ℕ → ℕ → Type 0
 AnyPlace x y = ⊤
 
--- as far from these two places
-abbrev pub AsFar : ℕ → ℕ → ℕ → ℕ → Type 0
-AsFar here there a b = a + there ≡ b + here
-
 -- on the same side of the place p as the other of the place q
 abbrev pub Sides : ℕ → ℕ → ℕ → ℕ → Type 0
 Sides p q x y = (nat_lt x p ≡ nat_lt y q) × (nat_lt p x ≡ nat_lt q y)

@@ -58,34 +58,6 @@ pub no-sign : (b c : ℕ) → is_word_byte c ≡ true → look_up two_byte_signs
 no-sign b c e =
     λ i. signs (no-sign-byte 61 61 b c e refl i) (no-sign-byte 33 61 b c e refl i) (no-sign-byte 60 61 b c e refl i) (no-sign-byte 62 61 b c e refl i) (no-sign-byte 38 38 b c e refl i) (no-sign-byte 124 124 b c e refl i)
 
--- two bytes that differ in one
-differ : (a k b c : ℕ) → ((a == b) && (k == c)) ≡ false → bytes_eq (a ∷ k ∷ []) (b ∷ c ∷ []) ≡ false
-differ a k b c e = go (bytes_eq (a ∷ k ∷ []) (b ∷ c ∷ [])) refl
-  where
-    both-same : (a k b c : ℕ) → a ≡ b → k ≡ c → ((a == b) && (k == c)) ≡ true
-    both-same a k b c e f = grind (arith, nat_tests)
-
-    go : (t : Bool) → bytes_eq (a ∷ k ∷ []) (b ∷ c ∷ []) ≡ t → t ≡ false
-    go false is = refl
-    go true is =
-        let same : a ∷ k ∷ [] ≡ b ∷ c ∷ [] = (bytes_eq-Decides (a ∷ k ∷ []) (b ∷ c ∷ [])).0 is in
-        let first : a ≡ b = cc in
-        let second : k ≡ c = cc in
-        absurd (true≢false (sym (both-same a k b c first second) ∙ e))
-
--- `&` is the second of `&&` alone
-pub lone-and : (b : ℕ) → (b == 38) ≡ false → look_up two_byte_signs (b ∷ 38 ∷ []) ≡ None
-lone-and b e =
-    λ i. signs (differ 61 61 b 38 (second (61 == b)) i) (differ 33 61 b 38 (second (33 == b)) i) (differ 60 61 b 38 (second (60 == b)) i) (differ 62 61 b 38 (second (62 == b)) i)
-    (differ 38 38 b 38 (first b e) i) (differ 124 124 b 38 (second (124 == b)) i)
-  where
-    second : (t : Bool) → (t && false) ≡ false
-    second true = refl
-    second false = refl
-
-    first : (b : ℕ) → (b == 38) ≡ false → ((38 == b) && true) ≡ false
-    first b e = grind (arith, nat_tests)
-
 pub some-none : (s : Sign) → Some s ≡ None → ⊥
 some-none s e = cc
 
