@@ -2,12 +2,7 @@
 pub mod Alike
 pub mod FreeNames
 pub mod InFront
-pub mod LoadAssembled
-pub mod LoadSources
 pub mod Parts
-pub mod PrintedCells
-pub mod PrintedLines
-pub mod PrintedTokens
 pub mod ReadBack
 pub mod RenamedSources
 pub mod Unplaced

@@ -1,4 +1,4 @@
--- The laws of names, of sources that are alike, of an instruction in front, of load files and of score formulas.
+-- The laws of names, of an instruction in front, of load files and of score formulas.
 use Rattle.std.specs.Prelude.{◌≡◌, ◌≢◌, ⊤, ℕ, ◌-◌, ◌/◌, ◌^◌, ◌<◌, ◌≤◌, nat_le, if◌then◌else◌, ℤ, pos, List, [], ◌∷◌, ◌++◌, length, All, true, Some, is_some, Ok, IfErr, codes}
 use Rattle.std.specs.Str.{str_eq_ignore_ascii_case}
 use Rattle.mars_cell.specs.declared.instruction.Cell.{Cell}
@@ -80,47 +80,3 @@ InstructionsInFrontMoveNothing = (ps : Predefined) (m : ℕ) (source : ProgramVa
     let front = with_line_in_front l source in
     cells_of ps m front (instructions front)
     ≡ (at_line l.number (cell_of ps m front (record { index = 0; line = l })) >>= λ c. cells_of ps m source (instructions source) >>= λ cs. Ok (c ∷ cs))
-
--- the sign of a mode
-abbrev pub sign_of : Mode → Sign
-sign_of mode.Immediate = sign.Hash
-sign_of mode.Direct = sign.Dollar
-sign_of mode.AIndirect = sign.Star
-sign_of mode.BIndirect = sign.At
-sign_of mode.APredecrement = sign.OpenBrace
-sign_of mode.BPredecrement = sign.Less
-sign_of mode.APostincrement = sign.CloseBrace
-sign_of mode.BPostincrement = sign.Greater
-
--- the tokens of a number of a core of m cells, as it is printed
-abbrev pub number_kinds : ℕ → ℕ → List TokenKind
-number_kinds m n = if nat_le n (m / 2) then Number (pos n) ∷ [] else token.Sign sign.Minus ∷ Number (pos (m - n)) ∷ []
-
-abbrev pub operand_kinds : ℕ → Mode → ℕ → List TokenKind
-operand_kinds m x n = token.Sign (sign_of x) ∷ number_kinds m n
-
--- the tokens of a cell, as it is printed; its opcode and its modifier are names with these indices
-abbrev pub cell_kinds : ℕ → Cell → ℕ → ℕ → List TokenKind
-cell_kinds m c opcode modifier =
-    Name opcode ∷ token.Sign sign.Dot ∷ Name modifier ∷ ((operand_kinds m c.a_mode c.a ++ token.Sign sign.Comma ∷ []) ++ operand_kinds m c.b_mode c.b)
-
--- the text of a cell is read as its tokens, and its opcode and its modifier are two further names where they are new
-abbrev pub CellIsScanned : Type 0
-CellIsScanned = (m : ℕ) (c : Cell) (line at room : ℕ) (names : List (List ℕ)) → m < 2 ^ 32 → FitsCore m c → 10 ≤ room →
-    let opcode = op_name c.op in
-    let suffix = modifier_name c.modifier in
-    let more = with_name names opcode in
-    (s : Scanned) × (tokens [] line at room names (cell_text m c) ≡ Ok s) × (kinds s.tokens ≡ cell_kinds m c (name_index names opcode) (name_index more suffix)) × (s.names ≡ with_name more suffix)
-
--- an instruction of the tokens of a cell is assembled to the cell, where there is no EQU name
-abbrev pub CellIsAssembled : Type 0
-CellIsAssembled = (ps : Predefined) (m : ℕ) (c : Cell) (source : ProgramValue) (p : Placed) (opcode suffix : ℕ) → m < 2 ^ 32 → FitsCore m c → source.equates ≡ []
-    → p.line.operation ≡ Some opcode → op_of (name_at source.names opcode) ≡ Some c.op → modifier_of (name_at source.names suffix) ≡ Some c.modifier
-    → Name opcode ∷ kinds p.line.rest ≡ cell_kinds m c opcode suffix → cell_of ps m source p ≡ Ok c
-
--- The load file of a warrior is a source of that warrior, where its names are what `;name` and `;author` give of them: not empty, and without a
--- blank at either end. Each cell is at most ten tokens and the start two, so 6,553 cells are the most that stay within 65,536 tokens whatever they are.
-abbrev pub LoadFileIsSource : Type 0
-LoadFileIsSource = (p : Parameters) (rounds warriors : ℕ) (w : WarriorValue) → AreInRange p → IsWarrior w → length w.cells ≤ p.max_length → length w.cells ≤ 6553
-    → All (FitsCore p.core_size) w.cells → w.name ≢ [] → directive_value w.name ≡ w.name → w.author ≢ [] → directive_value w.author ≡ w.author
-    → assembly p rounds warriors (load_text p.core_size w) ≡ Ok w

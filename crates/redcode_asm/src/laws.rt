@@ -1,5 +1,5 @@
 //! Laws of the definitions. The functions do nothing; their contracts are the laws.
-ghost use Rattle.redcode_asm.specs.Laws.{AssembledLoadIsRead, CellIsAssembled, CellIsScanned, InstructionsInFrontMoveNothing, LoadFileIsSource, NamesAreFree, RenamedSourcesAreTheSame, ScoresHaveValues};
+ghost use Rattle.redcode_asm.specs.Laws.{AssembledLoadIsRead, InstructionsInFrontMoveNothing, NamesAreFree, RenamedSourcesAreTheSame, ScoresHaveValues};
 
 /// `Formula::score` of a formula that `Formula::new` read is refused by DivideByZero and Range alone.
 pub fn scores_have_values()
@@ -28,21 +28,4 @@ pub fn renamed_sources_are_the_same()
 /// same.
 pub fn instructions_in_front_move_nothing()
     ensures { InstructionsInFrontMoveNothing }
-{}
-
-/// The text of a cell, as a line outside loops, is scanned as its tokens: the opcode, `.`, the modifier, and for each
-/// operand its mode's sign and its number, with a comma between them.
-pub fn cell_is_scanned()
-    ensures { CellIsScanned }
-{}
-
-/// An instruction whose tokens are those of a cell is assembled to that cell, where the source has no EQU name.
-pub fn cell_is_assembled()
-    ensures { CellIsAssembled }
-{}
-
-/// The load file of a warrior of at most 6,553 cells is a source of that very warrior, where its names are not empty and
-/// have no blank at either end: what `mars_cell::read_load` reads of it, the assembler makes of it as well.
-pub fn load_file_is_source()
-    ensures { LoadFileIsSource }
 {}

@@ -10,11 +10,6 @@ use Rattle.redcode_text.proofs.ForLaws.Likeness.{Equal, LikeEquate, equal-index,
 use Rattle.redcode_text.proofs.ForLaws.Replacements.{replaced-alike}
 pub use Rattle.redcode_text.proofs.ForLaws.PrintedNames.{program-printed}
 pub use Rattle.redcode_text.proofs.ForLaws.Moved.{kinds-moved, moved_tokens, substitution-moved}
-pub use Rattle.redcode_text.proofs.ForLaws.HeadLines.{author-read, code-whole, load-read, name-read, start-kind}
-pub use Rattle.redcode_text.proofs.ForLaws.KeptNames.{KeepNames, named-with, with-keeps}
-pub use Rattle.redcode_text.proofs.ForLaws.LineRead.{line_more, operation-read, operation_more}
-pub use Rattle.redcode_text.proofs.ForLaws.PlainRows.{IsPlain, all-read, each_row, ended, plain-tree, row-read}
-pub use Rattle.redcode_text.proofs.ForLaws.TokensRead.{Leads, Seen, blank-leads, decimal-is, end-leads, name-leads, number-leads, token-leads}
 pub use Rattle.redcode_text.specs.Trees.{spelling, is_prefix, IsLevelled}
 pub use Rattle.redcode_text.proofs.Trees.{rank-≤5}
 pub use Rattle.redcode_text.proofs.Shapes.{shaped}

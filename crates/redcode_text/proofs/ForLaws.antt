@@ -4,15 +4,11 @@ pub mod AlikeValues
 pub mod Alone
 pub mod BehindEnd
 pub mod Follows
-pub mod HeadLines
-pub mod KeptNames
 pub mod LikeHeads
 pub mod LikeLines
 pub mod LikeReadings
 pub mod Likeness
-pub mod LineRead
 pub mod Moved
-pub mod PlainRows
 pub mod PrintedNames
 pub mod RenamedColumns
 pub mod RenamedComments
@@ -29,6 +25,5 @@ pub mod RenamedTrees
 pub mod RenamedWords
 pub mod Replacements
 pub mod ShapedTrees
-pub mod TokensRead
 pub mod Unread
 pub mod WrittenTrees
