@@ -22,7 +22,6 @@ use Rattle.redcode_text.specs.declared.token.TokenKind.TheVariants.{Number, Name
 use Rattle.redcode_text.specs.declared.token.TokenKind.TheVariants as token
 use Rattle.redcode_text.specs.Expression.{kinds}
 use Rattle.redcode_text.specs.Expansion.{ProgramValue, expansion}
-use Rattle.redcode_text.specs.Laws.{IsLine, IsRenaming, JoinsAreRenamed, renamed, text_of_lines}
 use Rattle.redcode_text.specs.Lines.{Line, Predefined, directive_value, is_instruction, name_at, predefined_value, with_current_line}
 use Rattle.redcode_asm.specs.Assembly.{Placed, assembly, at_line, cell_of, cells_of, instructions, predefined, warrior_of}
 use Rattle.redcode_asm.specs.Formula.{formula_of, score_of}
@@ -54,19 +53,6 @@ pub record SaysTheSame (ps : Predefined) (one other : List ℕ) : Type 0 where
 abbrev pub NamesAreFree : Type 0
 NamesAreFree = (ps : Predefined) (p : Parameters) (source : ProgramValue) (names : List (List ℕ)) → ((n : ℕ) → SaysTheSame ps (name_at source.names n) (name_at names n))
     → warrior_of ps p source ≡ warrior_of ps p (record source { names = names })
-
--- a word that is a modifier, in either case, stays
-abbrev pub KeepsModifiers : (List ℕ → List ℕ) → Type 0
-KeepsModifiers rename = (word : List ℕ) → is_some (modifier_of word) ≡ true → rename word ≡ word
-
--- A source with its names renamed is assembled to the same warrior, or has the same fault, on the same line. Its labels, EQU names and counters are
--- renamed wherever they stand, also in joins and behind `;assert`. A word that is an operation, a modifier or a predefined name isn't, nor does
--- a name become one: a word is renamed the same wherever it stands, so that a label `a` keeps its name, as the modifier does. Where `&` stands in
--- the source, digits at the end of a name stay, since a join adds some.
-abbrev pub RenamedSourcesAreTheSame : Type 0
-RenamedSourcesAreTheSame = (p : Parameters) (rounds warriors : ℕ) (rename : List ℕ → List ℕ) (source : List ℕ)
-    → IsRenaming (predefined p rounds warriors) rename → KeepsModifiers rename → JoinsAreRenamed rename source
-    → assembly p rounds warriors (renamed rename source) ≡ assembly p rounds warriors source
 
 -- a program with one more line, in front of its lines
 abbrev pub with_line_in_front : Line → ProgramValue → ProgramValue
