@@ -41,20 +41,6 @@ LinesInNoRoundAreUnread = (ps : Predefined) (head rof : SourceRow) (body other r
     → IfOk (head_line ps head st) (λ (h : Head). h.count ≡ 0)
     → flat ps (Loop head body rof rest) st ≡ flat ps (Loop head other rof rest) st
 
--- n + m rounds of a loop are n rounds, and then, where the source hasn't ended, m rounds, whatever a round does
-abbrev pub RoundsAddUp : Type 0
-RoundsAddUp = (body : Reading → Result Reading TextFault) (counter : Option (List ℕ)) (round n m : ℕ) (st : Reading)
-    → st.ended ≡ false
-    → rounds body counter round (n + m) st ≡ (rounds body counter round n st >>= λ read. unless_ended read (rounds body counter (round + n) m))
-
--- A line whose operation is an EQU name of one line is read as the line with that text written in its place. It is
--- counted as a line more, its tokens as well, and EQU names may nest one less in it.
-abbrev pub OperationsAreWrittenInPlace : Type 0
-OperationsAreWrittenInPlace = (ps : Predefined) (number depth n : ℕ) (text ts : List Token) (p : Parts) (st : Reading)
-    → parts_of ps st ts ≡ Ok p → p.operation ≡ Some n → equate_lines st.equates n ≡ Some (text ∷ [])
-    → let written = (p.label_tokens ++ text) ++ p.rest in
-    ordinary_line ps number (suc depth) ts st ≡ (line_read st >>= tokens_counted written >>= ordinary_line ps number depth written)
-
 -- ---- the shape of an expression
 
 -- Tokens of the right shape spell their tree: nothing is missing in it, its operators stand by their levels, and its signs and parentheses are

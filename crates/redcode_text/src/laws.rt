@@ -1,6 +1,6 @@
 //! Laws of the definitions: what the text of a source means, apart from how it is read. The functions do nothing; their
 //! contracts are the laws.
-ghost use Rattle.redcode_text.specs.Laws.{LinesBeforeRedcodeAreUnread, LinesBehindEndAreUnread, LinesInNoRoundAreUnread, MisshapenAtFirst, OperationsAreWrittenInPlace, RoundsAddUp, ShapesAreTrees, TreesHaveShapes};
+ghost use Rattle.redcode_text.specs.Laws.{LinesBeforeRedcodeAreUnread, LinesBehindEndAreUnread, LinesInNoRoundAreUnread, MisshapenAtFirst, ShapesAreTrees, TreesHaveShapes};
 
 /// Lines before the first `;redcode` have no effect.
 pub fn lines_before_redcode_are_unread()
@@ -18,18 +18,6 @@ pub fn lines_behind_end_are_unread()
 /// body.
 pub fn lines_in_no_round_are_unread()
     ensures { LinesInNoRoundAreUnread }
-{}
-
-/// n + m rounds of a loop are n rounds, and then, where the source hasn't ended, m rounds. It holds of any body: what a
-/// round reads of its lines and its counter is in the definition alone.
-pub fn rounds_add_up()
-    ensures { RoundsAddUp }
-{}
-
-/// A line whose operation is an EQU name of one line is read as the line with that text in place of the name, counted as
-/// a line more, its tokens as well; EQU names may nest one less in it.
-pub fn operations_are_written_in_place()
-    ensures { OperationsAreWrittenInPlace }
 {}
 
 /// Tokens of the right shape spell their tree: nothing is missing in it, its operators stand by their levels, and its
