@@ -1,11 +1,10 @@
 -- What a comment line adds.
-use Rattle.std.proofs.Common.{◌≡◌, ℕ, ◌+◌, List, [], ◌∷◌, ◌&&◌, ◌==◌, drop, length, Bool, true, false, cond, nat_eq, Some, None, Result, Ok, refl, ap, sym, ◌∙◌, arith}
-use Rattle.std.proofs.lemmas.Bool.{eqb-true}
+use Rattle.std.proofs.Common.{◌≡◌, ℕ, ◌+◌, List, ◌∷◌, ◌&&◌, drop, Bool, true, false, cond, nat_eq, Some, None, Result, Ok, refl, ap, sym, ◌∙◌, arith}
 use Rattle.std.specs.Prelude.{codes}
 use Rattle.std.specs.List.{starts_with}
 use Rattle.std.specs.Str.{str_to_ascii_lowercase}
 use Rattle.redcode_text.specs.declared.fault.TextProblem.{TextProblem}
-use Rattle.redcode_text.specs.Code.Comments.{Said, assert_at, assert_or_nothing, author_or, author_said, name_or, printed_value, said, said_line, text_found, with_name_text}
+use Rattle.redcode_text.specs.Code.Comments.{Said, assert_at, assert_or_nothing, author_or, author_said, name_or, said, said_line, text_found}
 use Rattle.redcode_text.specs.Lines.{Reading, assert_line, comment_line, directive_value, unless_empty}
 use Rattle.redcode_text.specs.Source.{SourceRow, blank_len, directive_text, directive_text_at, ends_word, has_directive_word, without_blanks}
 

@@ -1,6 +1,6 @@
 -- Counters by their indices among the names.
-use Rattle.std.proofs.Common.{◌≡◌, ◌∙◌, ℕ, ◌+◌, ◌-◌, ◌<◌, suc, List, [], ◌∷◌, length, map, reverse, Option, Some, None, option_map, refl, ap, subst, sym, arith}
-use Rattle.std.proofs.lemmas.List.{get_or-reverse, length-append, length-reverse}
+use Rattle.std.proofs.Common.{◌≡◌, ◌∙◌, ℕ, ◌-◌, ◌<◌, suc, List, [], ◌∷◌, length, map, reverse, Option, Some, None, option_map, refl, ap, subst, sym, arith}
+use Rattle.std.proofs.lemmas.List.{get_or-reverse, length-reverse}
 use Rattle.redcode_text.specs.Code.Counters.{AreThere, IsThere, open_loop, open_loops}
 use Rattle.redcode_text.specs.declared.lexer.open_loops.OpenLoop as code
 use Rattle.redcode_text.specs.Lines.{name_at}

@@ -9,8 +9,8 @@ use Rattle.redcode_text.specs.declared.fault.TextFault.{TextFault}
 use Rattle.redcode_text.specs.declared.fault.TextProblem.{TextProblem}
 use Rattle.redcode_text.specs.declared.fault.TextProblem.TheVariants.{NotAscii, BadToken, UnclosedFor, RofAlone, BadCount, LabelInCount, Duplicate, EquDepth, TooLong, Expression, OutOfMemory}
 use Rattle.redcode_text.specs.Expansion.{Head, flat, head_line, in_round, rof_line, rounds}
-use Rattle.redcode_text.specs.Lines.{Predefined, Reading, plain_line, unless_ended}
-use Rattle.redcode_text.specs.Code.Loops.{IsFor, IsPlain, one_loop}
+use Rattle.redcode_text.specs.Lines.{Predefined, Reading, unless_ended}
+use Rattle.redcode_text.specs.Code.Loops.{IsFor, one_loop}
 use Rattle.redcode_text.specs.Outcomes.{FailsAt}
 use Rattle.redcode_text.specs.Code.Rows.{row_of}
 use Rattle.redcode_text.specs.Source.{Items, Nothing, Loop, SourceRow}

@@ -1,26 +1,17 @@
 -- What the text of a source means, apart from how it is read.
-use Rattle.std.specs.Prelude.{◌≡◌, ◌⊎◌, ℕ, zero, suc, ◌+◌, ◌^◌, ◌<◌, pos, List, [], ◌∷◌, ◌++◌, length, take, drop, map, All, Bool, false, true, ◌&&◌, ◌||◌, ◌==◌, if◌then◌else◌, Option, Some, None, is_some, Result, Ok, Err, IfOk, codes, decimal}
-use Rattle.std.specs.Char.{is_ascii_digit}
-use Rattle.std.specs.List.{flat_map, list_all, list_any}
-use Rattle.std.specs.Str.{bytes_eq, str_eq_ignore_ascii_case}
-use Rattle.redcode_text.specs.Results.{◌>>=◌}
-use Rattle.redcode_text.specs.declared.token.Token.{Token}
+use Rattle.std.specs.Prelude.{◌≡◌, ◌⊎◌, ℕ, pos, List, [], ◌∷◌, ◌++◌, length, Bool, false, true, Ok, Err, IfOk, codes}
+use Rattle.std.specs.List.{list_any}
 use Rattle.redcode_text.specs.declared.token.TokenKind.{TokenKind}
 use Rattle.redcode_text.specs.declared.token.TokenKind.TheVariants.{Number}
 use Rattle.redcode_text.specs.declared.token.TokenKind.TheVariants as token
 use Rattle.redcode_text.specs.declared.token.Sign.TheVariants.{Plus, Minus, Bang, OpenParen}
 use Rattle.redcode_text.specs.declared.fault.ExprFault.{ExprFault}
 use Rattle.redcode_text.specs.declared.fault.ExprFault.TheVariants.{Syntax, Depth}
-use Rattle.redcode_text.specs.declared.fault.TextFault.{TextFault}
-use Rattle.redcode_text.specs.declared.fault.TextProblem.{TextProblem}
-use Rattle.redcode_text.specs.Bytes.{ampersand, line_feed}
-use Rattle.redcode_text.specs.Expression.{Tree, kinds, shape, start, tree_within}
+use Rattle.redcode_text.specs.Expression.{Tree, shape, start, tree_within}
 use Rattle.redcode_text.specs.Trees.{IsLevelled, IsWithin, spelling}
-use Rattle.redcode_text.specs.Source.{SourceRow, Items, Loop, LineKind, RofLine, ForLine, OtherLine, begins_redcode, directive_text_at, has_directive, has_directive_word, is_comment, line_kind, lines_of, read_rows, tree_of, tree_of_rows}
-use Rattle.redcode_text.specs.Tokens.{OpenLoop, Scanned, begins_name, begins_word, is_word_byte, parts_at_joins, round_digits, round_of, tokens, word_len}
-use Rattle.redcode_text.specs.Equates.{equate_lines}
-use Rattle.redcode_text.specs.Lines.{Reading, Predefined, Parts, before_comment, line_read, tokens_counted, operations, parts_of, ordinary_line, predefined_value, unless_ended, with_current_line}
-use Rattle.redcode_text.specs.Expansion.{Head, ProgramValue, expansion, flat, head_line, nothing_read, rounds}
+use Rattle.redcode_text.specs.Source.{SourceRow, Items, Loop, begins_redcode, has_directive, lines_of, read_rows, tree_of, tree_of_rows}
+use Rattle.redcode_text.specs.Lines.{Reading, Predefined}
+use Rattle.redcode_text.specs.Expansion.{Head, expansion, flat, head_line, nothing_read}
 
 -- lines before the first `;redcode` have no effect
 abbrev pub LinesBeforeRedcodeAreUnread : Type 0

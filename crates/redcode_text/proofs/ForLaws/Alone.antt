@@ -1,5 +1,5 @@
 -- What holds of a result where it is a value.
-use Rattle.std.proofs.Common.{◌≡◌, ◌+◌, ◌-◌, ℕ, false, List, length, drop, subst, Result, Ok, Err}
+use Rattle.std.proofs.Common.{◌+◌, ◌-◌, ℕ, false, List, length, drop, Result, Ok, Err}
 use Rattle.std.specs.Prelude.{⊤}
 use Rattle.redcode_text.specs.Results.{◌>>=◌}
 use Rattle.redcode_text.specs.declared.fault.TextProblem.{TextProblem}

@@ -1,5 +1,5 @@
 -- What the text of a source means, apart from how it is read.
-use Rattle.std.proofs.Common.{◌≡◌, ◌∙◌, refl, ℕ, suc, zero, ◌+◌, List, [], ◌∷◌, ◌++◌, Bool, true, false, ◌||◌, Option, Result, Ok, Err, IfOk, ap, sym, arith}
+use Rattle.std.proofs.Common.{◌≡◌, ◌∙◌, refl, ℕ, suc, zero, List, [], ◌∷◌, ◌++◌, Bool, true, false, ◌||◌, Option, Result, Ok, Err, IfOk, ap, sym}
 use Rattle.std.specs.List.{list_any}
 use Rattle.redcode_text.specs.Results.{◌>>=◌}
 use Rattle.redcode_text.specs.declared.fault.TextFault.{TextFault}
@@ -7,7 +7,7 @@ use Rattle.redcode_text.specs.declared.fault.TextProblem.{TextProblem}
 use Rattle.redcode_text.specs.Tokens.{at_line}
 use Rattle.redcode_text.specs.Source.{SourceRow, Items, Loop, begins_redcode, from_redcode, read_rows}
 use Rattle.redcode_text.specs.Lines.{Reading, Predefined, unless_ended}
-use Rattle.redcode_text.specs.Expansion.{Head, flat, head_line, rounds, in_round}
+use Rattle.redcode_text.specs.Expansion.{Head, flat, head_line, rounds}
 
 -- ---- before the first `;redcode`
 

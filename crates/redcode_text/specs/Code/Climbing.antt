@@ -1,5 +1,5 @@
 -- How an expression that has the shape of one is evaluated from the left, with what waits on a stack.
-use Rattle.std.specs.Prelude.{◌≡◌, ℕ, List, [], ◌∷◌, ◌++◌, ◌-◌, ◌<◌, ◌≤◌, map, slice_range, Bool, true, false, ℤ, Option, Result, Ok, Err, if◌then◌else◌, nat_le}
+use Rattle.std.specs.Prelude.{ℕ, List, [], ◌∷◌, ◌++◌, ◌<◌, ◌≤◌, map, slice_range, Bool, true, false, ℤ, Option, Result, Ok, Err, if◌then◌else◌, nat_le}
 use Rattle.redcode_text.specs.Results.{◌>>=◌}
 use Rattle.redcode_text.specs.declared.token.TokenKind.{TokenKind}
 use Rattle.redcode_text.specs.declared.token.TokenKind.TheVariants.{Number, Name}
@@ -11,9 +11,8 @@ use Rattle.redcode_text.specs.declared.fault.ExprFault.TheVariants.{Syntax}
 use Rattle.redcode_text.specs.declared.token.Token.{Token}
 use Rattle.redcode_text.specs.declared.expression.evaluation.Pending.{Pending}
 use Rattle.redcode_text.specs.declared.expression.evaluation.Pending.TheVariants.{Value, Open}
-use Rattle.redcode_text.specs.declared.expression.shape.ShapeState.{ShapeState}
 use Rattle.redcode_text.specs.Code.Progress.{Progress}
-use Rattle.redcode_text.specs.Expression.{most_parens, precedence, unary, binary, known, kinds}
+use Rattle.redcode_text.specs.Expression.{precedence, unary, binary, known, kinds}
 
 -- a value with an operator that waits for its right side, or a parenthesis with the unary signs before it
 pub data Waiting : Type 0 where
