@@ -1,6 +1,5 @@
 -- Tokens up to the first comma.
-use Rattle.std.proofs.Common.{◌≡◌, ℕ, ◌≤◌, List, [], ◌∷◌, ◌++◌, take, drop, length, Bool, true, false, refl, ap, sym, ◌∙◌, ◌==◌, ◌||◌, if◌then◌else◌, Result, Err, arith}
-use Rattle.std.proofs.lemmas.List.{drop_all, take-append-drop}
+use Rattle.std.proofs.Common.{◌≡◌, List, [], ◌∷◌, ◌++◌, length, Bool, true, false, refl, ap, ◌∙◌, ◌==◌, ◌||◌, if◌then◌else◌, Result, Err, arith}
 use Rattle.std.specs.List.{list_any, onto_first}
 use Rattle.mars_cell.specs.declared.instruction.Op.{Op}
 use Rattle.redcode_asm.specs.declared.fault.AsmProblem.{AsmProblem}

@@ -1,12 +1,9 @@
 -- What fails at first fails as a whole.
-use Rattle.std.proofs.Common.{◌≡◌, ◌∙◌, ℕ, Result, Ok, Err, ap, sym, subst}
+use Rattle.std.proofs.Common.{◌≡◌, Result, Ok, Err, ap}
 use Rattle.redcode_text.specs.Results.{◌>>=◌}
-use Rattle.redcode_asm.specs.declared.fault.AsmFault.{AsmFault}
 use Rattle.redcode_asm.specs.declared.fault.AsmProblem.{AsmProblem}
 use Rattle.redcode_asm.specs.declared.fault.AsmProblem.TheVariants.{Text, Operation, Operand, Expression, AssertFailed, BadOrigin, Empty, TooLong, OutOfMemory}
-use Rattle.redcode_asm.specs.Assembly.{at_line}
-use Rattle.redcode_asm.specs.Outcomes.{FailsAt}
-use Rattle.redcode_asm.specs.Code.Problems.{Fails, Gives, fault_line}
+use Rattle.redcode_asm.specs.Code.Problems.{Fails, Gives}
 
 -- a problem that is the defined one
 pub fails-same : {A : Type 0} (p : AsmProblem) (defined : Result A AsmProblem) → defined ≡ Err p → Fails p defined

@@ -1,29 +1,18 @@
 -- The laws of names, of an instruction in front, of load files and of score formulas.
-use Rattle.std.specs.Prelude.{◌≡◌, ◌≢◌, ⊤, ℕ, ◌-◌, ◌/◌, ◌^◌, ◌<◌, ◌≤◌, nat_le, if◌then◌else◌, ℤ, pos, List, [], ◌∷◌, ◌++◌, length, All, true, Some, is_some, Ok, IfErr, codes}
+use Rattle.std.specs.Prelude.{◌≡◌, ◌≢◌, ⊤, ℕ, ℤ, List, [], ◌∷◌, true, Ok, IfErr, codes}
 use Rattle.std.specs.Str.{str_eq_ignore_ascii_case}
-use Rattle.mars_cell.specs.declared.instruction.Cell.{Cell}
-use Rattle.mars_cell.specs.declared.instruction.Mode.{Mode}
-use Rattle.mars_cell.specs.declared.instruction.Mode.TheVariants as mode
-use Rattle.mars_cell.specs.Cells.{FitsCore}
 use Rattle.mars_cell.specs.Load.{load}
 use Rattle.mars_cell.specs.Parameters.{Parameters, AreInRange}
-use Rattle.mars_cell.specs.Warriors.{WarriorValue, IsWarrior}
-use Rattle.mars_cell.specs.Text.{cell_text}
-use Rattle.mars_cell.specs.Words.{op_name, op_of, modifier_name, modifier_of}
+use Rattle.mars_cell.specs.Warriors.{WarriorValue}
+use Rattle.mars_cell.specs.Words.{op_of, modifier_of}
 use Rattle.mars_cell.specs.Written.{load_text}
 use Rattle.redcode_text.specs.Results.{◌>>=◌}
 use Rattle.redcode_text.specs.declared.fault.ExprFault.{ExprFault}
 use Rattle.redcode_text.specs.declared.fault.ExprFault.TheVariants.{DivideByZero, Range}
-use Rattle.redcode_text.specs.Tokens.{Scanned, name_index, tokens, with_name}
-use Rattle.redcode_text.specs.declared.token.Sign.{Sign}
-use Rattle.redcode_text.specs.declared.token.Sign.TheVariants as sign
-use Rattle.redcode_text.specs.declared.token.TokenKind.{TokenKind}
-use Rattle.redcode_text.specs.declared.token.TokenKind.TheVariants.{Number, Name}
-use Rattle.redcode_text.specs.declared.token.TokenKind.TheVariants as token
-use Rattle.redcode_text.specs.Expression.{kinds}
-use Rattle.redcode_text.specs.Expansion.{ProgramValue, expansion}
-use Rattle.redcode_text.specs.Lines.{Line, Predefined, directive_value, is_instruction, name_at, predefined_value, with_current_line}
-use Rattle.redcode_asm.specs.Assembly.{Placed, assembly, at_line, cell_of, cells_of, instructions, predefined, warrior_of}
+use Rattle.redcode_text.specs.Tokens.{Scanned}
+use Rattle.redcode_text.specs.Expansion.{ProgramValue}
+use Rattle.redcode_text.specs.Lines.{Line, Predefined, is_instruction, name_at, predefined_value, with_current_line}
+use Rattle.redcode_asm.specs.Assembly.{assembly, at_line, cell_of, cells_of, instructions, warrior_of}
 use Rattle.redcode_asm.specs.Formula.{formula_of, score_of}
 
 -- a fault that an expression has by its values alone

@@ -1,12 +1,7 @@
 -- Worked examples: which names may be spelled otherwise.
-use Rattle.std.specs.Prelude.{◌≡◌, ℕ, List, [], ◌∷◌, Bool, true, false, not, ◌==◌, is_some, codes, refl}
-use Rattle.std.specs.Char.{is_ascii_digit}
-use Rattle.std.specs.List.{list_all}
-use Rattle.std.proofs.Common.{◌∙◌, ap, subst, sym, true≢false}
-use Rattle.std.proofs.lemmas.Bool.{eqb-true}
+use Rattle.std.specs.Prelude.{codes, refl}
 use Rattle.mars_cell.specs.Words.{op_of, modifier_of}
 use Rattle.redcode_text.specs.Lines.{Predefined}
-use Rattle.redcode_text.specs.Tokens.{begins_name, is_word_byte}
 use Rattle.redcode_asm.specs.Assembly.{predefined}
 use Rattle.redcode_asm.specs.Examples.Warriors.{parameters}
 use Rattle.redcode_asm.specs.Laws.{SaysTheSame}
