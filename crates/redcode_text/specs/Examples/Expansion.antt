@@ -67,7 +67,7 @@ pub row_loops : lines (codes "FOR 0" ∷ codes "this is prose" ∷ codes "ROF" �
 unfolding expansion value_of tree_within digits
 row_loops = refl
 
--- a loop in another: the counter of the outer one counts before, in and behind the inner one
+-- a loop in another: the counter of the outer one has its value before, in and after the inner one
 pub row_nested : lines (codes "i FOR 2" ∷ codes "x&i NOP" ∷ codes "j FOR 2" ∷ codes "DAT i, j" ∷ codes "ROF" ∷ codes "y&i NOP" ∷ codes "ROF" ∷ [])
     ≡ Ok (line 2 (codes "x01" ∷ []) (codes "NOP") []
     ∷ line 4 [] (codes "DAT") (N 1 ∷ comma ∷ N 1 ∷ [])

@@ -65,12 +65,12 @@ instructions_are_counted = refl
 abbrev counted : List (List ℕ) → ℕ × ℕ
 counted ls = elim (flat predefined (tree_of (text ls)) nothing_read) [ Ok st ↦ (st.lines_read, st.tokens_read) | Err e ↦ (0, 0) ]
 
--- EQU, FOR and ROF lines count, lines of a loop in each round, and the lines that take the place of an EQU name besides that name's line
+-- EQU, FOR and ROF lines count, lines of a loop in each round, and the lines of an EQU name that is an operation in addition to the line that uses it
 pub lines_and_tokens_are_counted : counted (codes "x EQU NOP 1" ∷ codes " EQU DAT" ∷ codes "FOR 2" ∷ codes "x" ∷ codes "ROF" ∷ []) ≡ (10, 17)
 unfolding value_of tree_within
 lines_and_tokens_are_counted = refl
 
--- a line too many is told before what it lacks
+-- that a line is one too many is reported before what it lacks
 pub lines_are_limited : flat predefined (tree_of (text (codes "FOR 1" ∷ []))) (record nothing_read { lines_read = 65536 }) ≡ Err (record { line = 1; problem = TooLong })
 lines_are_limited = refl
 
@@ -100,7 +100,7 @@ names_are_cleaned = (refl, refl)
 abbrev nested : ℕ → List (List ℕ)
 nested n = replicate n (codes "FOR 1") ++ codes "NOP" ∷ replicate n (codes "ROF")
 
--- a loop too many is told before its count
+-- that a loop is one too many is reported before its count
 pub open_loops_are_limited :
     (line_count (nested 32) ≡ 1)
     × (lines (nested 33) ≡ fault 33 TooLong)
