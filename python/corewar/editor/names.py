@@ -1,0 +1,113 @@
+"""The tokens of a source with their places, and which names are the same, by the look of its lines."""
+from __future__ import annotations
+
+import re
+from collections.abc import Iterator
+from dataclasses import dataclass
+
+from ..explain.source import NAME, OPERATIONS, PREDEFINED, TOKEN, Line, Source
+
+ASSERT = re.compile(r"\s*;assert\b", re.I)
+
+
+@dataclass(frozen=True)
+class Token:
+    """A token, or a part of a joined one: `x&i` has the names `x` and `i`.
+
+    - `number`: the number of its line, from 1
+    - `first`: the column of its first character, from 0
+    - `text`: its characters; of `x01`, the label of an iteration, only `x`
+    - `whole`: all characters of the token
+    - `kind`: comment, operation, modifier, number, sign; equate, counter, label, predefined; stem for a name that is
+      joined to a counter; name for one that is not defined
+    - `key`: what it has in common with all places of the same name
+    - `is_definition`: whether it defines this name
+    """
+
+    number: int
+    first: int
+    text: str
+    whole: str
+    kind: str
+    key: str = ""
+    is_definition: bool = False
+
+    @property
+    def last(self) -> int:
+        """The column after its last character."""
+        return self.first + len(self.text)
+
+
+class Names:
+    """The tokens of a source, in their order."""
+
+    def __init__(self, source: Source) -> None:
+        self.source, self.labels = source, source.labels()
+        joined = {name.partition("&")[0] for name in (*self.labels, *source.equates) if "&" in name}
+        self._stems = sorted(joined, key=len, reverse=True)
+        # Of a FOR 0, the line itself and its ROF are read.
+        edges = {number for loop in source.loops for number in (loop.head.number, loop.last)}
+        self.tokens = list[Token]()
+        for line in source.lines:
+            is_read = not line.unread and (not line.skipped or line.number in edges)
+            self.tokens += self._tokens(line) if is_read else comment(line, 0)
+
+    def at(self, number: int, column: int) -> Token | None:
+        """Returns the token at a column, or else the one that ends there."""
+        here = [one for one in self.tokens if one.number == number and one.first <= column <= one.last]
+        return here[-1] if here else None
+
+    def same(self, token: Token) -> list[Token]:
+        """Returns all places of the name that a token is."""
+        return [one for one in self.tokens if one.key and (one.kind, one.key) == (token.kind, token.key)]
+
+    def _tokens(self, line: Line) -> Iterator[Token]:
+        found = ASSERT.match(line.text)
+        begin = found.end() if found else 0
+        end = begin + len(line.text[begin:].partition(";")[0])
+        parts = [*TOKEN.finditer(line.text, begin, end)]
+        # The place of the operation; tokens before it are labels.
+        first = 0 if found else len(parts) - len(line.rest) - bool(line.operation)
+        before = ""
+        for place, part in enumerate(parts, -first):
+            role = "label" if place < 0 else "modifier" if before == "." else "name"
+            if part[0].upper() in OPERATIONS and place >= 0 and role == "name":
+                role = "operation"
+            yield from self._parts(line, part, role)
+            before = part[0]
+        yield from comment(line, end)
+
+    def _parts(self, line: Line, found: re.Match[str], role: str) -> Iterator[Token]:
+        whole, first = found[0], found.start()
+        if not NAME.match(whole):
+            yield Token(line.number, first, whole, whole, "number" if whole[0].isdecimal() else "sign")
+            return
+        for place, part in enumerate(whole.split("&")):
+            kind, key = self._kind(line, whole, part, place)
+            # Counters and EQU names are replaced also where an operation or a modifier stands.
+            if role in ("operation", "modifier") and kind not in ("counter", "equate"):
+                kind, key = role, ""
+            name = key if kind == "stem" else part
+            yield Token(line.number, first, name, whole, kind, key, role == "label" and place == 0)
+            first += len(part) + 1
+
+    def _kind(self, line: Line, whole: str, part: str, place: int) -> tuple[str, str]:
+        """Returns the kind and the key of a name, or of a part of a joined one."""
+        if line.word == "FOR" and line.labels[-1:] == [whole]:
+            return "counter", str(line.number)
+        for loop in reversed(self.source.loops_around(line.number)):
+            if loop.counter == part and (place or whole == part):
+                return "counter", str(loop.head.number)
+        if "&" in whole:
+            return ("name", "") if place else ("stem", part)
+        kinds = {"equate": self.source.equates, "label": self.labels, "predefined": PREDEFINED}
+        kind = next((kind for kind, names in kinds.items() if part in names), "")
+        stem = next((one for one in self._stems if re.fullmatch(rf"{one}\d\d+", part, re.ASCII)), "")
+        return (kind, part) if kind else ("stem", stem) if stem else ("name", "")
+
+
+def comment(line: Line, first: int) -> Iterator[Token]:
+    """Yields the comment that begins at a column or after it."""
+    text = line.text[first:].lstrip()
+    if text:
+        yield Token(line.number, len(line.text) - len(text), text, text, "comment")
