@@ -1,0 +1,35 @@
+-- The language server of the Core War kit, in Neovim 0.7 and later.
+local corewar = {}
+
+-- The keys of later versions of Neovim, and `gd`.
+local keys = {
+  K = "hover",
+  gd = "definition",
+  gO = "document_symbol",
+  gra = "code_action",
+  grn = "rename",
+  grr = "references",
+}
+local client
+
+-- Starts the server for each Redcode source. `command` has its words, by default those of `corewar lsp`.
+function corewar.setup(command)
+  vim.api.nvim_create_autocmd("FileType", {
+    pattern = "redcode",
+    callback = function(event)
+      if not (client and vim.lsp.get_client_by_id(client)) then
+        client = vim.lsp.start_client({ name = "corewar", cmd = command or { "corewar", "lsp" } })
+      end
+      if not client then
+        return
+      end
+      vim.lsp.buf_attach_client(event.buf, client)
+      vim.bo[event.buf].omnifunc = "v:lua.vim.lsp.omnifunc"
+      for key, action in pairs(keys) do
+        vim.keymap.set("n", key, vim.lsp.buf[action], { buffer = event.buf })
+      end
+    end,
+  })
+end
+
+return corewar
