@@ -331,7 +331,7 @@ EMACS = r"""
 (defun errors ()
   (sort (flymake-diagnostics) (lambda (a b) (< (flymake-diagnostic-beg a) (flymake-diagnostic-beg b)))))
 (find-file "one.red")
-(setq eglot-send-changes-idle-time 0 eglot-confirm-server-initiated-edits nil)
+(setq eglot-confirm-server-initiated-edits nil)
 (apply #'eglot (eglot--guess-contact))
 (flymake-start)
 (wait "errors" (lambda () (= (length (errors)) 3)))

@@ -27,9 +27,14 @@
     (modify-syntax-entry ?\" "." table)
     table))
 
+(defvar eglot-server-programs)
+(defvar eglot-send-changes-idle-time)
+
 ;;;###autoload
 (define-derived-mode redcode-mode prog-mode "Redcode"
   "Major mode for Redcode."
+  ;; The server itself waits until nothing is typed.
+  (setq-local eglot-send-changes-idle-time 0.01)
   (setq-local comment-start ";"
               comment-start-skip ";+[ \t]*"
               font-lock-defaults '(redcode-font-lock-keywords nil t)
@@ -39,7 +44,6 @@
 ;;;###autoload
 (add-to-list 'auto-mode-alist '("\\.red\\(code\\)?\\'" . redcode-mode))
 
-(defvar eglot-server-programs)
 (with-eval-after-load 'eglot
   (add-to-list 'eglot-server-programs '(redcode-mode . ("corewar" "lsp"))))
 

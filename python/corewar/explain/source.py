@@ -14,7 +14,7 @@ OPCODES, MODIFIERS, PREDEFINED = [*words.OPCODES], [*words.MODIFIERS], [*words.P
 OPERATIONS = [*words.OPCODES, *words.DIRECTIVES]
 # Opcodes of other dialects.
 ELSEWHERE = "LDP STP PIN XCH PCT STS".split()
-# A name with its joins, a number, or punctuation, also such as the language does not have. All bytes up to 32 are spaces.
+# A name with its joins, a number, or punctuation, also such as the language does not have; bytes up to 32 are spaces.
 TOKEN = re.compile(r"(?:\w|&(?=[A-Za-z_]))+|==|!=|<=|>=|&&|\|\||[^\0- ]", re.ASCII)
 NAME = re.compile(r"[A-Za-z_][\w&]*$", re.ASCII)
 # How many names are compared with a word; a comparison takes 10 to 20 microseconds for each letter.
