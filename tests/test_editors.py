@@ -295,7 +295,7 @@ def checked(told: dict[str, Any]) -> None:
     assert told["errors"] == [[1, 10, MESSAGES[0]], [2, 1, MESSAGES[1]], [3, 5, MESSAGES[2]]]
     assert told["corrected"] == GOOD and told["renamed"] == RENAMED
     assert "ADD.AB #4, $3" in told["hover"] and "B becomes B + A" in told["hover"]
-    assert "here: 4" in told["value"] and "already used in line 2" in told["refused"]
+    assert "`step`: 4 here" in told["value"] and "already used in line 2" in told["refused"]
     assert {"shell", "step", "loop", "CORESIZE"} <= {*told["completions"]}
 
 

@@ -204,12 +204,20 @@ def test_a_source_that_costs_too_much(editor: Editor) -> None:
 def test_hover() -> None:
     text = text_of(GOOD)
     told = asked(text, "hover", 1, 6)["contents"]["value"]
-    assert "   0  ADD.AB #4, $3" in told and "- B becomes B + A; from the A-field to the B-field" in told
-    assert "- A `#4`: the number itself" in told and "- B `$3`: the cell 3 ahead" in told
-    assert asked(text, "hover", 1, 11)["contents"]["value"] == "line 1: `step EQU 4`\n\nhere: 4"
-    assert asked(text, "hover", 3, 6)["contents"]["value"].endswith("\n\nhere: -2")
-    assert asked(text, "hover", 0, 1)["contents"]["value"] == "line 1: `step EQU 4`"
-    assert "   3  DAT.F #0, #0" in asked(text, "hover", 4, 1)["contents"]["value"]
+    assert told.split("\n") == [
+        "0  ADD.AB #4, $3",
+        "B becomes B + A; from the A-field to the B-field",
+        "A `#4`: the number itself",
+        "B `$3`: the cell 3 ahead",
+    ]
+    assert asked(text, "hover", 1, 11)["contents"]["value"] == "`step`: 4 here; line 1: `step EQU 4`"
+    assert asked(text, "hover", 3, 6)["contents"]["value"].startswith("`loop`: -2 here; line 2: `loop ADD ")
+    assert asked(text, "hover", 0, 1)["contents"]["value"] == "`step`: line 1: `step EQU 4`"
+    assert asked(text, "hover", 4, 1)["contents"]["value"].startswith("3  DAT.F #0, #0\n")
+    loops = text_of("i FOR 9\nDAT i, CORESIZE\nROF\n")
+    assert asked(loops, "hover", 1, 4)["contents"]["value"] == "`i`: 1, 2, 3, 4, .. here; line 1: `i FOR 9`"
+    assert asked(loops, "hover", 1, 8)["contents"]["value"] == "`CORESIZE`: 8000 here; core size"
+    assert asked(loops, "hover", 1, 1)["contents"]["value"].split("\n")[3:5] == ["3  DAT.F $4, $0", "and 5 more"]
     # With an error there are no cells; the word is explained.
     assert asked(text_of(BAD), "hover", 1, 6)["contents"]["value"] == "`ADD`: B becomes B + A"
     assert asked(text, "hover", 99, 0) is None and asked(text, "hover", 0, 99) is None

@@ -93,29 +93,28 @@ def hover(text: Text, params: Params) -> Any:
         return None
     is_cell = token.number in text.cells and (not token.key or token.is_definition and token.kind != "counter")
     told = cells_told(text, token.number) if is_cell else name_told(text, token) if token.key else word_told(token)
-    if not told or token.kind == "comment":
-        return None
-    return {"contents": {"kind": "markdown", "value": "\n".join(told)}, "range": text.range_of(token)}
+    contents = {"kind": "plaintext", "value": "\n".join(told)}
+    return {"contents": contents, "range": text.range_of(token)} if told and token.kind != "comment" else None
 
 
 def cells_told(text: Text, number: int) -> list[str]:
     """Returns the cells of a line with their indices, and what the first one does."""
     cells = text.cells[number]
-    listed = [f"{index:4}  {cell}" for index, cell in cells[:MOST]]
-    more = [f"      and {len(cells) - MOST} more"] if len(cells) > MOST else []
-    return ["```redcode", *listed, *more, "```", *(f"- {sentence}" for sentence in words.cell_told(cells[0][1]))]
+    more = [f"and {len(cells) - MOST} more"] if len(cells) > MOST else []
+    return [*(f"{index}  {cell}" for index, cell in cells[:MOST]), *more, *words.cell_told(cells[0][1])]
 
 
 def name_told(text: Text, token: Token) -> list[str]:
-    """Returns what a name is, and its values in the cells of this line."""
+    """Returns the values of a name in the cells of this line, and what it is."""
     if token.kind == "predefined":
-        told = f"`{token.text}`: {words.PREDEFINED[token.text]}"
+        told = words.PREDEFINED[token.text]
     else:
         first = next((one.number for one in text.names.same(token) if one.is_definition), token.number)
         told = f"line {first}: `{' '.join(text.line(first).partition(';')[0].split())}`"
     values = [*dict.fromkeys(text.values(token.number, token.whole))]
-    more = ", ..." if len(values) > MOST else ""
-    return [told, *([f"\nhere: {', '.join(map(str, values[:MOST]))}{more}"] if values else [])]
+    more = ", .." if len(values) > MOST else ""
+    here = [f"{', '.join(map(str, values[:MOST]))}{more} here"] if values else []
+    return [f"`{token.whole}`: {'; '.join([*here, told])}"]
 
 
 def word_told(token: Token) -> list[str]:
@@ -208,7 +207,9 @@ def completion(text: Text, params: Params) -> Any:
 
 
 def items(meanings: dict[str, str], kind: int) -> list[Params]:
-    return [{"label": name, "kind": kind, "detail": told} for name, told in meanings.items()]
+    # Names of the source are offered before those of the language.
+    rank = "1" if meanings is words.PREDEFINED else "0"
+    return [{"label": name, "kind": kind, "detail": told, "sortText": rank + name} for name, told in meanings.items()]
 
 
 @answers("documentSymbol")
