@@ -291,7 +291,7 @@ vim.cmd("qall!")
 
 
 def checked(told: dict[str, Any]) -> None:
-    """What both editors were told."""
+    """Checks what both editors have shown."""
     assert told["errors"] == [[1, 10, MESSAGES[0]], [2, 1, MESSAGES[1]], [3, 5, MESSAGES[2]]]
     assert told["corrected"] == GOOD and told["renamed"] == RENAMED
     assert "ADD.AB #4, $3" in told["hover"] and "B becomes B + A" in told["hover"]

@@ -175,7 +175,7 @@ def test_only_messages_reach_standard_output() -> None:
 
 
 def test_started_by_hand_and_ended(run: Run) -> None:
-    """The end of input ends the server; a terminal is told what is expected."""
+    """The end of input ends the server; on a terminal it says what is expected."""
     done = run("lsp")
     assert (done.returncode, done.stdout, done.stderr) == (1, "", "")
     code = "import pty, sys; sys.exit(pty.spawn(sys.argv[1:]) >> 8)"
@@ -193,7 +193,7 @@ def begin_words(*words: str) -> list[str]:
 
 
 def test_a_source_that_costs_too_much(editor: Editor) -> None:
-    """It is reported, and the server goes on."""
+    """It is reported, and the server continues."""
     costly = "a EQU 1\n" + "".join(f"{chr(97 + n + 1)} EQU {chr(97 + n)}+{chr(97 + n)}\n" for n in range(15))
     costly += "FOR 9000\nFOR 9000\nDAT p, 0\nROF\nROF\n"
     (found,) = editor.write(costly)

@@ -84,7 +84,7 @@ class Names:
             return
         for place, part in enumerate(whole.split("&")):
             kind, key = self._kind(line, whole, part, place)
-            # Counters and EQU names are replaced also where an operation or a modifier stands.
+            # Counters and EQU names are replaced also in place of an operation or a modifier.
             if role in ("operation", "modifier") and kind not in ("counter", "equate"):
                 kind, key = role, ""
             name = key if kind == "stem" else part

@@ -13,7 +13,7 @@ from .answers import ANSWERS, LEGEND, Params, diagnostics
 from .text import Text
 from .wire import Message, Wire
 
-# Errors are looked for if nothing comes for so many seconds. A source is assembled within these limits.
+# Errors are looked for if nothing comes for this many seconds. A source is assembled within these limits.
 QUIET, LIMIT = 0.05, Limit(2, 500)
 CAPABILITIES = {
     "textDocumentSync": {"openClose": True, "change": 1},
