@@ -11,13 +11,14 @@ from pathlib import Path
 from random import Random
 from typing import Any
 
+import costly
 import pytest
 import test_explain
 from conftest import ENVIRONMENT, EXAMPLES, TOP, Run, begin
 from hypothesis import given, strategies as st
 
 from corewar.cli.main import COMMANDS
-from corewar.editor.answers import ANSWERS, Params, diagnostics
+from corewar.editor.answers import ANSWERS, Params, diagnostic
 from corewar.editor.text import Text
 from corewar.editor.wire import Wire
 from corewar.engine.calls import load_file
@@ -194,11 +195,18 @@ def begin_words(*words: str) -> list[str]:
 
 def test_a_source_that_costs_too_much(editor: Editor) -> None:
     """It is reported, and the server continues."""
-    costly = "a EQU 1\n" + "".join(f"{chr(97 + n + 1)} EQU {chr(97 + n)}+{chr(97 + n)}\n" for n in range(15))
-    costly += "FOR 9000\nFOR 9000\nDAT p, 0\nROF\nROF\n"
-    (found,) = editor.write(costly)
-    assert found["range"]["start"]["line"] in range(20)
+    (found,) = editor.write(costly.slow())
+    assert found["message"] == "assembling takes more than 2 s of CPU time" and found["range"]["start"]["line"] == 0
+    assert editor.about("codeAction", range=found["range"])["result"] == []
     assert editor.write(GOOD) == []
+
+
+def test_a_large_source() -> None:
+    """Loops, names of iterations and long lines: what takes time in proportion to their square would not end."""
+    loops = "".join(f"i{n} FOR 1\nx{n}&i{n} NOP x{n}01\nROF\n" for n in range(10_000))
+    long_line = "x" + "1" * 300_000 + " NOP " + "1+" * 100_000 + ";\U0001f600"
+    for source, count in ((loops, 80_000), ("i FOR 1\n" * 30_000, 90_000), (long_line, 200_003)):
+        assert len(asked(text_of(source), "semanticTokens/full", 0, 0)["data"]) == 5 * count
 
 
 def test_hover() -> None:
@@ -339,7 +347,7 @@ def test_any_text_is_answered(source: str, data: st.DataObject) -> None:
     added = data.draw(st.text(max_size=8) | st.sampled_from(["FOR", " ROF", "&", ";assert", "\U0001f600", "x&i", "."]))
     text = text_of(source[:first] + added + source[first + data.draw(st.integers(0, 40)) :])
     where = data.draw(st.integers(0, 60)), data.draw(st.integers(0, 60))
-    assert all(one["range"]["end"]["line"] >= 0 for one in diagnostics(text))
+    assert all(diagnostic(text, error)["message"] for error in text.errors)
     for method in ANSWERS:
         try:
             json.dumps(asked(text, method.partition("/")[2], *where, newName="fresh_name"))

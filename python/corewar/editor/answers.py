@@ -52,12 +52,8 @@ def token_at(text: Text, params: Params) -> Token | None:
     return text.names.at(*text.place(params["position"]))
 
 
-def diagnostics(text: Text) -> list[Params]:
-    """Returns the errors of a source, each at the word or the line to correct."""
-    return [diagnostic(text, error) for error in text.errors]
-
-
 def diagnostic(text: Text, error: Error) -> Params:
+    """Returns an error as the protocol has it, at the word or the line to correct."""
     message = " ".join(error.sentences).removeprefix(f"In line {error.number}, ") or error.kind
     about = {"severity": ERROR, "source": "corewar", "code": error.kind, "message": message}
     return {"range": text.error_range(error), **about}
@@ -89,12 +85,12 @@ def quick_fix(title: str, params: Params, edit: Params) -> Params:
 def hover(text: Text, params: Params) -> Any:
     """Returns what a name means, or else the cells of the line and what they do."""
     token = token_at(text, params)
-    if token is None:
+    if token is None or token.kind == "comment":
         return None
     is_cell = token.number in text.cells and (not token.key or token.is_definition and token.kind != "counter")
     told = cells_told(text, token.number) if is_cell else name_told(text, token) if token.key else word_told(token)
     contents = {"kind": "plaintext", "value": "\n".join(told)}
-    return {"contents": contents, "range": text.range_of(token)} if told and token.kind != "comment" else None
+    return {"contents": contents, "range": text.range_of(token)} if told else None
 
 
 def cells_told(text: Text, number: int) -> list[str]:

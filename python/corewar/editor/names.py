@@ -5,9 +5,11 @@ import re
 from collections.abc import Iterator
 from dataclasses import dataclass
 
-from ..explain.source import NAME, OPERATIONS, PREDEFINED, TOKEN, Line, Source
+from ..explain.source import NAME, OPERATIONS, PREDEFINED, TOKEN, Line, Loop, Source
 
 ASSERT = re.compile(r"\s*;assert\b", re.I)
+# The most loops around a line, and the most digits that their counters have together.
+DEEPEST, MOST_DIGITS = 32, 160
 
 
 @dataclass(frozen=True)
@@ -42,13 +44,20 @@ class Names:
     """The tokens of a source, in their order."""
 
     def __init__(self, source: Source) -> None:
-        self.source, self.labels = source, source.labels()
-        joined = {name.partition("&")[0] for name in (*self.labels, *source.equates) if "&" in name}
-        self._stems = sorted(joined, key=len, reverse=True)
-        # Of a FOR 0, the line itself and its ROF are read.
-        edges = {number for loop in source.loops for number in (loop.head.number, loop.last)}
-        self.tokens = list[Token]()
+        self.labels, self.tokens = source.labels(), list[Token]()
+        kinds = {"predefined": PREDEFINED, "label": self.labels, "equate": source.equates}
+        self._kinds = {name: kind for kind, names in kinds.items() for name in names}
+        self._stems = {name.partition("&")[0] for name in (*self.labels, *source.equates) if "&" in name}
+        # The line of each counter that can be used in a line.
+        self._counters: dict[str, str] = {}
+        heads, loops = {loop.head.number: loop for loop in source.loops}, list[Loop]()
+        edges = {*heads, *(loop.last for loop in source.loops)}
         for line in source.lines:
+            while loops and loops[-1].last <= line.number:
+                loops.pop()
+            loops += [heads[line.number]] if line.number in heads else []
+            self._counters = {loop.counter: str(loop.head.number) for loop in loops[-DEEPEST:]}
+            # Of a FOR 0, the line itself and its ROF are read.
             is_read = not line.unread and (not line.skipped or line.number in edges)
             self.tokens += self._tokens(line) if is_read else comment(line, 0)
 
@@ -71,39 +80,39 @@ class Names:
         before = ""
         for place, part in enumerate(parts, -first):
             role = "label" if place < 0 else "modifier" if before == "." else "name"
-            if part[0].upper() in OPERATIONS and place >= 0 and role == "name":
+            if role == "name" and part[0].upper() in OPERATIONS:
                 role = "operation"
-            yield from self._parts(line, part, role)
+            yield from self._parts(line.number, part, role)
             before = part[0]
         yield from comment(line, end)
 
-    def _parts(self, line: Line, found: re.Match[str], role: str) -> Iterator[Token]:
+    def _parts(self, number: int, found: re.Match[str], role: str) -> Iterator[Token]:
         whole, first = found[0], found.start()
         if not NAME.match(whole):
-            yield Token(line.number, first, whole, whole, "number" if whole[0].isdecimal() else "sign")
+            yield Token(number, first, whole, whole, "number" if whole[0].isdecimal() else "sign")
             return
         for place, part in enumerate(whole.split("&")):
-            kind, key = self._kind(line, whole, part, place)
+            kind, key = self._kind(whole, part, place)
             # Counters and EQU names are replaced also in place of an operation or a modifier.
             if role in ("operation", "modifier") and kind not in ("counter", "equate"):
                 kind, key = role, ""
             name = key if kind == "stem" else part
-            yield Token(line.number, first, name, whole, kind, key, role == "label" and place == 0)
+            yield Token(number, first, name, whole, kind, key, bool(key) and role == "label" and place == 0)
             first += len(part) + 1
 
-    def _kind(self, line: Line, whole: str, part: str, place: int) -> tuple[str, str]:
+    def _kind(self, whole: str, part: str, place: int) -> tuple[str, str]:
         """Returns the kind and the key of a name, or of a part of a joined one."""
-        if line.word == "FOR" and line.labels[-1:] == [whole]:
-            return "counter", str(line.number)
-        for loop in reversed(self.source.loops_around(line.number)):
-            if loop.counter == part and (place or whole == part):
-                return "counter", str(loop.head.number)
+        if part in self._counters and (place or whole == part):
+            return "counter", self._counters[part]
         if "&" in whole:
             return ("name", "") if place else ("stem", part)
-        kinds = {"equate": self.source.equates, "label": self.labels, "predefined": PREDEFINED}
-        kind = next((kind for kind, names in kinds.items() if part in names), "")
-        stem = next((one for one in self._stems if re.fullmatch(rf"{one}\d\d+", part, re.ASCII)), "")
-        return (kind, part) if kind else ("stem", stem) if stem else ("name", "")
+        if part in self._kinds:
+            return self._kinds[part], part
+        # The label of an iteration, such as `x01`.
+        digits = len(part) - len(part.rstrip("0123456789"))
+        cuts = range(len(part) - 2, len(part) - min(digits, MOST_DIGITS) - 1, -1)
+        stem = next((part[:cut] for cut in cuts if part[:cut] in self._stems), "")
+        return ("stem", stem) if stem else ("name", "")
 
 
 def comment(line: Line, first: int) -> Iterator[Token]:

@@ -9,7 +9,7 @@ from typing import Any
 from ..engine.sources import Assembler, Limit
 from ..model.faults import Refused
 from ..model.settings import Settings
-from .answers import ANSWERS, LEGEND, Params, diagnostics
+from .answers import ANSWERS, LEGEND, Params, diagnostic
 from .text import Text
 from .wire import Message, Wire
 
@@ -104,7 +104,8 @@ class Server:
         while self.changed:
             uri = self.changed.pop()
             try:
-                found = diagnostics(self.texts[uri]) if uri in self.texts else []
+                text = self.texts.get(uri)
+                found = [diagnostic(text, error) for error in text.errors] if text else []
             except Exception:
                 traceback.print_exc()
                 continue

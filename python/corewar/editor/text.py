@@ -69,7 +69,9 @@ class Text:
 
     def span(self, number: int, first: int, last: int) -> Range:
         """Returns the part of a line between two columns, as the protocol has it."""
-        units = [len(self.line(number)[:column].encode("utf-16-le")) // 2 for column in (first, last)]
+        text, units = self.line(number), [first, last]
+        if not text.isascii():
+            units = [len(text[:column].encode("utf-16-le")) // 2 for column in units]
         start, end = ({"line": max(number - 1, 0), "character": one} for one in units)
         return {"start": start, "end": end}
 
