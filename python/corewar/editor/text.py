@@ -2,6 +2,7 @@
 from __future__ import annotations
 
 import re
+from bisect import bisect_left
 from collections.abc import Callable
 from dataclasses import dataclass
 from functools import cached_property
@@ -18,6 +19,7 @@ from .names import Names, Token
 
 # A comment that names a hill.
 HILL = re.compile(r"^\s*;redcode-(\w+)", re.I | re.M)
+WIDE = re.compile("[\U00010000-\U0010ffff]")
 FIELDS = re.compile(r"DAT\.F #(-?\d+), #(-?\d+)")
 # The numbers of expressions are below this.
 GREATEST = 2**63
@@ -52,6 +54,8 @@ class Text:
         self.data = text.encode("utf-8", "replace")
         self.source: Source = read_source(self.data)
         self._assemble = assemble
+        # The columns of the characters of a line that have two units.
+        self._wide: dict[int, list[int]] = {}
 
     @cached_property
     def names(self) -> Names:
@@ -69,9 +73,9 @@ class Text:
 
     def span(self, number: int, first: int, last: int) -> Range:
         """Returns the part of a line between two columns, as the protocol has it."""
-        text, units = self.line(number), [first, last]
-        if not text.isascii():
-            units = [len(text[:column].encode("utf-16-le")) // 2 for column in units]
+        if number not in self._wide:
+            self._wide[number] = [found.start() for found in WIDE.finditer(self.line(number))]
+        units = [column + bisect_left(self._wide[number], column) for column in (first, last)]
         start, end = ({"line": max(number - 1, 0), "character": one} for one in units)
         return {"start": start, "end": end}
 
