@@ -121,11 +121,37 @@ def test_errors_are_at_their_words_and_corrected(editor: Editor) -> None:
     assert editor.ask("textDocument/didClose", textDocument={"uri": URI})["result"] is None
 
 
+@pytest.mark.parametrize(
+    "source, title, expected",
+    [
+        ("mov $1 #2\n", "Replace `1 #` by `1, #`", "mov $1, #2\n"),
+        ("my-loop JMP 0\n", "Replace `my-loop` by `my_loop`", "my_loop JMP 0\n"),
+        ("i FOR 2\nx DAT 0\nROF\n", "Replace `x` by `x&i`", "i FOR 2\nx&i DAT 0\nROF\n"),
+        ("JPM go\ngo DAT 0\n", "Replace `JPM` by `JMP`", "JMP go\ngo DAT 0\n"),
+        (
+            "; \U0001f600\nJMP og ; \U0001f600\ngo DAT 0",
+            "Replace `og` by `go`",
+            "; \U0001f600\nJMP go ; \U0001f600\ngo DAT 0",
+        ),
+        ("mov 0, \\\n1\n", "as `corewar explain --fix` does", "mov 0, 1\n"),
+        ("mov.q 0, 1\n", "", ""),
+        ("ldp 0, 1\n", "", ""),
+    ],
+)
+def test_corrections(source: str, title: str, expected: str) -> None:
+    text = text_of(source)
+    where = text.error_range(text.errors[0])["start"]
+    found = asked(text, "codeAction", where["line"], where["character"])
+    assert len(found) == bool(title)
+    for one in found:
+        assert title in one["title"] and edited(source, one["edit"]) == expected
+    assert asked(text, "codeAction", 50, 0) == []
+
+
 def edited(text: str, edit: Params) -> str:
     """The text after an edit, whose positions are in UTF-16 units, as a client applies it."""
-    changes = sorted(edit["changes"][URI], key=lambda one: sorted(one["range"]["start"].items()), reverse=True)
-    for change in sorted(changes, key=lambda one: list(one["range"]["start"].values()), reverse=True):
-        lines = text.encode("utf-16-le").decode("utf-16-le").split("\n")
+    for change in sorted(edit["changes"][URI], key=lambda one: [*one["range"]["start"].values()], reverse=True):
+        lines = text.split("\n")
         ends = []
         for name in ("start", "end"):
             line, units = change["range"][name].values()
@@ -144,7 +170,7 @@ def test_no_error_of_an_answer_ends_the_server(editor: Editor, tmp_path: Path) -
         ("textDocument/formatting", {"textDocument": {"uri": URI}}, -32601),
     ):
         assert editor.ask(method, **params)["error"]["code"] == code
-    for body in (b"{", b"[]", b"\xff", b""):
+    for body in (b"{", b"[]", b"\xff", b"", b"[" * 100_000):
         editor.process.stdin.write(b"Content-Length: %d\r\nX: y\r\n\r\n%s" % (len(body), body))
         editor.process.stdin.flush()
         told = editor.wire.receive()

@@ -19,7 +19,7 @@ Answer = Callable[[Text, Params], Any]
 ANSWERS: dict[str, Answer] = {}
 # The maximum number of cells, and of values, that are shown for a line.
 MOST = 4
-ERROR, FUNCTION, VARIABLE, CONSTANT = 1, 12, 13, 14
+ERROR, FUNCTION, VARIABLE, CONSTANT, QUICK_FIX = 1, 12, 13, 14, "quickfix"
 KEYWORD_ITEM, VARIABLE_ITEM, CONSTANT_ITEM = 14, 6, 21
 # The type of semantic tokens, and the kind of symbols, for each kind of token.
 TYPES = {
@@ -63,22 +63,24 @@ def diagnostic(text: Text, error: Error) -> Params:
 def actions(text: Text, params: Params) -> Any:
     """Returns the corrections of the errors in a range."""
     found, first, last = [], params["range"]["start"]["line"], params["range"]["end"]["line"]
-    for error in text.errors:
-        advice, where = error.advice, text.error_range(error)
-        if advice and advice.new and first <= where["start"]["line"] <= last:
-            title = f"Replace `{advice.old}` by `{advice.new}`"
-            action = quick_fix(title, params, {"range": where, "newText": advice.new})
-            found.append({**action, "diagnostics": [diagnostic(text, error)]})
-    fixed = fix(text.data, text.load) if text.errors else text.data
+    here = [error for error in text.errors if first <= text.error_range(error)["start"]["line"] <= last]
+    for error in here:
+        word = text.word_range(error)
+        if word and error.advice and error.advice.new:
+            title = f"Replace `{error.advice.old}` by `{error.advice.new}`"
+            edit = changed(params, [{"range": word, "newText": error.advice.new}])
+            found.append({"title": title, "kind": QUICK_FIX, "edit": edit, "diagnostics": [diagnostic(text, error)]})
+    fixed = fix(text.data, text.load) if here and not found else text.data
     if fixed != text.data:
-        whole = {"start": {"line": 0, "character": 0}, "end": {"line": len(text.source.lines) + 1, "character": 0}}
-        edit = {"range": whole, "newText": fixed.decode("utf-8", "replace")}
-        found.append(quick_fix("Replace what only pMARS reads, as `corewar explain --fix` does", params, edit))
+        whole = {"start": {"line": 0, "character": 0}, "end": {"line": len(text.source.lines), "character": 0}}
+        edit = changed(params, [{"range": whole, "newText": fixed.decode("utf-8", "replace")}])
+        title = "Replace what only pMARS reads, as `corewar explain --fix` does"
+        found.append({"title": title, "kind": QUICK_FIX, "edit": edit})
     return found
 
 
-def quick_fix(title: str, params: Params, edit: Params) -> Params:
-    return {"title": title, "kind": "quickfix", "edit": {"changes": {params["textDocument"]["uri"]: [edit]}}}
+def changed(params: Params, edits: list[Params]) -> Params:
+    return {"changes": {params["textDocument"]["uri"]: edits}}
 
 
 @answers("hover")
@@ -159,9 +161,7 @@ def rename(text: Text, params: Params) -> Any:
         is_same = False
     if not is_same:
         raise Refused(f"with `{new}` in place of `{token.text}` this would be another warrior; nothing is changed")
-    return {
-        "changes": {params["textDocument"]["uri"]: [{"range": text.range_of(one), "newText": new} for one in found]}
-    }
+    return changed(params, [{"range": text.range_of(one), "newText": new} for one in found])
 
 
 def renamed(text: Text, params: Params) -> Token:

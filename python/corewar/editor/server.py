@@ -27,6 +27,8 @@ CAPABILITIES = {
     "codeActionProvider": {"codeActionKinds": ["quickfix"]},
     "semanticTokensProvider": {"legend": {"tokenTypes": LEGEND, "tokenModifiers": []}, "full": True},
 }
+CLOSED = "textDocument/didClose"
+NOTICES = ("textDocument/didOpen", "textDocument/didChange", CLOSED)
 # Error codes of the protocol.
 NOT_JSON, NO_METHOD, INTERNAL, FAILED = -32700, -32601, -32603, -32803
 
@@ -50,7 +52,7 @@ class Server:
                     self.send_errors()
                 try:
                     message = self.wire.receive()
-                except ValueError as error:
+                except (ValueError, RecursionError) as error:
                     self.wire.send({"id": None, "error": {"code": NOT_JSON, "message": str(error)}})
                     continue
                 if message is None or message.get("method") == "exit":
@@ -81,22 +83,19 @@ class Server:
             return {"capabilities": CAPABILITIES, "serverInfo": {"name": "corewar", "version": self.version}}
         if method == "shutdown":
             return None
-        uri = params.get("textDocument", {}).get("uri")
-        if method in ("textDocument/didOpen", "textDocument/didChange"):
-            self.changed.add(uri)
-            text = (
-                params["contentChanges"][-1]["text"] if "contentChanges" in params else params["textDocument"]["text"]
-            )
-            self.texts[uri] = Text(text, self.assembler.assemble, self.settings)
-        elif method == "textDocument/didClose":
-            self.changed.add(uri)
-            self.texts.pop(uri, None)
-        elif method not in ANSWERS:
+        if method not in (*ANSWERS, *NOTICES):
             raise NotImplementedError
-        elif uri not in self.texts:
-            raise Refused(f"{uri} is not open")
-        else:
+        uri = params["textDocument"]["uri"]
+        if method in ANSWERS:
+            if uri not in self.texts:
+                raise Refused(f"{uri} is not open")
             return ANSWERS[method](self.texts[uri], params)
+        if method == CLOSED:
+            self.texts.pop(uri, None)
+        else:
+            text = (params.get("contentChanges") or [params["textDocument"]])[-1]["text"]
+            self.texts[uri] = Text(text, self.assembler.assemble, self.settings)
+        self.changed.add(uri)
         return None
 
     def send_errors(self) -> None:

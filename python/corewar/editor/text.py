@@ -121,11 +121,16 @@ class Text:
             found.append(Error(str(refused), []))
         return found
 
+    def word_range(self, error: Error) -> Range | None:
+        """Returns the range of the word that is to be corrected, or None if there is no such word."""
+        old = error.advice.old if error.advice else ""
+        ends = r"(?![\w&])" if re.search(r"\w$", old, re.ASCII) else ""
+        found = re.search(rf"(?<![\w&]){re.escape(old)}{ends}", self.line(error.number), re.ASCII) if old else None
+        return self.span(error.number, *found.span()) if found else None
+
     def error_range(self, error: Error) -> Range:
         """Returns the range of the word to correct, or else of the code of the line."""
-        word = re.escape(error.advice.old) if error.advice else r"(?!)"
-        found = re.search(rf"(?<![\w&]){word}(?![\w&])", self.line(error.number), re.ASCII)
-        return self.span(error.number, *found.span()) if found else self.code_range(error.number)
+        return self.word_range(error) or self.code_range(error.number)
 
     def values(self, number: int, expression: str) -> list[int]:
         """Returns the value of an expression in each cell of a line, or nothing if it has none there.

@@ -123,7 +123,9 @@ def syntax(source: Source, line: Line) -> Iterator[str]:
         return
     for before, after in zip(tokens, tokens[1:]):
         if (before == ")" or re.match(r"\w", before)) and (after in OPENING or re.match(r"\w", after)):
-            yield f"A comma may be missing between `{before}` and `{after}`."
+            found = re.search(rf"{re.escape(before)}\s*{re.escape(after)}", line.code)
+            old = found[0] if found else ""
+            yield Advice(f"A comma may be missing between `{before}` and `{after}`.", old, f"{before}, {after}")
     if tokens.count("(") != tokens.count(")"):
         yield f"Parentheses: {tokens.count('(')} opened, {tokens.count(')')} closed."
 
