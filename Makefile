@@ -1,8 +1,9 @@
 # Installs and uninstalls the built kit, and makes Debian packages.
 #
-#   make install      program, library, package, man pages, completion, documents and examples below PREFIX
+#   make install      program, library, package, man pages, completion, files for editors, documents and examples below PREFIX
 #   make uninstall    removes them
 #   make man          the man pages, in build/man
+#   make editors      the files for editors, in build/share
 #   make packages     the Debian packages `mars` and `corewar`, in build
 #   make wheel        a Python wheel of `corewar` that contains the library, for x86-64 Linux and Python 3.11 or later, in build
 #   make check        all checks of CI
@@ -32,9 +33,9 @@ copy = mkdir -p $(2) && tar -c -C $(1) --mode=u=rwX,go=rX --exclude=__pycache__ 
 licences = mkdir -p $(1); set -e; for library in $(LIBRARIES); do for file in "$$(dirname "$$(rt doc)")"/rattle/$$library/LICENSE*; do \
 	cp "$$file" $(1)/$$library-$${file\#\#*/}; done; done$(if $(wildcard LICENSE*),; cp $(wildcard LICENSE*) $(1))
 
-.PHONY: all install uninstall man completion packages wheel check
+.PHONY: all install uninstall man completion editors packages wheel check
 
-all: man completion
+all: man completion editors
 
 $(PROGRAM):
 	@echo "$@ is not built; prove and build it with ./mars --help" >&2; exit 1
@@ -54,7 +55,11 @@ completion:
 # A function that zsh loads on demand also has to complete when it is loaded.
 	_COREWAR_COMPLETE=zsh_source $(COREWAR) -m corewar | sed 's/^compdef _corewar_completion corewar;/_corewar_completion "$$@"/' >build/completion/_corewar
 
-install: $(PROGRAM) $(LIBRARY) man completion
+editors:
+	rm -rf build/share
+	$(COREWAR) packaging/editors.py build/share
+
+install: $(PROGRAM) $(LIBRARY) man completion editors
 	rm -rf $(documents) $(package)/corewar
 	install -D -m 755 $(PROGRAM) $(to)/bin/mars
 	install -D -m 755 packaging/corewar $(to)/bin/corewar
@@ -68,13 +73,16 @@ install: $(PROGRAM) $(LIBRARY) man completion
 	install -D -m 644 packaging/completion/mars.bash $(bash)/mars
 	install -D -m 644 build/completion/corewar.bash $(bash)/corewar
 	install -D -m 644 -t $(zsh) packaging/completion/_mars build/completion/_corewar
+	set -e; for file in $$(find build/share -type f -printf '%P\n'); do install -D -m 644 build/share/$$file $(to)/share/$$file; done
 	$(call copy,.,$(documents),--exclude=mars.1 README.md CHANGELOG.md docs examples)
 
 uninstall:
 	rm -f $(to)/bin/mars $(to)/bin/corewar $(to)/lib/libmars.so $(to)/lib/libmars.so.1 $(to)/lib/libmars.a
 	rm -f $(to)/include/mars.h $(to)/lib/pkgconfig/mars.pc $(to)/share/man/man1/mars.1 $(to)/share/man/man1/corewar.1 $(to)/share/man/man1/corewar-*.1
 	rm -f $(bash)/mars $(bash)/corewar $(zsh)/_mars $(zsh)/_corewar
-	rm -rf $(documents) $(package)/corewar
+	rm -f $(to)/share/vim/vimfiles/*/redcode.vim $(to)/share/nvim/site/*/redcode.vim $(to)/share/nvim/site/lua/corewar.lua
+	rm -f $(to)/share/emacs/site-lisp/redcode-mode.el $(to)/share/org.kde.syntax-highlighting/syntax/redcode.xml
+	rm -rf $(documents) $(package)/corewar $(to)/share/corewar
 
 packages: $(PROGRAM) $(LIBRARY)
 	rm -rf build/package
@@ -86,9 +94,9 @@ packages: $(PROGRAM) $(LIBRARY)
 	cd build/package && dpkg-buildpackage -b -us -uc
 
 # Built from a copy, since setuptools leaves folders in its source; building it again gives the same bytes.
-wheel: $(LIBRARY)
+wheel: $(LIBRARY) editors
 	rm -rf build/wheel
-	$(call copy,.,build/wheel/kit,pyproject.toml setup.py README.md python include build/libmars.so.1)
+	$(call copy,.,build/wheel/kit,pyproject.toml setup.py README.md python include build/libmars.so.1 build/share)
 	$(call licences,build/wheel/kit/licences)
 	SOURCE_DATE_EPOCH=$$(git -c safe.directory='*' log -1 --format=%ct 2>/dev/null || stat -c %Y CHANGELOG.md) \
 		/usr/bin/python3 -m pip wheel --no-deps --no-build-isolation --no-cache-dir -q -w build build/wheel/kit

@@ -10,6 +10,8 @@ from wheel.bdist_wheel import bdist_wheel
 
 INSIDE = ["build/libmars.so.1", "include/mars.h"]
 READER = "python/corewar/engine/header.py"
+# The files for editors, which `make editors` writes.
+SHARE = Path("build/share")
 
 
 def write_types(header, path):
@@ -46,4 +48,10 @@ class Binary(Distribution):
         return True
 
 
-setup(cmdclass={"build_py": BuildPackage, "bdist_wheel": Wheel}, distclass=Binary)
+setup(
+    cmdclass={"build_py": BuildPackage, "bdist_wheel": Wheel},
+    distclass=Binary,
+    data_files=[
+        (str("share" / path.parent.relative_to(SHARE)), [str(path)]) for path in sorted(SHARE.rglob("*.*")) if path.is_file()
+    ],
+)

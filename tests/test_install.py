@@ -25,6 +25,10 @@ INSTALLED = [
     *("share/bash-completion/completions/corewar", "share/bash-completion/completions/mars"),
     *("share/doc/mars/README.md", "share/doc/mars/docs/user/TUTORIAL.md", "share/doc/mars/examples/rust/src/main.rs"),
     *("share/man/man1/corewar-why.1", "share/man/man1/corewar.1", "share/man/man1/mars.1"),
+    *("share/corewar/redcode.sublime-syntax", "share/corewar/vscode/package.json"),
+    *("share/emacs/site-lisp/redcode-mode.el", "share/org.kde.syntax-highlighting/syntax/redcode.xml"),
+    *(f"share/{place}/redcode.vim" for place in ("nvim/site/syntax", "vim/vimfiles/syntax", "vim/vimfiles/ftdetect")),
+    "share/nvim/site/lua/corewar.lua",
 ]
 ZSH = ["share/zsh/site-functions/_corewar", "share/zsh/site-functions/_mars"]
 

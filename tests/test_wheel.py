@@ -80,6 +80,12 @@ def test_commands_run_from_any_folder(environment: Path, tmp_path: Path) -> None
     assert "turn 3" in started(environment, "corewar", "debug", *files, given="step 3\n")
 
 
+def test_files_for_editors(environment: Path) -> None:
+    assert "MOV|ADD" in (environment / "share/nvim/site/syntax/redcode.vim").read_text()
+    manifest = (environment / "share/corewar/vscode/package.json").read_text()
+    assert f'"version": "{corewar.__version__}.0"' in manifest
+
+
 def test_types_reach_the_user(environment: Path, tmp_path: Path) -> None:
     if not shutil.which("mypy"):
         skip("the types", "there is no mypy", "mypy")

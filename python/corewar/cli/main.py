@@ -27,6 +27,7 @@ GROUPS = {
         "explain": "explaining",
     },
     "Contests": {"league": "league", "challenge": "league"},
+    "Editors": {"lsp": "editing"},
 }
 COMMANDS = {name: module for group in GROUPS.values() for name, module in group.items()}
 # Errors of the library that are usage errors, as in `mars`.

@@ -114,14 +114,11 @@ def match_option(*words: str, **how: Any) -> Decorator:
 
 
 SETTINGS = [number_option(name, CORE) for name in vars(Settings())]
+HILL = match_option(
+    "--hill", type=click.Choice(list(HILLS)), default="94nop", show_default=True, help="Settings of a known hill"
+)
 CONTEST = [
-    match_option(
-        "--hill",
-        type=click.Choice(list(HILLS)),
-        default="94nop",
-        show_default=True,
-        help="Settings of a known hill",
-    ),
+    HILL,
     number_option("rounds", MATCH, default=1, show_default=True),
     number_option("seed", MATCH, default=1, show_default=True),
     number_option("position", MATCH),
@@ -152,14 +149,29 @@ ROUND = match_option(
 )
 
 
+def with_settings(command: Callable[..., Any]) -> Callable[..., Any]:
+    """Replaces the values of `--hill` and of the core options by the argument `settings`."""
+
+    @functools.wraps(command)
+    def asking(*, hill: str, **given: Any) -> Any:
+        numbers = {name: given.pop(name) for name in vars(Settings())}
+        settings = replace(HILLS[hill], **{name: value for name, value in numbers.items() if value is not None})
+        return command(settings=settings, **given)
+
+    return asking
+
+
+def core_options(command: Callable[..., Any]) -> Callable[..., Any]:
+    """Adds `--hill` and the core options, as the argument `settings`."""
+    return with_options(HILL, *SETTINGS)(with_settings(command))
+
+
 def battle_options(*, one_round: bool = False, needs_files: bool = True) -> Decorator:
     """Adds the options of a match and the files, as the argument `asked`; with `one_round` also that of a round."""
 
     def decorate(command: Callable[..., Any]) -> Callable[..., Any]:
         @functools.wraps(command)
-        def asking(*, files: tuple[str, ...], hill: str, limit: Limit, round_: int = 0, **given: Any) -> Any:
-            numbers = {name: given.pop(name) for name in vars(Settings())}
-            settings = replace(HILLS[hill], **{name: value for name, value in numbers.items() if value is not None})
+        def asking(*, files: tuple[str, ...], settings: Settings, limit: Limit, round_: int = 0, **given: Any) -> Any:
             contest: dict[str, Any] = {name: given.pop(name) for name in ("rounds", "seed", "position", "formula")}
             contest["position"] = contest["position"] or 0
             return command(Asked(tuple(with_folders(files)), settings, round=round_, limit=limit, **contest), **given)
@@ -167,6 +179,6 @@ def battle_options(*, one_round: bool = False, needs_files: bool = True) -> Deco
         files = click.argument(
             "files", nargs=-1, required=needs_files, metavar="FILE..." if needs_files else "[FILE]..."
         )
-        return with_options(*CONTEST, *([ROUND] if one_round else []), *SETTINGS, files)(asking)
+        return with_options(*CONTEST, *([ROUND] if one_round else []), *SETTINGS, files)(with_settings(asking))
 
     return decorate

@@ -5,13 +5,24 @@ import re
 from collections.abc import Callable, Iterator
 from unicodedata import name as character_name
 
-from .source import ELSEWHERE, MODIFIERS, NAME, OPCODES, PREDEFINED, Line, Loop, Source, like, misspelt
+from .source import (
+    ELSEWHERE,
+    MODIFIERS,
+    NAME,
+    OPCODES,
+    PREDEFINED,
+    Advice,
+    Line,
+    Loop,
+    Misspelt,
+    Source,
+    like,
+    misspelt,
+)
 
 Cause = Callable[[Source, Line], Iterator[str]]
 COMMENT, BEGINS = re.compile(r"//|/\*"), "A comment begins with `;`."
 DASHED = re.compile(r"\s*([A-Za-z_]\w*(?:-\w+)+):?(?=\s)")
-# How a sentence begins if the line to correct is an earlier one.
-IN_LINE = "In line {}, "
 # A character that no token has.
 FOREIGN = re.compile(r"[^\w\0- #$@*{}<>,.+\-/%()&|=!:]", re.ASCII)
 OPENING = ("#", "$", "@", "{", "}", "(")
@@ -43,7 +54,8 @@ def operation(source: Source, line: Line) -> Iterator[str]:
     if COMMENT.search(line.code):
         yield BEGINS
     elif dashed:
-        yield f"A name cannot contain `-`; write `{dashed[1].replace('-', '_')}`."
+        name = dashed[1].replace("-", "_")
+        yield Advice(f"A name cannot contain `-`; write `{name}`.", dashed[1], name)
     elif word:
         yield word
     elif line.operation in source.equates:
@@ -87,14 +99,15 @@ def joined(name: str, loops: list[Loop]) -> str:
     if head is not None:
         return f"{where}; give the FOR in line {head.number} a counter, and join the counter to the name with `&`."
     missing = [loop.counter for loop in loops if loop.counter not in name.split("&")[1:]]
-    return f"{where}; write `{'&'.join([name, *missing])}`."
+    new = "&".join([name, *missing])
+    return Advice(f"{where}; write `{new}`.", name, new)
 
 
 def taken(source: Source, line: Line, name: str, other: Line) -> str:
     """Returns why a name is in an earlier line."""
     word = misspelt(source, other)
     if word:
-        return f"{IN_LINE.format(other.number)}{word}"
+        return Misspelt(f"In line {other.number}, {word}", word.old, word.new, other.number)
     if line.word == "EQU" and not other.operation:
         return f"Line {other.number} uses `{name}` before this EQU, so it is read as a label there; move the EQU up."
     return f"`{name}` is already defined in line {other.number}."
@@ -110,7 +123,9 @@ def syntax(source: Source, line: Line) -> Iterator[str]:
         return
     for before, after in zip(tokens, tokens[1:]):
         if (before == ")" or re.match(r"\w", before)) and (after in OPENING or re.match(r"\w", after)):
-            yield f"A comma may be missing between `{before}` and `{after}`."
+            found = re.search(rf"{re.escape(before)}\s*{re.escape(after)}", line.code)
+            old = found[0] if found else ""
+            yield Advice(f"A comma may be missing between `{before}` and `{after}`.", old, f"{before}, {after}")
     if tokens.count("(") != tokens.count(")"):
         yield f"Parentheses: {tokens.count('(')} opened, {tokens.count(')')} closed."
 
@@ -147,7 +162,7 @@ def undefined(source: Source, name: str, known: dict[str, Line]) -> str:
         return f"`{name}` is not defined: no line has it as a label or as an EQU name."
     where = f" (line {known[near].number})" if near in known else ""
     case = " (names are case-sensitive)" if near.lower() == name.lower() else ""
-    return f"`{name}` is not defined{case}; did you mean `{near}`{where}?"
+    return Advice(f"`{name}` is not defined{case}; did you mean `{near}`{where}?", name, near)
 
 
 # The functions that look for the causes of an error, by its text.

@@ -5,16 +5,13 @@ import re
 from collections.abc import Callable, Iterator
 
 from ..model.faults import Fault
-from .causes import IN_LINE
 from .meanings import told
-from .source import Line, Source, read_source
+from .source import Line, Misspelt, Source, read_source
 
 # The maximum number of errors that are reported for a source.
 MOST = 10
 # After these errors the rest of the source cannot be read.
 LAST = ("1 Text 3 UnclosedFor", "1 Text 9 TooLong", "7 Empty", "8 TooLong")
-# A sentence on a word that is not an opcode: the earlier line that has it, or None, and the word.
-ADVICE = re.compile(IN_LINE.format(r"(\d+)").join(["(?:", ")?`([^`]+)` is (?:read as a label|not an opcode of)"]))
 
 
 def kind_of(fault: Fault) -> str:
@@ -36,15 +33,15 @@ def errors_of(data: bytes, load: Callable[[bytes], object]) -> Iterator[tuple[Fa
         except Fault as fault:
             sentences = told(fault, text)
             # The cause may be a misspelt word, in this line or in an earlier one.
-            advice = ADVICE.match("".join(sentences[:1]))
-            number = int(advice[1]) if advice and advice[1] else fault.line
+            advice = next((one for one in sentences[:1] if isinstance(one, Misspelt)), None)
+            number = advice.line if advice and advice.line else fault.line
             # A line that is still wrong after it was replaced has names that are wrong elsewhere.
             if number not in seen:
                 yield fault, sentences
             if not 0 < number <= len(source.lines) or number in seen or kind_of(fault) in LAST:
                 return
             seen.add(number)
-            lines[number - 1] = replaced(source.lines[number - 1], source, advice[2] if advice else "").encode()
+            lines[number - 1] = replaced(source.lines[number - 1], source, advice.old if advice else "").encode()
 
 
 def replaced(line: Line, source: Source, misspelt: str) -> str:

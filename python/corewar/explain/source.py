@@ -6,20 +6,40 @@ from collections.abc import Sequence
 from dataclasses import dataclass, field
 from difflib import SequenceMatcher, get_close_matches
 from operator import itemgetter
+from typing import Self
 
-OPCODES = "DAT MOV ADD SUB MUL DIV MOD JMP JMZ JMN DJN SEQ CMP SNE SLT SPL NOP".split()
-OPERATIONS = [*OPCODES, *"FOR ROF EQU ORG END".split()]
-MODIFIERS = "A B AB BA F X I".split()
-PREDEFINED = "CORESIZE MAXPROCESSES MAXCYCLES MAXLENGTH MINDISTANCE ROUNDS WARRIORS VERSION CURLINE".split()
+from . import words
+
+OPCODES, MODIFIERS, PREDEFINED = [*words.OPCODES], [*words.MODIFIERS], [*words.PREDEFINED]
+OPERATIONS = [*words.OPCODES, *words.DIRECTIVES]
 # Opcodes of other dialects.
 ELSEWHERE = "LDP STP PIN XCH PCT STS".split()
-# A name with its joins, a number, or punctuation, also such as the language does not have.
-TOKEN = re.compile(r"(?:\w|&(?=[A-Za-z_]))+|==|!=|<=|>=|&&|\|\||\S", re.ASCII)
+# A name with its joins, a number, or punctuation, also such as the language does not have; bytes up to 32 are spaces.
+TOKEN = re.compile(r"(?:\w|&(?=[A-Za-z_]))+|==|!=|<=|>=|&&|\|\||[^\0- ]", re.ASCII)
 NAME = re.compile(r"[A-Za-z_][\w&]*$", re.ASCII)
 # How many names are compared with a word; a comparison takes 10 to 20 microseconds for each letter.
 MOST_CHOICES = 1000
 # How many words of a line are compared with the names of operations.
 FIRST_WORDS = 20
+
+
+class Advice(str):
+    """A sentence on the word `old` of a line: `new` is the word to write, or "", and `line` is the number of the line,
+    or 0 for the line of the error.
+    """
+
+    old: str
+    new: str
+    line: int
+
+    def __new__(cls, sentence: str, old: str, new: str = "", line: int = 0) -> Self:
+        made = super().__new__(cls, sentence)
+        made.old, made.new, made.line = old, new, line
+        return made
+
+
+class Misspelt(Advice):
+    """Advice on a word in place of an operation."""
 
 
 @dataclass
@@ -149,20 +169,21 @@ def likeness(word: str, choice: str) -> float:
     return 1.0 if same else SequenceMatcher(None, word.upper(), choice).ratio()
 
 
-def misspelt(source: Source, line: Line) -> str | None:
+def misspelt(source: Source, line: Line) -> Misspelt | None:
     """Returns a sentence on a word in place of an operation that is similar to one, or is one of another dialect."""
     # An EQU name in place of the operation may be the operand of a misspelt one.
     if line.operation.upper() in OPERATIONS or not (line.rest or line.operation or len(line.labels) > 1):
         return None
-    words = [word for word in line.labels[:FIRST_WORDS] if not source.is_operand(word)]
-    for word in words:
+    labels = [word for word in line.labels[:FIRST_WORDS] if not source.is_operand(word)]
+    for word in labels:
         if word.upper() in ELSEWHERE:
-            return f"`{word}` is not an opcode of this language; P-space and other extensions are not supported."
-    found = [(likeness(word, meant), word, meant) for word in words if (meant := like(word, OPERATIONS))]
+            told = f"`{word}` is not an opcode of this language; P-space and other extensions are not supported."
+            return Misspelt(told, word)
+    found = [(likeness(word, meant), word, meant) for word in labels if (meant := like(word, OPERATIONS))]
     if not found:
         return None
     _, word, meant = max(found, key=itemgetter(0))
-    return f"`{word}` is read as a label; did you mean `{meant}`?"
+    return Misspelt(f"`{word}` is read as a label; did you mean `{meant}`?", word, meant)
 
 
 def excerpt(data: bytes, number: int) -> list[str]:

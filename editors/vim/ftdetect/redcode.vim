@@ -1,0 +1,1 @@
+autocmd BufRead,BufNewFile *.red,*.redcode setfiletype redcode

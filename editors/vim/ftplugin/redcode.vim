@@ -1,0 +1,7 @@
+" Comments of Redcode.
+if exists("b:did_ftplugin")
+  finish
+endif
+let b:did_ftplugin = 1
+setlocal comments=:; commentstring=;%s
+let b:undo_ftplugin = "setlocal comments< commentstring<"
