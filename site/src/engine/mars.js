@@ -48,7 +48,12 @@ export class MarsError extends Error {
   constructor(code, { number = 0, problem = 0, expression = 0, line = 0, warrior = 0 } = {}) {
     super(`error ${code}, number ${number}`);
     this.name = "MarsError";
-    Object.assign(this, { code, number, problem, expression, line, warrior });
+    this.code = code;
+    this.number = number;
+    this.problem = problem;
+    this.expression = expression;
+    this.line = line;
+    this.warrior = warrior;
   }
 }
 
@@ -75,6 +80,11 @@ export class Mars {
 
   get version() {
     return this.#exports.mars_version();
+  }
+
+  /** The number of bytes of the module's memory. */
+  get memory() {
+    return this.#exports.memory.buffer.byteLength;
   }
 
   /**
