@@ -2,9 +2,10 @@
 #
 #   make install      program, library, package, man pages, completion, documents and examples below PREFIX
 #   make uninstall    removes them
+#   make site         the site, in build/site, a folder that any web server can serve
 #   make man          the man pages, in build/man
 #   make packages     the Debian packages `mars` and `corewar`, in build
-#   make wheel        a Python wheel of `corewar` that contains the library, for x86-64 Linux and Python 3.11 or later, in build
+#   make wheel        a Python wheel of `corewar` that contains the library and the site, for x86-64 Linux and Python 3.11 or later, in build
 #   make check        all checks of CI
 #
 # DESTDIR is put before PREFIX when a package is made. Nothing is proved here; files that are not built are reported.
@@ -16,6 +17,10 @@ VERSION := $(shell sed -n 's/^__version__ = "\(.*\)"/\1/p' python/corewar/__init
 DATE = $(shell git -c safe.directory='*' log -1 --format=%cD 2>/dev/null || date -R)
 PROGRAM = crates/mars/out/mars
 LIBRARY = build/libmars.so.1 build/libmars.a
+WASM = build/mars.wasm
+SITE = build/site/one.html
+# What the site is made of.
+PARTS := $(shell find site examples python/corewar/explain/meanings.json -type f)
 # The libraries of the toolchain that the crates use.
 LIBRARIES := $(shell sed -n 's/^\w* *\w*: *//p' crates.txt | tr ' ' '\n' | sort -u | grep -vxF "$$(sed -n 's/^\(\w*\).*:.*/\1/p' crates.txt)")
 COREWAR = PYTHONDONTWRITEBYTECODE=1 PYTHONPATH=python /usr/bin/python3 -P
@@ -32,7 +37,7 @@ copy = mkdir -p $(2) && tar -c -C $(1) --mode=u=rwX,go=rX --exclude=__pycache__ 
 licences = mkdir -p $(1); set -e; for library in $(LIBRARIES); do for file in "$$(dirname "$$(rt doc)")"/rattle/$$library/LICENSE*; do \
 	cp "$$file" $(1)/$$library-$${file\#\#*/}; done; done$(if $(wildcard LICENSE*),; cp $(wildcard LICENSE*) $(1))
 
-.PHONY: all install uninstall man completion packages wheel check
+.PHONY: all install uninstall site man completion packages wheel check
 
 all: man completion
 
@@ -41,6 +46,14 @@ $(PROGRAM):
 
 $(LIBRARY):
 	@echo "$@ is not built; prove and build it with scripts/library" >&2; exit 1
+
+$(WASM):
+	@echo "$@ is not built; install Debian's binaryen, then prove and build it with scripts/library" >&2; exit 1
+
+site: $(SITE)
+
+$(SITE): $(WASM) $(PARTS)
+	node site/build.mjs $(WASM) build/site
 
 man:
 	rm -rf build/man
@@ -54,7 +67,7 @@ completion:
 # A function that zsh loads on demand also has to complete when it is loaded.
 	_COREWAR_COMPLETE=zsh_source $(COREWAR) -m corewar | sed 's/^compdef _corewar_completion corewar;/_corewar_completion "$$@"/' >build/completion/_corewar
 
-install: $(PROGRAM) $(LIBRARY) man completion
+install: $(PROGRAM) $(LIBRARY) $(SITE) man completion
 	rm -rf $(documents) $(package)/corewar
 	install -D -m 755 $(PROGRAM) $(to)/bin/mars
 	install -D -m 755 packaging/corewar $(to)/bin/corewar
@@ -64,6 +77,7 @@ install: $(PROGRAM) $(LIBRARY) man completion
 	install -d $(to)/lib/pkgconfig
 	sed 's|@PREFIX@|$(PREFIX)|; s|@VERSION@|$(VERSION)|' packaging/mars.pc >$(to)/lib/pkgconfig/mars.pc
 	$(call copy,python,$(package),corewar)
+	$(call copy,build,$(package)/corewar/pages,site)
 	install -D -m 644 -t $(to)/share/man/man1 build/man/*.1
 	install -D -m 644 packaging/completion/mars.bash $(bash)/mars
 	install -D -m 644 build/completion/corewar.bash $(bash)/corewar
@@ -76,7 +90,7 @@ uninstall:
 	rm -f $(bash)/mars $(bash)/corewar $(zsh)/_mars $(zsh)/_corewar
 	rm -rf $(documents) $(package)/corewar
 
-packages: $(PROGRAM) $(LIBRARY)
+packages: $(PROGRAM) $(LIBRARY) $(SITE)
 	rm -rf build/package
 	mkdir -p build/package/licences
 	cp -R packaging/debian build/package
@@ -86,9 +100,9 @@ packages: $(PROGRAM) $(LIBRARY)
 	cd build/package && dpkg-buildpackage -b -us -uc
 
 # Built from a copy, since setuptools leaves folders in its source; building it again gives the same bytes.
-wheel: $(LIBRARY)
+wheel: $(LIBRARY) $(SITE)
 	rm -rf build/wheel
-	$(call copy,.,build/wheel/kit,pyproject.toml setup.py README.md python include build/libmars.so.1)
+	$(call copy,.,build/wheel/kit,pyproject.toml setup.py README.md python include build/libmars.so.1 build/site)
 	$(call licences,build/wheel/kit/licences)
 	SOURCE_DATE_EPOCH=$$(git -c safe.directory='*' log -1 --format=%ct 2>/dev/null || stat -c %Y CHANGELOG.md) \
 		/usr/bin/python3 -m pip wheel --no-deps --no-build-isolation --no-cache-dir -q -w build build/wheel/kit

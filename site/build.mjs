@@ -20,10 +20,11 @@ const write = (name, content) => fs.writeFileSync(made(name), content);
 const filesOf = (place, ending) => fs.readdirSync(place).filter((name) => name.endsWith(ending)).sort();
 
 /** Bundles a module with everything that it imports. */
-function bundle(from, name) {
+function bundle(from, name, banner) {
   const words = [inside("src", from), "--bundle", "--minify", "--format=iife", "--target=es2022", "--charset=utf8"];
   const editor = fs.realpathSync(path.join(codemirror, "lib", "codemirror.js"));
-  execFileSync("esbuild", [...words, "--log-level=warning", `--alias:codemirror=${editor}`, `--outfile=${made(name)}`]);
+  words.push("--log-level=warning", `--alias:codemirror=${editor}`, `--banner:js=${banner}`, `--outfile=${made(name)}`);
+  execFileSync("esbuild", words);
 }
 
 /** The style sheets in one. */
@@ -54,8 +55,8 @@ const plain = (id, text) => script(text, ` id="${id}" type="text/plain"`);
 
 fs.rmSync(folder, { recursive: true, force: true });
 fs.mkdirSync(folder, { recursive: true });
-bundle("app/main.js", "app.js");
-bundle("worker/worker.js", "worker.js");
+bundle("app/main.js", "app.js", `/*\n${read(inside("static", "codemirror.txt"))}*/`);
+bundle("worker/worker.js", "worker.js", "");
 fs.copyFileSync(wasm, made("mars.wasm"));
 
 const known = script(JSON.stringify(data()).replaceAll("<", "\\u003c"), ' id="data" type="application/json"');
@@ -64,7 +65,7 @@ const loads = ['<link rel="preload" href="mars.wasm" as="fetch" crossorigin>', '
 const many = page.replace("</title>", ["</title>", ...loads].join("\n"));
 write("index.html", many.replace("<!--parts-->", () => `${known}\n<script src="app.js"></script>`));
 const machine = zlib.gzipSync(fs.readFileSync(wasm), { level: 9 }).toString("base64");
-const parts = [known, plain("fight", ""), plain("mars-code", machine), plain("worker-code", read(made("worker.js")))];
+const parts = [known, plain("page-fight", ""), plain("mars-code", machine), plain("worker-code", read(made("worker.js")))];
 write("one.html", page.replace("<!--parts-->", () => [...parts, script(read(made("app.js")))].join("\n")));
 
 let total = 0;

@@ -230,7 +230,8 @@ class Page {
     const isStill = matchMedia("(prefers-reduced-motion: reduce)").matches;
     const { fighters } = this.shelf;
     await this.fight(fighters.length ? fighters.slice(0, MOST_WARRIORS) : [this.shelf.all[0]], !isStill);
-    if (told) this.complain(told);
+    const faults = this.server?.faults ?? [];
+    if (told || faults.length) this.complain([told, ...faults].join(" "));
   }
 
   /**

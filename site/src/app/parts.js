@@ -6,7 +6,7 @@
 
 /** The page as it was loaded: a page that is saved is made of it. */
 const loaded = document.documentElement.outerHTML;
-const FIGHT = /(<script id="fight" type="text\/plain">)[^<]*(<\/script>)/;
+const FIGHT = /(<script id="page-fight" type="text\/plain">)[^<]*(<\/script>)/;
 
 /** @param {string} id */
 const textOf = (id) => document.getElementById(id)?.textContent?.trim() ?? "";
@@ -23,7 +23,7 @@ export function data() {
 }
 
 /** Returns the fight that is inside the page, or "". */
-export const ownFight = () => textOf("fight");
+export const ownFight = () => textOf("page-fight");
 
 /** @returns {Promise<Parts>} */
 export async function parts() {

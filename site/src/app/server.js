@@ -4,6 +4,11 @@
 /** @typedef {import("../view/league.js").Result} Result */
 /** @typedef {import("../view/host.js").MatchTerms} MatchTerms */
 /** @typedef {{name: string, text: string, seen: string, isExample: boolean}} Kept `seen` names the content that was read */
+/** @typedef {{name: string, fault: string}} LeftOut a file that was not read, and why */
+
+const META = document.querySelector("meta[name=corewar-server]");
+/** The name of the folder for what the browser keeps of it, or "". */
+export const folderKey = META?.getAttribute("data-key") ?? "";
 
 export class Server {
   /** @type {Map<string, string>} */
@@ -11,17 +16,19 @@ export class Server {
 
   /**
    * @param {string} path
-   * @param {Kept[]} sources
+   * @param {(Kept | LeftOut)[]} all
    */
-  constructor(path, sources) {
+  constructor(path, all) {
+    const sources = all.flatMap((one) => ("fault" in one ? [] : one));
     this.path = path;
     this.sources = sources;
+    this.faults = all.flatMap((one) => ("fault" in one ? one.fault : []));
     for (const { name, seen, isExample } of sources) if (!isExample) this.#seen.set(name, seen);
   }
 
   /** Returns the server of this page, or null if it is only files. */
   static async find() {
-    const path = document.querySelector("meta[name=corewar-server]")?.getAttribute("content");
+    const path = META?.getAttribute("content");
     if (!path) return null;
     const answer = await fetch(`${path}/sources`);
     if (!answer.ok) throw new Error(`the folder cannot be read: ${(await answer.json()).fault ?? answer.status}`);

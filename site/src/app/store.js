@@ -1,4 +1,5 @@
-/** What is kept in this browser, if it lets the page do that. */
+/** What is kept in this browser, if it lets the page do that; of each folder by itself. */
+import { folderKey } from "./server.js";
 
 /** @typedef {{name: string, text: string, saved: string, isExample: boolean, fights: boolean}} KeptSource */
 /**
@@ -11,7 +12,7 @@
  * @property {string[]} [done] lessons
  */
 
-const NAME = "corewar";
+const NAME = `corewar ${folderKey}`.trim();
 
 /** @returns {Kept} */
 function read() {
