@@ -15,7 +15,7 @@ import { Pool, remoteDesk } from "../worker/pool.js";
 import { listenToKeys } from "./keys.js";
 import { Lessons } from "./lessons.js";
 import { readAddress, unpack } from "./link.js";
-import { data, ownFight, parts } from "./parts.js";
+import { data, ownFight, pageWith, parts } from "./parts.js";
 import { Server } from "./server.js";
 import { listenToShare, shared } from "./share.js";
 import { keep, kept } from "./store.js";
@@ -230,8 +230,10 @@ class Page {
     const isStill = matchMedia("(prefers-reduced-motion: reduce)").matches;
     const { fighters } = this.shelf;
     await this.fight(fighters.length ? fighters.slice(0, MOST_WARRIORS) : [this.shelf.all[0]], !isStill);
-    const faults = this.server?.faults ?? [];
-    if (told || faults.length) this.complain([told, ...faults].join(" "));
+    const faults = [told, ...(this.server?.faults ?? []), element("complaint").textContent ?? ""];
+    // A page shows a battle, also if the sources that are marked have errors.
+    if (!this.session.opened) await this.fight(this.examples.filter(({ name }) => FIRST.includes(name)), !isStill);
+    this.complain(faults.join(" ").trim());
   }
 
   /**
@@ -240,15 +242,17 @@ class Page {
    */
   async openLink(text, selection) {
     this.complain("");
+    /** @type {Source[]} */
+    let warriors = [];
     try {
       const { fight, turn, pinned } = await unpack(text, selection);
+      warriors = fight.warriors;
+      await this.session.open(fight, { turn, pinned, plays: turn === 0 });
       this.terms.value = fight;
-      const warriors = this.shelf.mark(fight.warriors);
-      await this.session.open({ ...fight, warriors }, { turn, pinned, plays: turn === 0 });
+      this.session.rename(this.shelf.mark(warriors));
       document.body.classList.add("running");
     } catch (error) {
-      const why = errorWords(error, this.shelf.fighters, this.meanings);
-      this.complain(`This link cannot be shown: ${why}`);
+      this.complain(`This link cannot be shown: ${errorWords(error, warriors, this.meanings)}`);
     }
   }
 
@@ -300,7 +304,7 @@ async function main() {
   await page.begin();
   page.listen();
   // For tests, and for everyone who looks behind the page.
-  Object.assign(window, { corewar: page, shared, unpack });
+  Object.assign(window, { corewar: page, pageWith, shared });
 }
 
 main().catch((error) => {

@@ -135,6 +135,14 @@ export class Session {
     if (plays) this.play(1);
   }
 
+  /**
+   * Takes other names for the sources of the battle.
+   * @param {import("../model/fight.js").Source[]} warriors
+   */
+  rename(warriors) {
+    if (this.fight) this.fight = { ...this.fight, warriors };
+  }
+
   /** @param {Opened} opened */
   #take(opened) {
     const { names, core, end, deaths, labels, future } = opened;

@@ -58,12 +58,15 @@ class Hand {
    */
   async ask(call, given, patience) {
     await this.ready;
+    const answer = this.#send(call, given);
+    // If it is late, nothing waits for it.
+    answer.catch(() => {});
     let timer;
     const late = new Promise((_, failed) => {
       timer = setTimeout(() => failed(new TooLong("it takes too long")), patience);
     });
     try {
-      return await Promise.race([this.#send(call, given), late]);
+      return await Promise.race([answer, late]);
     } finally {
       clearTimeout(timer);
     }
