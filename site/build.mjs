@@ -61,11 +61,13 @@ fs.copyFileSync(wasm, made("mars.wasm"));
 
 const known = script(JSON.stringify(data()).replaceAll("<", "\\u003c"), ' id="data" type="application/json"');
 const page = read(inside("static", "index.html")).replace("<!--style-->", () => `<style>${style()}</style>`);
-const loads = ['<link rel="preload" href="mars.wasm" as="fetch" crossorigin>', '<link rel="preload" href="app.js" as="script">'];
+const preload = (name, kind) => `<link rel="preload" href="${name}" as="${kind}">`;
+const loads = [preload("mars.wasm", "fetch").replace(">", " crossorigin>"), preload("app.js", "script")];
 const many = page.replace("</title>", ["</title>", ...loads].join("\n"));
 write("index.html", many.replace("<!--parts-->", () => `${known}\n<script src="app.js"></script>`));
 const machine = zlib.gzipSync(fs.readFileSync(wasm), { level: 9 }).toString("base64");
-const parts = [known, plain("page-fight", ""), plain("mars-code", machine), plain("worker-code", read(made("worker.js")))];
+const worker = plain("worker-code", read(made("worker.js")));
+const parts = [known, plain("page-fight", ""), plain("mars-code", machine), worker];
 write("one.html", page.replace("<!--parts-->", () => [...parts, script(read(made("app.js")))].join("\n")));
 
 let total = 0;

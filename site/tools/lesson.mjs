@@ -1,8 +1,8 @@
 // Reads the lessons of site/lessons: a head, paragraphs, and sources.
 //
-// The lines of the head are `title`, `judge`, `opponents` (names of examples), `goal` (`wins`, `survives` and `cells`, each
-// with a number) and `hint`. After `--- start` stands the source that the learner begins with, after `--- NAME.red` an
-// opponent that is no example.
+// The lines of the head are `title`, `judge`, `opponents` (names of examples), `goal` (`wins`, `survives` and `cells`,
+// each with a number) and `hint`. `--- start` is followed by the source that the learner begins with, `--- NAME.red` by
+// an opponent that is not an example.
 
 const KEYS = ["title", "judge", "opponents", "goal", "hint"];
 const JUDGES = ["end", "death", "saved", "match"];
@@ -12,7 +12,8 @@ const GOALS = ["wins", "survives", "cells"];
 function goalOf(text) {
   const words = text.split(/\s+/).filter(Boolean);
   const entries = words.flatMap((word, at) => (at % 2 ? [] : [[word, Number(words[at + 1])]]));
-  if (entries.some(([name, value]) => !GOALS.includes(name) || !(value >= 0))) throw new Error(`the goal \`${text}\` is wrong`);
+  const isWrong = entries.some(([name, value]) => !GOALS.includes(name) || !(value >= 0));
+  if (isWrong) throw new Error(`the goal \`${text}\` is wrong`);
   return Object.fromEntries(entries);
 }
 
@@ -22,7 +23,8 @@ export function readLesson(name, text) {
   const [head, ...paragraphs] = front.trim().split(/\n{2,}/);
   const fields = Object.fromEntries(head.split("\n").map((line) => /^(\w+): (.*)$/.exec(line)?.slice(1) ?? [line, ""]));
   const unknown = Object.keys(fields).find((key) => !KEYS.includes(key));
-  if (unknown || !JUDGES.includes(fields.judge) || !fields.title) throw new Error(`${name}: the head is wrong: ${unknown ?? ""}`);
+  const isWhole = !unknown && JUDGES.includes(fields.judge) && fields.title;
+  if (!isWhole) throw new Error(`${name}: the head is wrong: ${unknown ?? ""}`);
   const sources = parts.flatMap((part, at) => (at % 2 ? [] : { name: part, text: parts[at + 1] }));
   return {
     id: name.replace(/^\d+-|\.txt$/g, ""),

@@ -1,4 +1,4 @@
-/** Lessons: a goal each, judged by fights. */
+/** Lessons: a goal each, checked by fights. */
 import { element, make, refill, withCode } from "../view/dom.js";
 import { errorWords } from "../view/host.js";
 import { FORMULA, HILLS } from "../model/settings.js";
@@ -12,7 +12,7 @@ import { number } from "../words/battle.js";
  *
  * - `end`, `death`: the learner shows the last turn, or one in which a warrior dies
  * - `saved`: the learner's edits keep the warrior alive that died
- * - `match`: the learner's warrior wins or survives so many of 100 rounds, with at most so many cells
+ * - `match`: the learner's warrior wins or survives a number of 100 rounds, with a maximum number of cells
  * @typedef {object} Lesson
  * @property {string} id
  * @property {string} title
@@ -52,17 +52,18 @@ export class Lessons {
     const verdict = make("p", { className: "verdict", role: "status" }, isDone ? "Done." : "");
     const card = make("article", { className: `lesson${isDone ? " done" : ""}` });
     const begin = make("button", { onclick: () => this.begin(lesson) }, lesson.start ? "Begin" : "Watch");
-    const judge = make("button", { className: "main" }, "Judge me");
+    const judge = make("button", { className: "main" }, "Check");
     judge.onclick = async () => {
       const { isDone: isPassed, text } = await this.judge(lesson);
       refill(verdict, withCode(text));
       card.classList.toggle("done", isPassed);
       if (isPassed) this.keep([...this.done.add(lesson.id)]);
     };
-    const hint = lesson.hint ? make("details", {}, make("summary", {}, "Hint"), make("p", {}, withCode(lesson.hint))) : null;
+    const hint = make("details", {}, make("summary", {}, "Hint"), make("p", {}, withCode(lesson.hint)));
     const paragraphs = lesson.text.map((text) => make("p", {}, withCode(text)));
+    const parts = lesson.hint ? [...paragraphs, hint] : paragraphs;
     const row = make("p", { className: "row" }, begin, judge);
-    card.append(make("h3", {}, `${index + 1}. ${lesson.title}`), ...paragraphs, ...(hint ? [hint] : []), verdict, row);
+    card.append(make("h3", {}, `${index + 1}. ${lesson.title}`), ...parts, verdict, row);
     return card;
   }
 
@@ -118,12 +119,14 @@ export class Lessons {
     if (!isShown) return { isDone: false, text: "Watch the battle of this lesson first." };
     const { turn, end, known } = session;
     if (lesson.judge === "end") {
-      return turn === end ? { isDone: true, text: "That is the end." } : { isDone: false, text: `Turn ${number(turn)} is not the last one.` };
+      const isEnd = turn === end;
+      return { isDone: isEnd, text: isEnd ? "That is the end." : `Turn ${number(turn)} is not the last one.` };
     }
     if (lesson.judge === "saved") {
       if (!session.opened?.edits.length) return { isDone: false, text: "You have edited no cell yet." };
       const isSaved = known.deaths.length === 0;
-      return { isDone: isSaved, text: isSaved ? "Both survive: you changed history." : "In this future a warrior still dies." };
+      const told = isSaved ? "Both survive: you changed history." : "In this future a warrior still dies.";
+      return { isDone: isSaved, text: told };
     }
     const isDeath = known.deaths.some((death) => death.turn === turn);
     return { isDone: isDeath, text: isDeath ? "That is the turn." : `In turn ${number(turn)} no warrior dies.` };

@@ -138,14 +138,14 @@ export async function unpack(text, selection = {}) {
   if (warriors.length < 1 || warriors.length > MOST_WARRIORS) throw new Error("it has too many warriors, or none");
   if (settings.cycles * warriors.length > MOST_TURNS) throw new Error("its battle is too long for this page");
   const rounds = whole(short.n, 1, MOST_ROUNDS, 100);
-  const round = selection.round ?? whole(short.r, 0, rounds - 1, 0);
+  const round = Math.min(selection.round ?? whole(short.r, 0, rounds - 1, 0), rounds - 1);
   const formula = typeof short.f === "string" ? short.f.slice(0, LONGEST_FORMULA) : FORMULA;
   const position = whole(short.p, 0, settings.core, 0);
   const seed = whole(short.s, 1, LARGEST_SEED, 1);
   const edits = readEdits(short.e, settings.core);
   const turn = selection.turn ?? whole(short.t, 0, LAST_TURN, 0);
   const pinned = short.c === undefined ? null : whole(short.c, 0, settings.core - 1, 0);
-  return { fight: { settings, seed, rounds, round: Math.min(round, rounds - 1), position, formula, warriors, edits }, turn, pinned };
+  return { fight: { settings, seed, rounds, round, position, formula, warriors, edits }, turn, pinned };
 }
 
 /**
@@ -156,7 +156,10 @@ export async function unpack(text, selection = {}) {
  */
 export function readAddress(hash) {
   const given = new URLSearchParams(hash.replace(/^#/, ""));
-  const number = (/** @type {string} */ name) => (/^\d{1,9}$/.test(given.get(name) ?? "") ? Number(given.get(name)) : undefined);
-  const warriors = /^\d{1,5}(,\d{1,5})*$/.test(given.get("w") ?? "") ? given.get("w")?.split(",").map(Number) : undefined;
-  return { text: given.get("f") ?? "", selection: { warriors, round: number("r"), turn: number("t") } };
+  const numbers = (/** @type {string} */ name) => {
+    const text = given.get(name) ?? "";
+    return /^\d{1,9}(,\d{1,9})*$/.test(text) ? text.split(",").map(Number) : undefined;
+  };
+  const [warriors, rounds, turns] = [numbers("w"), numbers("r"), numbers("t")];
+  return { text: given.get("f") ?? "", selection: { warriors, round: rounds?.[0], turn: turns?.[0] } };
 }

@@ -26,6 +26,7 @@ import { Terms } from "./terms.js";
 
 /** The examples that a newcomer sees first. */
 const FIRST = ["dwarf.red", "imp.red"];
+const USUAL = { settings: DEFAULTS, seed: 1, rounds: 100, position: 0, formula: FORMULA };
 const MOST_WORKERS = 16;
 
 class Page {
@@ -42,16 +43,16 @@ class Page {
     this.pool = new Pool(made, clamp(navigator.hardwareConcurrency || 4, 1, MOST_WORKERS));
     this.session = new Session(remoteDesk(made), (text) => this.complain(text));
     this.terms = new Terms((isShown) => this.#takeTerms(isShown));
-    this.terms.value = { settings: DEFAULTS, seed: 1, rounds: 100, position: 0, formula: FORMULA, ...kept.terms };
+    this.terms.value = { ...USUAL, ...kept.terms };
     this.shelf = new Shelf({
       pool: this.pool,
       folder: server,
       meanings,
       terms: () => this.terms.value,
       changed: () => this.#keepSources(),
-      judged: () => this.bench.judged(),
+      checked: () => this.bench.checked(),
       fight: () => this.fightMarked(),
-      isStale: (name, text) => this.session.fight?.warriors.some((one) => one.name === name && one.text !== text) ?? false,
+      isStale: (name, text) => this.#isStale(name, text),
     });
     const host = {
       pool: this.pool,
@@ -63,10 +64,7 @@ class Page {
     this.bench = new Bench(host);
     this.league = new League(host, server && ((sources, terms) => server.league(sources, terms)));
     this.theatre = new Theatre(this.session);
-    const showLine = (/** @type {string} */ name, /** @type {number} */ line) => {
-      this.showDesk(true);
-      this.shelf.showLine(name, line);
-    };
+    const showLine = (/** @type {string} */ name, /** @type {number} */ line) => this.showLine(name, line);
     const side = new Side(this.session, showLine);
     this.cells = new Cells(this.session, side);
     this.rounds = new Rounds(this.session, this.pool, showLine, (hits) => this.shelf.takeHits(hits));
@@ -75,6 +73,15 @@ class Page {
     this.lessons = new Lessons(learner, lessons, kept.done ?? [], (done) => keep({ done }));
     this.session.listen((change) => this.#follow(change, side));
     this.#fillShelf();
+  }
+
+  /**
+   * Returns whether the battle that is shown has another text of a source.
+   * @param {string} name
+   * @param {string} text
+   */
+  #isStale(name, text) {
+    return this.session.fight?.warriors.some((one) => one.name === name && one.text !== text) ?? false;
   }
 
   /** Takes what was kept, or the files of the folder; then the examples. */
@@ -89,10 +96,10 @@ class Page {
       shelf.add({ name, text: draft?.text ?? text, saved: text, fights: index === 0 });
     });
     for (const draft of drafts) if (!shelf.find(draft.name)) shelf.add({ ...draft, saved: server ? "" : draft.saved });
-    const isFirst = (/** @type {string} */ name) => (files.length ? name === FIRST[0] : !own.length && FIRST.includes(name));
+    const first = files.length ? FIRST.slice(0, 1) : own.length ? [] : FIRST;
     const missing = server || !own.length ? this.examples : [];
     for (const example of missing) {
-      if (!shelf.find(example.name)) shelf.add({ ...example, isExample: true, fights: isFirst(example.name) });
+      if (!shelf.find(example.name)) shelf.add({ ...example, isExample: true, fights: first.includes(example.name) });
     }
     const shown = shelf.find(kept.shown ?? "") ?? shelf.held.find(({ fights }) => fights) ?? shelf.held[0];
     shelf.show(shown);
@@ -121,7 +128,7 @@ class Page {
   }
 
   /**
-   * Marks the line that is executed next, if the battle stands.
+   * Marks the line that is executed next, if the battle is stopped.
    * @param {import("../view/session.js").Change} change
    * @param {Side} side
    */
@@ -208,6 +215,15 @@ class Page {
     if (view === "battle") this.theatre.fit();
     else this.session.stop();
     return this;
+  }
+
+  /**
+   * @param {string} name
+   * @param {number} line
+   */
+  showLine(name, line) {
+    this.showDesk(true);
+    this.shelf.showLine(name, line);
   }
 
   /** @param {boolean} isShown */
@@ -303,13 +319,14 @@ async function main() {
   const page = new Page(made, server, data());
   await page.begin();
   page.listen();
-  // For tests, and for everyone who looks behind the page.
+  // For tests, and for the curious.
   Object.assign(window, { corewar: page, pageWith, shared });
 }
 
 main().catch((error) => {
   const told = /** @type {Error} */ (error).message;
-  const isOld = typeof WebAssembly === "undefined" || typeof DecompressionStream === "undefined" || /wasm|compile|memory/i.test(told);
+  const isPoor = ["WebAssembly", "DecompressionStream"].some((name) => !(name in window));
+  const isOld = isPoor || /wasm|compile|memory/i.test(told);
   const what = isOld ? "This browser cannot run the machine, a module of WebAssembly" : "The page cannot start";
   element("loading").textContent = `${what}: ${told}`;
 });

@@ -1,9 +1,14 @@
-/** The user's folder, if a server on this machine has one: sources are read from it and saved there, leagues run by it. */
+/**
+ * The user's folder, if a server on this machine has one: sources are read from it and saved there, leagues run by it.
+ */
 
 /** @typedef {import("../model/fight.js").Source} Source */
 /** @typedef {import("../view/league.js").Result} Result */
 /** @typedef {import("../view/host.js").MatchTerms} MatchTerms */
-/** @typedef {{name: string, text: string, seen: string, isExample: boolean}} Kept `seen` names the content that was read */
+/**
+ * `seen` names the content that was read.
+ * @typedef {{name: string, text: string, seen: string, isExample: boolean}} Kept
+ */
 /** @typedef {{name: string, fault: string}} LeftOut a file that was not read, and why */
 
 const META = document.querySelector("meta[name=corewar-server]");
@@ -42,8 +47,8 @@ export class Server {
    * @param {boolean} isForced whether a file that something else changed is overwritten
    */
   async save(name, text, isForced) {
-    const put = (/** @type {string} */ seen) =>
-      fetch(`${this.path}/sources/${encodeURIComponent(name)}`, { method: "PUT", body: JSON.stringify({ text, seen }) });
+    const path = `${this.path}/sources/${encodeURIComponent(name)}`;
+    const put = (/** @type {string} */ seen) => fetch(path, { method: "PUT", body: JSON.stringify({ text, seen }) });
     try {
       let answer = await put(this.#seen.get(name) ?? "");
       if (answer.status === 409 && isForced) answer = await put((await answer.json()).seen);

@@ -27,7 +27,8 @@ export function listenToShare(session) {
     const link = `${location.href.split("#")[0]}#f=${await shared(session)}`;
     const field = typed("link", HTMLInputElement);
     field.value = link;
-    note(link.length > LONGEST ? `The link has ${number(link.length)} characters, which some programs cut. A page has no limit.` : "");
+    const isLong = link.length > LONGEST;
+    note(isLong ? `The link has ${number(link.length)} characters, which some programs cut. A page has no limit.` : "");
     typed("sharing", HTMLDialogElement).showModal();
     field.select();
   });

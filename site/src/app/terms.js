@@ -13,7 +13,9 @@ export class Terms {
   #position = 0;
   #formula = FORMULA;
 
-  /** @param {(isShown: boolean) => void} changed the terms have changed; whether that changes the battle that is shown */
+  /**
+   * @param {(isShown: boolean) => void} changed the terms have changed; `isShown`: so has the battle that is shown
+   */
   constructor(changed) {
     this.hill = typed("hill", HTMLSelectElement);
     this.seed = typed("seed", HTMLInputElement);
@@ -79,7 +81,8 @@ export class Terms {
 
   #take() {
     const number = (/** @type {string} */ id) => Number(typed(id, HTMLInputElement).value);
-    this.#settings = /** @type {Settings} */ (Object.fromEntries(SETTINGS.map((name) => [name, number(`own-${name}`)])));
+    const entries = SETTINGS.map((name) => [name, number(`own-${name}`)]);
+    this.#settings = /** @type {Settings} */ (Object.fromEntries(entries));
     this.#position = number("own-position");
     this.#formula = typed("own-formula", HTMLInputElement).value.trim() || FORMULA;
     this.changed(true);

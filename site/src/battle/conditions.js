@@ -11,8 +11,8 @@ import { ADDRESS, QUEUED, RECORD_WORDS, TOUCHED_WORDS, WARRIOR, changesOf } from
  * - `splits`, `ends`, `dies`: the warrior, or any, gained a process, lost one or died in the last turn
  * - `moves`: that was the warrior's turn
  *
- * The cells are those from `first` to `last`, around the end of the core if `last` is smaller. `by` is the warrior of the
- * turn. In a condition on a warrior `first` is its number, or -1 for any.
+ * The cells are those from `first` to `last`, around the end of the core if `last` is smaller. `by` is the warrior of
+ * the turn. In a condition on a warrior `first` is its number, or -1 for any.
  * @typedef {{word: Word, first: number, last?: number, by?: number}} Condition
  */
 /** @typedef {"at" | "changes" | "reads" | "splits" | "ends" | "dies" | "moves"} Word */

@@ -1,5 +1,5 @@
 /**
- * The history of a battle: where it stands after any turn, who changed a cell, and what edits lead to.
+ * The history of a battle: its state after any turn, who changed a cell, and what edits lead to.
  *
  * A run of a battle is kept as marks at regular distances, and any other turn is played from the mark before it. The
  * records of turns are read when they are needed.
@@ -54,7 +54,7 @@ class Run {
     for (;;) {
       start.play(mars, this.stride, origins, chronicle);
       if (start.battle.over) break;
-      if (start.turn > MOST_TURNS) throw new Error(`the battle has more than ${MOST_TURNS} turns, the most that are shown`);
+      if (start.turn > MOST_TURNS) throw new Error(`the battle is too long: at most ${MOST_TURNS} turns are shown`);
       this.marks.push(start.copy());
       if (this.marks.length > most) this.#thin();
     }
@@ -85,9 +85,15 @@ class Run {
   }
 }
 
-/** @typedef {{run: Run, last: number}} Segment the turns of a run that a history has, up to the next edit or to the end */
+/**
+ * The turns of a run that a history has, up to the next edit or to the end.
+ * @typedef {{run: Run, last: number}} Segment
+ */
 
-/** A round of a match from its start to its end. It never changes: an edit gives another history with the same turns before. */
+/**
+ * A round of a match from its start to its end. It never changes: an edit gives another history with the same turns
+ * before.
+ */
 export class History {
   /** @type {{run: Run, place: Place} | null} */
   #cursor = null;
@@ -166,9 +172,9 @@ export class History {
 
   /** The deaths in order, with the owner of the cell and the turn that wrote it. */
   get deaths() {
-    return this.segments.flatMap(({ run, last }, index) =>
-      // What an edit after the last turn of a segment kills is in the next one.
-      run.deaths.filter(({ turn, address }) => turn <= last && (address >= 0 || turn < last || index + 1 === this.segments.length)),
+    return this.segments.flatMap(({ run, last }) =>
+      // A death by an edit after the last turn of a segment belongs to the next one.
+      run.deaths.filter(({ turn, address }) => turn < last || (turn === last && (address >= 0 || last === this.end))),
     );
   }
 
@@ -183,8 +189,8 @@ export class History {
   }
 
   /**
-   * Returns where the battle stands after a turn and after the edits made there, without its origins. It is used again by
-   * the next call.
+   * Returns the place of the battle after a turn and after the edits made there, without its origins. It is used again
+   * by the next call.
    * @param {number} turn
    */
   place(turn) {
@@ -233,7 +239,8 @@ export class History {
       while (turn < Math.min(end, last)) {
         const next = run.first + run.stride * (Math.floor((turn - run.first) / run.stride) + 1);
         const count = Math.min(next, end, last) - turn;
-        yield { first: turn, count, ...this.mars.play(battle, count, { records: count, touched: touched ? count : 0 }) };
+        const rows = { records: count, touched: touched ? count : 0 };
+        yield { first: turn, count, ...this.mars.play(battle, count, rows) };
         turn += count;
       }
     }
@@ -265,7 +272,8 @@ export class History {
   }
 
   /**
-   * Returns the first turn after a turn that changed a cell, or null. An edit counts as of the turn after which it is made.
+   * Returns the first turn after a turn that changed a cell, or null. An edit counts as of the turn after which it is
+   * made.
    * @param {number} address
    * @param {number} turn
    */
@@ -312,7 +320,8 @@ export class History {
     } else this.mars.edit(place.battle, edit);
     place.noteEdit(before, this.origins);
     const run = new Run(this.mars, this.origins, place, edit);
-    const kept = this.segments.filter((one) => one.run.first <= turn).map((one) => ({ ...one, last: Math.min(one.last, turn) }));
+    const started = this.segments.filter((one) => one.run.first <= turn);
+    const kept = started.map((one) => ({ ...one, last: Math.min(one.last, turn) }));
     return new History(this.mars, this.match, this.origins, [...kept, { run, last: run.ending.turn }]);
   }
 
@@ -362,23 +371,31 @@ export class History {
     /** @type {Event[]} */
     const found = [];
     for (const { run, last } of this.segments) {
-      const isNew = (/** @type {Event} */ event) =>
-        !found.some(({ kind, warrior, other }) => kind === event.kind && warrior === event.warrior && other === event.other);
-      found.push(...run.events.filter((event) => event.turn <= last && isNew(event)));
+      for (const event of run.events.filter(({ turn }) => turn <= last)) {
+        const { kind, warrior, other } = event;
+        const isNew = found.every((one) => one.kind !== kind || one.warrior !== warrior || one.other !== other);
+        if (isNew) found.push(event);
+      }
     }
     found.push(...this.#peaks(), ...this.deaths);
-    found.push(...this.edits.map(({ turn, edit }) => ({ ...EVENT, turn, kind: /** @type {const} */ ("edit"), address: edit.kind === "kill" ? -1 : edit.address })));
+    for (const { turn, edit } of this.edits) {
+      found.push({ ...EVENT, turn, kind: "edit", address: edit.kind === "kill" ? -1 : edit.address });
+    }
     found.sort((one, other) => one.turn - other.turn);
     return [EVENT, ...found, { ...EVENT, kind: "end", turn: this.end }];
   }
 
   /**
-   * The most processes of each warrior that has had more than two; not if an edit cut off the turn in which it had them.
+   * The most processes of each warrior that has had more than two; not if an edit cut off the turn in which it had
+   * them.
    * @returns {Event[]}
    */
   #peaks() {
     return this.order.flatMap((_, warrior) => {
-      const peaks = this.segments.map(({ run, last }) => ({ ...run.peaks[warrior], isKept: run.peaks[warrior].turn <= last }));
+      const peaks = this.segments.map(({ run, last }) => {
+        const { count, turn } = run.peaks[warrior];
+        return { count, turn, isKept: turn <= last };
+      });
       const { turn, count, isKept } = peaks.reduce((best, peak) => (peak.count > best.count ? peak : best));
       return isKept && count > 2 ? { ...EVENT, turn, kind: /** @type {const} */ ("most"), warrior, count } : [];
     });

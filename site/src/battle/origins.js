@@ -1,4 +1,6 @@
-/** Finds the loaded cell from which each instruction was copied. So its source line is known wherever it is executed. */
+/**
+ * Finds the loaded cell from which each instruction was copied. So its source line is known wherever it is executed.
+ */
 import { MODES, MODIFIERS, OPCODES, readCell } from "../model/cells.js";
 
 /** The origin of a cell that was never loaded. */
@@ -7,8 +9,8 @@ const [MOV, WHOLE] = [OPCODES.indexOf("MOV"), MODIFIERS.indexOf("I")];
 
 /**
  * The loaded cells of a battle, numbered by warriors, and after them the cells that edits set. Only MOV.I copies an
- * instruction; the mode of its A-operand says which of the touched cells it copies. If the cells are too many for 16 bits,
- * no origin is known.
+ * instruction; the mode of its A-operand says which of the touched cells it copies. If the cells are too many for 16
+ * bits, no origin is known.
  */
 export class Origins {
   /**

@@ -4,8 +4,8 @@ import { ADDRESS, DIED, QUEUED, WARRIOR } from "./place.js";
 
 /** @typedef {import("./place.js").Place} Place */
 /**
- * Moments: the turn of each; for each moment and warrior, one after another, cells and processes; and how many splits and
- * ends of processes there were since the moment before.
+ * Moments: the turn of each; for each moment and warrior, one after another, cells and processes; and how many splits
+ * and ends of processes there were since the moment before.
  * @typedef {{turns: number[], cells: number[], processes: number[], splits: number[], ends: number[]}} Overview
  */
 /**
@@ -20,7 +20,7 @@ import { ADDRESS, DIED, QUEUED, WARRIOR } from "./place.js";
  * @property {number} count
  */
 
-/** The story of a battle of more warriors tells only peaks, deaths and edits. */
+/** The story of a battle of more warriors has only peaks, deaths and edits. */
 const FEW = 4;
 /** Whom a warrior can hit, and one more for its splits. */
 const SIDES = MOST_WARRIORS + 1;
@@ -28,7 +28,9 @@ const SIDES = MOST_WARRIORS + 1;
 /** @type {Event} */
 export const EVENT = { turn: 0, kind: "start", warrior: -1, other: -1, address: -1, count: 0 };
 
-/** Takes samples while turns are played: at most `most` in steps of equal length, which doubles if they become too many. */
+/**
+ * Takes samples while turns are played: at most `most` in steps of equal length, which doubles if they become too many.
+ */
 export class Sampler {
   /** @type {Overview} */
   overview = { turns: [], cells: [], processes: [], splits: [], ends: [] };
@@ -77,7 +79,8 @@ export class Sampler {
     const { turns, cells, processes, splits, ends } = this.overview;
     const kept = [...turns.keys()].filter((place) => place % 2 === 0);
     const sums = (/** @type {number[]} */ values) => kept.map((place) => values[place] + (values[place - 1] ?? 0));
-    const rows = (/** @type {number[]} */ values) => kept.flatMap((place) => values.slice(place * count, (place + 1) * count));
+    const rows = (/** @type {number[]} */ values) =>
+      kept.flatMap((place) => values.slice(place * count, (place + 1) * count));
     this.overview = {
       turns: kept.map((place) => turns[place]),
       cells: rows(cells),

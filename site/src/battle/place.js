@@ -8,7 +8,7 @@ import { BY_HAND, CELL_WORDS, NOBODY } from "../model/cells.js";
 /**
  * Observes turns, in order. A turn is observed before the place has its changes.
  * @typedef {object} Watch
- * @property {(place: Place, record: Uint32Array, at: number, turn: number) => void} turn a turn, and where its record begins
+ * @property {(place: Place, records: Uint32Array, at: number, turn: number) => void} turn a turn, with its record
  * @property {(who: number, before: number, address: number, turn: number) => void} change a changed cell, and its owner
  *   before
  */
@@ -66,8 +66,8 @@ export class Place {
   }
 
   /**
-   * Plays turns, or all that are left if these are fewer. Origins are followed only if they are given: that takes as long
-   * as everything else.
+   * Plays turns, or all that are left if these are fewer. Origins are followed only if they are given: that takes as
+   * long as everything else.
    * @param {Mars} mars
    * @param {number} turns
    * @param {Origins | null} origins
@@ -95,7 +95,8 @@ export class Place {
    */
   #note(records, at, turn, watch) {
     const [who, count] = [records[at + WARRIOR], records[at + CHANGES]];
-    if (count === 0 || (count === 1 && !isChanged(records, at + CHANGE + 1, records, at + CHANGE + 1 + CELL_WORDS))) return;
+    const before = at + CHANGE + 1;
+    if (count === 0 || (count === 1 && !isChanged(records, before, records, before + CELL_WORDS))) return;
     const changes = count === 1 ? ONE : changesOf(records, at);
     ONE[0].address = records[at + CHANGE];
     for (const { address } of changes) {
@@ -143,7 +144,10 @@ function isChanged(before, first, after, second) {
   );
 }
 
-/** @typedef {{address: number, before: number, after: number}} Change an address, and where the cells are in the records */
+/**
+ * An address, and where the cells are in the records.
+ * @typedef {{address: number, before: number, after: number}} Change
+ */
 
 /** @type {Change[]} */
 const NONE = [];
@@ -151,8 +155,8 @@ const NONE = [];
 const ONE = [{ address: 0, before: 0, after: 0 }];
 
 /**
- * Returns the cells that a turn changed. Several writes of a cell are one change, from the cell before the first of them
- * to the cell after the last one.
+ * Returns the cells that a turn changed. Several writes of a cell are one change, from the cell before the first of
+ * them to the cell after the last one.
  * @param {Uint32Array} records
  * @param {number} at
  * @param {boolean} [all] also those that a turn wrote and left as they were

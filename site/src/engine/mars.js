@@ -186,7 +186,8 @@ export class Mars {
   /**
    * Makes an edit of a battle in place. Throws a MarsError if it is refused; then the battle is unchanged.
    * @param {Battle} battle
-   * @param {{kind: "cell" | "move" | "kill" | "add", warrior?: number, place?: number, address?: number, cell?: Cell}} edit
+   * @param {{kind: "cell" | "move" | "kill" | "add", warrior?: number, place?: number, address?: number,
+   *   cell?: Cell}} edit
    */
   edit(battle, { kind, warrior = 0, place = 0, address = 0, cell }) {
     this.#within(() => {

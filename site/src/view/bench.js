@@ -40,7 +40,7 @@ export class Bench {
   #fought = "";
   #later = settled(() => this.#draw(), 40);
   /** The source in the editor has changed. */
-  judged = settled(() => {
+  checked = settled(() => {
     if (this.isOpen && !this.host.shelf.isBroken) this.fight();
   }, 350);
 
@@ -138,7 +138,8 @@ export class Bench {
     const against = counted(this.#opponents.length, "opponent");
     const rounds = counted(this.host.terms().rounds, "round");
     const told = `${against}, ${rounds} each, in ${number(Math.round(this.#took))} ms`;
-    element("bench-note").textContent = this.#fault || (done < this.#opponents.length ? `${done} of ${against} …` : told);
+    const note = done < this.#opponents.length ? `${done} of ${against} …` : told;
+    element("bench-note").textContent = this.#fault || note;
     refill(element("bench-total"), ...this.#total());
     refill(element("bench-rows"), ...this.#opponents.map((opponent) => this.#line(opponent)));
   }
@@ -158,7 +159,8 @@ export class Bench {
     const shared = [...this.rows].filter(([name]) => this.#base.has(name));
     const changes = shared.map(([name, row]) => mean(row).points - mean(this.#base.get(name) ?? row).points);
     const change = changes.reduce((total, one) => total + one, 0) / changes.length;
-    const compared = make("span", { className: change >= 0 ? "better" : "worse" }, ` ${signed(change)} since “Compare with this”`);
+    const className = change >= 0 ? "better" : "worse";
+    const compared = make("span", { className }, ` ${signed(change)} since “Compare with this”`);
     return [make("strong", {}, fixed(points)), told, shared.length ? compared : null];
   }
 
@@ -199,7 +201,8 @@ const signed = (change) => `${change >= 0 ? "+" : "−"}${fixed(Math.abs(change)
  */
 function stack({ wins, ties, losses }) {
   const title = `${counted(wins, "win")}, ${counted(ties, "tie")}, ${counted(losses, "loss")}`;
-  const part = (/** @type {string} */ className, /** @type {number} */ value) => make("i", { className, style: `flex:${value}` });
+  const part = (/** @type {string} */ className, /** @type {number} */ value) =>
+    make("i", { className, style: `flex:${value}` });
   const parts = [part("win", wins), part("tie", ties), part("loss", losses)];
   return make("span", { className: "stack", role: "img", "aria-label": title, title }, ...parts);
 }

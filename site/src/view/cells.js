@@ -115,6 +115,7 @@ export class Cells {
     const text = cellText(cell, known.core);
     const sentence = instructionWords(cell, { core: known.core });
     const line = side.lineOf(address);
+    const origin = line ? `${line.name}, line ${line.line}: ${line.text}` : "";
     const button = make("button", { className: "text", title: `${sentence} A click edits it.` }, text);
     button.onclick = () => this.#edit(address, text, button);
     const look = { className: "address", title: "Look at it", onclick: () => session.pin(address) };
@@ -127,7 +128,7 @@ export class Cells {
       "li",
       { className: address === this.focus ? "focus" : "", style: colour(view.owner[address]) },
       make("button", look, number(address)),
-      make("span", { className: "label", title: line ? `${line.name}, line ${line.line}: ${line.text}` : "" }, known.labels.get(address) ?? ""),
+      make("span", { className: "label", title: origin }, known.labels.get(address) ?? ""),
       button,
       make("em", { title: names, "aria-label": names ? `Processes: ${names}` : null }, ...chips),
     );
@@ -169,7 +170,8 @@ export class Cells {
   #edit(address, text, button) {
     this.session.stop();
     this.#isEditing = true;
-    const input = make("input", { value: text, "aria-label": `Cell ${address}`, spellcheck: false, autocapitalize: "off" });
+    const named = { "aria-label": `Cell ${address}`, spellcheck: false, autocapitalize: "off" };
+    const input = make("input", { value: text, ...named });
     const done = () => {
       this.#isEditing = false;
       input.onblur = null;

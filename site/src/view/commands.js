@@ -1,14 +1,14 @@
 /** The debugger's line: commands over the battle that is shown, as `corewar debug` has them. */
 import { cellText, readCell } from "../model/cells.js";
 import { editText } from "../model/fight.js";
-import { counted, eventWords, moveWords, number, place } from "../words/battle.js";
+import { eventWords, moveWords, number, place, standingWords } from "../words/battle.js";
 import { instructionWords } from "../words/instruction.js";
 
 /** @typedef {import("../battle/conditions.js").Condition} Condition */
 /** @typedef {import("../model/fight.js").Edit} Edit */
 /** @typedef {import("./session.js").Session} Session */
 /** @typedef {(session: Session, rest: string) => Promise<string[]> | string[]} Act */
-/** @typedef {{usage: string, told: string, short: string[], act: Act}} Command */
+/** @typedef {{usage: string, meaning: string, short: string[], act: Act}} Command */
 
 /** The number of cells that `list` shows. */
 const CELLS = 11;
@@ -33,9 +33,9 @@ function readNumber(text, what) {
  */
 function readWarrior({ known: { names } }, text) {
   if (/^\d+$/.test(text) && Number(text) < names.length) return Number(text);
-  const found = [names, names.map((name) => name.toLowerCase())].map((all, index) => all.indexOf(index ? text.toLowerCase() : text));
-  const warrior = found.find((index) => index >= 0);
-  if (warrior !== undefined) return warrior;
+  const exact = names.indexOf(text);
+  const warrior = exact >= 0 ? exact : names.findIndex((name) => name.toLowerCase() === text.toLowerCase());
+  if (warrior >= 0) return warrior;
   const told = names.map((name, index) => `${index} ${name}`).join(", ");
   throw new Refused(`no warrior \`${text}\`; the warriors are ${told}`);
 }
@@ -51,7 +51,8 @@ function readAddress({ known: { core }, view, opened }, text) {
   if (base === "." && view?.head === null) throw new Refused("`.` is the cell to execute next, but the battle is over");
   const label = labels(opened?.labels ?? []).get(base);
   const at = base === "." ? (view?.head ?? 0) : (label ?? (/^\d{1,9}$/.test(base) ? Number(base) : core));
-  if (!found || at >= core) throw new Refused(`\`${text}\` is not an address: a number below ${core}, a label or \`.\``);
+  const wanted = `a number below ${core}, a label or \`.\``;
+  if (!found || at >= core) throw new Refused(`\`${text}\` is not an address: ${wanted}`);
   const added = (found[2].match(/[+-]\d+/g) ?? []).reduce((sum, part) => sum + Number(part), 0);
   return (((at + added) % core) + core) % core;
 }
@@ -113,8 +114,9 @@ function here({ view, move, known, turn }) {
  * @param {1 | -1} sign
  */
 async function step(session, rest, sign) {
-  if (!rest || /^\d+$/.test(rest)) await session.jump(session.turn + sign * readNumber(rest || "1", "a number of turns"));
-  else {
+  if (!rest || /^\d+$/.test(rest)) {
+    await session.jump(session.turn + sign * readNumber(rest || "1", "a number of turns"));
+  } else {
     const warrior = readWarrior(session, rest);
     const found = await session.leap([{ word: "moves", first: warrior }], sign > 0);
     const when = `${sign > 0 ? "after" : "before"} turn ${session.turn}`;
@@ -130,7 +132,7 @@ async function step(session, rest, sign) {
  */
 async function search(session, rest, forward) {
   const conditions = rest ? [readCondition(session, rest)] : session.breaks;
-  if (!conditions.length) throw new Refused("no breakpoint is set; use `break CONDITION` or add a condition to this command");
+  if (!conditions.length) throw new Refused("no breakpoint is set; use `break CONDITION` or add a condition");
   const found = await session.leap(conditions, forward);
   if (!found) throw new Refused(`not found ${forward ? "after" : "before"} turn ${session.turn}`);
   return [`${conditionWords(session, conditions[found.index])}:`, ...here(session)];
@@ -162,7 +164,8 @@ async function until(session, rest) {
 }
 
 /** @param {Session} session */
-const listBreaks = (session) => session.breaks.map((one, index) => `breakpoint ${index}: ${conditionWords(session, one)}`);
+const listBreaks = (session) =>
+  session.breaks.map((one, index) => `breakpoint ${index}: ${conditionWords(session, one)}`);
 
 /** @type {Act} */
 function setBreak(session, rest) {
@@ -280,7 +283,8 @@ function list(session, rest) {
   return Array.from({ length: most }, (_, index) => {
     const address = (first + index) % known.core;
     const cell = cellText(readCell(view.cells, address), known.core);
-    return `${address === view.head ? ">" : " "} ${String(address).padStart(6)} ${(known.labels.get(address) ?? "").padEnd(10)} ${cell}`;
+    const label = (known.labels.get(address) ?? "").padEnd(10);
+    return `${address === view.head ? ">" : " "} ${String(address).padStart(6)} ${label} ${cell}`;
   });
 }
 
@@ -297,7 +301,7 @@ function queue(session, rest) {
 function show({ view, known, end }) {
   if (!view) return [];
   const state = view.turn === end ? "over" : `of ${number(end)} turns`;
-  const standing = known.names.map((name, who) => `${name}: ${counted(view.processes[who], "process")}, ${counted(view.owned[who], "cell")}`);
+  const standing = standingWords(known.names, view);
   return [`turn ${number(view.turn)}, cycle ${number(view.cycle)}, battle ${state}`, ...standing];
 }
 
@@ -308,8 +312,8 @@ function why(session, rest) {
   const death = rest ? deaths.find(({ warrior }) => warrior === readWarrior(session, rest)) : deaths.at(-1);
   if (death) return [eventWords(death, known)];
   if (rest) return [`${known.names[readWarrior(session, rest)]} has not died by turn ${session.turn}`];
-  const told = view && view.head !== null ? [instructionWords(readCell(view.cells, view.head), { core: known.core })] : [];
-  return [...here(session).slice(-1), ...told];
+  if (!view || view.head === null) return here(session).slice(-1);
+  return [...here(session).slice(-1), instructionWords(readCell(view.cells, view.head), { core: known.core })];
 }
 
 /** @type {Act} */
@@ -324,7 +328,7 @@ async function changed(session, rest) {
 }
 
 /** @type {Act} */
-const help = () => [...COMMANDS.map(({ usage, told }) => `${usage.padEnd(24)} ${told}`), "", ...HELP];
+const help = () => [...COMMANDS.map(({ usage, meaning }) => `${usage.padEnd(24)} ${meaning}`), "", ...HELP];
 const HELP = [
   "A CONDITION: at, changes or reads A[..B] [by W], or splits, ends or dies W.",
   "An address A is a number, a label, or `.` (the cell to execute next), with or without +N or -N.",
@@ -333,12 +337,12 @@ const HELP = [
 
 /**
  * @param {string} usage
- * @param {string} told
+ * @param {string} meaning
  * @param {Act} act
  * @param {string[]} short
  * @returns {Command}
  */
-const command = (usage, told, act, ...short) => ({ usage, told, short, act });
+const command = (usage, meaning, act, ...short) => ({ usage, meaning, short, act });
 
 /** @type {Act} */
 const run = (session, rest) => step(session, rest || String(session.end), 1);
@@ -350,7 +354,7 @@ const undo = (session) => session.undo().then(() => here(session));
 const redo = (session) => session.redo().then(() => here(session));
 
 export const COMMANDS = [
-  command("step [N|W]", "one turn, N turns, or up to the next turn of warrior W", (s, rest) => step(s, rest, 1), "s", "n"),
+  command("step [N|W]", "one turn, N turns, or to the next turn of warrior W", (s, rest) => step(s, rest, 1), "s", "n"),
   command("reverse-step [N|W]", "step back in the same way", (s, rest) => step(s, rest, -1), "rs", "back"),
   command("run [N]", "N turns, or all that are left", run, "r"),
   command("goto T", "go to turn T, `start` or `end`", goto, "g"),

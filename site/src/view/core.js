@@ -20,10 +20,10 @@ import { SHADES } from "./palette.js";
  * @property {{address: number, warrior: number}[]} graves
  */
 
-/** A warrior with at most so many processes has rings around them, unless cells have so many pixels. */
+/** The largest number of processes of a warrior with rings around them, and the cells in pixels that need none. */
 const FEW = 3;
 const LARGE = 16;
-/** Cells of so many pixels show their instruction. */
+/** The least size of cells in pixels that show their instruction. */
 const READABLE = 46;
 const MARGIN = 8;
 /** Cells of fewer pixels may differ by one, so that they fill the canvas. */

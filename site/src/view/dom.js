@@ -37,7 +37,10 @@ export const onClick = (id, act) => element(id).addEventListener("click", act);
 
 /** @param {Part[]} parts */
 const nodes = (parts) =>
-  parts.flatMap((part) => (part === null || part === undefined || part === false ? [] : typeof part === "number" ? String(part) : part));
+  parts.flatMap((part) => {
+    if (part === null || part === undefined || part === false) return [];
+    return typeof part === "number" ? String(part) : part;
+  });
 
 /**
  * Makes an element. A property that the element has is set; any other becomes an attribute.

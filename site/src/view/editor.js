@@ -5,7 +5,7 @@ import { element, make, placeTip, refill } from "./dom.js";
 
 /** @typedef {import("codemirror").Document} Document */
 /** @typedef {import("../model/cells.js").Cell} Cell */
-/** @typedef {import("../words/faults.js").Explained} Explained */
+/** @typedef {import("../words/errors.js").Explained} Explained */
 /** @typedef {Map<number, {died: number, killed: number}>} Hits by lines */
 /** @typedef {{save: () => void, fight: () => void, leave: () => void, changed: () => void}} Acts */
 
@@ -120,12 +120,12 @@ export class Editor {
 
   /**
    * Marks the errors of a document that is shown.
-   * @param {Explained[]} faults
+   * @param {Explained[]} errors
    */
-  showFaults(faults) {
+  showErrors(errors) {
     for (const mark of this.#marks.splice(0)) mark.clear();
     this.mirror.clearGutter("faults");
-    for (const { line, from, to, text } of faults) {
+    for (const { line, from, to, text } of errors) {
       if (line < 1 || line > this.mirror.lineCount()) continue;
       const [first, last] = [from, Math.max(to, from + 1)].map((ch) => ({ line: line - 1, ch }));
       this.#marks.push(this.mirror.markText(first, last, { className: "fault" }));

@@ -1,6 +1,6 @@
 /** What the sheets of the page ask of it, and what they share. */
 import { MarsError } from "../engine/mars.js";
-import { faultWords } from "../words/faults.js";
+import { explain } from "../words/errors.js";
 
 /** @typedef {import("../engine/mars.js").Row} Row */
 /** @typedef {import("../model/fight.js").Source} Source */
@@ -18,7 +18,7 @@ import { faultWords } from "../words/faults.js";
 /** Results of include/mars.h that are not about a source. */
 const REASONS = ["", "out of memory", "these settings are impossible", "these parameters are impossible"];
 REASONS.push("the score formula is wrong", "", "this load file is wrong");
-REASONS.push("the core has no room for so many warriors at this distance", "the warriors cannot be loaded");
+REASONS.push("the core has no room for these warriors at this distance", "the warriors cannot be loaded");
 REASONS.push("the score formula has no value in some round");
 const ASSEMBLY = 5;
 
@@ -32,7 +32,7 @@ export function errorWords(error, sources, meanings) {
   if (!(error instanceof MarsError)) return String(/** @type {Error} */ (error).message ?? error);
   const source = sources[error.warrior] ?? sources[0];
   if (error.code !== ASSEMBLY || !source) return REASONS[error.code] || `error ${error.code}, number ${error.number}`;
-  const { line, text } = faultWords(error, source.text, meanings);
+  const { line, text } = explain(error, source.text, meanings);
   return `${source.name}, line ${line}: ${text}`;
 }
 

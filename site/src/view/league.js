@@ -175,7 +175,8 @@ export class League {
     const isRunning = done < total;
     const rounds = counted(this.host.terms().rounds, "round");
     const out = this.#faults.length ? `; left out: ${this.#faults.join(" ")}` : "";
-    const told = `${number(done)} of ${counted(total, "match")}, ${rounds} each, in ${(this.#took / 1000).toFixed(1)} s${out}`;
+    const time = (this.#took / 1000).toFixed(1);
+    const told = `${number(done)} of ${counted(total, "match")}, ${rounds} each, in ${time} s${out}`;
     element("league-note").textContent = total ? told : this.#faults.join(" ");
     element("league-stop").hidden = !isRunning;
     const progress = typed("league-done", HTMLProgressElement);
@@ -196,7 +197,8 @@ export class League {
     const counts = `${counted(row.wins, "win")}, ${counted(row.ties, "tie")}, ${counted(row.losses, "loss")}`;
     const title = `${this.#names[who]} against ${this.#names[other]}: ${counts}. A click shows the first round.`;
     const button = make("button", { title, onclick: () => this.#show(who, other) }, row.wins);
-    return make("td", { className: "match", style: `background:rgba(${red},${green},${blue},${share.toFixed(2)})` }, button);
+    const style = `background:rgba(${red},${green},${blue},${share.toFixed(2)})`;
+    return make("td", { className: "match", style }, button);
   }
 
   /**
@@ -226,7 +228,8 @@ export class League {
       }),
     );
     canvas.onclick = ({ offsetX, offsetY }) => {
-      const at = (/** @type {number} */ offset) => order[Math.floor((offset * canvas.width) / canvas.clientWidth / size)];
+      const scale = canvas.width / canvas.clientWidth / size;
+      const at = (/** @type {number} */ offset) => order[Math.floor(offset * scale)];
       if (at(offsetX) !== at(offsetY)) this.#show(at(offsetY), at(offsetX));
     };
   }

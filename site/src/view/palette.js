@@ -1,4 +1,6 @@
-/** The colours of warriors: sixteen that are far apart, also for people who see few colours. The core is always dark. */
+/**
+ * The colours of warriors: sixteen that are far apart, also for people who see few colours. The core is always dark.
+ */
 import { BY_HAND, NOBODY } from "../model/cells.js";
 
 const COLOURS = "#ff7a33 #3f9df2 #2fe0a0 #a98fb4 #f7e21f #c2f0fb #a35f4a #bdb4ff".split(" ");
@@ -43,11 +45,11 @@ export class Palette {
 
   /**
    * @param {number[]} order which source each warrior is; it has the same colour in all rounds
-   * @param {number} alone the warrior that is shown alone, or -1
+   * @param {number} chosen the warrior that is shown chosen, or -1
    */
-  constructor(order, alone) {
+  constructor(order, chosen) {
     const own = order.map((source) => channels(COLOURS[source % COLOURS.length]));
-    const isShown = (/** @type {number} */ who) => alone < 0 || alone === who;
+    const isShown = (/** @type {number} */ who) => chosen < 0 || chosen === who;
     const shown = own.map((colour, who) => (isShown(who) ? colour : mixed(colour, GROUND, 0.86)));
     this.text = own.map(css);
     this.mark = own.map((colour, who) => css(isShown(who) ? mixed(colour, WHITE, 0.25) : shown[who]));

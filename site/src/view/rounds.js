@@ -7,7 +7,10 @@ import { swatch } from "./palette.js";
 /** @typedef {import("../worker/pool.js").Pool} Pool */
 /** @typedef {import("./session.js").Session} Session */
 /** @typedef {import("./side.js").ShowLine} ShowLine */
-/** @typedef {{count: number, warrior: number, line: number, killer: number, by: number}} Why how often, and how, a warrior died */
+/**
+ * How often, and how, a warrior died.
+ * @typedef {{count: number, warrior: number, line: number, killer: number, by: number}} Why
+ */
 /** @typedef {Map<string, Map<number, {died: number, killed: number}>>} Hits by the name of a source and its line */
 
 /** The number of rounds that are fought if the match has fewer, and of reasons that are listed. */
@@ -90,7 +93,8 @@ export class Rounds {
     const { fight } = session;
     if (!round || !fight) return make("i");
     const winner = round.outcomes.indexOf("win");
-    const told = `Round ${index}: ${winner < 0 ? "a tie" : `${names[winner]} wins`} after ${counted(round.end, "turn")}`;
+    const how = winner < 0 ? "a tie" : `${names[winner]} wins`;
+    const told = `Round ${index}: ${how} after ${counted(round.end, "turn")}`;
     const rounds = Math.max(fight.rounds, this.#rounds.length);
     return make("button", {
       className: `${winner < 0 ? "tie" : ""} ${index === fight.round ? "here" : ""}`,
@@ -109,13 +113,15 @@ export class Rounds {
     const link = (/** @type {number} */ source, /** @type {number} */ at) => {
       const found = this.session.fight?.warriors[source];
       if (!at || !found) return "a copied cell";
-      const show = { className: "link", title: found.text.split("\n")[at - 1]?.trim(), onclick: () => this.show(found.name, at) };
-      return make("button", show, `line ${at}`);
+      const title = found.text.split("\n")[at - 1]?.trim();
+      const show = () => this.show(found.name, at);
+      return make("button", { className: "link", title, onclick: show }, `line ${at}`);
     };
     const away = killer < 0 ? " in empty memory" : " away from its code";
     const where = line ? [" on its ", link(warrior, line)] : [away];
-    const what = killer === warrior ? [", on what it had written itself"] : [`, on what ${names[killer]} wrote by `, link(killer, by)];
-    return make("li", {}, make("b", {}, `${number(count)}×`), ` ${names[warrior]} died`, ...where, ...(killer < 0 ? [] : what));
+    const other = killer < 0 ? [] : [`, on what ${names[killer]} wrote by `, link(killer, by)];
+    const what = killer === warrior ? [", on what it had written itself"] : other;
+    return make("li", {}, make("b", {}, `${number(count)}×`), ` ${names[warrior]} died`, ...where, ...what);
   }
 }
 
@@ -127,7 +133,7 @@ export class Rounds {
 function tally(name, source, rounds) {
   const count = (/** @type {string} */ what) => rounds.filter(({ outcomes }) => outcomes[source] === what).length;
   const losses = count("loss");
-  const words = `${counted(count("win"), "win")}, ${counted(count("tie"), "tie")}, ${number(losses)} loss${losses === 1 ? "" : "es"}`;
+  const words = `${counted(count("win"), "win")}, ${counted(count("tie"), "tie")}, ${counted(losses, "loss")}`;
   return make("li", { style: swatch(source) }, make("i", { className: "chip" }), make("b", {}, name), ` ${words}`);
 }
 
@@ -155,16 +161,15 @@ function whysOf(rounds) {
 function hitsOf(whys, names) {
   /** @type {Hits} */
   const hits = new Map(names.map((name) => [name, new Map()]));
-  const add = (/** @type {string} */ name, /** @type {number} */ line, /** @type {"died" | "killed"} */ what, /** @type {number} */ count) => {
-    const lines = hits.get(name);
-    if (!lines || !line) return;
-    const found = lines.get(line) ?? { died: 0, killed: 0 };
-    found[what] += count;
-    lines.set(line, found);
+  const at = (/** @type {number} */ source, /** @type {number} */ line) => {
+    const lines = hits.get(names[source]);
+    const found = lines?.get(line) ?? { died: 0, killed: 0 };
+    if (line) lines?.set(line, found);
+    return found;
   };
   for (const { count, warrior, line, killer, by } of whys) {
-    add(names[warrior], line, "died", count);
-    if (killer >= 0 && killer !== warrior) add(names[killer], by, "killed", count);
+    at(warrior, line).died += count;
+    if (killer >= 0 && killer !== warrior) at(killer, by).killed += count;
   }
   return hits;
 }

@@ -15,9 +15,12 @@ import { clamp } from "./dom.js";
  * A future: its edits, and which one it branched from; `visited` is the one that redo leads to. -1 is none.
  * @typedef {{edits: Made[], end: number, parent: number, visited: number}} Future
  */
-/** @typedef {"battle" | "turn" | "play" | "look"} Change what has changed: the battle, the turn, how it plays, what is looked at */
+/**
+ * What has changed: the battle, the turn, how it plays, what is looked at.
+ * @typedef {"battle" | "turn" | "play" | "look"} Change
+ */
 
-/** A battle plays in about so many seconds, at so many turns a second. */
+/** About how long a battle plays, in seconds, and the speeds in turns a second. */
 const LENGTH = 24;
 const SLOWEST = 1;
 const FASTEST = 2_000_000;
@@ -59,8 +62,8 @@ export class Session {
   way = 0;
   /** @type {number | null} */
   pinned = null;
-  /** The warrior that is shown alone, or -1. */
-  alone = -1;
+  /** The warrior that is shown chosen, or -1. */
+  chosen = -1;
   /** The number of turns that were shown. */
   frames = 0;
   /** Whether the battle has played to its end, and nothing was done since. */
@@ -127,7 +130,7 @@ export class Session {
     }));
     this.rate = clamp(opened.end / LENGTH, 2, FASTEST);
     this.pinned = pinned;
-    this.alone = -1;
+    this.chosen = -1;
     this.#compare(null);
     this.fight = fight;
     this.#take(opened);
@@ -158,7 +161,7 @@ export class Session {
   }
 
   /**
-   * Shows a turn. While one is asked for, the latest wish counts.
+   * Shows a turn. While the desk prepares one, the latest wish counts.
    * @param {number} turn
    */
   async go(turn) {
@@ -189,7 +192,7 @@ export class Session {
       this.desk.turn(future, turn),
       other >= 0 ? this.desk.turn(other, turn) : null,
     ]);
-    // What the turn did is told only if the battle stops there.
+    // What the turn did is needed only if the battle stops there.
     const isStopped = this.way === 0;
     const move = isStopped && turn > 0 ? await this.desk.move(future, turn) : null;
     const origins = isStopped ? await this.desk.origins(future, turn) : null;
@@ -221,7 +224,7 @@ export class Session {
   }
 
   /**
-   * Plays forwards or backwards; from the other end if there is no further turn.
+   * Plays forwards or backwards; from the other end if there is no other turn.
    * @param {1 | -1} way
    */
   play(way) {
@@ -270,12 +273,13 @@ export class Session {
 
   /** @param {number} who */
   choose(who) {
-    this.alone = this.alone === who ? -1 : who;
+    this.chosen = this.chosen === who ? -1 : who;
     this.#tell("look");
   }
 
   /**
-   * Goes to the next place where one of the conditions holds, or to the one before. Returns it, or null if there is none.
+   * Goes to the next place where one of the conditions holds, or to the one before. Returns it, or null if there is
+   * none.
    * @param {Condition[]} conditions
    * @param {boolean} forward
    */

@@ -2,7 +2,7 @@
 import { MarsError } from "../engine/mars.js";
 import { cellText } from "../model/cells.js";
 import { LARGEST_SOURCE } from "../model/settings.js";
-import { faultsOf } from "../words/faults.js";
+import { errorsOf } from "../words/errors.js";
 import { Stopped, TooLong } from "../worker/pool.js";
 import { download, element, make, onClick, refill, settled, withCode } from "./dom.js";
 import { Editor, newDocument } from "./editor.js";
@@ -15,7 +15,8 @@ import { Editor, newDocument } from "./editor.js";
 /** @typedef {{name: string, doc: Document, saved: string, isExample: boolean, fights: boolean}} Held */
 /**
  * Where sources are saved: returns null, or why one was not; `isOther` is whether something else changed the file.
- * @typedef {{save: (name: string, text: string, isForced: boolean) => Promise<{text: string, isOther: boolean} | null>}} Folder
+ * @typedef {object} Folder
+ * @property {(name: string, text: string, isForced: boolean) => Promise<{text: string, isOther: boolean} | null>} save
  */
 /**
  * @typedef {object} Host
@@ -24,7 +25,7 @@ import { Editor, newDocument } from "./editor.js";
  * @property {Record<string, string>} meanings
  * @property {() => {settings: Settings, rounds: number}} terms
  * @property {() => void} changed the sources or which of them fight have changed
- * @property {() => void} judged the source in the editor was assembled
+ * @property {() => void} checked the source in the editor was assembled
  * @property {() => void} fight
  * @property {(name: string, text: string) => boolean} isStale whether the battle that is shown has another text of it
  */
@@ -128,7 +129,8 @@ export class Shelf {
    * @param {Source[]} sources
    */
   mark(sources) {
-    const found = sources.map((source) => this.held.find(({ doc }) => doc.getValue() === source.text) ?? this.add(source));
+    const holding = (/** @type {string} */ text) => this.held.find(({ doc }) => doc.getValue() === text);
+    const found = sources.map((source) => holding(source.text) ?? this.add(source));
     for (const held of this.held) held.fights = found.includes(held);
     this.list();
     if (!this.shown || !found.includes(this.shown)) this.show(found[0]);
@@ -217,7 +219,8 @@ export class Shelf {
       const show = { onclick: () => this.show(held), "aria-current": isShown ? "true" : "false" };
       const button = make("button", show, titleOf(held));
       const label = make("label", { title: "Fights" }, box);
-      return make("li", { className: isShown ? "shown" : "" }, label, button, make("small", {}, isExample ? "example" : ""));
+      const kind = make("small", {}, isExample ? "example" : "");
+      return make("li", { className: isShown ? "shown" : "" }, label, button, kind);
     });
     refill(element("names"), ...lines);
   }
@@ -290,22 +293,23 @@ export class Shelf {
     const faults = await this.#faults(text, terms);
     if (!faults || shown !== this.shown || text !== shown.doc.getValue()) return;
     this.isBroken = faults.length > 0;
-    this.editor.showFaults(faults);
+    this.editor.showErrors(faults);
     element("fault").classList.toggle("bad", this.isBroken);
-    const told = faults.flatMap(({ line, text: words }) => [make("b", {}, `Line ${line}: `), withCode(words), make("br")]);
+    const told = faults.flatMap((one) => [make("b", {}, `Line ${one.line}: `), withCode(one.text), make("br")]);
     if (this.isBroken) refill(element("fault"), ...told);
-    host.judged();
+    host.checked();
   }
 
   /**
-   * Returns the errors of a source, or null if another one is judged in its place. If there are none, its cells are shown.
+   * Returns the errors of a source, or null if another one is checked in its place. If there are none, its cells are
+   * shown.
    * @param {string} text
    * @param {{settings: Settings, rounds: number, warriors: number}} terms
    */
   async #faults(text, terms) {
     const { pool, meanings } = this.host;
     try {
-      return await faultsOf(text, meanings, async (source) => {
+      return await errorsOf(text, meanings, async (source) => {
         try {
           const made = await pool.ask("assemble", [source, terms], "lint", 3);
           if (source === text) this.#showMade(made, terms.settings);

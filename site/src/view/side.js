@@ -76,7 +76,8 @@ export class Side {
       if (["death", "hit", "edit"].includes(event.kind) && event.address >= 0) session.pin(event.address);
     };
     const words = make("span", {}, eventWords(event, session.known));
-    const line = make("li", {}, make("button", { onclick: show }, make("span", { className: "when" }, number(event.turn)), words));
+    const when = make("span", { className: "when" }, number(event.turn));
+    const line = make("li", {}, make("button", { onclick: show }, when, words));
     line.dataset.turn = String(event.turn);
     return line;
   }
@@ -117,9 +118,9 @@ export class Side {
    * @param {View} view
    */
   #drawRow({ row, processes, cells, bar, fate }, who, view) {
-    const { opened, known, alone } = this.session;
+    const { opened, known, chosen } = this.session;
     if (!opened) return;
-    row.className = `${view.processes[who] ? "" : "dead"} ${alone < 0 || alone === who ? "" : "dim"}`;
+    row.className = `${view.processes[who] ? "" : "dead"} ${chosen < 0 || chosen === who ? "" : "dim"}`;
     processes.textContent = number(view.processes[who]);
     cells.textContent = number(view.owned[who]);
     bar.style.width = `${(100 * view.owned[who]) / known.core}%`;

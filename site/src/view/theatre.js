@@ -1,6 +1,6 @@
 /** The core, the strip of time and the controls: what moves. */
 import { NOBODY, cellText, isEmpty, readCell } from "../model/cells.js";
-import { captionWords, counted, number, outcome, ownerName, place } from "../words/battle.js";
+import { captionWords, number, outcome, ownerName, place, standingWords } from "../words/battle.js";
 import { instructionWords } from "../words/instruction.js";
 import { Core } from "./core.js";
 import { buttons, element, isNarrow, make, onClick, placeTip, refill, typed } from "./dom.js";
@@ -21,6 +21,7 @@ const FASTEST = 200_000;
 const SLOW = 15;
 /** The maximum number of marked cells that differ between two futures. */
 const MOST_DIFFERENCES = 2000;
+const EMPTY = "Empty memory. A process that comes here ends.";
 const EVENTS = { splits: "split", ends: "end of a process", dies: "death" };
 
 export class Theatre {
@@ -37,7 +38,8 @@ export class Theatre {
     this.session = session;
     this.core = new Core(typed("core", HTMLCanvasElement));
     this.other = new Core(typed("other-core", HTMLCanvasElement));
-    const ask = (/** @type {number} */ first, /** @type {number} */ last) => session.desk.overview(session.future, first, last);
+    const ask = (/** @type {number} */ first, /** @type {number} */ last) =>
+      session.desk.overview(session.future, first, last);
     const [strip, slider] = [typed("overview", HTMLCanvasElement), typed("time", HTMLInputElement)];
     this.track = new Track(strip, slider, ask, () => this.ask());
     this.#listenToControls();
@@ -151,29 +153,30 @@ export class Theatre {
   }
 
   #recolour() {
-    const { opened, alone } = this.session;
+    const { opened, chosen } = this.session;
     if (!opened) return;
-    this.palette = new Palette(opened.order, alone);
+    this.palette = new Palette(opened.order, chosen);
     this.ask();
   }
 
   #showPlay() {
     const { way, rate } = this.session;
-    const show = (/** @type {string} */ id, /** @type {boolean} */ isOn, /** @type {string} */ path, /** @type {string} */ name, /** @type {string} */ key) => {
+    for (const { id, isOn, path, name, key } of [
+      { id: "play", isOn: way > 0, path: PLAY, name: "Play", key: "space" },
+      { id: "rewind", isOn: way < 0, path: BACKWARDS, name: "Play backwards", key: "J" },
+    ]) {
       const button = element(id);
       button.setAttribute("aria-label", isOn ? "Pause" : name);
       button.title = isOn ? "Pause (space)" : `${name} (${key})`;
       button.querySelector("path")?.setAttribute("d", isOn ? PAUSE : path);
       button.classList.toggle("on", isOn);
-    };
-    show("play", way > 0, PLAY, "Play", "space");
-    show("rewind", way < 0, BACKWARDS, "Play backwards", "J");
+    }
     typed("speed", HTMLInputElement).value = String((100 * Math.log(rate)) / Math.log(FASTEST));
     element("speed").setAttribute("aria-valuetext", `${number(Math.round(rate))} turns a second`);
     element("rate").textContent = `${number(Number(rate.toPrecision(2)))} turns/s`;
   }
 
-  /** Asks for one drawing, however much changes until then. */
+  /** Requests one drawing, however much changes until then. */
   ask() {
     if (this.#isAsked) return;
     this.#isAsked = true;
@@ -262,13 +265,14 @@ export class Theatre {
   }
 
   /** @param {View} view */
-  #drawNow({ turn, cycle, processes, owned }) {
+  #drawNow(view) {
+    const { turn, cycle } = view;
     const { known, end } = this.session;
     element("whole").hidden = this.track.isWhole;
     const rest = make("span", { className: "cycle" }, ` · cycle ${number(cycle)}`);
     refill(element("now"), make("b", {}, `Turn ${number(turn)}`), make("span", {}, ` of ${number(end)}`), rest);
-    const standing = known.names.map((name, who) => `${name}: ${counted(processes[who], "process")}, ${counted(owned[who], "cell")}`);
-    element("time").setAttribute("aria-valuetext", [`turn ${turn} of ${end}`, ...standing].join(". "));
+    const told = [`turn ${turn} of ${end}`, ...standingWords(known.names, view)];
+    element("time").setAttribute("aria-valuetext", told.join(". "));
   }
 
   /**
@@ -299,10 +303,11 @@ export class Theatre {
     const { known } = this.session;
     const [cell, owner, when] = [readCell(view.cells, address), view.owner[address], view.written[address]];
     const isFree = owner === NOBODY && isEmpty(view.cells, address);
-    const words = isFree ? "Empty memory. A process that comes here ends." : instructionWords(cell, { core: known.core, address });
+    const words = isFree ? EMPTY : instructionWords(cell, { core: known.core, address });
     const loaded = owner === NOBODY ? "Never written" : `Loaded with ${ownerName(owner, known)}`;
     const by = when ? `Written by ${ownerName(owner, known)} in turn ${number(when)}` : loaded;
-    const head = make("p", { className: "head" }, make("b", {}, place(address, known)), " ", make("code", {}, cellText(cell, known.core)));
+    const code = make("code", {}, cellText(cell, known.core));
+    const head = make("p", { className: "head" }, make("b", {}, place(address, known)), " ", code);
     refill(tip, head, make("p", {}, words), make("p", { className: "soft" }, by, this.#standing(view, address)));
     placeTip(tip, this.core.pointOf(address));
   }

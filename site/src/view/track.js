@@ -1,6 +1,7 @@
 /**
  * The strip of time: above, the cells of each warrior, stacked; below, its processes; between them, splits and ends of
- * processes; each death with a cross. A slider lies over it. A part that is zoomed is sampled again, so it is exact too.
+ * processes; each death with a cross. A slider lies over it. A part that is zoomed is sampled again, so it is exact
+ * too.
  */
 import { number } from "../words/battle.js";
 import { clamp } from "./dom.js";
@@ -165,7 +166,8 @@ export class Track {
     context.setTransform(devicePixelRatio, 0, 0, devicePixelRatio, 0, 0);
     const bottom = height - FOOT;
     const x = (/** @type {number} */ turn) => this.#across(turn, width);
-    const drawing = { context, palette, overview, warriors: this.#warriors, width, middle: Math.round(bottom * 0.56), bottom, x };
+    const middle = Math.round(bottom * 0.56);
+    const drawing = { context, palette, overview, warriors: this.#warriors, width, middle, bottom, x };
     const mostCells = drawCells(drawing);
     drawTicks(drawing);
     const mostProcesses = drawProcesses(drawing);
@@ -220,7 +222,8 @@ export class Track {
  */
 function drawCells({ context, palette, overview: { turns, cells }, warriors, middle, x }) {
   const below = new Float64Array(turns.length);
-  const sums = turns.map((_, at) => cells.slice(at * warriors, (at + 1) * warriors).reduce((sum, count) => sum + count, 0));
+  const row = (/** @type {number} */ at) => cells.slice(at * warriors, (at + 1) * warriors);
+  const sums = turns.map((_, at) => row(at).reduce((sum, count) => sum + count, 0));
   const most = Math.max(1, ...sums);
   const y = (/** @type {number} */ at) => middle - 2 - (below[at] / most) * (middle - 8);
   for (let who = 0; who < warriors; who++) {

@@ -46,9 +46,8 @@ export function distinct(names) {
   const made = [];
   for (const name of names) {
     let found = name;
-    for (let count = 1; names.indexOf(name) !== names.lastIndexOf(name) && [...names, ...made].includes(found); count++) {
-      found = `${name} ${count}`;
-    }
+    const isShared = names.indexOf(name) !== names.lastIndexOf(name);
+    for (let count = 1; isShared && [...names, ...made].includes(found); count++) found = `${name} ${count}`;
     made.push(found);
   }
   return made;
@@ -89,7 +88,8 @@ export function outcome({ names, deaths }) {
 export function moveWords(move, known) {
   const { core } = known;
   const name = known.names[move.warrior];
-  const sentences = [`${name} executed ${cellText(readCell(move.executed, 0), core)} at ${place(move.address, known)}.`];
+  const executed = cellText(readCell(move.executed, 0), core);
+  const sentences = [`${name} executed ${executed} at ${place(move.address, known)}.`];
   for (const write of move.writes) sentences.push(writeWords(write, move.warrior, known));
   if (move.reads.length) {
     const cells = move.reads.slice(0, 4).map((address) => place(address, known));
@@ -161,12 +161,21 @@ function deathWords({ warrior, other, address, count }, known) {
   const name = known.names[warrior];
   if (address < 0) return `${name} dies: you removed its last process`;
   const [at, when] = [place(address, known), count ? ` in turn ${number(count)}` : ""];
-  if (other === warrior) return `${name} dies at ${at}, a cell that ${count ? `it wrote itself${when}` : "it brought along"}`;
+  const own = count ? `it wrote itself${when}` : "it brought along";
+  if (other === warrior) return `${name} dies at ${at}, a cell that ${own}`;
   if (other === BY_HAND) return `${name} dies at ${at}, which you wrote`;
   const killer = known.names[other];
   if (killer === undefined) return `${name} dies: it runs into empty memory at ${at}`;
   return `${name} dies: it executes ${at}, which ${killer} ${count ? `wrote${when}` : "brought along"}`;
 }
+
+/**
+ * Returns how many processes and cells each warrior has.
+ * @param {string[]} names
+ * @param {{processes: number[], owned: number[]}} view
+ */
+export const standingWords = (names, { processes, owned }) =>
+  names.map((name, who) => `${name}: ${counted(processes[who], "process")}, ${counted(owned[who], "cell")}`);
 
 /**
  * Returns what a newcomer sees while the battle plays. `cells` and `processes` are those of each warrior.

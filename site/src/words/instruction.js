@@ -69,7 +69,8 @@ function fieldWords(field, operand, where) {
 
 /**
  * What an instruction works on: the cells of its operands, the numbers that it takes and leaves, and what it tests.
- * @typedef {{kind: string, one: string, other: string, from: string, to: string, tested: string, isSingle: boolean}} Parts
+ * @typedef {{kind: string, one: string, other: string, from: string, to: string, tested: string,
+ *   isSingle: boolean}} Parts
  */
 
 /**
@@ -104,7 +105,8 @@ const SENTENCES = {
   JMP: ({ one }) => `jump to ${one}`,
   JMZ: ({ one, tested }) => `jump to ${one} if ${tested} is 0`,
   JMN: ({ one, tested }) => `jump to ${one} unless ${tested} is 0`,
-  DJN: ({ one, tested, isSingle }) => `lower ${tested} by 1, then jump to ${one} unless ${isSingle ? "it is" : "both are"} 0`,
+  DJN: ({ one, tested, isSingle }) =>
+    `lower ${tested} by 1, then jump to ${one} unless ${isSingle ? "it is" : "both are"} 0`,
   SPL: ({ one }) => `start another process at ${one}; this one continues with the next cell`,
   MOV: ({ kind, one, other, from, to, isSingle }) => {
     if (kind === "I") return `copy ${one === "this cell" ? "this instruction" : one} to ${other}`;

@@ -16,8 +16,8 @@ import { CELL_WORDS } from "../model/cells.js";
 /** @typedef {import("../model/fight.js").Made} Made */
 /** @typedef {import("../words/battle.js").Move} Move */
 /**
- * A future as it is opened. Warriors are in the order of their turns; `order` says which source each is. `lines` has the
- * warrior and the line of each origin.
+ * A future as it is opened. Warriors are in the order of their turns; `order` says which source each is. `lines` has
+ * the warrior and the line of each origin.
  * @typedef {object} Opened
  * @property {number} future
  * @property {number} core
@@ -69,8 +69,8 @@ export class Desk {
   }
 
   /**
-   * Opens a battle: a future for each of its edits, of which the last is returned. An error of a source has its index as
-   * `warrior`; then the battle that was open stays.
+   * Opens a battle: a future for each of its edits, of which the last is returned. An error of a source has its index
+   * as `warrior`; then the battle that was open stays.
    * @param {Fight} fight
    */
   open(fight) {
@@ -250,7 +250,8 @@ export class Desk {
     let found = null;
     for (const [index, condition] of conditions.entries()) {
       const place = search(history, condition, turn, forward);
-      if (place !== null && (!found || (forward ? place < found.turn : place > found.turn))) found = { turn: place, index };
+      if (place === null) continue;
+      if (!found || (forward ? place < found.turn : place > found.turn)) found = { turn: place, index };
     }
     return found;
   }

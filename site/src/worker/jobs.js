@@ -13,7 +13,10 @@ import { assembleAll, describe, loadText } from "../engine/warrior.js";
  * @typedef {{warrior: number, turn: number, line: number, killer: number, by: number}} Death
  */
 /** @typedef {"win" | "tie" | "loss"} Outcome */
-/** @typedef {{round: number, end: number, outcomes: Outcome[], deaths: Death[]}} Round a round; warriors are in the order of the sources */
+/**
+ * A round; warriors are in the order of the sources.
+ * @typedef {{round: number, end: number, outcomes: Outcome[], deaths: Death[]}} Round
+ */
 
 const EVERYTHING = 0xffffffff;
 
@@ -61,11 +64,11 @@ export class Jobs {
   round(fight) {
     const warriors = assembleAll(this.mars, fight.warriors, fight.warriors.length, fight);
     const ending = this.mars.start(warriors, fight);
-    // If no warrior dies, the end tells everything, and needs no records.
+    // If no warrior dies, the end shows everything, and no records are needed.
     this.mars.play(ending, EVERYTHING);
-    const { round, turns: end } = { round: fight.round, turns: ending.turns };
-    if (ending.deaths.length === 0) return { round, end, outcomes: warriors.map(() => outcome(true, warriors.length)), deaths: [] };
-    const deaths = this.#deaths(fight, History.fight(this.mars, { ...fight, warriors }));
+    const [{ round }, end] = [fight, ending.turns];
+    const isTie = ending.deaths.length === 0;
+    const deaths = isTie ? [] : this.#deaths(fight, History.fight(this.mars, { ...fight, warriors }));
     const living = warriors.length - deaths.length;
     const isDead = (/** @type {number} */ who) => deaths.some(({ warrior }) => warrior === who);
     return { round, end, outcomes: warriors.map((_, who) => outcome(!isDead(who), living)), deaths };
@@ -82,7 +85,8 @@ export class Jobs {
     const lines = order.flatMap((source, who) =>
       this.mars.lines(warriors[source].text, terms).map(({ line }) => ({ who, line })),
     );
-    const originAt = (/** @type {number} */ address, /** @type {number} */ turn) => lines[history.originsAt(turn)[address]];
+    const originAt = (/** @type {number} */ address, /** @type {number} */ turn) =>
+      lines[history.originsAt(turn)[address]];
     return history.deaths.map(({ warrior, turn, address, other, count: written }) => {
       // Where the warrior was hit: what the cell was before it was written, or at the start.
       const turns = [written && other !== warrior ? written - 1 : turn - 1, 0];

@@ -84,12 +84,18 @@ class Hand {
   }
 }
 
-/** Milliseconds that a job, a source in the editor, and a battle that is opened may take: a few lines can ask for minutes. */
+/**
+ * Milliseconds that a job, a source in the editor, and a battle that is opened may take: a few lines can take
+ * minutes.
+ */
 const PATIENCE = 60_000;
 const PATIENCE_OF_TYPING = 4_000;
 const PATIENCE_OF_OPENING = 20_000;
 
-/** The desk in a worker of its own. If a call takes too long, the worker is ended, and another one opens the last battle. */
+/**
+ * The desk in a worker of its own. If a call takes too long, the worker is ended, and another one opens the last
+ * battle.
+ */
 export class RemoteDesk {
   /** @type {unknown[] | null} */
   #last = null;
@@ -128,7 +134,8 @@ export class RemoteDesk {
  */
 export function remoteDesk(parts) {
   const remote = new RemoteDesk(parts);
-  const get = (/** @type {unknown} */ _, /** @type {string} */ call) => (/** @type {unknown[]} */ ...given) => remote.ask(call, given);
+  const get = (/** @type {unknown} */ _, /** @type {string} */ call) =>
+    (/** @type {unknown[]} */ ...given) => remote.ask(call, given);
   return /** @type {any} */ (new Proxy({}, { get }));
 }
 

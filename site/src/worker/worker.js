@@ -37,7 +37,8 @@ async function start(module) {
  * @returns {ArrayBuffer[]}
  */
 function buffersOf(value) {
-  if (ArrayBuffer.isView(value) && value.byteLength === value.buffer.byteLength) return [/** @type {ArrayBuffer} */ (value.buffer)];
+  const isWhole = ArrayBuffer.isView(value) && value.byteLength === value.buffer.byteLength;
+  if (isWhole) return [/** @type {ArrayBuffer} */ (value.buffer)];
   if (!value || typeof value !== "object") return [];
   return Object.values(value).flatMap((part) => (ArrayBuffer.isView(part) ? buffersOf(part) : []));
 }

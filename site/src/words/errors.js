@@ -1,6 +1,9 @@
 /** What an error of a source means, where it is, and what to do. */
 
-/** @typedef {{code: number, number: number, problem: number, expression: number, line: number}} Fault the fields of a MarsError */
+/**
+ * The fields of a MarsError.
+ * @typedef {{code: number, number: number, problem: number, expression: number, line: number}} Numbers
+ */
 /**
  * An error at some columns of a line. Lines are numbered from 1, columns from 0.
  * @typedef {{line: number, from: number, to: number, text: string}} Explained
@@ -18,9 +21,9 @@ const NAMES = /[A-Za-z_]\w*/g;
 
 /**
  * Returns the text of an error as `mars` prints it, without its line.
- * @param {Fault} fault
+ * @param {Numbers} error
  */
-export function faultName({ code, number, problem, expression }) {
+export function errorName({ code, number, problem, expression }) {
   if (code !== ASSEMBLY) return code === OUT_OF_MEMORY ? "out of memory" : `error ${code}, number ${number}`;
   const parts = [`${number} ${ERRORS[number]}`];
   if (ERRORS[number] === "Text") parts.push(`${problem} ${PROBLEMS[problem]}`);
@@ -32,27 +35,27 @@ export function faultName({ code, number, problem, expression }) {
 
 /**
  * Explains an error of a source, by a misspelt word if there is one.
- * @param {Fault} fault
+ * @param {Numbers} error
  * @param {string} source
  * @param {Record<string, string>} meanings what errors mean, by their texts; those of expressions by their last words
  * @returns {Explained}
  */
-export function faultWords(fault, source, meanings) {
-  const name = faultName(fault);
-  const found = misspelt(source.split("\n"), fault.line, name);
+export function explain(error, source, meanings) {
+  const name = errorName(error);
+  const found = misspelt(source.split("\n"), error.line, name);
   if (found) return found;
-  const text = source.split("\n")[fault.line - 1] ?? "";
+  const text = source.split("\n")[error.line - 1] ?? "";
   const [from, to] = [text.length - text.trimStart().length, text.split(";")[0].trimEnd().length || text.length];
   const meaning = meanings[name] ?? meanings[name.split(" ").slice(-2).join(" ")] ?? name;
-  return { line: fault.line, from, to, text: meaning };
+  return { line: error.line, from, to, text: meaning };
 }
 
 /** @param {string} line */
 const codeOf = (line) => line.split(";")[0];
 
 /**
- * Returns the word that is probably misspelt: an opcode in the line of an error or in an earlier one, where it was read as
- * a label, or a name.
+ * Returns the word that is probably misspelt: an opcode in the line of an error or in an earlier one, where it was read
+ * as a label, or a name.
  * @param {string[]} lines
  * @param {number} number
  * @param {string} name of the error
@@ -77,7 +80,8 @@ function misspeltOpcode(code) {
   for (const { 0: word, index: from = 0 } of words) {
     const to = from + word.length;
     const meant = OPERATIONS.find((operation) => isNear(word.toUpperCase(), operation));
-    if (meant && code.slice(to).trim()) return { from, to, text: `\`${word}\` is not an opcode; did you mean \`${meant}\`?` };
+    const text = `\`${word}\` is not an opcode; did you mean \`${meant}\`?`;
+    if (meant && code.slice(to).trim()) return { from, to, text };
   }
   return null;
 }
@@ -124,20 +128,20 @@ const MOST = 10;
  * Finds the errors of a source. The assembler reports the first one, so it is asked again with that line replaced.
  * @param {string} source
  * @param {Record<string, string>} meanings
- * @param {(source: string) => Promise<Fault | null>} assemble returns the first error
+ * @param {(source: string) => Promise<Numbers | null>} assemble returns the first error
  */
-export async function faultsOf(source, meanings, assemble) {
+export async function errorsOf(source, meanings, assemble) {
   /** @type {Explained[]} */
   const found = [];
   const lines = source.split("\n");
   while (found.length < MOST) {
-    const fault = await assemble(lines.join("\n"));
-    if (!fault) break;
-    const explained = faultWords(fault, lines.join("\n"), meanings);
+    const error = await assemble(lines.join("\n"));
+    if (!error) break;
+    const explained = explain(error, lines.join("\n"), meanings);
     const isNew = found.every(({ line }) => line !== explained.line);
     // A line that is still wrong after it was replaced uses names that are wrong elsewhere.
     if (isNew) found.push(explained);
-    if (!isNew || explained.line < 1 || LAST.includes(faultName(fault))) break;
+    if (!isNew || explained.line < 1 || LAST.includes(errorName(error))) break;
     lines[explained.line - 1] = replaced(lines[explained.line - 1]);
   }
   return found;
