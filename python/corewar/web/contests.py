@@ -23,11 +23,15 @@ JOBS = len(os.sched_getaffinity(0))
 NAMES = {"readLimit": "read_limit", "writeLimit": "write_limit"}
 
 
+def settings_of(given: dict[str, int]) -> Settings:
+    """Returns the settings of a message."""
+    return Settings(**{NAMES.get(name, name): int(value) for name, value in given.items()})
+
+
 def contest_of(given: dict[str, Any]) -> Contest:
     """Returns the contest of a message. Raises TypeError, ValueError or KeyError if it is none."""
-    settings = Settings(**{NAMES.get(name, name): int(value) for name, value in given["settings"].items()})
     rounds, seed, position = [int(given[name]) for name in ("rounds", "seed", "position")]
-    return Contest(settings, rounds, seed, position, str(given["formula"]))
+    return Contest(settings_of(given["settings"]), rounds, seed, position, str(given["formula"]))
 
 
 def warrior_of(assembler: Assembler, source: dict[str, str], contest: Contest) -> Warrior:

@@ -27,7 +27,9 @@ import { ADDRESS, QUEUED, RECORD_WORDS, TOUCHED_WORDS, WARRIOR, changesOf } from
 export function search(history, condition, turn, forward) {
   if (condition.word === "dies") return death(history, condition, turn, forward);
   const { word, first, last = first, by } = condition;
-  if (word === "changes" && first === last && by === undefined) return change(history, first, turn, forward);
+  // The marks know the last change of each cell, but an edit is no turn.
+  const isPlain = first === last && by === undefined && history.edits.length === 0;
+  if (word === "changes" && isPlain) return change(history, first, turn, forward);
   const holds = test(history.core, condition);
   // `at` holds at the place before its turn.
   const shift = word === "at" ? 1 : 0;
@@ -61,7 +63,9 @@ function firstRow(turns, holds, forward) {
  * @param {boolean} forward
  */
 function death(history, { first }, turn, forward) {
-  const turns = history.deaths.filter(({ warrior }) => first < 0 || warrior === first).map((one) => one.turn);
+  // A warrior that an edit kills dies in no turn.
+  const deaths = history.deaths.filter(({ warrior, address }) => address >= 0 && (first < 0 || warrior === first));
+  const turns = deaths.map((one) => one.turn);
   return (forward ? turns.find((one) => one > turn) : turns.reverse().find((one) => one < turn)) ?? null;
 }
 

@@ -41,9 +41,9 @@ class Run {
    * @param {Mars} mars
    * @param {Origins} origins
    * @param {Place} start
-   * @param {Edit | null} edit the edit before the start
+   * @param {{edit: Edit | null, dead: number}} before the edit before the start, and the number of deaths before that
    */
-  constructor(mars, origins, start, edit) {
+  constructor(mars, origins, start, { edit, dead }) {
     this.first = start.turn;
     this.edit = edit;
     this.start = start.copy();
@@ -62,13 +62,11 @@ class Run {
     this.overview = chronicle.finish();
     this.events = chronicle.events;
     this.peaks = chronicle.peaks;
-    this.deaths = start.battle.deaths
-      .filter((death) => death.turns >= this.first)
-      .map(({ warrior, turns }) => {
-        // A warrior that an edit killed died on no cell.
-        const own = chronicle.deaths.find((death) => death.warrior === warrior);
-        return own ?? { ...EVENT, turn: turns, kind: /** @type {const} */ ("death"), warrior };
-      });
+    this.deaths = start.battle.deaths.slice(dead).map(({ warrior, turns }) => {
+      // A warrior that an edit killed died on no cell.
+      const own = chronicle.deaths.find((death) => death.warrior === warrior);
+      return own ?? { ...EVENT, turn: turns, kind: /** @type {const} */ ("death"), warrior };
+    });
   }
 
   #thin() {
@@ -121,7 +119,7 @@ export class History {
    */
   static fight(mars, match) {
     const made = new History(mars, match, new Origins(), []);
-    const run = new Run(mars, made.origins, made.#loaded(), null);
+    const run = new Run(mars, made.origins, made.#loaded(), { edit: null, dead: 0 });
     made.segments = [{ run, last: run.ending.turn }];
     return made;
   }
@@ -172,10 +170,7 @@ export class History {
 
   /** The deaths in order, with the owner of the cell and the turn that wrote it. */
   get deaths() {
-    return this.segments.flatMap(({ run, last }) =>
-      // A death by an edit after the last turn of a segment belongs to the next one.
-      run.deaths.filter(({ turn, address }) => turn < last || (turn === last && (address >= 0 || last === this.end))),
-    );
+    return this.segments.flatMap(({ run, last }) => run.deaths.filter(({ turn }) => turn <= last));
   }
 
   /**
@@ -313,13 +308,15 @@ export class History {
    */
   edited(turn, edit) {
     const place = this.place(turn).copy();
+    place.origin.set(this.originsAt(turn));
     const before = place.battle.cells.slice();
+    const dead = place.battle.deaths.length;
     if (edit.kind === "cell") {
       const { address, last, cell } = edit;
       for (let at = address; at <= last; at++) this.mars.edit(place.battle, { kind: "cell", address: at, cell });
     } else this.mars.edit(place.battle, edit);
     place.noteEdit(before, this.origins);
-    const run = new Run(this.mars, this.origins, place, edit);
+    const run = new Run(this.mars, this.origins, place, { edit, dead });
     const started = this.segments.filter((one) => one.run.first <= turn);
     const kept = started.map((one) => ({ ...one, last: Math.min(one.last, turn) }));
     return new History(this.mars, this.match, this.origins, [...kept, { run, last: run.ending.turn }]);
