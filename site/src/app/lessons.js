@@ -40,14 +40,27 @@ export class Lessons {
     this.host = host;
     this.done = new Set(done);
     this.keep = keep;
-    refill(element("lessons"), ...lessons.map((lesson, index) => this.#card(lesson, index)));
+    this.lessons = lessons;
+    this.#list();
+  }
+
+  #list() {
+    refill(element("lessons"), ...this.lessons.map((lesson) => this.#card(lesson)));
   }
 
   /**
-   * @param {Lesson} lesson
-   * @param {number} index
+   * Shows a lesson beside its battle, or none.
+   * @param {Lesson | null} lesson
    */
-  #card(lesson, index) {
+  #open(lesson) {
+    element("lesson-box").hidden = lesson === null;
+    if (!lesson) return;
+    const close = make("button", { className: "link", onclick: () => this.#open(null) }, "close this lesson");
+    refill(element("lesson-box"), this.#card(lesson), close);
+  }
+
+  /** @param {Lesson} lesson */
+  #card(lesson) {
     const isDone = this.done.has(lesson.id);
     const verdict = make("p", { className: "verdict", role: "status" }, isDone ? "Done." : "");
     const card = make("article", { className: `lesson${isDone ? " done" : ""}` });
@@ -57,19 +70,25 @@ export class Lessons {
       const { isDone: isPassed, text } = await this.judge(lesson);
       refill(verdict, withCode(text));
       card.classList.toggle("done", isPassed);
-      if (isPassed) this.keep([...this.done.add(lesson.id)]);
+      if (isPassed) this.#pass(lesson);
     };
     const hint = make("details", {}, make("summary", {}, "Hint"), make("p", {}, withCode(lesson.hint)));
     const paragraphs = lesson.text.map((text) => make("p", {}, withCode(text)));
     const parts = lesson.hint ? [...paragraphs, hint] : paragraphs;
     const row = make("p", { className: "row" }, begin, judge);
-    card.append(make("h3", {}, `${index + 1}. ${lesson.title}`), ...parts, verdict, row);
+    card.append(make("h3", {}, `${this.lessons.indexOf(lesson) + 1}. ${lesson.title}`), ...parts, verdict, row);
     return card;
   }
 
-  /**
-   * @param {Lesson} lesson
-   */
+  /** @param {Lesson} lesson */
+  #pass(lesson) {
+    this.keep([...this.done.add(lesson.id)]);
+    const next = this.lessons[this.lessons.indexOf(lesson) + 1];
+    if (element("lesson-box").hidden || !next) this.#list();
+    else element("lesson-box").append(" ", make("button", { onclick: () => this.begin(next) }, "Next lesson"));
+  }
+
+  /** @param {Lesson} lesson */
   #opponents({ opponents, sources }) {
     return [...this.host.examples.filter(({ name }) => opponents.includes(name)), ...sources];
   }
@@ -90,6 +109,7 @@ export class Lessons {
     const held = shelf.find(name);
     if (held) shelf.show(held);
     if (held) this.host.edit();
+    this.#open(lesson);
     return this.host.fight(sources);
   }
 

@@ -233,6 +233,7 @@ class Page {
     keep({ desk: isShown });
     if (!isShown) return;
     this.shelf.editor.mirror.refresh();
+    this.shelf.list();
     if (isNarrow()) element("desk").scrollIntoView({ block: "start" });
   }
 

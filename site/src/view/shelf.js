@@ -223,6 +223,7 @@ export class Shelf {
       return make("li", { className: isShown ? "shown" : "" }, label, button, kind);
     });
     refill(element("names"), ...lines);
+    element("names").querySelector(".shown")?.scrollIntoView({ block: "nearest" });
   }
 
   /** @param {Held} held */
@@ -230,7 +231,6 @@ export class Shelf {
     this.shown = held;
     this.editor.show(held.doc);
     this.list();
-    element("names").querySelector(".shown")?.scrollIntoView({ block: "nearest" });
     this.sign();
     this.#showHits();
     this.lint();
