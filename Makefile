@@ -2,10 +2,11 @@
 #
 #   make install      program, library, package, man pages, completion, files for editors, documents and examples below PREFIX
 #   make uninstall    removes them
+#   make site         the site, in build/site, a folder that any web server can serve
 #   make man          the man pages, in build/man
 #   make editors      the files for editors, in build/share
 #   make packages     the Debian packages `mars` and `corewar`, in build
-#   make wheel        a Python wheel of `corewar` that contains the library, for x86-64 Linux and Python 3.11 or later, in build
+#   make wheel        a Python wheel of `corewar` that contains the library and the site, for x86-64 Linux and Python 3.11 or later, in build
 #   make check        all checks of CI
 #
 # DESTDIR is put before PREFIX when a package is made. Nothing is proved here; files that are not built are reported.
@@ -17,6 +18,10 @@ VERSION := $(shell sed -n 's/^__version__ = "\(.*\)"/\1/p' python/corewar/__init
 DATE = $(shell git -c safe.directory='*' log -1 --format=%cD 2>/dev/null || date -R)
 PROGRAM = crates/mars/out/mars
 LIBRARY = build/libmars.so.1 build/libmars.a
+WASM = build/mars.wasm
+SITE = build/site/one.html
+# What the site is made of.
+PARTS := $(shell find site examples python/corewar/explain/meanings.json -type f)
 # The libraries of the toolchain that the crates use.
 LIBRARIES := $(shell sed -n 's/^\w* *\w*: *//p' crates.txt | tr ' ' '\n' | sort -u | grep -vxF "$$(sed -n 's/^\(\w*\).*:.*/\1/p' crates.txt)")
 COREWAR = PYTHONDONTWRITEBYTECODE=1 PYTHONPATH=python /usr/bin/python3 -P
@@ -33,7 +38,7 @@ copy = mkdir -p $(2) && tar -c -C $(1) --mode=u=rwX,go=rX --exclude=__pycache__ 
 licences = mkdir -p $(1); set -e; for library in $(LIBRARIES); do for file in "$$(dirname "$$(rt doc)")"/rattle/$$library/LICENSE*; do \
 	cp "$$file" $(1)/$$library-$${file\#\#*/}; done; done$(if $(wildcard LICENSE*),; cp $(wildcard LICENSE*) $(1))
 
-.PHONY: all install uninstall man completion editors packages wheel check
+.PHONY: all install uninstall site man completion editors packages wheel check
 
 all: man completion editors
 
@@ -42,6 +47,14 @@ $(PROGRAM):
 
 $(LIBRARY):
 	@echo "$@ is not built; prove and build it with scripts/library" >&2; exit 1
+
+$(WASM):
+	@echo "$@ is not built; install Debian's binaryen, then prove and build it with scripts/library" >&2; exit 1
+
+site: $(SITE)
+
+$(SITE): $(WASM) $(PARTS)
+	node site/build.mjs $(WASM) build/site
 
 man:
 	rm -rf build/man
@@ -59,7 +72,7 @@ editors:
 	rm -rf build/share
 	$(COREWAR) packaging/editors.py build/share
 
-install: $(PROGRAM) $(LIBRARY) man completion editors
+install: $(PROGRAM) $(LIBRARY) $(SITE) man completion editors
 	rm -rf $(documents) $(package)/corewar
 	install -D -m 755 $(PROGRAM) $(to)/bin/mars
 	install -D -m 755 packaging/corewar $(to)/bin/corewar
@@ -69,6 +82,7 @@ install: $(PROGRAM) $(LIBRARY) man completion editors
 	install -d $(to)/lib/pkgconfig
 	sed 's|@PREFIX@|$(PREFIX)|; s|@VERSION@|$(VERSION)|' packaging/mars.pc >$(to)/lib/pkgconfig/mars.pc
 	$(call copy,python,$(package),corewar)
+	$(call copy,build,$(package)/corewar/pages,site)
 	install -D -m 644 -t $(to)/share/man/man1 build/man/*.1
 	install -D -m 644 packaging/completion/mars.bash $(bash)/mars
 	install -D -m 644 build/completion/corewar.bash $(bash)/corewar
@@ -84,7 +98,7 @@ uninstall:
 	rm -f $(to)/share/emacs/site-lisp/redcode-mode.el $(to)/share/org.kde.syntax-highlighting/syntax/redcode.xml
 	rm -rf $(documents) $(package)/corewar $(to)/share/corewar
 
-packages: $(PROGRAM) $(LIBRARY)
+packages: $(PROGRAM) $(LIBRARY) $(SITE)
 	rm -rf build/package
 	mkdir -p build/package/licences
 	cp -R packaging/debian build/package
@@ -94,9 +108,9 @@ packages: $(PROGRAM) $(LIBRARY)
 	cd build/package && dpkg-buildpackage -b -us -uc
 
 # Built from a copy, since setuptools leaves folders in its source; building it again gives the same bytes.
-wheel: $(LIBRARY) editors
+wheel: $(LIBRARY) $(SITE) editors
 	rm -rf build/wheel
-	$(call copy,.,build/wheel/kit,pyproject.toml setup.py README.md python include build/libmars.so.1 build/share)
+	$(call copy,.,build/wheel/kit,pyproject.toml setup.py README.md python include build/libmars.so.1 build/site build/share)
 	$(call licences,build/wheel/kit/licences)
 	SOURCE_DATE_EPOCH=$$(git -c safe.directory='*' log -1 --format=%ct 2>/dev/null || stat -c %Y CHANGELOG.md) \
 		/usr/bin/python3 -m pip wheel --no-deps --no-build-isolation --no-cache-dir -q -w build build/wheel/kit

@@ -1,4 +1,5 @@
-"""Builds what pyproject.toml cannot express: a wheel with libmars.so.1 and mars.h, which any Python on x86-64 Linux calls by cffi."""
+"""Builds what pyproject.toml cannot express: a wheel with libmars.so.1 and mars.h, which any Python on x86-64 Linux calls by cffi, and
+with the built site."""
 import runpy
 import shutil
 from pathlib import Path
@@ -9,6 +10,7 @@ from setuptools.command.build_py import build_py
 from wheel.bdist_wheel import bdist_wheel
 
 INSIDE = ["build/libmars.so.1", "include/mars.h"]
+SITE = "build/site"
 READER = "python/corewar/engine/header.py"
 # The files for editors, which `make editors` writes.
 SHARE = Path("build/share")
@@ -23,7 +25,7 @@ def write_types(header, path):
 
 
 class BuildPackage(build_py):
-    """Copies the library and its header into the package."""
+    """Copies the library, its header and the site into the package."""
 
     def run(self):
         super().run()
@@ -31,6 +33,9 @@ class BuildPackage(build_py):
             if not Path(name).is_file():
                 raise SystemExit(f"{name} is not built; scripts/library proves and builds it")
             shutil.copy(name, Path(self.build_lib, "corewar", "engine"))
+        if not Path(SITE, "one.html").is_file():
+            raise SystemExit(f"{SITE} is not built; run make site")
+        shutil.copytree(SITE, Path(self.build_lib, "corewar", "pages", "site"), dirs_exist_ok=True)
         write_types(INSIDE[1], Path(self.build_lib, "corewar", "engine", "declared.py"))
 
 

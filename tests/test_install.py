@@ -21,7 +21,7 @@ from counting import PROGRAM, skip
 # Names below a prefix: one of each kind that is installed.
 INSTALLED = [
     *("bin/corewar", "bin/mars", "include/mars.h", "lib/libmars.a", "lib/libmars.so", "lib/libmars.so.1"),
-    *("lib/pkgconfig/mars.pc", "lib/python3/dist-packages/corewar/pages/templates/replay.html.j2"),
+    *("lib/pkgconfig/mars.pc", "lib/python3/dist-packages/corewar/pages/site/one.html"),
     *("share/bash-completion/completions/corewar", "share/bash-completion/completions/mars"),
     *("share/doc/mars/README.md", "share/doc/mars/docs/user/TUTORIAL.md", "share/doc/mars/examples/rust/src/main.rs"),
     *("share/man/man1/corewar-why.1", "share/man/man1/corewar.1", "share/man/man1/mars.1"),

@@ -18,6 +18,7 @@ import numpy as np
 import pytest
 from conftest import ENVIRONMENT, EXAMPLES, TOP, Run, begin
 from costly import large, slow
+from test_pages import unpacked
 
 import corewar
 from corewar.engine.calls import assemble
@@ -161,25 +162,14 @@ def test_picture(run: Run, folder: Path) -> None:
 
 
 def test_pages(run: Run, folder: Path) -> None:
-    """A page with table, matrix and settings; a replay of a pair that is named, in a folder named by its files."""
-    run(
-        "league",
-        "--pages",
-        "web",
-        "--page-pairs",
-        "same,./late.red",
-        *LAST_FIRST[:2],
-        "dead.red",
-        "./late.red",
-        "same.red",
-    )
+    """A page with table, matrix and settings, and one with all battles, to which each number leads."""
+    run("league", "--pages", "web", *LAST_FIRST[:2], "dead.red", "./late.red", "same.red")
     page = (folder / "web" / "index.html").read_text()
     assert "rounds 4 · seed 1" in page and "Late, later by Me &amp; you" in page
-    assert page.count("background:#1e50c8") == 3 and page.count('href="late-same/round-0.html"') == 2
-    assert "<canvas" in (folder / "web" / "late-same" / "round-0.html").read_text()
-    assert [path.name for path in (folder / "web").iterdir() if path.is_dir()] == ["late-same"]
-    told = run("league", "--pages", "web", "--page-pairs", "same,none", *LAST_FIRST)
-    assert told.returncode == 2 and "expected two of the files, as in dwarf,imp, not `same,none`" in told.stderr
+    assert page.count("background:#1e50c8") == 3 and page.count('href="battles.html#w=1,2"') == 2
+    assert [path.name for path in sorted((folder / "web").iterdir())] == ["battles.html", "index.html"]
+    fight = unpacked((folder / "web" / "battles.html").read_text())
+    assert [name for name, _ in fight["w"]] == ["dead.red", "late.red", "same.red"]
 
 
 def test_faults_of_files(run: Run, folder: Path) -> None:
@@ -216,7 +206,7 @@ def test_faults_of_files(run: Run, folder: Path) -> None:
         ("--results broken.red", 1, "corewar: broken.red: file is not a database"),
         ("--scheduler here", 2, "expected HOST:PORT, as in first.lan:8786"),
         ("--scheduler tls://first.lan:1", 2, "expected HOST:PORT, as in first.lan:8786"),
-        ("--page-pairs stay,dead", 2, "--page-pairs requires --pages"),
+        ("--pages stay.red", 2, "is a file"),
         ("--format yaml", 2, "'yaml' is not one of 'table', 'csv', 'json', 'matrix'"),
     ],
 )

@@ -1,4 +1,4 @@
-"""Pages and pictures: what a page's frames hold is what the machine says, and a browser shows what they hold."""
+"""Pages and pictures: what a page carries is what was given, and pictures show what the machine says."""
 from __future__ import annotations
 
 import base64
@@ -6,68 +6,26 @@ import json
 import re
 import resource
 import zlib
-from collections import Counter
-from collections.abc import Iterator
-from itertools import accumulate
 from pathlib import Path
 from typing import Any
 
 import pytest
-from battles import edit_of, edits, matches
-from conftest import EXAMPLES, Run, until
-from hypothesis import given, strategies as st
+from conftest import EXAMPLES, TOP, Run
+from counting import skip
 
-from corewar.battle.frames import parts
-from corewar.battle.history import BY_HAND, NOBODY, History
+from corewar.battle.history import History
 from corewar.engine.calls import Match
-from corewar.model.cells import cell_text
-from corewar.model.faults import Refused
-from corewar.pages.replay import page_of
+
+if not (TOP / "build" / "site").is_dir():
+    skip("pages", "the site is not built; `make site` builds it", "esbuild")
 
 
-def unpacked(page: str) -> tuple[dict[str, Any], list[dict[str, Any]]]:
-    """The battle of a page: its head, and all its frames with their texts."""
-    lines = re.search(r'<script id="battle" type="text/plain">(.*?)</script>', page, re.S)
-    assert lines
-    head, *pieces = [json.loads(zlib.decompress(base64.b64decode(line))) for line in lines[1].split()]
-    return head, [
-        {**frame, "at": list(accumulate(frame["at"])), "text": [piece["texts"][number] for number in frame["text"]]}
-        for piece in pieces
-        for frame in piece["frames"]
-    ]
-
-
-def states(
-    head: dict[str, Any], frames: list[dict[str, Any]]
-) -> Iterator[tuple[dict[str, Any], list[int], list[str], list[Counter[int]]]]:
-    """For each frame the owners and the texts of the cells, and for each warrior its processes by address."""
-    owners, texts = [NOBODY] * head["size"], [head["empty"]] * head["size"]
-    processes: list[Counter[int]] = [Counter() for _ in head["warriors"]]
-    for frame in frames:
-        for at, warrior, text in zip(frame["at"], frame["by"], frame["text"]):
-            owners[at], texts[at] = warrior, text
-        for counter, (steps, changes) in zip(processes, frame["moves"]):
-            counter.update(dict(zip(accumulate(steps), changes)))
-        yield frame, owners, texts, [+counter for counter in processes]
-
-
-@given(matches(), st.integers(0, 3), st.integers(1, 30), st.lists(edits(), max_size=2))
-def test_frames_are_what_the_machine_says(fight: Match, round: int, count: int, lines: list[str]) -> None:
-    history = History(fight, round)
-    for line in lines:
-        try:
-            history = history.edited(history.end // 2, edit_of(line, history.core))
-        except Refused:
-            pass
-    ends = parts(0, history.end, count)
-    head, frames = unpacked(page_of(history, ends))
-    assert (head["size"], head["last"], [frame["turn"] for frame in frames]) == (history.core, history.end, ends)
-    for frame, owners, texts, processes in states(head, frames):
-        state = history.state(frame["turn"])
-        assert (frame["cycle"], frame["next"], frame["head"]) == (state.cycle, state.next, history.head(frame["turn"]))
-        assert texts == [cell_text(cell, history.core) for cell in state.cells]
-        assert owners == [NOBODY if owner == BY_HAND else owner for owner in history.owners(frame["turn"]).tolist()]
-        assert processes == [Counter(queue.tolist()) for queue in state.queues]
+def unpacked(page: str) -> dict[str, Any]:
+    """The fight of a page."""
+    found = re.search(r'<script id="page-fight" type="text/plain">([\w-]+)</script>', page)
+    assert found
+    fight: dict[str, Any] = json.loads(zlib.decompress(base64.urlsafe_b64decode(found[1] + "=="), wbits=-15))
+    return fight
 
 
 def test_files_are_replaced_whole_or_not_at_all(run: Run, tmp_path: Path) -> None:
@@ -89,27 +47,53 @@ def test_files_are_replaced_whole_or_not_at_all(run: Run, tmp_path: Path) -> Non
 
 
 def test_a_page_is_written(run: Run, tmp_path: Path) -> None:
-    done = run("page", "--frames", 30, "--from", 100, "--turns", 300, "@dwarf", "@imp")
-    assert (done.returncode, done.stdout) == (0, "battle.html: 30 frames\n")
-    text = (tmp_path / "battle.html").read_text()
-    head, frames = unpacked(text)
-    assert (frames[0]["turn"], frames[-1]["turn"], len(frames)) == (99, 399, 31)
-    assert head["command"].startswith("corewar debug --turn TURN ")
-    assert "Imp died in turn 7,798" in text and '<h1 id="title">Dwarf against Imp</h1>' in text
-    again = run("page", "@dwarf", "@imp")
-    assert (
-        again.returncode == 1
-        and again.stderr
-        == "corewar: battle.html: already exists; use --force to overwrite it or -o to name another file\n"
+    """It carries sources, settings, a turn and edits; the page of many battles is the same file."""
+    words = ["--round", 2, "-r", 5, "--seed", 9, "-c", 5000, "--score", "W", "--turn", 300]
+    words += ["--edit", "100 edit 3 mov 0, 1", "--edit", "200 fill 5 6 dat <1, #2", "--edit", "200 move 0 0 7"]
+    done = run("page", *words, "--edit", "250 kill 1 0", "--edit", "250 spawn 0 9", "@dwarf", "@imp")
+    assert (done.returncode, done.stdout) == (0, "battle.html: Dwarf against Imp\n"), done.stderr
+    fight = unpacked((tmp_path / "battle.html").read_text())
+    assert [name for name, _ in fight["w"]] == ["dwarf.red", "imp.red"]
+    assert fight["w"][1][1] == (EXAMPLES / "imp.red").read_text()
+    assert (fight["h"]["cycles"], fight["r"], fight["n"], fight["s"], fight["f"], fight["t"]) == (
+        5000,
+        2,
+        5,
+        9,
+        "W",
+        300,
     )
-    assert run("page", "@dwarf", "@imp", "--force", "--turns", 5).stdout == "battle.html: 5 frames\n"
+    texts = ["edit 3 MOV.I $0, $1", "fill 5 6 DAT.F <1, #2", "move 0 0 7", "kill 1 0", "spawn 0 9"]
+    assert fight["e"] == [[turn, text] for turn, text in zip((100, 200, 200, 250, 250), texts)]
+    again = run("page", "@dwarf", "@imp")
+    assert (again.returncode, again.stderr) == (
+        1,
+        "corewar: battle.html: already exists; use --force to overwrite it or -o to name another file\n",
+    )
+    assert run("page", "--force", "@dwarf").stdout == "battle.html: Dwarf\n"
+
+
+@pytest.mark.parametrize(
+    "edit, why",
+    [
+        ("edit 3 jmp 0", "expected a turn and an edit"),
+        ("1 edit 3", "expected a turn and an edit"),
+        ("1 walk 3 4", "expected a turn and an edit"),
+        ("1 edit 8000 jmp 0", "is outside the core"),
+        ("1 fill 6 5 jmp 0", "is outside the core"),
+        ("1 edit 3 jmq 0", "is not an instruction: line 1: 2 Operation"),
+    ],
+)
+def test_edits_that_are_none(run: Run, tmp_path: Path, edit: str, why: str) -> None:
+    done = run("page", "--edit", edit, "@imp")
+    assert done.returncode == 2 and why in done.stderr and not (tmp_path / "battle.html").exists()
 
 
 def test_texts_of_strangers_are_no_html(run: Run, tmp_path: Path) -> None:
     source = ";redcode\n;name <script>alert(1)</script>\n;author </script><b>x\nDAT 0, 0\n"
     run("page", "-", "@imp", given=source)
     text = (tmp_path / "battle.html").read_text()
-    assert "<script>alert" not in text and "&lt;script&gt;alert(1)" in text
+    assert "<script>alert" not in text and unpacked(text)["w"][0] == ["-", source]
     run("rounds", "-", "@imp", "--pages", "pages", given=source)
     assert "<script>alert" not in (tmp_path / "pages" / "index.html").read_text()
 
@@ -148,46 +132,7 @@ def test_rounds(run: Run, tmp_path: Path) -> None:
     assert lines[4].startswith("    1 ") and "--round 1" in lines[4]
     table = run("fight", "-r", 3, "@dwarf", "@imp").stdout.splitlines()
     assert table[1].split()[1:4] == ["2", "1", "0"] and "warrior 0: 2 wins, 1 tie, 0 losses" in lines
+    assert done.stdout.endswith("match: index.html and match.html\n")
     index = (tmp_path / "match" / "index.html").read_text()
-    assert all(f'href="round-{number}.html"' in index for number in range(3))
-
-
-def text_of(browser: Any, name: str) -> str:
-    found: str = browser.find_element("id", name).text
-    return found
-
-
-@pytest.fixture
-def shown(browser: Any, run: Run, tmp_path: Path) -> Any:
-    run("page", "--frames", 100, "@dwarf", "@imp")
-    browser.get(f"file://{tmp_path}/battle.html")
-    return browser
-
-
-def test_a_browser_replays(shown: Any) -> None:
-    """Buttons, keys, links and the address show the requested turn."""
-    from selenium.webdriver import ActionChains, Keys
-
-    def at(turn: str) -> None:
-        until(shown, f"document.getElementById('now').textContent.startsWith('Turn {turn} of')")
-
-    at("0")
-    shown.find_element("css selector", "#deaths button").click()
-    at("7,798")
-    assert text_of(shown, "where") == "End of the battle" and text_of(shown, "outcome") == "Dwarf wins"
-    keys = [Keys.HOME, Keys.ARROW_RIGHT, Keys.ARROW_RIGHT, Keys.ARROW_LEFT, Keys.END]
-    for key, turn in zip(keys, ["0", "77", "155", "77", "7,798"]):
-        ActionChains(shown).send_keys(key).perform()
-        at(turn)
-    shown.execute_script("location.hash = '#turn=200'")
-    at("233")
-    assert text_of(shown, "words").startswith("corewar debug --turn 233 ")
-    shown.find_element("css selector", "#cell button").click()
-    assert not [entry for entry in shown.get_log("browser") if entry["level"] == "SEVERE"]
-
-
-def test_a_narrow_window(shown: Any) -> None:
-    """On a telephone nothing scrolls sideways."""
-    shown.set_window_size(390, 844)
-    assert shown.execute_script("return document.documentElement.scrollWidth <= innerWidth + 1")
-    shown.set_window_size(1400, 900)
+    assert all(f'href="match.html#r={number}"' in index for number in range(3))
+    assert unpacked((tmp_path / "match" / "match.html").read_text())["n"] == 3

@@ -1,14 +1,26 @@
 """Tests mars.wasm, the proved library compiled to WebAssembly, and what JavaScript calls it by."""
 from __future__ import annotations
 
+import json
 import os
+import random
 import shutil
 import subprocess
 from pathlib import Path
+from typing import Any
 
 import pytest
+from battles import edit_of
 from conftest import TOP
 from counting import PROGRAM, skip
+
+from corewar.battle.conditions import OF_WARRIORS, Condition, search
+from corewar.battle.history import History
+from corewar.battle.labels import Sources
+from corewar.engine.calls import Match, assemble
+from corewar.model.cells import MODES, MODIFIERS, OPCODES
+from corewar.model.faults import Fault
+from corewar.web.contests import settings_of
 
 WASM = TOP / "build" / "mars.wasm"
 SITE = TOP / "site"
@@ -31,6 +43,103 @@ def test_it_is_the_native_machine() -> None:
         skip("mars.wasm", "scripts/library could not build it", "binaryen")
     done = run("node", "--test", SITE / "tests", MARS_WASM=str(WASM), MARS=str(PROGRAM))
     assert done.returncode == 0, done.stdout
+
+
+def randomly(count: int) -> list[dict[str, Any]]:
+    """Fights of random warriors with edits, and questions about them."""
+    chance = random.Random(74)
+    number, pick = chance.randrange, chance.choice
+
+    def cell() -> str:
+        operands = [f"{pick(MODES)}{number(-9, 9)}" for _ in range(2)]
+        return f"{pick([*OPCODES, 'MOV', 'SPL', 'JMP'])}.{pick([*MODIFIERS, 'I'])} {', '.join(operands)}"
+
+    def edit() -> str:
+        address = number(24)
+        return pick([f"edit {address} {cell()}", f"fill {address} {min(23, address + 3)} {cell()}"])
+
+    def process() -> str:
+        return pick([f"kill {number(2)} 0", f"spawn {number(2)} {number(24)}", f"move {number(2)} 0 {number(24)}"])
+
+    def question(core: int) -> dict[str, Any]:
+        word = pick(["at", "changes", "reads", "splits", "ends", "dies", "moves"])
+        condition: dict[str, Any] = {"word": word, "first": number(2) if word in OF_WARRIORS else number(core)}
+        if word not in OF_WARRIORS and number(2):
+            condition |= {"last": number(core)} | ({"by": number(2)} if number(2) else {})
+        return {"condition": condition, "turn": number(80), "forward": bool(number(2))}
+
+    def fight() -> dict[str, Any]:
+        core = pick([24, 40, 61])
+        settings = {"core": core, "processes": pick([1, 3, 8]), "cycles": pick([5, 40]), "longest": 8, "distance": 8}
+        sources = ["".join(f"{cell()}\n" for _ in range(1 + number(8))) for _ in range(1 + number(3))]
+        return {
+            "settings": {**settings, "readLimit": pick([0, 0, 7]), "writeLimit": pick([0, 0, 5])},
+            "warriors": [{"name": f"{index}.red", "text": text} for index, text in enumerate(sources)],
+            "edits": sorted(
+                ({"turn": number(60), "text": pick([edit, process])()} for _ in range(number(4))), key=turn_of
+            ),
+            "turns": [0, number(40), number(80), 10**6],
+            "questions": [question(core) for _ in range(8)],
+            "round": number(3),
+            "seed": 1 + number(9999),
+        }
+
+    return [fight() for _ in range(count)]
+
+
+def turn_of(edit: dict[str, Any]) -> int:
+    turn: int = edit["turn"]
+    return turn
+
+
+def history_of(fight: dict[str, Any]) -> History:
+    """The history that Python makes of a fight, with those of its edits that are possible."""
+    settings = settings_of(fight["settings"])
+    rounds, texts = fight["round"] + 1, [one["text"] for one in fight["warriors"]]
+    warriors = [assemble(text, settings=settings, rounds=rounds, warriors=len(texts)) for text in texts]
+    history = History(Match(tuple(warriors), settings, fight["seed"], 0, rounds), fight["round"])
+    for edit in fight["edits"]:
+        try:
+            history = history.edited(min(edit["turn"], history.end), edit_of(edit["text"], history.core))
+        except Fault:
+            pass
+    return history
+
+
+def test_its_history_is_that_of_python() -> None:
+    """States, owners, source lines, deaths, conditions and the overview, also after edits."""
+    if not WASM.is_file():
+        skip("mars.wasm", "scripts/library could not build it", "binaryen")
+    fights = randomly(60)
+    done = subprocess.run(
+        ["node", SITE / "tests" / "answers.mjs", WASM], input=json.dumps(fights), capture_output=True, text=True
+    )
+    assert done.returncode == 0, done.stderr
+    for fight, answer in zip(fights, json.loads(done.stdout)):
+        history = history_of(fight)
+        sources = Sources(history)
+        assert answer["end"] == history.end and answer["dead"] == [[*map(int, one)] for one in history.ending.deaths]
+        for state in answer["states"]:
+            turn, block = state["turn"], history.block(state["turn"])
+            owners, written = history.written(turn)
+            lines = [sources.line(history, address, turn) for address in range(history.core)]
+            assert state["owner"] == owners.tolist() and state["written"] == written.tolist()
+            assert state["lines"] == [line.number if line else 0 for line in lines]
+            assert (state["head"], state["cycle"]) == (history.head(turn), block.cycle(turn))
+            assert state["queues"] == [int(one) for queue in history.state(turn).queues for one in queue]
+        for question, found in zip(fight["questions"], answer["found"]):
+            given = question["condition"]
+            condition = Condition(given["word"], given["first"], given.get("last", given["first"]), given.get("by"))
+            expected = search(history, [condition], min(question["turn"], history.end), question["forward"])
+            assert found == (expected and expected[0]), (fight, question)
+        count = len(history.warriors)
+        for row, turn in enumerate(answer["moments"]):
+            cells = [int((history.owners(turn) == warrior).sum()) for warrior in range(count)]
+            # After a turn with an edit there is a moment before it and one after it.
+            if turn not in [after for after, _ in history.edits]:
+                assert answer["cells"][row * count : (row + 1) * count] == cells
+                queues = history.state(turn).queues
+                assert answer["processes"][row * count : (row + 1) * count] == [len(queue) for queue in queues]
 
 
 def test_its_types_are_sound() -> None:

@@ -30,7 +30,9 @@ function layoutOf(body, structs) {
 /** Returns the layouts of the structs of the header, by name. */
 function structsOf(text) {
   const structs = {};
-  for (const [, body, name] of text.matchAll(/typedef struct \{([^}]*)\} (\w+);/g)) structs[name] = layoutOf(body, structs);
+  for (const [, body, name] of text.matchAll(/typedef struct \{([^}]*)\} (\w+);/g)) {
+    structs[name] = layoutOf(body, structs);
+  }
   return structs;
 }
 
@@ -38,7 +40,9 @@ function structsOf(text) {
 function moduleOf(text) {
   const lines = ["// Written by site/tools/layout.mjs from include/mars.h; do not edit."];
   lines.push(`export const VERSION = ${/#define MARS_VERSION (\d+)/.exec(text)[1]};`);
-  for (const [, name, value] of text.matchAll(/\bMARS_([A-Z_]+) = (\d+)/g)) lines.push(`export const ${name} = ${value};`);
+  for (const [, name, value] of text.matchAll(/\bMARS_([A-Z_]+) = (\d+)/g)) {
+    lines.push(`export const ${name} = ${value};`);
+  }
   for (const [name, { size, fields }] of Object.entries(structsOf(text))) {
     lines.push("", `export const ${name} = {`, `  size: ${size},`);
     for (const [field, offset] of Object.entries(fields)) lines.push(`  ${field}: ${offset},`);

@@ -176,26 +176,16 @@ def write(text: str, output: str | None) -> None:
     "--pages",
     metavar="FOLDER",
     type=Output(file_okay=False),
-    help="Write a page with the results, index.html, into this folder",
-)
-@click.option(
-    "--page-pairs",
-    "named",
-    multiple=True,
-    metavar="A,B",
-    help="Add a replay of two of the files to the pages; can be repeated",
+    help="Write a page with the results, index.html, and one that shows the battles, into this folder",
 )
 def league(asked: Asked, hall: Hall, order: str, form: str, **files: Any) -> int:
     """Run a league: every pair of warriors plays a match.
 
     The first warrior of a match is the one whose file is given earlier. A file with an error is reported and left out.
     """
-    if files["named"] and not files["pages"]:
-        raise click.UsageError("--page-pairs requires --pages")
     contest, warriors, faults = entered(asked)
     if not warriors:
         return 1
-    pairs = [pair_of(warriors, names) for names in files["named"]]
     matches = Matches(contest, warriors, all_pairs(len(warriors)))
     hall.fight(matches)
     result = League(matches, order == "points")
@@ -207,27 +197,10 @@ def league(asked: Asked, hall: Hall, order: str, form: str, **files: Any) -> int
         ranks = [result.ranks[number] for number in result.order]
         draw(result.titles(), ranks, result.balances(), files["picture"])
     if files["pages"]:
-        write_pages(result, files["pages"], pairs)
+        from ..pages.league import write_pages
+
+        write_pages(Path(files["pages"]), result)
     return 1 if faults else 0
-
-
-def pair_of(warriors: Sequence[Warrior], names: str) -> tuple[int, int]:
-    """The two warriors that `A,B` names, by their files with or without folder and ending, in the order of files."""
-    found = [number for name in names.split(",") for number, one in enumerate(warriors) if name in one.files]
-    if len(found) != 2 or found[0] == found[1] or names.count(",") != 1:
-        raise click.BadParameter(
-            f"expected two of the files, as in dwarf,imp, not `{names}`", param_hint="--page-pairs"
-        )
-    return min(found), max(found)
-
-
-def write_pages(result: League, folder: str, pairs: list[tuple[int, int]]) -> None:
-    from ..pages.league import Pages
-
-    pages = Pages(Path(folder), result, pairs)
-    pages.write_index()
-    for pair in pairs:
-        pages.write_replay(*pair)
 
 
 @click.command(

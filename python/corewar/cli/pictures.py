@@ -2,28 +2,37 @@
 from __future__ import annotations
 
 import os
+import re
 from pathlib import Path
 
 import click
 
 from ..battle.frames import parts
 from ..battle.history import History
-from ..model.faults import FileFault
+from ..engine.calls import load_file
+from ..model.cells import Cell, cell_of
+from ..model.edits import Edit
+from ..model.faults import Fault, FileFault
 from ..model.settings import whole
+from ..model.warriors import printable
 from .layout import Command, Number
 from .options import Asked, Decorator, Output, Picture, battle_options, with_options
 
-# A battle of few turns is shown turn by turn.
-FEW_TURNS = 2000
+
+# What follows the word of an edit: numbers, and a line of source.
+NUMBER, LINE, NOTHING = r"(\d{1,7})", r"(?P<line>\S*\D.*)", r"(?!)"
+FORMS = {
+    "edit": f"{NUMBER} {LINE}",
+    "fill": f"{NUMBER} {NUMBER} {LINE}",
+    "move": f"{NUMBER} {NUMBER} {NUMBER}",
+    "kill": f"{NUMBER} {NUMBER}",
+    "spawn": f"{NUMBER} {NUMBER}",
+}
 
 
-def part_options(kind: Output, usual: str) -> Decorator:
-    """The options that select the part of a battle to show, and the file to write."""
-    return with_options(
-        click.option(
-            "--from", "first", type=Number(1), default=1, show_default=True, help="First turn to show, 1 or more"
-        ),
-        click.option("--turns", type=Number(1), help="Number of turns to show, 1 or more  [default: all that follow]"),
+def output_options(kind: Output, usual: str) -> tuple[Decorator, Decorator]:
+    """The options that name the file to write."""
+    return (
         click.option("-o", "--output", type=kind, help=f"File to write, overwritten if it exists  [default: {usual}]"),
         click.option("--force", is_flag=True, help=f"Overwrite {usual} without -o"),
     )
@@ -52,7 +61,11 @@ def named(output: str | None, usual: str, force: bool) -> str:
     ],
 )
 @battle_options(one_round=True)
-@part_options(Picture(dir_okay=False), "battle.png")
+@with_options(
+    click.option("--from", "first", type=Number(1), default=1, show_default=True, help="First turn to show, 1 or more"),
+    click.option("--turns", type=Number(1), help="Number of turns to show, 1 or more  [default: all that follow]"),
+    *output_options(Picture(dir_okay=False), "battle.png"),
+)
 @click.option("--cells", metavar="A-B", help="Cells to show, from address A to address B  [default: the whole core]")
 @click.option("--columns", type=Number(1), default=400, show_default=True, help="Maximum number of columns, 1 or more")
 @click.option("--rows", type=Number(1), default=300, show_default=True, help="Maximum number of rows, 1 or more")
@@ -94,25 +107,61 @@ def cells_of(text: str | None, core: int) -> range:
 
 @click.command(
     cls=Command,
-    examples=["corewar page dwarf.red imp.red", "corewar page --round 3 -r 10 -o round-3.html dwarf.red imp.red"],
+    examples=[
+        "corewar page dwarf.red imp.red",
+        "corewar page --turn 7797 --edit '7797 edit 5203 mov 0, 1' -o saved.html dwarf.red imp.red",
+    ],
 )
 @battle_options(one_round=True)
-@part_options(Output(dir_okay=False), "battle.html")
-@click.option(
-    "--frames",
-    type=Number(1),
-    help="Maximum number of frames, 1 or more  [default: 600, or one for each turn of a battle of up to 2000 turns]",
+@with_options(
+    click.option("--turn", type=Number(0), default=0, show_default=True, help="Turn to open the page at, 0 or more"),
+    click.option(
+        "--edit",
+        "edits",
+        metavar="'T COMMAND'",
+        multiple=True,
+        help="Edit the battle after turn T, by a command of `mars -e`; can be repeated",
+    ),
+    *output_options(Output(dir_okay=False), "battle.html"),
 )
-def page(asked: Asked, first: int, turns: int | None, output: str | None, force: bool, frames: int | None) -> None:
-    """Write a page that replays a battle in a browser.
+def page(asked: Asked, turn: int, edits: tuple[str, ...], output: str | None, force: bool) -> None:
+    """Write a page that shows a battle in a browser.
 
-    The page is a single file and loads nothing from the network.
+    The page is a single file and loads nothing from the network. It has the simulator inside: every turn of every round
+    can be shown, and edited.
     """
     from ..pages.render import write_page
-    from ..pages.replay import FRAMES, page_of
+    from ..pages.site import page_of
 
+    fight = asked.fight()
+    made = [edit_of(text, asked) for text in edits]
     output = named(output, "battle.html", force)
-    history = History(asked.fight(), asked.round)
-    ends = ends_of(history, first, turns, frames or (FEW_TURNS if history.end <= FEW_TURNS else FRAMES))
-    write_page(Path(output), page_of(history, ends))
-    click.echo(f"{output}: {len(ends) - 1} frames")
+    write_page(Path(output), page_of(fight, asked.formula, asked.round, turn, made))
+    click.echo(f"{output}: {' against '.join(printable(warrior.called) for warrior in fight.warriors)}")
+
+
+def edit_of(text: str, asked: Asked) -> tuple[int, Edit]:
+    """The turn and the edit of `T COMMAND`, in the words of `mars -e`; a cell is a line of source."""
+    turn, word, rest = [*text.split(None, 2), "", "", ""][:3]
+    found, core = re.fullmatch(FORMS.get(word, NOTHING), rest), asked.settings.core
+    after = whole(turn)
+    if after is None or found is None:
+        why = f"expected a turn and an edit, as in `100 edit 3 jmp 0`, not `{text}`"
+        raise click.BadParameter(why, param_hint="--edit")
+    numbers = [int(one) for one in found.groups() if one.isdecimal()]
+    if word != "kill" and numbers[-1] >= core or word == "fill" and numbers[0] > numbers[1]:
+        raise click.BadParameter(f"`{text}` is outside the core, cells 0 to {core - 1}", param_hint="--edit")
+    if word in ("edit", "fill"):
+        return after, Edit.fill(numbers[0], numbers[-1], cell_of_line(found["line"], asked))
+    if word == "move":
+        return after, Edit.move(*numbers)
+    return after, Edit.kill(*numbers) if word == "kill" else Edit.add(*numbers)
+
+
+def cell_of_line(line: str, asked: Asked) -> Cell:
+    """The cell that a line of source makes."""
+    try:
+        load = load_file(f"{line}\n", asked.settings, asked.rounds, len(asked.files))
+    except Fault as fault:
+        raise click.BadParameter(f"`{line}` is not an instruction: {fault}", param_hint="--edit") from None
+    return cell_of(load.decode().strip().rpartition("\n")[2], asked.settings.core)

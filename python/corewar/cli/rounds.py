@@ -58,7 +58,7 @@ def fight(asked: Asked) -> None:
     "--pages",
     metavar="FOLDER",
     type=Output(file_okay=False),
-    help="Write a page for each round, and an index, into this folder",
+    help="Write a page that shows each round, and an index, into this folder",
 )
 def rounds(asked: Asked, pages: str | None) -> None:
     """Print the outcome of every round, with the command to debug it.
@@ -73,16 +73,16 @@ def rounds(asked: Asked, pages: str | None) -> None:
     if pages:
         from ..pages.match import Pages
 
-        written = Pages(pages, fought)
+        written = Pages(pages, fought, asked.formula)
     outcomes = []
     for one in rounds_of(fought, asked.rounds):
         told, words = "".join(f"{what:5}" for what in one.outcomes), printable(command(one.history, "debug"))
         click.echo(f"{one.history.round:5} {told:{max(width, 7)}} {one.history.end:7}  {words}")
         outcomes.append(one.outcomes)
         if pages:
-            written.write_round(one)
+            written.add(one)
     for number, (wins, ties, losses) in enumerate(sums(outcomes)):
         click.echo(f"warrior {number}: {counted(wins, 'win')}, {counted(ties, 'tie')}, {counted(losses, 'loss')}")
     if pages:
         written.write_index()
-        click.echo(f"{printable(pages)}: {len(outcomes)} pages")
+        click.echo(f"{printable(pages)}: index.html and match.html")

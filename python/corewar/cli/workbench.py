@@ -1,18 +1,19 @@
 """`web`: the workbench in a browser."""
 from __future__ import annotations
 
-import asyncio
 from pathlib import Path
 
 import click
 
 from ..engine.binding import CHECKOUT, INSTALLED
-from ..model.faults import FileFault, Refused
+from ..model.faults import FileFault
 from .layout import Command, Number
 from .options import Output
 
 # The folders of examples: that of the checkout, and those that may be installed.
 EXAMPLES = [CHECKOUT / "examples", *(folder / "share" / "doc" / "mars" / "examples" for folder in INSTALLED)]
+# The same port each time, since a browser keeps unsaved texts by the address.
+PORT = 8094
 
 
 @click.command(
@@ -20,7 +21,12 @@ EXAMPLES = [CHECKOUT / "examples", *(folder / "share" / "doc" / "mars" / "exampl
     examples=["corewar web", "corewar web --port 8080 --no-browser warriors/"],
     statuses="1 error in input or files, 2 usage error, 130 stopped with Ctrl-C",
 )
-@click.option("--port", type=Number(0, 65535), default=0, help="Port to serve on, 0 to 65535  [default: a free one]")
+@click.option(
+    "--port",
+    type=Number(0, 65535),
+    default=PORT,
+    help=f"Port to serve on, 0 to 65535; if it is taken, a free one  [default: {PORT}]",
+)
 @click.option("--browser/--no-browser", default=True, show_default=True, help="Open the browser, or only serve")
 @click.option(
     "--results", type=Output(dir_okay=False), help="Store results of leagues in this file; skip matches already in it"
@@ -29,18 +35,16 @@ EXAMPLES = [CHECKOUT / "examples", *(folder / "share" / "doc" / "mars" / "exampl
 def web(port: int, browser: bool, results: str | None, files: tuple[str, ...]) -> None:
     """Open the workbench in a browser.
 
-    The workbench has an editor, a view of the core, the debugger and leagues. FILE is a source or a folder of sources;
-    without any, the current folder is used. Only this machine can connect to the workbench.
+    The workbench has an editor, a view of the core, the debugger, a bench and leagues. FILE is a source or a folder of
+    sources; without any, the current folder is used. Only this machine can connect to the workbench.
     """
-    from ..web.bench import Bench, Folder, sources_of
-    from ..web.server import serve
+    from ..pages.site import site
+    from ..web.folder import Folder, sources_of
+    from ..web.server import Workbench, serve
 
     for name in files:
         if not Path(name).exists():
             raise FileFault(name, "No such file or directory")
-    folder = Folder(
-        [Path(name) for name in files or (".",)], sources_of([path for path in EXAMPLES if path.is_dir()][:1])
-    )
-    if not folder.all():
-        raise Refused("no source found; expected files or folders with files that end in .red")
-    asyncio.run(serve(Bench(folder, results), port, browser, click.echo))
+    examples = sources_of([path for path in EXAMPLES if path.is_dir()][:1])
+    folder = Folder([Path(name) for name in files or (".",)], examples)
+    serve(Workbench(site(), folder, results), port, browser, click.echo)

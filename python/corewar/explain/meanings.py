@@ -1,8 +1,10 @@
 """What each error means, and what to do."""
 from __future__ import annotations
 
+import json
 import re
 from collections.abc import Iterable, Iterator
+from importlib.resources import files
 from itertools import islice
 
 from ..model.faults import Fault
@@ -12,13 +14,9 @@ from .source import read_source
 # The maximum number of causes that are reported for an error.
 MOST = 2
 GREATER = "increase `-l`, and `-d` with it, which must be at least as large"
-EXPRESSION = {
-    "1 Syntax": "The expression is incomplete or has something extra; an operand has one mode and one number.",
-    "2 Unknown": "A name is undefined: it is not a label, an EQU name or a predefined name.",
-    "3 DivideByZero": "A division or remainder by zero.",
-    "4 Range": "A value does not fit in 64 bits.",
-    "5 Depth": "More than 64 parentheses are open, or there are more than 64 signs in a row.",
-}
+# What the errors of sources mean, and those of expressions. The site shows the same sentences.
+OF_SOURCES = json.loads((files("corewar.explain") / "meanings.json").read_text(encoding="ascii"))
+EXPRESSION: dict[str, str] = OF_SOURCES["expressions"]
 MEANINGS = {
     "bad words": "An argument of the program is wrong; `corewar explain mars ARGUMENTS` finds out which.",
     "out of memory": "A memory allocation failed.",
@@ -38,22 +36,7 @@ MEANINGS = {
     "load 3 Empty": "The load file has no cell; reading stops at an END, also before the first cell.",
     "load 4 BadOrigin": "The start is not one of the cells; ORG and END count them from 0.",
     "load 6 Version": "The first line begins with `;load ` but is not `;load 2 ` followed by a core size.",
-    "1 Text 1 NotAscii": "There is a byte of 128 or more outside a comment.",
-    "1 Text 2 BadToken": "Something is not a token, or is not allowed here: a number is decimal and at most "
-    "9223372036854775807, a name begins with a letter, `&` joins the counter of an open loop, and an EQU of several "
-    "lines is used as an operation.",
-    "1 Text 3 UnclosedFor": "The FOR in this line has no ROF; a ROF with a label before it does not count.",
-    "1 Text 4 RofAlone": "The ROF in this line has no FOR; it may be misspelt, or have more than one name before it.",
-    "1 Text 5 BadCount": "A loop has 0 to 10,000 iterations; the count of this FOR is outside this range.",
-    "1 Text 6 LabelInCount": "The count of a FOR can use only numbers, predefined names and EQU names before it.",
-    "1 Text 7 Duplicate": "A name is already defined.",
-    "1 Text 8 EquDepth": "EQU names refer to each other more than 32 levels deep, or in a circle.",
-    "1 Text 9 TooLong": "There are too many lines, tokens, open loops or replacements; check the counts of FOR.",
-    "2 Operation": "Unknown opcode or modifier; no EQU name of an earlier line is called so either.",
-    "3 Operand": "An operand is missing or empty, or there are more than two.",
-    "5 AssertFailed": "The value of this `;assert` is 0: the warrior was not written for these settings.",
-    "6 BadOrigin": "ORG and END require the label of an instruction, or a number below the number of instructions.",
-    "7 Empty": "No line that is read has an opcode; everything before `;redcode` and after END is ignored.",
+    **OF_SOURCES["errors"],
     "8 TooLong": f"This is the first instruction beyond the maximum length; {GREATER}.",
 }
 

@@ -1,1 +1,1 @@
-"""Pages for a browser, from templates that escape every text. Each is one file and loads nothing from a network."""
+"""Pages for a browser: the built site with a fight inside, and indexes from templates that escape every text."""

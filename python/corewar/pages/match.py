@@ -1,4 +1,4 @@
-"""The folder of a match: a page for each round, and an index."""
+"""The folder of a match: an index of its rounds, and the page that shows each of them."""
 from __future__ import annotations
 
 from pathlib import Path
@@ -8,24 +8,28 @@ from ..analysis.captions import command
 from ..battle.rounds import Round, sums
 from ..engine.calls import Match
 from .render import render, write_page
-from .replay import page_of
+from .site import page_of, site
+
+PAGE = "match.html"
 
 
 class Pages:
-    """A folder with a page for each round of a match, written as it is played, and index.html after the last one."""
+    """A folder with match.html, written at once, and index.html, written after the last round. Raises Refused if the
+    site is not built.
+    """
 
-    def __init__(self, folder: str, fight: Match) -> None:
+    def __init__(self, folder: str, fight: Match, formula: str) -> None:
         self.folder, self.fight = Path(folder), fight
         self.rounds: list[dict[str, Any]] = []
+        site()
         self.folder.mkdir(parents=True, exist_ok=True)
+        write_page(self.folder / PAGE, page_of(fight, formula))
 
-    def write_round(self, one: Round) -> None:
-        """Writes the page of a round."""
+    def add(self, one: Round) -> None:
+        """Adds a round to the index."""
         history = one.history
-        page = f"round-{history.round}.html"
-        write_page(self.folder / page, page_of(history))
         told = {"number": history.round, "outcomes": one.outcomes, "end": history.end}
-        self.rounds.append({**told, "page": page, "words": command(history, "debug")})
+        self.rounds.append({**told, "page": f"{PAGE}#r={history.round}", "words": command(history, "debug")})
 
     def write_index(self) -> None:
         """Writes the page of all rounds."""

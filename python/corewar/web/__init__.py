@@ -1,1 +1,1 @@
-"""The workbench: an editor, a view of the core, the debugger and leagues, in a browser on this machine."""
+"""The workbench: the site, served to this machine with the sources of a folder."""

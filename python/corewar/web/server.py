@@ -1,212 +1,180 @@
-"""The server of the workbench. It serves only on 127.0.0.1, and only to clients with the token of its address."""
+"""The server of the workbench. It answers only this machine, and only requests that have its token."""
 from __future__ import annotations
 
-import asyncio
 import json
 import secrets
 import webbrowser
-from collections.abc import Awaitable, Callable, Iterator
-from concurrent.futures import ThreadPoolExecutor
+from collections.abc import Callable, Iterator
 from contextlib import contextmanager, nullcontext
+from dataclasses import dataclass, field
+from http.server import BaseHTTPRequestHandler, ThreadingHTTPServer
 from pathlib import Path
 from tempfile import NamedTemporaryFile
 from typing import Any
+from urllib.parse import unquote, urlsplit
 
-from aiohttp import web
-
+from ..engine.sources import Assembler
 from ..model.faults import Refused
-from ..model.settings import HILLS, Settings
-from ..pages.render import render
-from ..pictures.colours import DARK, LIGHT
-from .bench import Bench
-from .desk import Desk
+from .contests import league
+from .folder import Changed, Folder
 
-HERE = Path(__file__).parent / "static"
-SHARED = Path(__file__).parents[1] / "pages" / "static"
-CODEMIRROR = Path("/usr/share/javascript/codemirror")
-LARGEST_REQUEST = 20_000_000
-# What the page may load: only from this server.
-POLICY = (
-    "default-src 'none'; script-src 'self'; style-src 'self' 'unsafe-inline'; img-src 'self' data:; connect-src 'self'"
-)
-
-Handler = Callable[[web.Request], Awaitable[web.StreamResponse]]
-routes = web.RouteTableDef()
-
-
-def bench_of(request: web.Request) -> Bench:
-    found: Bench = request.app["bench"]
-    return found
+HOST = "127.0.0.1"
+TYPES = {".html": "text/html; charset=utf-8", ".js": "text/javascript; charset=utf-8", ".wasm": "application/wasm"}
+HEADERS = {
+    "Cache-Control": "no-cache",
+    "Cross-Origin-Resource-Policy": "same-origin",
+    "Referrer-Policy": "no-referrer",
+    "X-Content-Type-Options": "nosniff",
+    "X-Frame-Options": "DENY",
+}
+# The maximum size of a message: a source as JSON has at most six times its bytes, and a league has many sources.
+LARGEST_MESSAGE = 64 << 20
+# Where the page finds out that there is a server, and what its browser keeps by.
+META = '<meta name="corewar-server" content="api" data-key="{}">\n<title>'
 
 
-def desk_of(request: web.Request) -> Desk:
-    """Returns the desk of the tab that sent the request."""
-    return bench_of(request).desk(request.query.get("desk", ""))
+@dataclass
+class Workbench:
+    """What is served: the folder of the built site, the sources, and the file of stored results."""
+
+    site: Path
+    folder: Folder
+    results: str | None = None
+    token: str = field(default_factory=lambda: secrets.token_urlsafe(16))
+    assembler: Assembler = field(default_factory=Assembler)
 
 
-async def answer(act: Callable[..., Any], *given: Any) -> web.Response:
-    """Returns the result of a call, which runs in a thread."""
-    return web.json_response(await asyncio.to_thread(act, *given))
+class Handler(BaseHTTPRequestHandler):
+    """Answers requests below `/TOKEN/`: the files of the site, and `api`, the sources and leagues."""
 
+    workbench: Workbench
+    server: ThreadingHTTPServer
 
-def guard(ports: list[int]) -> Any:
-    """Rejects requests for another host name, and those from pages of other sites."""
+    def log_message(self, *_: object) -> None:
+        """Logs nothing: the addresses contain the token."""
 
-    @web.middleware
-    async def guarded(request: web.Request, handler: Handler) -> web.StreamResponse:
-        host = request.headers.get("Host", "")
-        if host not in [f"{name}:{port}" for name in ("127.0.0.1", "localhost") for port in ports]:
-            raise web.HTTPForbidden(text="wrong host")
-        if request.headers.get("Origin", f"http://{host}") != f"http://{host}":
-            raise web.HTTPForbidden(text="wrong origin")
-        response = await handler(request)
-        if not response.prepared:
-            response.headers.update({"Content-Security-Policy": POLICY, "Cache-Control": "no-store"})
-        return response
+    def do_GET(self) -> None:
+        path = self._path()
+        if path == "api/sources":
+            self._tell(200, self.workbench.folder.all())
+        elif path is not None:
+            self._send_file(path or "index.html")
 
-    return guarded
+    def do_PUT(self) -> None:
+        path = self._path()
+        if path is not None and path.startswith("api/sources/"):
+            name = path.removeprefix("api/sources/")
+            self._act(lambda given: self._save(name, given))
+        elif path is not None:
+            self._refuse(404, "not found")
 
+    def do_POST(self) -> None:
+        path = self._path()
+        if path == "api/league":
+            self._act(self._run_league)
+        elif path is not None:
+            self._refuse(404, "not found")
 
-@web.middleware
-async def told(request: web.Request, handler: Handler) -> web.StreamResponse:
-    """Returns errors as text, with the status of a conflict or of a bad request."""
-    try:
-        return await handler(request)
-    except (Refused, OSError) as fault:
-        return web.json_response({"fault": str(fault)}, status=409)
-    except (LookupError, TypeError, ValueError, ArithmeticError, RecursionError) as fault:
-        return web.json_response({"fault": f"invalid request: {fault}"}, status=400)
+    def _path(self) -> str | None:
+        """Returns the path below the token; None if the request was refused."""
+        host, port = self.headers.get("Host", ""), self.server.server_address[1]
+        is_own = host in (f"{HOST}:{port}", f"localhost:{port}")
+        path, below = urlsplit(self.path).path, f"/{self.workbench.token}/"
+        if not is_own or self.headers.get("Origin", f"http://{host}") != f"http://{host}":
+            self._refuse(403, "this workbench answers only its own page")
+        elif not secrets.compare_digest(path[: len(below)].encode(), below.encode()):
+            self._refuse(404, "not found")
+        else:
+            return unquote(path[len(below) :])
+        return None
 
+    def _refuse(self, status: int, why: str) -> None:
+        # What was sent is not read, so nothing can follow it.
+        self.close_connection = True
+        self._tell(status, {"fault": why})
 
-@routes.get("/")
-async def index(request: web.Request) -> web.Response:
-    text = render("bench.html.j2", hills=list(HILLS), light=LIGHT, dark=DARK)
-    return web.Response(text=text, content_type="text/html")
+    def _tell(self, status: int, value: object) -> None:
+        self._send(status, json.dumps(value).encode(), "application/json")
 
+    def _send(self, status: int, body: bytes, kind: str) -> None:
+        self._begin(status, {"Content-Type": kind, "Content-Length": str(len(body))})
+        self.wfile.write(body)
 
-@routes.get("/settings")
-async def settings(_: web.Request) -> web.Response:
-    return web.json_response({name: vars(hill) for name, hill in HILLS.items()})
+    def _begin(self, status: int, headers: dict[str, str]) -> None:
+        self.send_response(status)
+        for name, value in {**HEADERS, **headers}.items():
+            self.send_header(name, value)
+        self.end_headers()
 
+    def _send_file(self, name: str) -> None:
+        path = self.workbench.site / name
+        if path.parent != self.workbench.site or path.suffix not in TYPES or not path.is_file():
+            return self._refuse(404, "not found")
+        body = path.read_bytes()
+        if name == "index.html":
+            body = body.replace(b"<title>", META.format(self.workbench.folder.key).encode(), 1)
+        self._send(200, body, TYPES[path.suffix])
 
-@routes.get("/sources")
-async def sources(request: web.Request) -> web.Response:
-    return web.json_response(bench_of(request).folder.all())
-
-
-@routes.post("/save")
-async def save(request: web.Request) -> web.Response:
-    asked = await request.json()
-    return web.json_response({"seen": bench_of(request).folder.save(asked["name"], asked["text"], asked["seen"])})
-
-
-@routes.post("/assemble")
-async def assemble(request: web.Request) -> web.Response:
-    asked = await request.json()
-    return await answer(bench_of(request).lint, asked["source"], Settings(**asked["settings"]))
-
-
-@routes.post("/fight")
-async def fight(request: web.Request) -> web.Response:
-    return await answer(bench_of(request).fight, request.query.get("desk", ""), await request.json())
-
-
-@routes.get("/battle")
-async def battle(request: web.Request) -> web.Response:
-    return await answer(desk_of(request).battle)
-
-
-@routes.get("/overview")
-async def overview(request: web.Request) -> web.Response:
-    return await answer(desk_of(request).overview)
-
-
-@routes.get("/turn/{turn}")
-async def turn(request: web.Request) -> web.Response:
-    made = await asyncio.to_thread(desk_of(request).turn, int(request.match_info["turn"]))
-    return web.Response(body=made, content_type="application/octet-stream")
-
-
-@routes.get("/cell/{address}/{turn}")
-async def cell(request: web.Request) -> web.Response:
-    numbers = int(request.match_info["address"]), int(request.match_info["turn"])
-    return await answer(desk_of(request).cell, *numbers)
-
-
-@routes.post("/league")
-async def league(request: web.Request) -> web.StreamResponse:
-    """Sends the counts of matches as they end, a line of JSON for each bundle. A later error is the last line."""
-    fought, loop = bench_of(request).league(await request.json()), asyncio.get_running_loop()
-
-    def more() -> dict[str, Any]:
-        return next(fought, {})
-
-    # A connection of SQLite is used only in the thread that opens it.
-    with ThreadPoolExecutor(1) as thread:
-        told = await loop.run_in_executor(thread, more)
-        response = web.StreamResponse(headers={"Content-Type": "application/x-ndjson"})
-        await response.prepare(request)
+    def _act(self, act: Callable[[dict[str, Any]], None]) -> None:
+        """Calls a function with the message of the request. Its errors are answers."""
+        length = self.headers.get("Content-Length", "")
+        if not length.isdecimal() or int(length) > LARGEST_MESSAGE:
+            return self._refuse(413, f"expected a message of at most {LARGEST_MESSAGE} bytes")
         try:
-            while told:
-                await response.write(json.dumps(told).encode() + b"\n")
-                told = await loop.run_in_executor(thread, more)
+            act(json.loads(self.rfile.read(int(length))))
+        except Changed as fault:
+            self._tell(409, {"fault": str(fault), "seen": fault.seen})
         except Refused as fault:
-            await response.write(json.dumps({"fault": str(fault)}).encode() + b"\n")
+            self._tell(400, {"fault": str(fault)})
+        except (KeyError, TypeError, ValueError, AttributeError):
+            self._tell(400, {"fault": "this message is not one of the page's"})
+
+    def _save(self, name: str, given: dict[str, Any]) -> None:
+        self._tell(200, {"seen": self.workbench.folder.save(name, str(given["text"]), str(given["seen"]))})
+
+    def _run_league(self, given: dict[str, Any]) -> None:
+        """Sends the results of matches as they end, some in each line."""
+        lines = league(self.workbench.assembler, given, self.workbench.results)
+        line = next(lines)
+        self.close_connection = True
+        self._begin(200, {"Content-Type": "application/x-ndjson", "Connection": "close"})
+        try:
+            while True:
+                self.wfile.write(json.dumps(line).encode() + b"\n")
+                line = next(lines)
+        except (StopIteration, ConnectionError):
+            # The page is closed, or all matches are run.
+            pass
         finally:
-            await loop.run_in_executor(thread, fought.close)
-    return response
+            lines.close()
 
 
-@routes.get("/search/{word}/{address}/{turn}/{way}")
-async def search(request: web.Request) -> web.Response:
-    asked = request.match_info
-    numbers = int(asked["address"]), int(asked["turn"]), asked["way"] == "on"
-    return await answer(desk_of(request).search, asked["word"], *numbers)
+class Server(ThreadingHTTPServer):
+    """The server, on a free port if the wanted one is taken."""
+
+    daemon_threads = True
+
+    def __init__(self, workbench: Workbench, port: int) -> None:
+        handler = type("Handler", (Handler,), {"workbench": workbench, "protocol_version": "HTTP/1.1"})
+        try:
+            super().__init__((HOST, port), handler)
+        except OSError:
+            super().__init__((HOST, 0), handler)
+
+    def handle_error(self, *_: object) -> None:
+        """Says nothing: a browser may end a connection at any time."""
 
 
-@routes.post("/debug")
-async def debug(request: web.Request) -> web.Response:
-    asked = await request.json()
-    return await answer(desk_of(request).debug, asked["line"], int(asked["turn"]))
-
-
-@routes.get("/replay.html")
-async def replay(request: web.Request) -> web.Response:
-    """Sends the page that replays the battle, as a download."""
-    text = await asyncio.to_thread(desk_of(request).replay)
-    name = {"Content-Disposition": 'attachment; filename="battle.html"'}
-    return web.Response(text=text, content_type="text/html", headers=name)
-
-
-def application(bench: Bench, ports: list[int], token: str) -> web.Application:
-    """Returns the server's application. Every path begins with the token; `ports` are the ports in the host names."""
-    inner = web.Application(middlewares=[told], client_max_size=LARGEST_REQUEST)
-    inner["bench"] = bench
-    inner.add_routes(routes)
-    for prefix, path in (("/static", HERE), ("/shared", SHARED), ("/codemirror", CODEMIRROR)):
-        inner.router.add_static(prefix, path, follow_symlinks=True)
-    outer = web.Application(middlewares=[guard(ports)], client_max_size=LARGEST_REQUEST)
-    outer.add_subapp(f"/{token}/", inner)
-    return outer
-
-
-async def serve(bench: Bench, port: int, opens: bool, say: Callable[[str], None]) -> None:
-    """Serves until it is stopped. Raises Refused."""
-    if not CODEMIRROR.is_dir():
-        raise Refused("cannot find the editor CodeMirror; run apt-get install libjs-codemirror")
-    token, ports = secrets.token_urlsafe(16), [port]
-    runner = web.AppRunner(application(bench, ports, token))
-    await runner.setup()
-    await web.TCPSite(runner, "127.0.0.1", port, shutdown_timeout=1).start()
-    ports[0] = runner.addresses[0][1]
-    address = f"http://127.0.0.1:{ports[0]}/{token}/"
-    say(f"The workbench is at {address} (press Ctrl-C to stop)")
-    try:
-        with opened(address) if opens else nullcontext():
-            await asyncio.Event().wait()
-    finally:
-        # The server stops before the threads that its handlers use.
-        await runner.cleanup()
+def serve(workbench: Workbench, port: int, opens: bool, say: Callable[[str], object]) -> None:
+    """Serves until it is stopped."""
+    with Server(workbench, port) as server:
+        taken = server.server_address[1]
+        if port not in (0, taken):
+            say(f"Port {port} is taken. A browser keeps unsaved texts by the port, so this one has none of that one.")
+        address = f"http://{HOST}:{taken}/{workbench.token}/"
+        say(f"The workbench is at {address} (press Ctrl-C to stop)")
+        with opened(address) if opens else nullcontext(), workbench.assembler:
+            server.serve_forever()
 
 
 @contextmanager

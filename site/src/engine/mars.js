@@ -48,7 +48,12 @@ export class MarsError extends Error {
   constructor(code, { number = 0, problem = 0, expression = 0, line = 0, warrior = 0 } = {}) {
     super(`error ${code}, number ${number}`);
     this.name = "MarsError";
-    Object.assign(this, { code, number, problem, expression, line, warrior });
+    this.code = code;
+    this.number = number;
+    this.problem = problem;
+    this.expression = expression;
+    this.line = line;
+    this.warrior = warrior;
   }
 }
 
@@ -75,6 +80,11 @@ export class Mars {
 
   get version() {
     return this.#exports.mars_version();
+  }
+
+  /** The number of bytes of the module's memory. */
+  get memory() {
+    return this.#exports.memory.buffer.byteLength;
   }
 
   /**
@@ -176,7 +186,8 @@ export class Mars {
   /**
    * Makes an edit of a battle in place. Throws a MarsError if it is refused; then the battle is unchanged.
    * @param {Battle} battle
-   * @param {{kind: "cell" | "move" | "kill" | "add", warrior?: number, place?: number, address?: number, cell?: Cell}} edit
+   * @param {{kind: "cell" | "move" | "kill" | "add", warrior?: number, place?: number, address?: number,
+   *   cell?: Cell}} edit
    */
   edit(battle, { kind, warrior = 0, place = 0, address = 0, cell }) {
     this.#within(() => {

@@ -14,6 +14,14 @@
 
 /** The score of each survivor, in W warriors and S survivors. */
 export const FORMULA = "(W*W-1)/S";
+/** The maximum number of warriors of a match. */
+export const MOST_WARRIORS = 16;
+/** The maximum number of bytes of a source. */
+export const LARGEST_SOURCE = 1_048_576;
+/** The maximum number of turns of a battle that is shown: it takes a few seconds to open. */
+export const MOST_TURNS = 16_000_000;
+export const MOST_ROUNDS = 100_000;
+export const LARGEST_SEED = 2_147_483_646;
 
 /** @type {Settings} */
 export const DEFAULTS = {
@@ -33,3 +41,27 @@ export const HILLS = {
   tiny: { ...DEFAULTS, core: 800, processes: 800, cycles: 8000, longest: 20, distance: 20 },
   nano: { ...DEFAULTS, core: 80, processes: 80, cycles: 800, longest: 5, distance: 5 },
 };
+
+/**
+ * The least and the greatest value of each setting; where a value also depends on others, the machine checks that.
+ * @type {Record<keyof Settings, {name: string, least: number, greatest: number}>}
+ */
+export const RANGES = {
+  core: { name: "Core size", least: 1, greatest: 1_048_576 },
+  cycles: { name: "Cycles", least: 1, greatest: 10_000_000 },
+  processes: { name: "Processes", least: 1, greatest: 65_536 },
+  longest: { name: "Maximum length", least: 1, greatest: 1_048_576 },
+  distance: { name: "Minimum distance", least: 1, greatest: 1_048_576 },
+  readLimit: { name: "Read limit", least: 0, greatest: 1_048_576 },
+  writeLimit: { name: "Write limit", least: 0, greatest: 1_048_576 },
+};
+
+export const SETTINGS = /** @type {(keyof Settings)[]} */ (Object.keys(RANGES));
+
+/**
+ * Returns the name of the hill with these settings, or "".
+ * @param {Settings} settings
+ */
+export function hillOf(settings) {
+  return Object.keys(HILLS).find((hill) => SETTINGS.every((name) => settings[name] === HILLS[hill][name])) ?? "";
+}

@@ -1,0 +1,80 @@
+"""The built site, and its page in one file with a fight inside.
+
+The page carries sources, settings and edits, and fights the battle itself, so no battle is fought to write it.
+"""
+from __future__ import annotations
+
+import base64
+import json
+import re
+import zlib
+from collections.abc import Sequence
+from pathlib import Path
+from typing import Any
+
+from ..engine.binding import CHECKOUT
+from ..engine.calls import Match
+from ..model.edits import Edit
+from ..model.faults import Refused
+from ..model.settings import FORMULA, Settings
+from ..model.warriors import Warrior
+
+# Where the site is in an installation and in a wheel, and in a checkout.
+INSTALLED, BUILT = Path(__file__).with_name("site"), CHECKOUT / "build" / "site"
+# The place for a fight.
+FIGHT = re.compile(r'(<script id="page-fight" type="text/plain">)[^<]*(?=</script>)')
+VERSION = 1
+# What the settings with two words are called in JavaScript.
+NAMES = {"read_limit": "readLimit", "write_limit": "writeLimit"}
+
+
+def site() -> Path:
+    """Returns the folder with the built site. Raises Refused if there is none."""
+    for folder in (INSTALLED, BUILT):
+        if (folder / "one.html").is_file():
+            return folder
+    raise Refused("the site is not built; run `make site`")
+
+
+def source_of(warrior: Warrior) -> tuple[str, str]:
+    """Returns the name and the text of a warrior's source, or of its load file. Invalid UTF-8 survives."""
+    text = warrior.load if warrior.source is None else warrior.source
+    return warrior.files[1] or "warrior.red", text.decode("utf-8", "surrogateescape")
+
+
+def settings_of(settings: Settings) -> dict[str, int]:
+    """Returns settings with the names that they have in JavaScript."""
+    return {NAMES.get(name, name): number for name, number in vars(settings).items()}
+
+
+def packed(fight: dict[str, Any]) -> str:
+    """Returns the text of a fight, as addresses and pages carry it."""
+    deflate = zlib.compressobj(9, wbits=-15)
+    data = deflate.compress(json.dumps(fight, separators=(",", ":")).encode()) + deflate.flush()
+    return base64.urlsafe_b64encode(data).decode().rstrip("=")
+
+
+def page_of(
+    fight: Match,
+    formula: str = FORMULA,
+    round: int = 0,
+    turn: int = 0,
+    edits: Sequence[tuple[int, Edit]] = (),
+) -> str:
+    """Returns the page of a match: it opens at a turn of a round, with the edits after their turns. A page may have
+    more warriors than a match: then its address selects some. Raises Refused if the site is not built.
+    """
+    given = {
+        "v": VERSION,
+        "h": settings_of(fight.settings),
+        "s": fight.seed,
+        "n": fight.rounds,
+        "r": round,
+        "p": fight.position,
+        "f": formula,
+        "w": [source_of(warrior) for warrior in fight.warriors],
+        "e": [(after, edit.text(fight.settings.core)) for after, edit in edits],
+        "t": turn,
+    }
+    text = packed(given)
+    return FIGHT.sub(lambda found: found[1] + text, (site() / "one.html").read_text(encoding="utf-8"), count=1)

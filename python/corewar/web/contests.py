@@ -1,0 +1,67 @@
+"""Leagues of the workbench: run on the processors of this machine, with results that are stored."""
+from __future__ import annotations
+
+import os
+from collections.abc import Generator
+from contextlib import ExitStack
+from typing import Any
+
+import numpy as np
+from numpy.typing import NDArray
+
+from ..engine.sources import Assembler, Overrun
+from ..league.contest import Contest, Matches, all_pairs
+from ..league.places import threads
+from ..league.results import Results
+from ..model.faults import Fault, Refused
+from ..model.settings import Settings
+from ..model.warriors import Warrior
+from .folder import coded
+
+JOBS = len(os.sched_getaffinity(0))
+# The names of settings in the messages of the page.
+NAMES = {"readLimit": "read_limit", "writeLimit": "write_limit"}
+
+
+def settings_of(given: dict[str, int]) -> Settings:
+    """Returns the settings of a message."""
+    return Settings(**{NAMES.get(name, name): int(value) for name, value in given.items()})
+
+
+def contest_of(given: dict[str, Any]) -> Contest:
+    """Returns the contest of a message. Raises TypeError, ValueError or KeyError if it is none."""
+    rounds, seed, position = [int(given[name]) for name in ("rounds", "seed", "position")]
+    return Contest(settings_of(given["settings"]), rounds, seed, position, str(given["formula"]))
+
+
+def warrior_of(assembler: Assembler, source: dict[str, str], contest: Contest) -> Warrior:
+    """Returns the warrior of a source. Raises Refused."""
+    text = coded(source["text"])
+    try:
+        return Warrior(assembler.assemble(text, contest.settings, contest.rounds, 2), source["name"], text)
+    except (Fault, Overrun) as fault:
+        raise Refused(f"{source['name']}: {fault}") from None
+
+
+def league(assembler: Assembler, given: dict[str, Any], results: str | None) -> Generator[list[list[int]], None, None]:
+    """Runs a match of every two sources. Yields the results of matches as they end, first those that are stored: the
+    two sources, the points, wins, ties and losses of the first, and the points of the second. Raises Refused.
+    """
+    contest = contest_of(given)
+    warriors = [warrior_of(assembler, source, contest) for source in given["sources"]]
+    matches = Matches(contest, warriors, all_pairs(len(warriors)))
+    with ExitStack() as stack:
+        kept = stack.enter_context(Results(results, matches)) if results else None
+        here = stack.enter_context(threads(matches, JOBS))
+        if kept:
+            kept.find()
+        yield rows_told(matches, np.flatnonzero(matches.is_fought))
+        for rows in here.fight(matches):
+            if kept:
+                kept.keep(rows)
+            yield rows_told(matches, rows)
+
+
+def rows_told(matches: Matches, rows: NDArray[np.intp]) -> list[list[int]]:
+    told: list[list[int]] = np.hstack([matches.pairs[rows], matches.counts[rows]]).tolist()
+    return told

@@ -1,0 +1,93 @@
+"""The sources of the workbench, in files and folders, and examples, which are not changed."""
+from __future__ import annotations
+
+import hashlib
+from collections.abc import Iterable
+from dataclasses import dataclass
+from pathlib import Path
+from typing import Any
+
+from ..engine.files import replace_file
+from ..model.faults import Refused
+from ..model.settings import LARGEST_FILE
+
+
+class Changed(Refused):
+    """Something else has changed a file; `seen` names its content."""
+
+    def __init__(self, name: str, seen: str) -> None:
+        super().__init__(f"{name} has changed on disk; not overwritten")
+        self.seen = seen
+
+
+def coded(text: str) -> bytes:
+    """Returns the bytes of a source. Invalid UTF-8 survives reading and saving."""
+    return text.encode("utf-8", "surrogateescape")
+
+
+def digest(data: bytes) -> str:
+    return hashlib.sha256(data).hexdigest()
+
+
+def sources_of(paths: Iterable[Path]) -> dict[str, Path]:
+    """Returns the sources of files and folders, by their names."""
+    found = [file for path in paths for file in (sorted(path.glob("*.red")) if path.is_dir() else [path])]
+    return {file.name: file.resolve() for file in found if file.is_file()}
+
+
+def told(name: str, path: Path, is_example: bool) -> dict[str, Any]:
+    """Returns a source as the page gets it, or why it is not read."""
+    try:
+        if path.stat().st_size > LARGEST_FILE:
+            return {"name": name, "fault": f"{name} has more than {LARGEST_FILE} bytes; left out"}
+        data = path.read_bytes()
+    except OSError as fault:
+        return {"name": name, "fault": f"{name}: {fault.strerror}; left out"}
+    text = data.decode("utf-8", "surrogateescape")
+    return {"name": name, "text": text, "seen": digest(data), "isExample": is_example}
+
+
+@dataclass
+class Folder:
+    """The sources to edit, and the examples."""
+
+    paths: list[Path]
+    examples: dict[str, Path]
+
+    @property
+    def key(self) -> str:
+        """A name for what a browser keeps of this folder."""
+        return digest("\n".join(str(path.resolve()) for path in self.paths).encode("utf-8", "surrogateescape"))[:16]
+
+    def all(self) -> list[dict[str, Any]]:
+        """Returns the sources that exist now."""
+        files = sources_of(self.paths)
+        others = {name: path for name, path in self.examples.items() if name not in files}
+        return [
+            *(told(name, path, False) for name, path in files.items()),
+            *(told(name, path, True) for name, path in others.items()),
+        ]
+
+    def save(self, name: str, text: str, seen: str) -> str:
+        """Saves a source to its file if that is as it was seen, or to a new file. Returns how its content is named.
+
+        Raises Changed, `FileFault` and Refused.
+        """
+        data = coded(text)
+        if len(data) > LARGEST_FILE:
+            raise Refused(f"{name} has more than {LARGEST_FILE} bytes; not saved")
+        path = sources_of(self.paths).get(name) or self._new(name)
+        there = digest(path.read_bytes()) if path.exists() else ""
+        if there != seen:
+            raise Changed(name, there)
+        replace_file(path, data)
+        if name not in sources_of(self.paths):
+            self.paths.append(path)
+        return digest(data)
+
+    def _new(self, name: str) -> Path:
+        """Returns the path of a new source: in the first folder, or beside the first file."""
+        if name != Path(name).name or not name.endswith(".red") or name == ".red" or "\0" in name:
+            raise Refused(f"`{name}` is not a valid name; expected a name without a folder that ends in .red")
+        first = self.paths[0]
+        return (first if first.is_dir() else first.parent) / name

@@ -1,0 +1,79 @@
+// Builds the site: index.html, app.js, worker.js and mars.wasm, and one.html, a page with all of them inside.
+//
+//     node site/build.mjs MARS.wasm FOLDER [CODEMIRROR]
+//
+// CODEMIRROR is the folder of Debian's libjs-codemirror. esbuild has to be on the path.
+import { execFileSync } from "node:child_process";
+import fs from "node:fs";
+import path from "node:path";
+import { fileURLToPath } from "node:url";
+import zlib from "node:zlib";
+
+import { readLesson } from "./tools/lesson.mjs";
+
+const [wasm, folder, codemirror = "/usr/share/javascript/codemirror"] = process.argv.slice(2);
+const here = path.dirname(fileURLToPath(import.meta.url));
+const inside = (...parts) => path.join(here, ...parts);
+const made = (name) => path.join(folder, name);
+const read = (file) => fs.readFileSync(file, "utf8");
+const write = (name, content) => fs.writeFileSync(made(name), content);
+const filesOf = (place, ending) => fs.readdirSync(place).filter((name) => name.endsWith(ending)).sort();
+
+/** Bundles a module with everything that it imports. */
+function bundle(from, name, banner) {
+  const words = [inside("src", from), "--bundle", "--minify", "--format=iife", "--target=es2022", "--charset=utf8"];
+  const editor = fs.realpathSync(path.join(codemirror, "lib", "codemirror.js"));
+  words.push("--log-level=warning", `--alias:codemirror=${editor}`, `--banner:js=${banner}`, `--outfile=${made(name)}`);
+  execFileSync("esbuild", words);
+}
+
+/** The style sheets in one. */
+function style() {
+  const input = read(path.join(codemirror, "lib", "codemirror.css")) + read(inside("static", "site.css"));
+  return execFileSync("esbuild", ["--loader=css", "--minify"], { input, encoding: "utf8" });
+}
+
+/** What errors of sources mean, those of expressions by their last words. */
+function meanings() {
+  const { expressions, errors } = JSON.parse(read(inside("..", "python", "corewar", "explain", "meanings.json")));
+  return { ...expressions, ...errors };
+}
+
+/** What the page knows: examples, lessons, and what errors mean. */
+function data() {
+  const [examples, lessons] = [inside("..", "examples"), inside("lessons")];
+  return {
+    examples: filesOf(examples, ".red").map((name) => ({ name, text: read(path.join(examples, name)) })),
+    lessons: filesOf(lessons, ".txt").map((name) => readLesson(name, read(path.join(lessons, name)))),
+    meanings: meanings(),
+  };
+}
+
+/** A script element. Its text has no end of an element in it. */
+const script = (text, attributes = "") => `<script${attributes}>${text.replaceAll("</script", "<\\/script")}</script>`;
+const plain = (id, text) => script(text, ` id="${id}" type="text/plain"`);
+
+fs.rmSync(folder, { recursive: true, force: true });
+fs.mkdirSync(folder, { recursive: true });
+bundle("app/main.js", "app.js", `/*\n${read(inside("static", "codemirror.txt"))}*/`);
+bundle("worker/worker.js", "worker.js", "");
+fs.copyFileSync(wasm, made("mars.wasm"));
+
+const known = script(JSON.stringify(data()).replaceAll("<", "\\u003c"), ' id="data" type="application/json"');
+const page = read(inside("static", "index.html")).replace("<!--style-->", () => `<style>${style()}</style>`);
+const preload = (name, kind) => `<link rel="preload" href="${name}" as="${kind}">`;
+const loads = [preload("mars.wasm", "fetch").replace(">", " crossorigin>"), preload("app.js", "script")];
+const many = page.replace("</title>", ["</title>", ...loads].join("\n"));
+write("index.html", many.replace("<!--parts-->", () => `${known}\n<script src="app.js"></script>`));
+const machine = zlib.gzipSync(fs.readFileSync(wasm), { level: 9 }).toString("base64");
+const worker = plain("worker-code", read(made("worker.js")));
+const parts = [known, plain("page-fight", ""), plain("mars-code", machine), worker];
+write("one.html", page.replace("<!--parts-->", () => [...parts, script(read(made("app.js")))].join("\n")));
+
+let total = 0;
+for (const name of fs.readdirSync(folder)) {
+  const size = zlib.gzipSync(fs.readFileSync(made(name)), { level: 9 }).length;
+  if (name !== "one.html") total += size;
+  console.log(`${made(name)}: ${(size / 1000).toFixed(0)} kB gzipped`);
+}
+console.log(`without one.html: ${(total / 1000).toFixed(0)} kB gzipped`);

@@ -1,0 +1,172 @@
+/** Lessons: a goal each, checked by fights. */
+import { element, make, refill, withCode } from "../view/dom.js";
+import { errorWords } from "../view/host.js";
+import { FORMULA, HILLS } from "../model/settings.js";
+import { number } from "../words/battle.js";
+
+/** @typedef {import("../model/fight.js").Source} Source */
+/** @typedef {import("../view/host.js").Host} Host */
+/** @typedef {import("../view/session.js").Session} Session */
+/**
+ * A lesson, as site/lessons has them. `judge` is one of
+ *
+ * - `end`, `death`: the learner shows the last turn, or one in which a warrior dies
+ * - `saved`: the learner's edits keep the warrior alive that died
+ * - `match`: the learner's warrior wins or survives a number of 100 rounds, with a maximum number of cells
+ * @typedef {object} Lesson
+ * @property {string} id
+ * @property {string} title
+ * @property {string[]} text
+ * @property {string} hint
+ * @property {"end" | "death" | "saved" | "match"} judge
+ * @property {{wins?: number, survives?: number, cells?: number}} goal
+ * @property {string[]} opponents names of examples
+ * @property {Source[]} sources the opponents that are in the lesson
+ * @property {string} start the source that the learner begins with, or ""
+ */
+/** @typedef {{isDone: boolean, text: string}} Verdict */
+
+const ROUNDS = 100;
+const TERMS = { settings: HILLS["94nop"], seed: 1, rounds: ROUNDS, position: 0, formula: FORMULA };
+
+export class Lessons {
+  /**
+   * @param {Host & {session: Session, edit: () => void, examples: Source[]}} host
+   * @param {Lesson[]} lessons
+   * @param {string[]} done the lessons that were done before
+   * @param {(done: string[]) => void} keep
+   */
+  constructor(host, lessons, done, keep) {
+    this.host = host;
+    this.done = new Set(done);
+    this.keep = keep;
+    this.lessons = lessons;
+    this.#list();
+  }
+
+  #list() {
+    refill(element("lessons"), ...this.lessons.map((lesson) => this.#card(lesson)));
+  }
+
+  /**
+   * Shows a lesson beside its battle, or none.
+   * @param {Lesson | null} lesson
+   */
+  #open(lesson) {
+    element("lesson-box").hidden = lesson === null;
+    if (!lesson) return;
+    const close = make("button", { className: "link", onclick: () => this.#open(null) }, "close this lesson");
+    refill(element("lesson-box"), this.#card(lesson), close);
+  }
+
+  /** @param {Lesson} lesson */
+  #card(lesson) {
+    const isDone = this.done.has(lesson.id);
+    const verdict = make("p", { className: "verdict", role: "status" }, isDone ? "Done." : "");
+    const card = make("article", { className: `lesson${isDone ? " done" : ""}` });
+    const begin = make("button", { onclick: () => this.begin(lesson) }, lesson.start ? "Begin" : "Watch");
+    const judge = make("button", { className: "main" }, "Check");
+    judge.onclick = async () => {
+      const { isDone: isPassed, text } = await this.judge(lesson);
+      refill(verdict, withCode(text));
+      card.classList.toggle("done", isPassed);
+      if (isPassed) this.#pass(lesson);
+    };
+    const hint = make("details", {}, make("summary", {}, "Hint"), make("p", {}, withCode(lesson.hint)));
+    const paragraphs = lesson.text.map((text) => make("p", {}, withCode(text)));
+    const parts = lesson.hint ? [...paragraphs, hint] : paragraphs;
+    const row = make("p", { className: "row" }, begin, judge);
+    card.append(make("h3", {}, `${this.lessons.indexOf(lesson) + 1}. ${lesson.title}`), ...parts, verdict, row);
+    return card;
+  }
+
+  /** @param {Lesson} lesson */
+  #pass(lesson) {
+    this.keep([...this.done.add(lesson.id)]);
+    const next = this.lessons[this.lessons.indexOf(lesson) + 1];
+    if (element("lesson-box").hidden || !next) this.#list();
+    else element("lesson-box").append(" ", make("button", { onclick: () => this.begin(next) }, "Next lesson"));
+  }
+
+  /** @param {Lesson} lesson */
+  #opponents({ opponents, sources }) {
+    return [...this.host.examples.filter(({ name }) => opponents.includes(name)), ...sources];
+  }
+
+  /** @param {Lesson} lesson */
+  #own({ id }) {
+    const held = this.host.shelf.find(`${id}.red`);
+    return held && { name: held.name, text: held.doc.getValue() };
+  }
+
+  /** @param {Lesson} lesson */
+  begin(lesson) {
+    const { shelf } = this.host;
+    const name = `${lesson.id}.red`;
+    if (lesson.start && !shelf.find(name)) shelf.add({ name, text: lesson.start, saved: "" });
+    const own = this.#own(lesson);
+    const sources = shelf.mark([...(own ? [own] : []), ...this.#opponents(lesson)]);
+    const held = shelf.find(name);
+    if (held) shelf.show(held);
+    if (held) this.host.edit();
+    this.#open(lesson);
+    return this.host.fight(sources);
+  }
+
+  /**
+   * @param {Lesson} lesson
+   * @returns {Promise<Verdict>}
+   */
+  async judge(lesson) {
+    if (lesson.judge !== "match") return this.#judgeBattle(lesson);
+    const own = this.#own(lesson);
+    if (!own) return { isDone: false, text: "Begin first, and write your warrior." };
+    try {
+      return await this.#judgeMatch(lesson, own);
+    } catch (error) {
+      return { isDone: false, text: errorWords(error, [own], this.host.meanings) };
+    }
+  }
+
+  /**
+   * @param {Lesson} lesson
+   * @returns {Verdict}
+   */
+  #judgeBattle(lesson) {
+    const { session } = this.host;
+    const names = this.#opponents(lesson).map(({ text }) => text);
+    const isShown = session.fight?.warriors.every(({ text }) => names.includes(text)) ?? false;
+    if (!isShown) return { isDone: false, text: "Watch the battle of this lesson first." };
+    const { turn, end, known } = session;
+    if (lesson.judge === "end") {
+      const isEnd = turn === end;
+      return { isDone: isEnd, text: isEnd ? "That is the end." : `Turn ${number(turn)} is not the last one.` };
+    }
+    if (lesson.judge === "saved") {
+      if (!session.opened?.edits.length) return { isDone: false, text: "You have edited no cell yet." };
+      const isSaved = known.deaths.length === 0;
+      const told = isSaved ? "Both survive: you changed history." : "In this future a warrior still dies.";
+      return { isDone: isSaved, text: told };
+    }
+    const isDeath = known.deaths.some((death) => death.turn === turn);
+    return { isDone: isDeath, text: isDeath ? "That is the turn." : `In turn ${number(turn)} no warrior dies.` };
+  }
+
+  /**
+   * @param {Lesson} lesson
+   * @param {Source} own
+   * @returns {Promise<Verdict>}
+   */
+  async #judgeMatch(lesson, own) {
+    const { pool } = this.host;
+    const { wins = 0, survives = 0, cells = Infinity } = lesson.goal;
+    const { cells: made } = await pool.ask("assemble", [own.text, { ...TERMS, warriors: 2 }], "lesson", 2);
+    const sources = [own, ...this.#opponents(lesson)];
+    const entered = await pool.ask("warriors", [sources, TERMS], "lesson", 1);
+    const [row] = await pool.ask("match", [entered.map(({ warrior }) => warrior), TERMS], "lesson", 1);
+    const told = `${made.length} cells; ${row.wins} won, ${row.ties} tied, ${row.losses} lost of ${ROUNDS}.`;
+    if (made.length > cells) return { isDone: false, text: `${told} Use at most ${cells} cells.` };
+    const isDone = row.wins >= wins && row.wins + row.ties >= survives;
+    return { isDone, text: `${told} ${isDone ? "Well done." : "Not yet."}` };
+  }
+}

@@ -1,0 +1,165 @@
+/** A fight as a text, for addresses and pages: sources, settings, edits, the turn, and the cell in view. */
+import { editText, parseEdit } from "../model/fight.js";
+import {
+  DEFAULTS,
+  FORMULA,
+  HILLS,
+  LARGEST_SEED,
+  LARGEST_SOURCE,
+  MOST_ROUNDS,
+  MOST_TURNS,
+  MOST_WARRIORS,
+  RANGES,
+  SETTINGS,
+  hillOf,
+} from "../model/settings.js";
+
+/** @typedef {import("../model/fight.js").Fight} Fight */
+/** @typedef {import("../model/settings.js").Settings} Settings */
+/** @typedef {{fight: Fight, turn: number, pinned: number | null}} Shared */
+/**
+ * What the address of a page selects of its fight: some of the warriors, a round and a turn.
+ * @typedef {{warriors?: number[], round?: number, turn?: number}} Selection
+ */
+
+const VERSION = 1;
+/** The maximum number of characters of a name and of a formula, and of edits. */
+const LONGEST_NAME = 100;
+const LONGEST_FORMULA = 256;
+const MOST_EDITS = 1000;
+const LAST_TURN = 1e9;
+
+/**
+ * @param {Uint8Array} bytes
+ * @param {CompressionStream | DecompressionStream} stream
+ */
+async function through(bytes, stream) {
+  return new Uint8Array(await new Response(new Blob([bytes]).stream().pipeThrough(stream)).arrayBuffer());
+}
+
+/** @param {Uint8Array} bytes */
+function base64(bytes) {
+  let text = "";
+  for (const byte of bytes) text += String.fromCharCode(byte);
+  return btoa(text).replaceAll("+", "-").replaceAll("/", "_").replace(/=+$/, "");
+}
+
+/**
+ * Returns the text of a fight: deflated JSON in base64url.
+ * @param {Shared} shared
+ */
+export async function pack({ fight, turn, pinned }) {
+  const { settings, seed, rounds, round, position, formula, warriors, edits } = fight;
+  const short = {
+    v: VERSION,
+    h: hillOf(settings) || settings,
+    s: seed,
+    n: rounds,
+    r: round || undefined,
+    p: position || undefined,
+    f: formula === FORMULA ? undefined : formula,
+    w: warriors.map(({ name, text }) => [name, text]),
+    e: edits.length ? edits.map((made) => [made.turn, editText(made.edit, settings.core)]) : undefined,
+    t: turn || undefined,
+    c: pinned ?? undefined,
+  };
+  const bytes = new TextEncoder().encode(JSON.stringify(short));
+  return base64(await through(bytes, new CompressionStream("deflate-raw")));
+}
+
+/**
+ * Returns a whole number of a stranger's link, or the usual one if it has none.
+ * @param {unknown} value
+ * @param {number} least
+ * @param {number} greatest
+ * @param {number} usual
+ */
+function whole(value, least, greatest, usual) {
+  if (value === undefined || value === null) return usual;
+  if (typeof value !== "number" || !Number.isInteger(value) || value < least || value > greatest) {
+    throw new Error("a number in it is out of range");
+  }
+  return value;
+}
+
+/**
+ * @param {unknown} given
+ * @returns {Settings}
+ */
+function readSettings(given) {
+  if (typeof given === "string" && Object.hasOwn(HILLS, given)) return HILLS[given];
+  if (typeof given !== "object" || given === null) throw new Error("it has no settings");
+  const found = /** @type {Record<string, unknown>} */ (given);
+  const entries = SETTINGS.map((name) => {
+    const { least, greatest } = RANGES[name];
+    return [name, whole(found[name], least, greatest, DEFAULTS[name])];
+  });
+  return Object.fromEntries(entries);
+}
+
+/** @param {unknown} given */
+function readSources(given) {
+  if (!Array.isArray(given) || given.length < 1) throw new Error("it has no sources");
+  return given.map((one) => {
+    const [name, text] = Array.isArray(one) ? one : [];
+    if (typeof name !== "string" || typeof text !== "string" || text.length > LARGEST_SOURCE) {
+      throw new Error("a source in it is damaged");
+    }
+    return { name: name.slice(0, LONGEST_NAME), text };
+  });
+}
+
+/**
+ * @param {unknown} given
+ * @param {number} core
+ */
+function readEdits(given, core) {
+  return (Array.isArray(given) ? given : []).slice(0, MOST_EDITS).map((one) => {
+    const edit = Array.isArray(one) && typeof one[1] === "string" ? parseEdit(one[1], core) : null;
+    if (!edit) throw new Error("an edit in it is damaged");
+    return { turn: whole(one[0], 0, LAST_TURN, 0), edit };
+  });
+}
+
+/**
+ * Returns the fight of a text, of which `selection` selects a part. Throws if it is damaged, or too long for this page.
+ * @param {string} text
+ * @param {Selection} selection
+ * @returns {Promise<Shared>}
+ */
+export async function unpack(text, selection = {}) {
+  const bytes = Uint8Array.from(atob(text.replaceAll("-", "+").replaceAll("_", "/")), (letter) => letter.charCodeAt(0));
+  const json = new TextDecoder().decode(await through(bytes, new DecompressionStream("deflate-raw")));
+  const short = JSON.parse(json);
+  if (short?.v !== VERSION) throw new Error("it is not a fight");
+  const settings = readSettings(short.h);
+  const all = readSources(short.w);
+  const warriors = (selection.warriors ?? [...all.keys()]).flatMap((index) => all[index] ?? []);
+  if (warriors.length < 1 || warriors.length > MOST_WARRIORS) throw new Error("it has too many warriors, or none");
+  if (settings.cycles * warriors.length > MOST_TURNS) throw new Error("its battle is too long for this page");
+  const rounds = whole(short.n, 1, MOST_ROUNDS, 100);
+  const round = Math.min(selection.round ?? whole(short.r, 0, rounds - 1, 0), rounds - 1);
+  const formula = typeof short.f === "string" ? short.f.slice(0, LONGEST_FORMULA) : FORMULA;
+  const position = whole(short.p, 0, settings.core, 0);
+  const seed = whole(short.s, 1, LARGEST_SEED, 1);
+  const edits = readEdits(short.e, settings.core);
+  const turn = selection.turn ?? whole(short.t, 0, LAST_TURN, 0);
+  const pinned = short.c === undefined ? null : whole(short.c, 0, settings.core - 1, 0);
+  return { fight: { settings, seed, rounds, round, position, formula, warriors, edits }, turn, pinned };
+}
+
+/**
+ * Returns what an address carries after its `#`: a fight as `f`, and a selection: `w=0,5` of its warriors, `r=3` its
+ * round, `t=100` its turn.
+ * @param {string} hash
+ * @returns {{text: string, selection: Selection}}
+ */
+export function readAddress(hash) {
+  const given = new URLSearchParams(hash.replace(/^#/, ""));
+  const numbers = (/** @type {string} */ name) => {
+    const text = given.get(name) ?? "";
+    return /^\d{1,9}(,\d{1,9})*$/.test(text) ? text.split(",").map(Number) : undefined;
+  };
+  const [warriors, rounds, turns] = [numbers("w"), numbers("r"), numbers("t")];
+  return { text: given.get("f") ?? "", selection: { warriors, round: rounds?.[0], turn: turns?.[0] } };
+}

@@ -1,0 +1,52 @@
+/** What the page is made of: the machine, the script of its workers, and its data; beside the page, or inside it. */
+
+/** @typedef {import("../model/fight.js").Source} Source */
+/** @typedef {import("../worker/pool.js").Parts} Parts */
+/** @typedef {{examples: Source[], lessons: import("./lessons.js").Lesson[], meanings: Record<string, string>}} Data */
+
+/** The page as it was loaded: a page that is saved is made of it. */
+const loaded = document.documentElement.outerHTML;
+const FIGHT = /(<script id="page-fight" type="text\/plain">)[^<]*(<\/script>)/;
+
+/** @param {string} id */
+const textOf = (id) => document.getElementById(id)?.textContent?.trim() ?? "";
+
+/** @param {string} text */
+async function inflated(text) {
+  const bytes = Uint8Array.from(atob(text), (letter) => letter.charCodeAt(0));
+  return new Response(new Blob([bytes]).stream().pipeThrough(new DecompressionStream("gzip"))).arrayBuffer();
+}
+
+/** Returns the examples, the lessons and what errors mean. */
+export function data() {
+  return /** @type {Data} */ (JSON.parse(textOf("data")));
+}
+
+/** Returns the fight that is inside the page, or "". */
+export const ownFight = () => textOf("page-fight");
+
+/** @returns {Promise<Parts>} */
+export async function parts() {
+  const [machine, worker] = [textOf("mars-code"), textOf("worker-code")];
+  if (machine && worker) {
+    const script = URL.createObjectURL(new Blob([worker], { type: "text/javascript" }));
+    return { script, module: await WebAssembly.compile(await inflated(machine)) };
+  }
+  const answer = await fetch("mars.wasm");
+  if (!answer.ok) throw new Error(`mars.wasm: ${answer.status} ${answer.statusText}`);
+  return { script: "worker.js", module: await WebAssembly.compile(await answer.arrayBuffer()) };
+}
+
+/**
+ * Returns the page in one file, with a fight in it.
+ * @param {string} fight
+ */
+export async function pageWith(fight) {
+  const isOne = textOf("mars-code") !== "";
+  const answer = isOne ? null : await fetch("one.html");
+  if (answer && !answer.ok) throw new Error(`one.html: ${answer.status} ${answer.statusText}`);
+  const html = answer ? await answer.text() : `<!DOCTYPE html>\n${loaded}`;
+  // While the script of the page runs, the page has not ended.
+  const rest = html.includes("</html>") ? "" : "\n</body></html>\n";
+  return html.replace(FIGHT, (_, start, end) => start + fight + end) + rest;
+}

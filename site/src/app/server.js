@@ -1,0 +1,88 @@
+/**
+ * The user's folder, if a server on this machine has one: sources are read from it and saved there, leagues run by it.
+ */
+
+/** @typedef {import("../model/fight.js").Source} Source */
+/** @typedef {import("../view/league.js").Result} Result */
+/** @typedef {import("../view/host.js").MatchTerms} MatchTerms */
+/**
+ * `seen` names the content that was read.
+ * @typedef {{name: string, text: string, seen: string, isExample: boolean}} Kept
+ */
+/** @typedef {{name: string, fault: string}} LeftOut a file that was not read, and why */
+
+const META = document.querySelector("meta[name=corewar-server]");
+/** The name of the folder for what the browser keeps of it, or "". */
+export const folderKey = META?.getAttribute("data-key") ?? "";
+
+export class Server {
+  /** @type {Map<string, string>} */
+  #seen = new Map();
+
+  /**
+   * @param {string} path
+   * @param {(Kept | LeftOut)[]} all
+   */
+  constructor(path, all) {
+    const sources = all.flatMap((one) => ("fault" in one ? [] : one));
+    this.path = path;
+    this.sources = sources;
+    this.faults = all.flatMap((one) => ("fault" in one ? one.fault : []));
+    for (const { name, seen, isExample } of sources) if (!isExample) this.#seen.set(name, seen);
+  }
+
+  /** Returns the server of this page, or null if it is only files. */
+  static async find() {
+    const path = META?.getAttribute("content");
+    if (!path) return null;
+    const answer = await fetch(`${path}/sources`);
+    if (!answer.ok) throw new Error(`the folder cannot be read: ${(await answer.json()).fault ?? answer.status}`);
+    return new Server(path, await answer.json());
+  }
+
+  /**
+   * Saves a source. Returns null, or why it was not saved.
+   * @param {string} name
+   * @param {string} text
+   * @param {boolean} isForced whether a file that something else changed is overwritten
+   */
+  async save(name, text, isForced) {
+    const path = `${this.path}/sources/${encodeURIComponent(name)}`;
+    const put = (/** @type {string} */ seen) => fetch(path, { method: "PUT", body: JSON.stringify({ text, seen }) });
+    try {
+      let answer = await put(this.#seen.get(name) ?? "");
+      if (answer.status === 409 && isForced) answer = await put((await answer.json()).seen);
+      const { fault, seen } = await answer.json();
+      if (answer.ok) this.#seen.set(name, seen);
+      return answer.ok ? null : { text: fault, isOther: answer.status === 409 };
+    } catch {
+      return { text: "the server does not answer; start `corewar web` again", isOther: false };
+    }
+  }
+
+  /**
+   * Runs a league on the processors of this machine, with the results that are stored.
+   * @param {Source[]} sources
+   * @param {MatchTerms} terms
+   * @returns {AsyncGenerator<Result[]>}
+   */
+  async *league(sources, terms) {
+    const answer = await fetch(`${this.path}/league`, { method: "POST", body: JSON.stringify({ sources, ...terms }) });
+    if (!answer.ok || !answer.body) throw new Error((await answer.json()).fault);
+    const reader = answer.body.pipeThrough(new TextDecoderStream()).getReader();
+    let rest = "";
+    for (let part = await reader.read(); !part.done; part = await reader.read()) {
+      const lines = (rest + part.value).split("\n");
+      rest = lines.pop() ?? "";
+      for (const line of lines) yield JSON.parse(line).map(resultOf);
+    }
+  }
+}
+
+/**
+ * @param {number[]} counts two sources; points, wins, ties and losses of the first one; points of the other one
+ * @returns {Result}
+ */
+function resultOf([one, other, points, wins, ties, losses, theirs]) {
+  return [one, other, { points, wins, ties, losses }, { points: theirs, wins: losses, ties, losses: wins }];
+}

@@ -1,0 +1,53 @@
+/** A link to the fight that is shown, and a page in one file. */
+import { download, element, onClick, typed } from "../view/dom.js";
+import { number } from "../words/battle.js";
+import { pack } from "./link.js";
+import { pageWith } from "./parts.js";
+
+/** @typedef {import("../view/session.js").Session} Session */
+
+/** Some programs cut addresses that are longer. */
+const LONGEST = 8000;
+
+/**
+ * Returns the text of the fight that is shown, with its edits, its turn and the cell in view.
+ * @param {Session} session
+ */
+export function shared(session) {
+  const { fight, opened, turn, pinned } = session;
+  if (!fight || !opened) throw new Error("no battle is open");
+  return pack({ fight: { ...fight, edits: opened.edits }, turn, pinned });
+}
+
+/** @param {Session} session */
+export function listenToShare(session) {
+  const note = (/** @type {string} */ text) => (element("link-note").textContent = text);
+  onClick("share", async () => {
+    session.stop();
+    const link = `${location.href.split("#")[0]}#f=${await shared(session)}`;
+    const field = typed("link", HTMLInputElement);
+    field.value = link;
+    const isLong = link.length > LONGEST;
+    note(isLong ? `The link has ${number(link.length)} characters, which some programs cut. A page has no limit.` : "");
+    typed("sharing", HTMLDialogElement).showModal();
+    field.select();
+  });
+  onClick("copy", async () => {
+    const field = typed("link", HTMLInputElement);
+    field.select();
+    try {
+      await navigator.clipboard.writeText(field.value);
+      note("Copied.");
+    } catch {
+      note("The browser does not let the page copy; the link is selected: press Ctrl-C.");
+    }
+  });
+  onClick("page", async () => {
+    const name = session.known.names.join("-").replace(/[^\w-]+/g, "_") || "battle";
+    try {
+      download(`${name}.html`, await pageWith(await shared(session)), "text/html");
+    } catch (error) {
+      note(`The page cannot be made: ${/** @type {Error} */ (error).message}`);
+    }
+  });
+}

@@ -1,0 +1,36 @@
+/** What is kept in this browser, if it lets the page do that; of each folder by itself. */
+import { folderKey } from "./server.js";
+
+/** @typedef {{name: string, text: string, saved: string, isExample: boolean, fights: boolean}} KeptSource */
+/**
+ * @typedef {object} Kept
+ * @property {KeptSource[]} [sources]
+ * @property {string} [shown] the source in the editor
+ * @property {import("../view/host.js").MatchTerms} [terms]
+ * @property {string} [theme] "light" or "dark"
+ * @property {boolean} [desk] whether the editor is shown
+ * @property {string[]} [done] lessons
+ */
+
+const NAME = `corewar ${folderKey}`.trim();
+
+/** @returns {Kept} */
+function read() {
+  try {
+    return JSON.parse(localStorage.getItem(NAME) ?? "{}");
+  } catch {
+    return {};
+  }
+}
+
+export const kept = read();
+
+/** @param {Kept} changes */
+export function keep(changes) {
+  Object.assign(kept, changes);
+  try {
+    localStorage.setItem(NAME, JSON.stringify(kept));
+  } catch {
+    // The browser doesn't let the page, or it is full: the page works without.
+  }
+}

@@ -1,0 +1,90 @@
+/** The terms of matches: a hill or own settings, seed, rounds, position and score formula. */
+import { DEFAULTS, FORMULA, HILLS, LARGEST_SEED, MOST_ROUNDS, RANGES, SETTINGS, hillOf } from "../model/settings.js";
+import { clamp, element, make, onClick, typed } from "../view/dom.js";
+
+/** @typedef {import("../model/settings.js").Settings} Settings */
+/** @typedef {import("../view/host.js").MatchTerms} MatchTerms */
+
+/** The choice of own settings. */
+const OWN = "";
+
+export class Terms {
+  #settings = DEFAULTS;
+  #position = 0;
+  #formula = FORMULA;
+
+  /**
+   * @param {(isShown: boolean) => void} changed the terms have changed; `isShown`: so has the battle that is shown
+   */
+  constructor(changed) {
+    this.hill = typed("hill", HTMLSelectElement);
+    this.seed = typed("seed", HTMLInputElement);
+    this.rounds = typed("rounds", HTMLInputElement);
+    this.changed = changed;
+    this.hill.append(...Object.keys(HILLS).map((name) => make("option", { value: name }, name)));
+    this.hill.append(make("option", { value: OWN }, "own …"));
+    element("terms").addEventListener("submit", (event) => event.preventDefault());
+    this.hill.onchange = () => this.#choose();
+    this.seed.onchange = () => changed(true);
+    this.rounds.onchange = () => changed(false);
+    this.#openDialog();
+  }
+
+  /** @returns {MatchTerms} */
+  get value() {
+    return {
+      settings: this.#settings,
+      seed: clamp(Math.round(Number(this.seed.value)) || 1, 1, LARGEST_SEED),
+      rounds: clamp(Math.round(Number(this.rounds.value)) || 100, 1, MOST_ROUNDS),
+      position: this.#position,
+      formula: this.#formula,
+    };
+  }
+
+  set value({ settings, seed, rounds, position, formula }) {
+    this.#settings = { ...DEFAULTS, ...settings };
+    this.#position = position;
+    this.#formula = formula;
+    this.hill.value = hillOf(this.#settings);
+    this.seed.value = String(seed);
+    this.rounds.value = String(rounds);
+  }
+
+  #choose() {
+    if (this.hill.value === OWN) {
+      this.#fill();
+      typed("own", HTMLDialogElement).showModal();
+      return;
+    }
+    this.#settings = HILLS[this.hill.value];
+    this.changed(true);
+  }
+
+  #openDialog() {
+    const fields = SETTINGS.map((name) => {
+      const { name: title, least, greatest } = RANGES[name];
+      const field = make("input", { id: `own-${name}`, type: "number", min: least, max: greatest, required: true });
+      return make("label", {}, title, field);
+    });
+    element("own-settings").append(...fields);
+    onClick("own-cancel", () => typed("own", HTMLDialogElement).close());
+    const dialog = typed("own", HTMLDialogElement);
+    dialog.addEventListener("close", () => (this.hill.value = hillOf(this.#settings)));
+    element("own-form").addEventListener("submit", () => this.#take());
+  }
+
+  #fill() {
+    for (const name of SETTINGS) typed(`own-${name}`, HTMLInputElement).value = String(this.#settings[name]);
+    typed("own-position", HTMLInputElement).value = String(this.#position);
+    typed("own-formula", HTMLInputElement).value = this.#formula;
+  }
+
+  #take() {
+    const number = (/** @type {string} */ id) => Number(typed(id, HTMLInputElement).value);
+    const entries = SETTINGS.map((name) => [name, number(`own-${name}`)]);
+    this.#settings = /** @type {Settings} */ (Object.fromEntries(entries));
+    this.#position = number("own-position");
+    this.#formula = typed("own-formula", HTMLInputElement).value.trim() || FORMULA;
+    this.changed(true);
+  }
+}

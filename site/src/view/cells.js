@@ -1,0 +1,213 @@
+/** The cells around the one that is looked at: their texts, which can be edited, and who changed that one when. */
+import { cellText, readCell } from "../model/cells.js";
+import { number, ownerName } from "../words/battle.js";
+import { instructionWords } from "../words/instruction.js";
+import { buttons, element, make, onClick, refill, settled } from "./dom.js";
+import { swatch } from "./palette.js";
+
+/** @typedef {import("../battle/conditions.js").Word} Word */
+/** @typedef {import("../worker/desk.js").View} View */
+/** @typedef {import("./session.js").Session} Session */
+/** @typedef {import("./side.js").Side} Side */
+
+/** The number of cells before and after the one that is looked at. */
+const AROUND = 4;
+const DONE = { at: "executed", changes: "changed", reads: "read" };
+const NOT_A_LINE = "This is not an instruction: write it as in a source, such as `jmp -3` or `dat #0, #0`.";
+
+export class Cells {
+  #isEditing = false;
+  #asked = "";
+
+  /**
+   * @param {Session} session
+   * @param {Side} side
+   */
+  constructor(session, side) {
+    this.session = session;
+    this.side = side;
+    this.look = settled(() => this.#list(), 40);
+    onClick("release", () => session.pin(null));
+    for (const button of buttons("#seek button")) {
+      button.onclick = () => this.#seek(button, /** @type {keyof typeof DONE} */ (button.dataset.word));
+    }
+    session.listen((change) => {
+      element("cell-box").hidden = session.way !== 0 && session.pinned === null;
+      if (change !== "play" || session.way === 0) this.look();
+    });
+  }
+
+  /**
+   * Goes to the turn after or before which something happens to the pinned cell.
+   * @param {HTMLButtonElement} button
+   * @param {keyof typeof DONE} word
+   */
+  async #seek(button, word) {
+    const { session } = this;
+    const { pinned } = session;
+    if (pinned === null) return;
+    const forward = button.dataset.way === "on";
+    button.disabled = true;
+    const found = await session.leap([{ word, first: pinned }], forward);
+    button.disabled = false;
+    button.focus();
+    if (found) return;
+    const when = `${forward ? "after" : "before"} turn ${number(session.turn)}`;
+    element("cell-words").textContent = `Cell ${number(pinned)} is not ${DONE[word]} ${when}.`;
+  }
+
+  /** The address that is looked at. */
+  get focus() {
+    const { pinned, view, known } = this.session;
+    return pinned ?? view?.head ?? Math.max(0, known.deaths.at(-1)?.address ?? 0);
+  }
+
+  #list() {
+    const { session, focus } = this;
+    const { view, known, pinned, way } = session;
+    if (!view || this.#isEditing || (way && pinned === null)) return;
+    const next = `Next: ${known.names[view.next]} at ${number(focus)}`;
+    element("where").textContent = pinned !== null ? `Cell ${number(pinned)}` : view.head === null ? "The end" : next;
+    element("release").hidden = element("seek").hidden = pinned === null;
+    const standing = this.#standing(view);
+    const count = Math.min(2 * AROUND + 1, known.core);
+    const lines = Array.from({ length: count }, (_, index) => {
+      const address = (focus - AROUND + index + known.core) % known.core;
+      return this.#line(view, address, standing.get(address) ?? []);
+    });
+    refill(element("listing"), ...lines);
+    element("cell-words").textContent = instructionWords(readCell(view.cells, focus), { core: known.core });
+    if (!way) this.#tellChanges(view);
+  }
+
+  /**
+   * Returns the warriors with processes on the cells of the list, and how many.
+   * @param {View} view
+   */
+  #standing({ queues, processes }) {
+    const { core } = this.session.known;
+    /** @type {Map<number, {who: number, many: number}[]>} */
+    const found = new Map();
+    let first = 0;
+    processes.forEach((count, who) => {
+      for (const address of queues.subarray(first, first + count)) {
+        if ((address - this.focus + AROUND + core) % core > 2 * AROUND) continue;
+        const here = found.get(address) ?? [];
+        const own = here.find((one) => one.who === who);
+        if (own) own.many++;
+        else found.set(address, [...here, { who, many: 1 }]);
+      }
+      first += count;
+    });
+    return found;
+  }
+
+  /**
+   * @param {View} view
+   * @param {number} address
+   * @param {{who: number, many: number}[]} standing
+   */
+  #line(view, address, standing) {
+    const { session, side } = this;
+    const { known, opened } = session;
+    const colour = (/** @type {number} */ who) => (opened && who < known.names.length ? swatch(opened.order[who]) : "");
+    const cell = readCell(view.cells, address);
+    const text = cellText(cell, known.core);
+    const sentence = instructionWords(cell, { core: known.core });
+    const line = side.lineOf(address);
+    const origin = line ? `${line.name}, line ${line.line}: ${line.text}` : "";
+    const button = make("button", { className: "text", title: `${sentence} A click edits it.` }, text);
+    button.onclick = () => this.#edit(address, text, button);
+    const look = { className: "address", title: "Look at it", onclick: () => session.pin(address) };
+    const names = standing.map(({ who, many }) => known.names[who] + (many > 1 ? ` ×${many}` : "")).join(", ");
+    const chips = standing.flatMap(({ who, many }) => [
+      make("i", { className: "chip", style: colour(who) }),
+      many > 1 ? `×${number(many)}` : "",
+    ]);
+    return make(
+      "li",
+      { className: address === this.focus ? "focus" : "", style: colour(view.owner[address]) },
+      make("button", look, number(address)),
+      make("span", { className: "label", title: origin }, known.labels.get(address) ?? ""),
+      button,
+      make("em", { title: names, "aria-label": names ? `Processes: ${names}` : null }, ...chips),
+    );
+  }
+
+  /**
+   * Lists the last changes of the cell that is looked at, and the next one.
+   * @param {View} view
+   */
+  async #tellChanges(view) {
+    const { session, focus } = this;
+    const { known, future } = session;
+    const asked = (this.#asked = `${future} ${focus} ${view.turn}`);
+    const { changes, next } = await session.desk.cell(future, focus, view.turn);
+    if (asked !== this.#asked) return;
+    const link = (/** @type {number} */ turn, /** @type {string} */ text) =>
+      make("button", { className: "link", onclick: () => session.jump(turn) }, text);
+    const lines = changes.map(({ turn, warrior, before }) => {
+      const to = turn === session.turn ? turn - 1 : turn;
+      const code = make("code", {}, cellText(readCell(before, 0), known.core));
+      return make("li", {}, link(to, `Turn ${number(turn)}`), ` ${known.names[warrior]}; before: `, code);
+    });
+    const owner = view.owner[focus];
+    const loaded = owner < known.names.length ? `Loaded with ${ownerName(owner, known)}, and not changed since.` : "";
+    const when = view.written[focus];
+    const unchanged = when ? `Edited after turn ${number(when)}.` : loaded || "Not changed since the start.";
+    if (!lines.length) lines.push(make("li", {}, unchanged));
+    if (next !== null) lines.push(make("li", {}, "Changes next in ", link(next, `turn ${number(next)}`)));
+    const source = make("li", {}, this.side.lineLink(focus));
+    refill(element("past"), ...lines, source.childNodes.length ? source : null);
+  }
+
+  /**
+   * Lets a cell be edited in its place.
+   * @param {number} address
+   * @param {string} text
+   * @param {HTMLElement} button
+   */
+  #edit(address, text, button) {
+    this.session.stop();
+    this.#isEditing = true;
+    const named = { "aria-label": `Cell ${address}`, spellcheck: false, autocapitalize: "off" };
+    const input = make("input", { value: text, ...named });
+    const done = () => {
+      this.#isEditing = false;
+      input.onblur = null;
+      input.replaceWith(button);
+      this.look();
+    };
+    input.onblur = done;
+    input.onkeydown = async (event) => {
+      if (event.key !== "Enter" && event.key !== "Escape") return;
+      event.preventDefault();
+      event.stopPropagation();
+      if (event.key === "Escape") done();
+      else if (await this.#take(address, input)) {
+        done();
+        button.focus();
+      }
+    };
+    button.replaceWith(input);
+    input.select();
+  }
+
+  /**
+   * Edits a cell by the text of a field. Returns whether that is an instruction.
+   * @param {number} address
+   * @param {HTMLInputElement} input
+   */
+  async #take(address, input) {
+    try {
+      const cell = await this.session.cellOf(input.value, address);
+      input.onblur = null;
+      await this.session.edit({ kind: "cell", address, last: address, cell });
+      return true;
+    } catch {
+      input.setAttribute("aria-invalid", "true");
+      input.title = NOT_A_LINE;
+      return false;
+    }
+  }
+}

@@ -1,0 +1,395 @@
+/** The debugger's line: commands over the battle that is shown, as `corewar debug` has them. */
+import { cellText, readCell } from "../model/cells.js";
+import { editText } from "../model/fight.js";
+import { eventWords, moveWords, number, place, standingWords } from "../words/battle.js";
+import { instructionWords } from "../words/instruction.js";
+
+/** @typedef {import("../battle/conditions.js").Condition} Condition */
+/** @typedef {import("../model/fight.js").Edit} Edit */
+/** @typedef {import("./session.js").Session} Session */
+/** @typedef {(session: Session, rest: string) => Promise<string[]> | string[]} Act */
+/** @typedef {{usage: string, meaning: string, short: string[], act: Act}} Command */
+
+/** The number of cells that `list` shows. */
+const CELLS = 11;
+const CONDITIONS = "expected a condition: at, changes or reads A[..B] [by W], or splits, ends or dies W";
+
+/** Why a command was not done. */
+export class Refused extends Error {}
+
+/**
+ * @param {string} text
+ * @param {string} what
+ */
+function readNumber(text, what) {
+  if (!/^\d{1,9}$/.test(text)) throw new Refused(`expected ${what}, not \`${text}\``);
+  return Number(text);
+}
+
+/**
+ * Returns a warrior by its number or its name.
+ * @param {Session} session
+ * @param {string} text
+ */
+function readWarrior({ known: { names } }, text) {
+  if (/^\d+$/.test(text) && Number(text) < names.length) return Number(text);
+  const exact = names.indexOf(text);
+  const warrior = exact >= 0 ? exact : names.findIndex((name) => name.toLowerCase() === text.toLowerCase());
+  if (warrior >= 0) return warrior;
+  const told = names.map((name, index) => `${index} ${name}`).join(", ");
+  throw new Refused(`no warrior \`${text}\`; the warriors are ${told}`);
+}
+
+/**
+ * Returns an address: a number, a label, or `.`, the cell that is executed next, each with or without +N or -N.
+ * @param {Session} session
+ * @param {string} text
+ */
+function readAddress({ known: { core }, view, opened }, text) {
+  const found = /^(\.|[\w.]+?)((?:[+-]\d{1,9})*)$/.exec(text);
+  const base = found?.[1] ?? "";
+  if (base === "." && view?.head === null) throw new Refused("`.` is the cell to execute next, but the battle is over");
+  const label = labels(opened?.labels ?? []).get(base);
+  const at = base === "." ? (view?.head ?? 0) : (label ?? (/^\d{1,9}$/.test(base) ? Number(base) : core));
+  const wanted = `a number below ${core}, a label or \`.\``;
+  if (!found || at >= core) throw new Refused(`\`${text}\` is not an address: ${wanted}`);
+  const added = (found[2].match(/[+-]\d+/g) ?? []).reduce((sum, part) => sum + Number(part), 0);
+  return (((at + added) % core) + core) % core;
+}
+
+/**
+ * Returns the addresses of labels. A label of several warriors is that of the first one; `1.bomb` is that of warrior 1.
+ * @param {{address: number, name: string, warrior: number}[]} all
+ */
+function labels(all) {
+  const found = new Map([...all].reverse().map(({ name, address }) => [name, address]));
+  for (const { name, address, warrior } of all) found.set(`${warrior}.${name}`, address);
+  return found;
+}
+
+/**
+ * @param {Session} session
+ * @param {string} text
+ * @returns {Condition}
+ */
+function readCondition(session, text) {
+  const [word, range, by, ...rest] = text.split(/\s+/);
+  if (word === "at" || word === "changes" || word === "reads") {
+    if (!range || (by !== undefined && (by !== "by" || !rest.length))) throw new Refused(CONDITIONS);
+    const [from, to = from] = range.split("..");
+    /** @type {Condition} */
+    const cells = { word, first: readAddress(session, from), last: readAddress(session, to) };
+    return by === undefined ? cells : { ...cells, by: readWarrior(session, rest.join(" ")) };
+  }
+  if ((word === "splits" || word === "ends" || word === "dies") && range) {
+    return { word, first: readWarrior(session, text.slice(word.length).trim()) };
+  }
+  throw new Refused(CONDITIONS);
+}
+
+/**
+ * @param {Session} session
+ * @param {Condition} condition
+ */
+export function conditionWords({ known }, { word, first, last = first, by }) {
+  if (word === "splits" || word === "ends" || word === "dies") return `${word} ${known.names[first]}`;
+  const range = last === first ? place(first, known) : `${place(first, known)}..${place(last, known)}`;
+  return `${word} ${range}${by === undefined ? "" : ` by ${known.names[by]}`}`;
+}
+
+/**
+ * Returns what the turn that is shown did, and what comes next.
+ * @param {Session} session
+ */
+function here({ view, move, known, turn }) {
+  const told = turn > 0 && move ? [`turn ${number(turn)}: ${moveWords(move, known)}`] : [];
+  if (!view || view.head === null) return [...told, "the battle is over"];
+  const cell = cellText(readCell(view.cells, view.head), known.core);
+  return [...told, `next: ${known.names[view.next]} at ${place(view.head, known)}: ${cell}`];
+}
+
+/**
+ * @param {Session} session
+ * @param {string} rest
+ * @param {1 | -1} sign
+ */
+async function step(session, rest, sign) {
+  if (!rest || /^\d+$/.test(rest)) {
+    await session.jump(session.turn + sign * readNumber(rest || "1", "a number of turns"));
+  } else {
+    const warrior = readWarrior(session, rest);
+    const found = await session.leap([{ word: "moves", first: warrior }], sign > 0);
+    const when = `${sign > 0 ? "after" : "before"} turn ${session.turn}`;
+    if (!found) throw new Refused(`${session.known.names[warrior]} has no turn ${when}`);
+  }
+  return here(session);
+}
+
+/**
+ * @param {Session} session
+ * @param {string} rest
+ * @param {boolean} forward
+ */
+async function search(session, rest, forward) {
+  const conditions = rest ? [readCondition(session, rest)] : session.breaks;
+  if (!conditions.length) throw new Refused("no breakpoint is set; use `break CONDITION` or add a condition");
+  const found = await session.leap(conditions, forward);
+  if (!found) throw new Refused(`not found ${forward ? "after" : "before"} turn ${session.turn}`);
+  return [`${conditionWords(session, conditions[found.index])}:`, ...here(session)];
+}
+
+/**
+ * @param {Session} session
+ * @param {string} rest
+ */
+async function goto(session, rest) {
+  const { end } = session;
+  const turn = rest === "start" ? 0 : rest === "end" ? end : readNumber(rest, "a turn, `start` or `end`");
+  if (turn > end) throw new Refused(`the battle has turns 0 to ${end}`);
+  await session.jump(turn);
+  return here(session);
+}
+
+/**
+ * @param {Session} session
+ * @param {string} rest
+ */
+async function until(session, rest) {
+  const cycle = readNumber(rest, "a number of cycles");
+  if ((session.view?.cycle ?? 0) >= cycle) throw new Refused(`cycle ${cycle} is already completed; use \`goto\``);
+  const turn = await session.desk.until(session.future, cycle);
+  if (turn === null) throw new Refused(`the battle ends before cycle ${cycle} is completed`);
+  await session.jump(turn);
+  return here(session);
+}
+
+/** @param {Session} session */
+const listBreaks = (session) =>
+  session.breaks.map((one, index) => `breakpoint ${index}: ${conditionWords(session, one)}`);
+
+/** @type {Act} */
+function setBreak(session, rest) {
+  if (rest) session.breaks.push(readCondition(session, rest));
+  return listBreaks(session);
+}
+
+/** @type {Act} */
+function deleteBreak(session, rest) {
+  if (rest === "all") session.breaks = [];
+  else if (!/^\d+$/.test(rest) || Number(rest) >= session.breaks.length) {
+    throw new Refused(`no breakpoint \`${rest}\`; expected a number or \`all\``);
+  } else session.breaks.splice(Number(rest), 1);
+  return listBreaks(session);
+}
+
+/**
+ * Assembles a line of source for an address.
+ * @param {Session} session
+ * @param {string} line
+ * @param {number} address
+ */
+async function readCellLine(session, line, address) {
+  try {
+    return await session.cellOf(line, address);
+  } catch {
+    throw new Refused(`\`${line}\` is not an instruction`);
+  }
+}
+
+/**
+ * Edits, and says what was edited.
+ * @param {Session} session
+ * @param {Edit} edit
+ */
+async function make(session, edit) {
+  const { turn, known } = session;
+  try {
+    await session.edit(edit);
+  } catch (error) {
+    throw new Refused(`the machine refuses \`${editText(edit, known.core)}\`: ${/** @type {Error} */ (error).message}`);
+  }
+  return [`after turn ${number(turn)}: ${editText(edit, known.core)}`];
+}
+
+/** @type {Act} */
+async function edit(session, rest) {
+  const [where, ...line] = rest.split(/\s+/);
+  const address = readAddress(session, where);
+  const cell = await readCellLine(session, line.join(" "), address);
+  return make(session, { kind: "cell", address, last: address, cell });
+}
+
+/** @type {Act} */
+async function fill(session, rest) {
+  const [from, to, ...line] = rest.split(/\s+/);
+  if (!line.length) throw new Refused("expected two addresses and a line of source");
+  const [address, last] = [readAddress(session, from), readAddress(session, to)];
+  if (last < address) throw new Refused(`cannot fill ${address} to ${last}: the first address is above the last`);
+  return make(session, { kind: "cell", address, last, cell: await readCellLine(session, line.join(" "), address) });
+}
+
+/**
+ * Splits the rest of a line into the name of a warrior and some words after it.
+ * @param {Session} session
+ * @param {string} rest
+ * @param {number} count
+ */
+function split(session, rest, count) {
+  const words = rest.split(/\s+/);
+  if (words.length <= count) throw new Refused("expected a warrior and more: see `help`");
+  return { warrior: readWarrior(session, words.slice(0, -count).join(" ")), words: words.slice(-count) };
+}
+
+/** @type {Act} */
+async function move(session, rest) {
+  const { warrior, words } = split(session, rest, 2);
+  const at = readNumber(words[0], "the index of a process");
+  return make(session, { kind: "move", warrior, place: at, address: readAddress(session, words[1]) });
+}
+
+/** @type {Act} */
+async function kill(session, rest) {
+  const { warrior, words } = split(session, rest, 1);
+  return make(session, { kind: "kill", warrior, place: readNumber(words[0], "the index of a process") });
+}
+
+/** @type {Act} */
+async function spawn(session, rest) {
+  const { warrior, words } = split(session, rest, 1);
+  return make(session, { kind: "add", warrior, address: readAddress(session, words[0]) });
+}
+
+/** @type {Act} */
+async function futures(session, rest) {
+  if (rest) {
+    const future = readNumber(rest, "the number of a future");
+    const last = session.futures.length - 1;
+    if (future > last) throw new Refused(`no future ${future}; there are futures 0 to ${last}`);
+    await session.showFuture(future);
+  }
+  return session.futures.map(({ edits, end }, index) => {
+    const made = edits.map((one) => `after turn ${one.turn}: ${editText(one.edit, session.known.core)}`);
+    return `${index === session.future ? ">" : " "} ${index}: ${made.join("; ") || "no edits"}; ${end} turns`;
+  });
+}
+
+/** @type {Act} */
+function list(session, rest) {
+  const { view, known } = session;
+  if (!view) return [];
+  const [where, count] = rest.split(/\s+/);
+  const first = where ? readAddress(session, where) : (view.head ?? 0);
+  const most = Math.min(count ? readNumber(count, "a number of cells") : CELLS, known.core, 1000);
+  return Array.from({ length: most }, (_, index) => {
+    const address = (first + index) % known.core;
+    const cell = cellText(readCell(view.cells, address), known.core);
+    const label = (known.labels.get(address) ?? "").padEnd(10);
+    return `${address === view.head ? ">" : " "} ${String(address).padStart(6)} ${label} ${cell}`;
+  });
+}
+
+/** @type {Act} */
+function queue(session, rest) {
+  const { view, known } = session;
+  if (!view) return [];
+  const warrior = rest ? readWarrior(session, rest) : view.next;
+  const first = view.processes.slice(0, warrior).reduce((sum, count) => sum + count, 0);
+  return [`${known.names[warrior]}: ${[...view.queues.subarray(first, first + view.processes[warrior])].join(" ")}`];
+}
+
+/** @type {Act} */
+function show({ view, known, end }) {
+  if (!view) return [];
+  const state = view.turn === end ? "over" : `of ${number(end)} turns`;
+  const standing = standingWords(known.names, view);
+  return [`turn ${number(view.turn)}, cycle ${number(view.cycle)}, battle ${state}`, ...standing];
+}
+
+/** @type {Act} */
+function why(session, rest) {
+  const { known, view } = session;
+  const deaths = known.deaths.filter(({ turn }) => turn <= session.turn);
+  const death = rest ? deaths.find(({ warrior }) => warrior === readWarrior(session, rest)) : deaths.at(-1);
+  if (death) return [eventWords(death, known)];
+  if (rest) return [`${known.names[readWarrior(session, rest)]} has not died by turn ${session.turn}`];
+  if (!view || view.head === null) return here(session).slice(-1);
+  return [...here(session).slice(-1), instructionWords(readCell(view.cells, view.head), { core: known.core })];
+}
+
+/** @type {Act} */
+async function changed(session, rest) {
+  const address = readAddress(session, rest);
+  const { changes } = await session.desk.cell(session.future, address, session.turn);
+  const { known } = session;
+  const text = (/** @type {Uint32Array} */ words) => cellText(readCell(words, 0), known.core);
+  if (!changes.length) return [`cell ${place(address, known)} was changed by no turn up to here`];
+  const [{ turn, warrior, before, after }] = changes;
+  return [`turn ${number(turn)}: ${known.names[warrior]}; ${place(address, known)}: ${text(before)} -> ${text(after)}`];
+}
+
+/** @type {Act} */
+const help = () => [...COMMANDS.map(({ usage, meaning }) => `${usage.padEnd(24)} ${meaning}`), "", ...HELP];
+const HELP = [
+  "A CONDITION: at, changes or reads A[..B] [by W], or splits, ends or dies W.",
+  "An address A is a number, a label, or `.` (the cell to execute next), with or without +N or -N.",
+  "A warrior W is a number or a name. Commands can be abbreviated.",
+];
+
+/**
+ * @param {string} usage
+ * @param {string} meaning
+ * @param {Act} act
+ * @param {string[]} short
+ * @returns {Command}
+ */
+const command = (usage, meaning, act, ...short) => ({ usage, meaning, short, act });
+
+/** @type {Act} */
+const run = (session, rest) => step(session, rest || String(session.end), 1);
+
+/** @type {Act} */
+const undo = (session) => session.undo().then(() => here(session));
+
+/** @type {Act} */
+const redo = (session) => session.redo().then(() => here(session));
+
+export const COMMANDS = [
+  command("step [N|W]", "one turn, N turns, or to the next turn of warrior W", (s, rest) => step(s, rest, 1), "s", "n"),
+  command("reverse-step [N|W]", "step back in the same way", (s, rest) => step(s, rest, -1), "rs", "back"),
+  command("run [N]", "N turns, or all that are left", run, "r"),
+  command("goto T", "go to turn T, `start` or `end`", goto, "g"),
+  command("until C", "execute turns until C cycles are completed", until),
+  command("continue [CONDITION]", "go to the next breakpoint or condition", (s, rest) => search(s, rest, true), "c"),
+  command("reverse-continue [CONDITION]", "go back in the same way", (s, rest) => search(s, rest, false), "rc"),
+  command("break [CONDITION]", "set a breakpoint, or list all", setBreak, "b"),
+  command("delete N", "delete breakpoint N, or `all`", deleteBreak, "d"),
+  command("edit A LINE", "set a cell to a line of source, as in `edit 3 jmp bomb`", edit, "e"),
+  command("fill A B LINE", "set the cells from A to B to a line of source", fill),
+  command("move W I A", "move process I of warrior W to A; process 0 is the next one", move),
+  command("kill W I", "remove process I of warrior W", kill),
+  command("spawn W A", "add a process of warrior W at A", spawn),
+  command("undo", "undo the last edit", undo, "u"),
+  command("redo", "redo the edit that was undone", redo),
+  command("futures [N]", "list the futures that edits have made, or switch to number N", futures),
+  command("list [A [N]]", "list N cells from A on", list, "l"),
+  command("queue [W]", "list the processes of warrior W, the next one first", queue, "p"),
+  command("show", "show the turn, the cycle and the state of each warrior", show, "i"),
+  command("why [W]", "say why warrior W died, or what comes next", why),
+  command("changed A", "find the last turn up to here that changed cell A", changed),
+  command("help", "list all commands", help, "h", "?"),
+];
+
+/**
+ * Executes a line and returns what to show. Throws Refused.
+ * @param {Session} session
+ * @param {string} line
+ */
+export async function execute(session, line) {
+  const [word, ...rest] = line.trim().split(/\s+/);
+  const name = (/** @type {Command} */ { usage }) => usage.split(" ")[0];
+  const exact = COMMANDS.filter((one) => name(one) === word || one.short.includes(word));
+  const found = exact.length ? exact : COMMANDS.filter((one) => name(one).startsWith(word));
+  if (found.length > 1) throw new Refused(`\`${word}\` can mean ${found.map(name).join(", ")}`);
+  if (!found.length) throw new Refused(`unknown command \`${word}\`; \`help\` lists all commands`);
+  return found[0].act(session, rest.join(" "));
+}

@@ -1,0 +1,314 @@
+/**
+ * The core on a canvas: a cell is some pixels in the colour of the warrior that wrote it last, strong if that was
+ * recently, and nearly white if a process is there. Large cells show their instruction.
+ */
+import { MODES, MODIFIERS, NOBODY, OPCODES, isEmpty, readCell, signed } from "../model/cells.js";
+import { SHADES } from "./palette.js";
+
+/** @typedef {import("../worker/desk.js").View} View */
+/** @typedef {import("./palette.js").Palette} Palette */
+/**
+ * What is drawn over the cells: addresses of cells that are looked at, that the last turn read and that differ from
+ * another future, and where warriors died. `warrior` is the one that made the last turn.
+ * @typedef {object} Marks
+ * @property {number | null} pinned
+ * @property {number | null} hovered
+ * @property {number | null} head
+ * @property {number[]} reads
+ * @property {number} warrior
+ * @property {number[]} differences
+ * @property {{address: number, warrior: number}[]} graves
+ */
+
+/** The largest number of processes of a warrior with rings around them, and the cells in pixels that need none. */
+const FEW = 3;
+const LARGE = 16;
+/** The least size of cells in pixels that show their instruction. */
+const READABLE = 46;
+const MARGIN = 8;
+/** Cells of fewer pixels may differ by one, so that they fill the canvas. */
+const SMALL = 5;
+const RING = new Path2D("M1.2 0A1.2 1.2 0 1 0 -1.2 0A1.2 1.2 0 1 0 1.2 0");
+const CROSS = new Path2D("M-1 -1L1 1M1 -1L-1 1");
+const SQUARE = new Path2D("M-1 -1H1V1H-1z");
+const FONT = 'ui-monospace, Consolas, "DejaVu Sans Mono", monospace';
+
+/**
+ * Returns the number of columns that makes the cells largest, preferably a divisor of the core size, and their size.
+ * @param {number} size of the core
+ * @param {number} width in pixels of the screen
+ * @param {number} height
+ */
+function bestColumns(size, width, height) {
+  let best = { columns: Math.max(1, Math.floor(width)), unit: 1, worth: 0 };
+  const [least, most] = [Math.sqrt(size) / 3, Math.sqrt(size) * 3];
+  for (let columns = Math.max(1, Math.floor(least)); columns <= Math.min(size, Math.ceil(most)); columns++) {
+    const room = Math.min(width / columns, height / Math.ceil(size / columns));
+    const unit = room >= SMALL ? Math.floor(room) : room;
+    const worth = unit * (size % columns === 0 ? 1.04 : 1) + room / 1000;
+    if (unit > 0 && worth > best.worth) best = { columns, unit, worth };
+  }
+  return best;
+}
+
+export class Core {
+  size = 1;
+  columns = 1;
+  rows = 1;
+  /** Pixels of a cell, and without its gap. */
+  cell = 1;
+  #inner = 1;
+  #gap = 0;
+  #margin = 0;
+  /** Where columns and rows begin and end. */
+  #xs = new Uint32Array(2);
+  #ys = new Uint32Array(2);
+  #image = new ImageData(1, 1);
+  #pixels = new Uint32Array(1);
+  #stands = new Uint8Array(1);
+
+  /** @param {HTMLCanvasElement} canvas */
+  constructor(canvas) {
+    this.canvas = canvas;
+    this.context = /** @type {CanvasRenderingContext2D} */ (canvas.getContext("2d"));
+  }
+
+  /**
+   * Takes the room that there is.
+   * @param {number} size of the core
+   * @param {number} width in pixels of the page
+   * @param {number} height
+   */
+  fit(size, width, height) {
+    const ratio = devicePixelRatio;
+    const margin = Math.ceil(MARGIN * ratio);
+    const { columns, unit } = bestColumns(size, width * ratio - 2 * margin, height * ratio - 2 * margin);
+    const rows = Math.ceil(size / columns);
+    const ends = (/** @type {number} */ count) =>
+      Uint32Array.from({ length: count + 1 }, (_, index) => Math.round(index * Math.max(unit, 1)));
+    this.size = size;
+    this.columns = columns;
+    this.rows = rows;
+    this.cell = Math.max(1, Math.floor(unit));
+    this.#gap = unit >= 12 * ratio ? 2 : unit >= 4 ? 1 : 0;
+    this.#inner = this.cell - this.#gap;
+    this.#margin = margin;
+    this.#xs = ends(columns);
+    this.#ys = ends(rows);
+    const [wide, tall] = [this.#xs[columns], this.#ys[rows]];
+    this.canvas.width = wide + 2 * margin;
+    this.canvas.height = tall + 2 * margin;
+    this.canvas.style.width = `${this.canvas.width / ratio}px`;
+    this.canvas.style.height = `${this.canvas.height / ratio}px`;
+    this.#image = this.context.createImageData(wide, tall);
+    this.#pixels = new Uint32Array(this.#image.data.buffer);
+    this.#stands = new Uint8Array(size);
+  }
+
+  /**
+   * @param {View} view
+   * @param {Palette} palette
+   * @param {number} grain the number of turns that a shade lasts
+   * @param {Marks} marks
+   */
+  draw(view, palette, grain, marks) {
+    const { context, canvas } = this;
+    this.#drawCells(view, palette, grain);
+    const few = this.#drawProcesses(view, palette);
+    context.setTransform(1, 0, 0, 1, 0, 0);
+    context.clearRect(0, 0, canvas.width, canvas.height);
+    context.putImageData(this.#image, this.#margin, this.#margin);
+    if (this.#isReadable) this.#drawTexts(view);
+    this.#drawMarks(palette, marks, this.cell < LARGE * devicePixelRatio ? few : []);
+  }
+
+  get #isReadable() {
+    return this.cell >= READABLE * devicePixelRatio;
+  }
+
+  /**
+   * Draws each row of cells: its first line of pixels, and copies of that.
+   * @param {View} view
+   * @param {Palette} palette
+   * @param {number} grain
+   */
+  #drawCells({ owner, written, turn }, { shades, back }, grain) {
+    const [pixels, xs, ys] = [this.#pixels, this.#xs, this.#ys];
+    const { width } = this.#image;
+    pixels.fill(back);
+    for (let row = 0; row < this.rows; row++) {
+      const [start, first] = [ys[row] * width, row * this.columns];
+      const last = Math.min(this.columns, this.size - first);
+      for (let column = 0; column < last; column++) {
+        const address = first + column;
+        const when = written[address];
+        const age = when === 0 ? SHADES : Math.min(SHADES, Math.floor((turn - when) / grain));
+        const shade = shades[owner[address] * (SHADES + 1) + age];
+        const to = start + xs[column + 1] - this.#gap;
+        for (let x = start + xs[column]; x < to; x++) pixels[x] = shade;
+      }
+      for (let line = ys[row] + 1; line < ys[row + 1] - this.#gap; line++) {
+        pixels.copyWithin(line * width, start, start + width);
+      }
+    }
+  }
+
+  /**
+   * Draws a mark on each cell with processes. Returns the addresses of the warriors that are on few cells.
+   * @param {View} view
+   * @param {Palette} palette
+   */
+  #drawProcesses({ queues, processes }, palette) {
+    /** @type {{address: number, warrior: number}[]} */
+    const few = [];
+    this.#stands.fill(0);
+    let first = 0;
+    processes.forEach((count, warrior) => {
+      for (const address of queues.subarray(first, first + count)) {
+        if (this.#stands[address] === warrior + 1) continue;
+        if (count <= FEW) few.push({ address, warrior });
+        this.#drawProcess(address, palette.process[warrior], this.#stands[address] > 0);
+        this.#stands[address] = warrior + 1;
+      }
+      first += count;
+    });
+    return few;
+  }
+
+  /**
+   * @param {number} address
+   * @param {number} colour
+   * @param {boolean} isSecond whether another warrior is there: the later one has the lower half
+   */
+  #drawProcess(address, colour, isSecond) {
+    const [pixels, xs, ys] = [this.#pixels, this.#xs, this.#ys];
+    const { width } = this.#image;
+    const [column, row] = [address % this.columns, Math.floor(address / this.columns)];
+    const start = ys[row] * width + xs[column];
+    if (this.#isReadable) {
+      this.#drawFrame(start, colour, isSecond ? 9 : 0);
+      return;
+    }
+    const edge = this.cell >= 5 ? Math.max(1, Math.floor(this.cell / 6)) : 0;
+    const [wide, tall] = [xs[column + 1] - xs[column] - this.#gap, ys[row + 1] - ys[row] - this.#gap];
+    for (let line = isSecond ? Math.floor(tall / 2) : edge; line < tall - edge; line++) {
+      const at = start + line * width;
+      pixels.fill(colour, at + edge, at + wide - edge);
+    }
+  }
+
+  /**
+   * Draws a frame in a cell that has text in it.
+   * @param {number} start the first pixel of the cell
+   * @param {number} colour
+   * @param {number} inset
+   */
+  #drawFrame(start, colour, inset) {
+    const [pixels, inner] = [this.#pixels, this.#inner];
+    const { width } = this.#image;
+    const thick = Math.max(3, Math.round(inner / 18));
+    const last = inner - inset;
+    for (let y = inset; y < last; y++) {
+      const line = start + y * width;
+      if (y - inset < thick || last - y <= thick) pixels.fill(colour, line + inset, line + last);
+      else {
+        pixels.fill(colour, line + inset, line + inset + thick);
+        pixels.fill(colour, line + last - thick, line + last);
+      }
+    }
+  }
+
+  /** @param {View} view */
+  #drawTexts({ cells, owner }) {
+    const { context, cell, columns, size } = this;
+    const unit = Math.max(9 * devicePixelRatio, Math.floor(cell / 6.2));
+    context.font = `600 ${unit}px ${FONT}`;
+    context.textBaseline = "alphabetic";
+    for (let address = 0; address < size; address++) {
+      const left = this.#margin + (address % columns) * cell + unit * 0.75;
+      const top = this.#margin + Math.floor(address / columns) * cell;
+      const isFree = owner[address] === NOBODY;
+      context.fillStyle = isFree ? "rgba(255,255,255,.45)" : "rgba(8,10,13,.92)";
+      const { op, modifier, aMode, bMode, a, b } = readCell(cells, address);
+      if (isFree && isEmpty(cells, address)) context.fillText("·", left, top + unit * 1.5);
+      else {
+        context.fillText(`${OPCODES[op]}.${MODIFIERS[modifier]}`, left, top + unit * 1.75);
+        context.fillText(`${MODES[aMode]}${signed(a, size)}`, left, top + unit * 3);
+        context.fillText(`${MODES[bMode]}${signed(b, size)}`, left, top + unit * 4.2);
+      }
+      context.fillText(String(address), left, top + cell - unit * 0.85);
+    }
+  }
+
+  /**
+   * @param {Palette} palette
+   * @param {Marks} marks
+   * @param {{address: number, warrior: number}[]} few
+   */
+  #drawMarks(palette, { pinned, hovered, head, reads, warrior, differences, graves }, few) {
+    const ratio = devicePixelRatio;
+    const radius = Math.max(this.cell, 7 * ratio);
+    const around = this.#inner / 2 + ratio;
+    for (const address of differences) this.#mark(address, SQUARE, around, 1.5, "#ff5fd2");
+    for (const one of few) this.#mark(one.address, RING, radius, 1.75, palette.mark[one.warrior]);
+    for (const grave of graves) {
+      this.#mark(grave.address, CROSS, radius, 5, palette.backText);
+      this.#mark(grave.address, CROSS, radius, 2.5, palette.mark[grave.warrior]);
+    }
+    for (const address of reads) this.#mark(address, SQUARE, around, 1.25, palette.mark[warrior]);
+    if (head !== null) this.#mark(head, SQUARE, around, 1.25, "rgba(255,255,255,.75)");
+    if (pinned !== null) this.#mark(pinned, SQUARE, around + ratio, 2, "#fff");
+    if (hovered !== null) this.#mark(hovered, SQUARE, around, 1.25, "#fff");
+  }
+
+  /**
+   * Draws a shape around the middle of a cell.
+   * @param {number} address
+   * @param {Path2D} shape
+   * @param {number} radius
+   * @param {number} width
+   * @param {string} colour
+   */
+  #mark(address, shape, radius, width, colour) {
+    const { context } = this;
+    const { x, y } = this.#middle(address);
+    context.setTransform(radius, 0, 0, radius, x, y);
+    context.strokeStyle = colour;
+    context.lineWidth = (width * devicePixelRatio) / radius;
+    context.stroke(shape);
+  }
+
+  /**
+   * Returns the middle of a cell in pixels of the canvas.
+   * @param {number} address
+   */
+  #middle(address) {
+    const [column, row] = [address % this.columns, Math.floor(address / this.columns)];
+    const half = this.#margin + this.#inner / 2;
+    return { x: this.#xs[column] + half, y: this.#ys[row] + half };
+  }
+
+  /**
+   * Returns the address at a point of the window, or null.
+   * @param {{clientX: number, clientY: number}} point
+   */
+  addressAt({ clientX, clientY }) {
+    const box = this.canvas.getBoundingClientRect();
+    const scale = this.canvas.width / box.width;
+    const at = (/** @type {Uint32Array} */ ends, /** @type {number} */ distance) =>
+      ends.findIndex((end) => end > distance * scale - this.#margin) - 1;
+    const [column, row] = [at(this.#xs, clientX - box.left), at(this.#ys, clientY - box.top)];
+    const address = row * this.columns + column;
+    return row >= 0 && column >= 0 && address < this.size ? address : null;
+  }
+
+  /**
+   * Returns the middle of a cell as a point of the window.
+   * @param {number} address
+   */
+  pointOf(address) {
+    const box = this.canvas.getBoundingClientRect();
+    const { x, y } = this.#middle(address);
+    return { x: box.left + x / devicePixelRatio, y: box.top + y / devicePixelRatio };
+  }
+}

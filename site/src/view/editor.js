@@ -1,0 +1,168 @@
+/** The editor: Redcode in colours, errors at their words, each line in words under the pointer. */
+import CodeMirror from "codemirror";
+import { instructionWords } from "../words/instruction.js";
+import { element, make, placeTip, refill } from "./dom.js";
+
+/** @typedef {import("codemirror").Document} Document */
+/** @typedef {import("../model/cells.js").Cell} Cell */
+/** @typedef {import("../words/errors.js").Explained} Explained */
+/** @typedef {Map<number, {died: number, killed: number}>} Hits by lines */
+/** @typedef {{save: () => void, fight: () => void, leave: () => void, changed: () => void}} Acts */
+
+/**
+ * What the words of a line are, in the order in which they are looked for.
+ * @type {[RegExp, string | null][]}
+ */
+const TOKENS = [
+  [/^;\s*(name|author|strategy|assert|redcode\S*|version|date)\b.*/i, "meta"],
+  [/^;.*/, "comment"],
+  [/^(dat|mov|add|sub|mul|div|mod|jmp|jmz|jmn|djn|seq|sne|slt|spl|nop|cmp)\b(\.\w+)?/i, "keyword"],
+  [/^(org|end|equ|for|rof)\b/i, "builtin"],
+  [/^\d+/, "number"],
+  [/^[A-Za-z_][\w&]*/, "def"],
+  [/^[#$@*<>{}]/, "operator"],
+];
+
+CodeMirror.defineMode("redcode", () => ({
+  token(stream) {
+    if (stream.eatSpace()) return null;
+    const found = TOKENS.find(([pattern]) => stream.match(pattern));
+    if (!found) stream.next();
+    return found ? found[1] : null;
+  },
+}));
+
+/** @param {string} text */
+export const newDocument = (text) => CodeMirror.Doc(text, "redcode");
+
+export class Editor {
+  /** @type {{clear(): void}[]} */
+  #marks = [];
+  /** @type {{doc: Document, line: unknown} | null} */
+  #moving = null;
+  /**
+   * The cells of each line.
+   * @type {Map<number, {cell: Cell, text: string}[]>}
+   */
+  #made = new Map();
+  #core = 1;
+
+  /** @param {Acts} acts */
+  constructor({ save, fight, leave, changed }) {
+    this.mirror = CodeMirror(element("editor"), {
+      mode: "redcode",
+      lineNumbers: true,
+      tabSize: 8,
+      indentUnit: 8,
+      gutters: ["faults", "CodeMirror-linenumbers", "hits"],
+      extraKeys: {
+        "Ctrl-S": save,
+        "Cmd-S": save,
+        "Ctrl-Enter": fight,
+        "Cmd-Enter": fight,
+        Tab: "insertSoftTab",
+        "Shift-Tab": false,
+        Esc: leave,
+      },
+    });
+    const field = this.mirror.getInputField();
+    field.setAttribute("aria-label", "Source. Escape leaves the editor, Control and Enter fights.");
+    this.mirror.on("changes", changed);
+    const wrapper = this.mirror.getWrapperElement();
+    wrapper.addEventListener("mousemove", (event) => this.#hover(event));
+    wrapper.addEventListener("mouseleave", () => this.#hideTip());
+  }
+
+  /** @param {Document} doc */
+  show(doc) {
+    this.mirror.swapDoc(doc);
+  }
+
+  /**
+   * Shows a line.
+   * @param {number} line
+   */
+  showLine(line) {
+    this.mirror.refresh();
+    this.mirror.scrollIntoView({ line: line - 1, ch: 0 }, 80);
+    this.mirror.setCursor(line - 1, 0);
+  }
+
+  /**
+   * Marks the line of the process that is executed next, in one of the documents, or no line.
+   * @param {Document | null} doc
+   * @param {number} line
+   */
+  markNext(doc, line) {
+    if (this.#moving) this.#moving.doc.removeLineClass(this.#moving.line, "wrap", "moves");
+    const isThere = doc && line > 0 && line <= doc.lineCount();
+    this.#moving = isThere ? { doc, line: doc.addLineClass(line - 1, "wrap", "moves") } : null;
+  }
+
+  /**
+   * Shows beside each line how often a warrior died there, and killed by it.
+   * @param {Hits} hits
+   */
+  showHits(hits) {
+    this.mirror.clearGutter("hits");
+    element("editor").classList.toggle("hit-lines", hits.size > 0);
+    this.mirror.refresh();
+    for (const [line, { died, killed }] of hits) {
+      if (line > this.mirror.lineCount()) continue;
+      const title = [killed && `killed ${killed} times`, died && `was hit ${died} times`].filter(Boolean).join("; ");
+      const parts = [
+        killed ? make("span", { className: "killed" }, `+${killed}`) : null,
+        died ? make("span", { className: "died" }, `−${died}`) : null,
+      ];
+      this.mirror.setGutterMarker(line - 1, "hits", make("span", { className: "hit", title }, ...parts));
+    }
+  }
+
+  /**
+   * Marks the errors of a document that is shown.
+   * @param {Explained[]} errors
+   */
+  showErrors(errors) {
+    for (const mark of this.#marks.splice(0)) mark.clear();
+    this.mirror.clearGutter("faults");
+    for (const { line, from, to, text } of errors) {
+      if (line < 1 || line > this.mirror.lineCount()) continue;
+      const [first, last] = [from, Math.max(to, from + 1)].map((ch) => ({ line: line - 1, ch }));
+      this.#marks.push(this.mirror.markText(first, last, { className: "fault" }));
+      this.mirror.setGutterMarker(line - 1, "faults", make("span", { className: "fault-mark", title: text }, "●"));
+    }
+  }
+
+  /**
+   * Takes the cells that the document makes, by lines.
+   * @param {Map<number, {cell: Cell, text: string}[]>} made
+   * @param {number} core
+   */
+  explain(made, core) {
+    this.#made = made;
+    this.#core = core;
+  }
+
+  #hideTip() {
+    element("line-tip").hidden = true;
+  }
+
+  /**
+   * Says what the line under the pointer does.
+   * @param {MouseEvent} event
+   */
+  #hover({ clientX, clientY }) {
+    const { line } = this.mirror.coordsChar({ left: clientX, top: clientY }, "window");
+    const cells = this.#made.get(line + 1);
+    if (!cells) {
+      this.#hideTip();
+      return;
+    }
+    const tip = element("line-tip");
+    tip.hidden = false;
+    const more = cells.length > 1 ? ` and ${cells.length - 1} more` : "";
+    const head = make("p", { className: "head" }, make("code", {}, cells[0].text), more);
+    refill(tip, head, make("p", {}, instructionWords(cells[0].cell, { core: this.#core })));
+    placeTip(tip, { x: clientX, y: clientY + tip.offsetHeight });
+  }
+}

@@ -1,0 +1,50 @@
+/** What the sheets of the page ask of it, and what they share. */
+import { MarsError } from "../engine/mars.js";
+import { explain } from "../words/errors.js";
+
+/** @typedef {import("../engine/mars.js").Row} Row */
+/** @typedef {import("../model/fight.js").Source} Source */
+/** @typedef {import("../model/settings.js").Settings} Settings */
+/** @typedef {{settings: Settings, seed: number, rounds: number, position: number, formula: string}} MatchTerms */
+/**
+ * @typedef {object} Host
+ * @property {import("../worker/pool.js").Pool} pool
+ * @property {import("./shelf.js").Shelf} shelf
+ * @property {() => MatchTerms} terms
+ * @property {(sources: Source[]) => Promise<void>} fight fights the first round of a match and shows it
+ * @property {Record<string, string>} meanings
+ */
+
+/** Results of include/mars.h that are not about a source. */
+const REASONS = ["", "out of memory", "these settings are impossible", "these parameters are impossible"];
+REASONS.push("the score formula is wrong", "", "this load file is wrong");
+REASONS.push("the core has no room for these warriors at this distance", "the warriors cannot be loaded");
+REASONS.push("the score formula has no value in some round");
+const ASSEMBLY = 5;
+
+/**
+ * Returns why a call failed, in a sentence.
+ * @param {unknown} error
+ * @param {Source[]} sources
+ * @param {Record<string, string>} meanings
+ */
+export function errorWords(error, sources, meanings) {
+  if (!(error instanceof MarsError)) return String(/** @type {Error} */ (error).message ?? error);
+  const source = sources[error.warrior] ?? sources[0];
+  if (error.code !== ASSEMBLY || !source) return REASONS[error.code] || `error ${error.code}, number ${error.number}`;
+  const { line, text } = explain(error, source.text, meanings);
+  return `${source.name}, line ${line}: ${text}`;
+}
+
+/**
+ * Returns the points a round, and how far from them the true value is at most, 19 times of 20. For that a round of each
+ * outcome is added: a warrior that has lost all of 100 may win some of the next.
+ * @param {Row} row
+ */
+export function mean({ points, wins, ties, losses }) {
+  const rounds = wins + ties + losses;
+  const all = rounds + 3;
+  const middle = (3 * (wins + 1) + ties + 1) / all;
+  const squares = (9 * (wins + 1) + ties + 1) / all;
+  return { points: points / rounds, far: 1.96 * Math.sqrt((squares - middle * middle) / rounds) };
+}

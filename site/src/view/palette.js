@@ -1,0 +1,78 @@
+/**
+ * The colours of warriors: sixteen that are far apart, also for people who see few colours. The core is always dark.
+ */
+import { BY_HAND, NOBODY } from "../model/cells.js";
+
+const COLOURS = "#ff7a33 #3f9df2 #2fe0a0 #a98fb4 #f7e21f #c2f0fb #a35f4a #bdb4ff".split(" ");
+COLOURS.push(..."#d0562a #2f6fc0 #179a6c #d060b8 #a8951a #4aa3bd #d8a58c #858d98".split(" "));
+/** The number of shades that a cell goes through until it no longer counts as written recently. */
+export const SHADES = 24;
+const GROUND = [21, 26, 33];
+const BACK = [9, 12, 16];
+const WHITE = [255, 255, 255];
+const EDITED = [235, 235, 235];
+
+/** @typedef {number[]} Colour red, green and blue, 0 to 255 */
+
+/** @param {string} text */
+const channels = (text) => [1, 3, 5].map((at) => parseInt(text.slice(at, at + 2), 16));
+
+/**
+ * @param {Colour} one
+ * @param {Colour} other
+ * @param {number} part
+ */
+const mixed = (one, other, part) => one.map((value, index) => value + (other[index] - value) * part);
+
+/**
+ * Returns a colour as the four bytes of a pixel.
+ * @param {Colour} colour
+ */
+function pixel(colour) {
+  const [red, green, blue] = colour.map(Math.round);
+  return ((255 << 24) | (blue << 16) | (green << 8) | red) >>> 0;
+}
+
+/** @param {Colour} colour */
+const css = (colour) => `rgb(${colour.map(Math.round)})`;
+
+/** The colours of a battle, by the order of turns. */
+export class Palette {
+  back = pixel(BACK);
+  backText = css(BACK);
+  /** The shades of each owner, from fresh to old. */
+  shades = new Uint32Array((NOBODY + 1) * (SHADES + 1)).fill(pixel(GROUND));
+
+  /**
+   * @param {number[]} order which source each warrior is; it has the same colour in all rounds
+   * @param {number} chosen the warrior that is shown chosen, or -1
+   */
+  constructor(order, chosen) {
+    const own = order.map((source) => channels(COLOURS[source % COLOURS.length]));
+    const isShown = (/** @type {number} */ who) => chosen < 0 || chosen === who;
+    const shown = own.map((colour, who) => (isShown(who) ? colour : mixed(colour, GROUND, 0.86)));
+    this.text = own.map(css);
+    this.mark = own.map((colour, who) => css(isShown(who) ? mixed(colour, WHITE, 0.25) : shown[who]));
+    this.process = own.map((colour, who) => pixel(isShown(who) ? mixed(colour, WHITE, 0.72) : shown[who]));
+    shown.forEach((colour, who) => this.#shade(who, colour));
+    this.#shade(BY_HAND, EDITED);
+  }
+
+  /**
+   * @param {number} owner
+   * @param {Colour} colour
+   */
+  #shade(owner, colour) {
+    for (let age = 0; age <= SHADES; age++) {
+      const part = 0.46 + 0.54 * (1 - age / SHADES) ** 1.7;
+      const bright = age < 2 ? mixed(colour, WHITE, 0.09 * (2 - age)) : colour;
+      this.shades[owner * (SHADES + 1) + age] = pixel(mixed(GROUND, bright, part));
+    }
+  }
+}
+
+/**
+ * Returns the style that gives an element the colour of a source.
+ * @param {number} source
+ */
+export const swatch = (source) => `--own:${COLOURS[source % COLOURS.length]}`;

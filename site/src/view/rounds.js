@@ -1,0 +1,175 @@
+/** All rounds of the match: who won each of them, and by which lines warriors died. */
+import { counted, number } from "../words/battle.js";
+import { element, make, onClick, refill, settled } from "./dom.js";
+import { swatch } from "./palette.js";
+
+/** @typedef {import("../worker/jobs.js").Round} Round */
+/** @typedef {import("../worker/pool.js").Pool} Pool */
+/** @typedef {import("./session.js").Session} Session */
+/** @typedef {import("./side.js").ShowLine} ShowLine */
+/**
+ * How often, and how, a warrior died.
+ * @typedef {{count: number, warrior: number, line: number, killer: number, by: number}} Why
+ */
+/** @typedef {Map<string, Map<number, {died: number, killed: number}>>} Hits by the name of a source and its line */
+
+/** The number of rounds that are fought if the match has fewer, and of reasons that are listed. */
+const LEAST = 100;
+const MOST_WHYS = 6;
+
+export class Rounds {
+  /** @type {Round[]} */
+  #rounds = [];
+  #match = "";
+  #later = settled(() => this.#draw(), 30);
+
+  /**
+   * @param {Session} session
+   * @param {Pool} pool
+   * @param {ShowLine} show
+   * @param {(hits: Hits) => void} tellHits
+   */
+  constructor(session, pool, show, tellHits) {
+    this.session = session;
+    this.pool = pool;
+    this.show = show;
+    this.tellHits = tellHits;
+    onClick("all-rounds", () => this.fight());
+    session.listen((change) => {
+      if (change === "battle") this.#open();
+    });
+  }
+
+  #open() {
+    const { fight } = this.session;
+    if (!fight) return;
+    const match = JSON.stringify([fight.warriors, fight.settings, fight.seed, fight.position]);
+    if (match !== this.#match) {
+      this.pool.drop("rounds");
+      this.#match = match;
+      this.#rounds = [];
+    }
+    this.#draw();
+  }
+
+  async fight() {
+    const { fight } = this.session;
+    if (!fight) return;
+    const match = this.#match;
+    const rounds = Math.max(LEAST, fight.rounds);
+    this.#rounds = [];
+    const asked = Array.from({ length: rounds }, async (_, round) => {
+      const made = await this.pool.ask("round", [{ ...fight, rounds, round, edits: [] }], "rounds", 1);
+      if (match !== this.#match) return;
+      this.#rounds[round] = made;
+      this.#later();
+    });
+    await Promise.allSettled(asked);
+    this.#draw();
+  }
+
+  #draw() {
+    const { fight, opened, known } = this.session;
+    if (!fight || !opened) return;
+    const names = fight.warriors.map((_, source) => known.names[opened.order.indexOf(source)]);
+    const squares = Array.from(this.#rounds, (round, index) => this.#square(round, index, names));
+    refill(element("strip"), ...squares);
+    const found = this.#rounds.filter(Boolean);
+    element("tally").hidden = found.length === 0;
+    refill(element("tally"), ...names.map((name, source) => tally(name, source, found)));
+    const whys = whysOf(found);
+    element("why-box").hidden = whys.length === 0;
+    refill(element("why"), ...whys.slice(0, MOST_WHYS).map((why) => this.#why(why, names)));
+    this.tellHits(hitsOf(whys, fight.warriors.map(({ name }) => name)));
+  }
+
+  /**
+   * @param {Round | undefined} round
+   * @param {number} index
+   * @param {string[]} names
+   */
+  #square(round, index, names) {
+    const { session } = this;
+    const { fight } = session;
+    if (!round || !fight) return make("i");
+    const winner = round.outcomes.indexOf("win");
+    const how = winner < 0 ? "a tie" : `${names[winner]} wins`;
+    const told = `Round ${index}: ${how} after ${counted(round.end, "turn")}`;
+    const rounds = Math.max(fight.rounds, this.#rounds.length);
+    return make("button", {
+      className: `${winner < 0 ? "tie" : ""} ${index === fight.round ? "here" : ""}`,
+      style: winner < 0 ? "" : swatch(winner),
+      title: told,
+      "aria-label": told,
+      onclick: () => session.open({ ...fight, rounds, round: index, edits: [] }),
+    });
+  }
+
+  /**
+   * @param {Why} why
+   * @param {string[]} names
+   */
+  #why({ count, warrior, line, killer, by }, names) {
+    const link = (/** @type {number} */ source, /** @type {number} */ at) => {
+      const found = this.session.fight?.warriors[source];
+      if (!at || !found) return "a copied cell";
+      const title = found.text.split("\n")[at - 1]?.trim();
+      const show = () => this.show(found.name, at);
+      return make("button", { className: "link", title, onclick: show }, `line ${at}`);
+    };
+    const away = killer < 0 ? " in empty memory" : " away from its code";
+    const where = line ? [" on its ", link(warrior, line)] : [away];
+    const other = killer < 0 ? [] : [`, on what ${names[killer]} wrote by `, link(killer, by)];
+    const what = killer === warrior ? [", on what it had written itself"] : other;
+    return make("li", {}, make("b", {}, `${number(count)}×`), ` ${names[warrior]} died`, ...where, ...what);
+  }
+}
+
+/**
+ * @param {string} name
+ * @param {number} source
+ * @param {Round[]} rounds
+ */
+function tally(name, source, rounds) {
+  const count = (/** @type {string} */ what) => rounds.filter(({ outcomes }) => outcomes[source] === what).length;
+  const losses = count("loss");
+  const words = `${counted(count("win"), "win")}, ${counted(count("tie"), "tie")}, ${counted(losses, "loss")}`;
+  return make("li", { style: swatch(source) }, make("i", { className: "chip" }), make("b", {}, name), ` ${words}`);
+}
+
+/**
+ * Returns how warriors died, the most frequent first.
+ * @param {Round[]} rounds
+ */
+function whysOf(rounds) {
+  /** @type {Map<string, Why>} */
+  const whys = new Map();
+  for (const { warrior, line, killer, by } of rounds.flatMap(({ deaths }) => deaths)) {
+    const key = [warrior, line, killer, by].join();
+    const why = whys.get(key) ?? { count: 0, warrior, line, killer, by };
+    why.count++;
+    whys.set(key, why);
+  }
+  return [...whys.values()].sort((one, other) => other.count - one.count);
+}
+
+/**
+ * Returns how often warriors died on a line, and by what a line wrote.
+ * @param {Why[]} whys
+ * @param {string[]} names
+ */
+function hitsOf(whys, names) {
+  /** @type {Hits} */
+  const hits = new Map(names.map((name) => [name, new Map()]));
+  const at = (/** @type {number} */ source, /** @type {number} */ line) => {
+    const lines = hits.get(names[source]);
+    const found = lines?.get(line) ?? { died: 0, killed: 0 };
+    if (line) lines?.set(line, found);
+    return found;
+  };
+  for (const { count, warrior, line, killer, by } of whys) {
+    at(warrior, line).died += count;
+    if (killer >= 0 && killer !== warrior) at(killer, by).killed += count;
+  }
+  return hits;
+}

@@ -1,0 +1,369 @@
+/** The battle that is shown, in time: its turn, how it is played, its futures, and the cell that is kept in view. */
+import { distinct } from "../words/battle.js";
+import { clamp } from "./dom.js";
+
+/** @typedef {import("../battle/conditions.js").Condition} Condition */
+/** @typedef {import("../model/fight.js").Edit} Edit */
+/** @typedef {import("../model/fight.js").Fight} Fight */
+/** @typedef {import("../model/fight.js").Made} Made */
+/** @typedef {import("../worker/desk.js").Opened} Opened */
+/** @typedef {import("../worker/desk.js").View} View */
+/** @typedef {import("../words/battle.js").Known} Known */
+/** @typedef {import("../words/battle.js").Move} Move */
+/** @typedef {import("../worker/pool.js").Later<import("../worker/desk.js").Desk>} RemoteDesk */
+/**
+ * A future: its edits, and which one it branched from; `visited` is the one that redo leads to. -1 is none.
+ * @typedef {{edits: Made[], end: number, parent: number, visited: number}} Future
+ */
+/**
+ * What has changed: the battle, the turn, how it plays, what is looked at.
+ * @typedef {"battle" | "turn" | "play" | "look"} Change
+ */
+
+/** About how long a battle plays, in seconds, and the speeds in turns a second. */
+const LENGTH = 24;
+const SLOWEST = 1;
+const FASTEST = 2_000_000;
+
+export class Session {
+  /** @type {Fight | null} */
+  fight = null;
+  /** @type {Opened | null} */
+  opened = null;
+  /** @type {Known} */
+  known = { names: [], core: 1, end: 0, deaths: [], labels: new Map() };
+  /** @type {View | null} */
+  view = null;
+  /**
+   * What the turn that is shown did, once it is known.
+   * @type {Move | null}
+   */
+  move = null;
+  /**
+   * The origin of each cell, an index of `opened.lines`, once it is known.
+   * @type {Uint16Array | null}
+   */
+  origins = null;
+  /** @type {Future[]} */
+  futures = [];
+  future = 0;
+  /**
+   * The future that is shown beside this one, and its battle at the same turn.
+   * @type {{future: number, view: View} | null}
+   */
+  beside = null;
+  /** @type {Condition[]} */
+  breaks = [];
+  /** The turn that is wanted, which is shown as soon as the desk answers. */
+  wanted = 0;
+  /** Turns a second. */
+  rate = 100;
+  /** 1 forwards, -1 backwards, 0 stopped. */
+  way = 0;
+  /** @type {number | null} */
+  pinned = null;
+  /** The warrior that is shown chosen, or -1. */
+  chosen = -1;
+  /** The number of turns that were shown. */
+  frames = 0;
+  /** Whether the battle has played to its end, and nothing was done since. */
+  hasEnded = false;
+  /** @type {((change: Change) => void)[]} */
+  #listeners = [];
+  /** @type {Future | null} */
+  #wantedBeside = null;
+  #exact = 0;
+  #then = 0;
+  #isAsking = false;
+
+  /**
+   * @param {RemoteDesk} desk
+   * @param {(text: string) => void} complain
+   */
+  constructor(desk, complain) {
+    this.desk = desk;
+    this.complain = complain;
+  }
+
+  /** @param {(change: Change) => void} listener */
+  listen(listener) {
+    this.#listeners.push(listener);
+  }
+
+  /** @param {Change} change */
+  #tell(change) {
+    for (const listener of this.#listeners) listener(change);
+  }
+
+  get turn() {
+    return this.view?.turn ?? 0;
+  }
+
+  get end() {
+    return this.opened?.end ?? 0;
+  }
+
+  /** Whether the turn that is wanted is shown, with what it did. */
+  get isSettled() {
+    return !this.#isAsking && this.view?.turn === this.wanted;
+  }
+
+  /** How many turns a shade of the core lasts: all shades are about a second of play. */
+  get grain() {
+    return clamp(this.rate / 26, 0.34, Math.max(1, this.end / 400));
+  }
+
+  /**
+   * Fights, and shows the battle from a turn. Throws what the desk throws; then the battle before stays.
+   * @param {Fight} fight
+   * @param {{turn?: number, pinned?: number | null, plays?: boolean}} shown
+   */
+  async open(fight, { turn = 0, pinned = null, plays = true } = {}) {
+    this.stop();
+    const opened = await this.desk.open(fight);
+    const { edits } = fight;
+    this.futures = [[], ...edits].map((_, index) => ({
+      edits: edits.slice(0, index),
+      end: opened.end,
+      parent: index - 1,
+      visited: index < edits.length ? index + 1 : -1,
+    }));
+    this.rate = clamp(opened.end / LENGTH, 2, FASTEST);
+    this.pinned = pinned;
+    this.chosen = -1;
+    this.#compare(null);
+    this.fight = fight;
+    this.#take(opened);
+    await this.go(turn);
+    if (plays) this.play(1);
+  }
+
+  /**
+   * Takes other names for the sources of the battle.
+   * @param {import("../model/fight.js").Source[]} warriors
+   */
+  rename(warriors) {
+    if (this.fight) this.fight = { ...this.fight, warriors };
+  }
+
+  /** @param {Opened} opened */
+  #take(opened) {
+    const { names, core, end, deaths, labels, future } = opened;
+    this.opened = opened;
+    this.future = future;
+    this.futures[future].end = end;
+    this.view = this.move = this.origins = null;
+    this.hasEnded = false;
+    this.wanted = clamp(this.wanted, 0, end);
+    const named = new Map([...labels].reverse().map(({ address, name }) => [address, name]));
+    this.known = { names: distinct(names), core, end, deaths, labels: named };
+    this.#tell("battle");
+  }
+
+  /**
+   * Shows a turn. While the desk prepares one, the latest wish counts.
+   * @param {number} turn
+   */
+  async go(turn) {
+    this.wanted = clamp(Math.round(turn), 0, this.end);
+    if (this.#isAsking) return;
+    this.#isAsking = true;
+    try {
+      while (this.view?.turn !== this.wanted || this.#isIncomplete) await this.#show(this.wanted);
+    } catch (error) {
+      this.stop();
+      this.complain(String(/** @type {Error} */ (error).message));
+    } finally {
+      this.#isAsking = false;
+    }
+  }
+
+  get #isIncomplete() {
+    const isUntold = this.way === 0 && !this.origins;
+    return isUntold || this.#wantedBeside !== (this.beside ? this.futures[this.beside.future] : null);
+  }
+
+  /** @param {number} turn */
+  async #show(turn) {
+    const { opened, future } = this;
+    const wanted = this.#wantedBeside;
+    const other = wanted ? this.futures.indexOf(wanted) : -1;
+    const [view, beside] = await Promise.all([
+      this.desk.turn(future, turn),
+      other >= 0 ? this.desk.turn(other, turn) : null,
+    ]);
+    // What the turn did is needed only if the battle stops there.
+    const isStopped = this.way === 0;
+    const move = isStopped && turn > 0 ? await this.desk.move(future, turn) : null;
+    const origins = isStopped ? await this.desk.origins(future, turn) : null;
+    if (opened !== this.opened || wanted !== this.#wantedBeside) return;
+    this.view = view;
+    this.move = move;
+    this.origins = origins;
+    this.beside = beside && { future: other, view: beside };
+    this.frames++;
+    this.#tell("turn");
+  }
+
+  /**
+   * Steps turns, forwards or backwards, and stops there.
+   * @param {number} turns
+   */
+  step(turns) {
+    this.jump(this.wanted + turns);
+  }
+
+  /**
+   * Shows a turn and stops there.
+   * @param {number} turn
+   */
+  jump(turn) {
+    this.hasEnded = false;
+    this.stop();
+    return this.go(turn);
+  }
+
+  /**
+   * Plays forwards or backwards; from the other end if there is no other turn.
+   * @param {1 | -1} way
+   */
+  play(way) {
+    if (way > 0 && this.wanted >= this.end) this.wanted = 0;
+    if (way < 0 && this.wanted <= 0) this.wanted = this.end;
+    const stood = this.way === 0;
+    this.way = way;
+    this.hasEnded = false;
+    this.#exact = this.wanted;
+    this.#then = performance.now();
+    this.#tell("play");
+    if (stood) requestAnimationFrame((now) => this.#tick(now));
+  }
+
+  stop() {
+    if (this.way === 0) return;
+    this.way = 0;
+    this.#tell("play");
+    this.go(this.wanted);
+  }
+
+  /** @param {number} now */
+  #tick(now) {
+    if (this.way === 0) return;
+    const seconds = clamp(now - this.#then, 0, 250) / 1000;
+    this.#exact = clamp(this.#exact + this.way * seconds * this.rate, 0, this.end);
+    this.#then = now;
+    if (Math.floor(this.#exact) !== this.wanted) this.go(Math.floor(this.#exact));
+    if (this.#exact === (this.way > 0 ? this.end : 0)) {
+      this.hasEnded = this.way > 0;
+      this.stop();
+    } else requestAnimationFrame((then) => this.#tick(then));
+  }
+
+  /** @param {number} rate turns a second */
+  quicken(rate) {
+    this.rate = clamp(rate, SLOWEST, FASTEST);
+    this.#tell("play");
+  }
+
+  /** @param {number | null} address */
+  pin(address) {
+    this.pinned = address;
+    this.#tell("look");
+  }
+
+  /** @param {number} who */
+  choose(who) {
+    this.chosen = this.chosen === who ? -1 : who;
+    this.#tell("look");
+  }
+
+  /**
+   * Goes to the next place where one of the conditions holds, or to the one before. Returns it, or null if there is
+   * none.
+   * @param {Condition[]} conditions
+   * @param {boolean} forward
+   */
+  async leap(conditions, forward) {
+    this.hasEnded = false;
+    this.stop();
+    const found = await this.desk.search(this.future, conditions, this.wanted, forward);
+    if (found) await this.go(found.turn);
+    return found;
+  }
+
+  /**
+   * Returns the cell of a line of Redcode for an address. Throws what the assembler says.
+   * @param {string} text
+   * @param {number} address
+   */
+  cellOf(text, address) {
+    return this.desk.cellOf(text, address, this.opened?.labels ?? []);
+  }
+
+  /**
+   * Edits the battle at the turn that is shown, and shows the future that this makes. Throws what the machine says.
+   * @param {Edit} edit
+   */
+  async edit(edit) {
+    this.stop();
+    const { turn, future } = this;
+    const opened = await this.desk.edit(future, turn, edit);
+    if (opened.future === this.futures.length) {
+      // The edits after this turn belong to the future that is left.
+      let parent = future;
+      while (this.futures[parent].edits.length >= opened.edits.length) parent = this.futures[parent].parent;
+      this.futures.push({ edits: opened.edits, end: opened.end, parent, visited: -1 });
+      this.futures[parent].visited = opened.future;
+    }
+    this.#take(opened);
+    await this.go(turn);
+  }
+
+  /**
+   * @param {number} future
+   */
+  async showFuture(future) {
+    this.stop();
+    const { parent } = this.futures[future];
+    if (parent >= 0) this.futures[parent].visited = future;
+    const turn = this.wanted;
+    if (this.#wantedBeside === this.futures[future]) this.#compare(null);
+    this.#take(await this.desk.show(future));
+    await this.go(turn);
+  }
+
+  /**
+   * Shows another future beside this one, or no other.
+   * @param {number | null} future
+   */
+  compare(future) {
+    this.#compare(future === null ? null : this.futures[future]);
+    this.#tell("battle");
+    return this.go(this.wanted);
+  }
+
+  /** @param {Future | null} future */
+  #compare(future) {
+    this.#wantedBeside = future;
+    if (!future) this.beside = null;
+  }
+
+  get canUndo() {
+    return (this.futures[this.future]?.parent ?? -1) >= 0;
+  }
+
+  get canRedo() {
+    return (this.futures[this.future]?.visited ?? -1) >= 0;
+  }
+
+  async undo() {
+    if (!this.canUndo) return;
+    const { parent } = this.futures[this.future];
+    this.futures[parent].visited = this.future;
+    await this.showFuture(parent);
+  }
+
+  async redo() {
+    if (this.canRedo) await this.showFuture(this.futures[this.future].visited);
+  }
+}

@@ -1,0 +1,365 @@
+/** The sources: a list, of which one is in the editor, and those that are marked fight. */
+import { MarsError } from "../engine/mars.js";
+import { cellText } from "../model/cells.js";
+import { LARGEST_SOURCE } from "../model/settings.js";
+import { errorsOf } from "../words/errors.js";
+import { Stopped, TooLong } from "../worker/pool.js";
+import { download, element, make, onClick, refill, settled, withCode } from "./dom.js";
+import { Editor, newDocument } from "./editor.js";
+
+/** @typedef {import("codemirror").Document} Document */
+/** @typedef {import("../model/fight.js").Source} Source */
+/** @typedef {import("../model/settings.js").Settings} Settings */
+/** @typedef {import("../worker/pool.js").Pool} Pool */
+/** @typedef {import("./rounds.js").Hits} Hits */
+/** @typedef {{name: string, doc: Document, saved: string, isExample: boolean, fights: boolean}} Held */
+/**
+ * Where sources are saved: returns null, or why one was not; `isOther` is whether something else changed the file.
+ * @typedef {object} Folder
+ * @property {(name: string, text: string, isForced: boolean) => Promise<{text: string, isOther: boolean} | null>} save
+ */
+/**
+ * @typedef {object} Host
+ * @property {Pool} pool
+ * @property {Folder | null} folder
+ * @property {Record<string, string>} meanings
+ * @property {() => {settings: Settings, rounds: number}} terms
+ * @property {() => void} changed the sources or which of them fight have changed
+ * @property {() => void} checked the source in the editor was assembled
+ * @property {() => void} fight
+ * @property {(name: string, text: string) => boolean} isStale whether the battle that is shown has another text of it
+ */
+
+const NEW = [";redcode-94", ";name My first warrior", ";author ", "; What does it do?", ""];
+NEW.push("start   MOV     0, 1            ; copies itself to the next cell", "        END     start", "");
+
+export class Shelf {
+  /** @type {Held[]} */
+  held = [];
+  /** @type {Held | null} */
+  shown = null;
+  /** Whether the source in the editor has an error. */
+  isBroken = false;
+  /** @type {Hits} */
+  #hits = new Map();
+
+  /** @param {Host} host */
+  constructor(host) {
+    this.host = host;
+    const [lint, keep] = [settled(() => this.lint(), 250), settled(() => host.changed(), 400)];
+    this.editor = new Editor({
+      save: () => this.save(false),
+      fight: () => host.fight(),
+      leave: () => element("new").focus(),
+      changed: () => {
+        this.sign();
+        lint();
+        keep();
+      },
+    });
+    onClick("new", () => this.#create());
+    onClick("remove", () => this.#remove());
+    onClick("download", () => this.save(false));
+    onClick("import", () => element("file").click());
+    this.#listenToFiles();
+  }
+
+  #listenToFiles() {
+    const input = /** @type {HTMLInputElement} */ (element("file"));
+    input.onchange = () => {
+      this.take([...(input.files ?? [])]);
+      input.value = "";
+    };
+    const { classList } = document.body;
+    addEventListener("dragover", (event) => {
+      if (!event.dataTransfer?.types.includes("Files")) return;
+      event.preventDefault();
+      classList.add("dropping");
+    });
+    addEventListener("dragleave", (event) => {
+      if (!event.relatedTarget) classList.remove("dropping");
+    });
+    addEventListener("drop", (event) => {
+      classList.remove("dropping");
+      if (!event.dataTransfer?.files.length) return;
+      event.preventDefault();
+      this.take([...event.dataTransfer.files]);
+    });
+  }
+
+  /**
+   * Adds a source. Its name gets a number if there is another one of that name.
+   * @param {{name: string, text: string, isExample?: boolean, saved?: string, fights?: boolean}} source
+   */
+  add({ name, text, isExample = false, saved = text, fights = false }) {
+    const held = { name: this.#freeName(name), doc: newDocument(text), saved, isExample, fights };
+    this.held.push(held);
+    return held;
+  }
+
+  /** @param {string} name */
+  #freeName(name) {
+    const stem = name.replace(/\.(red|rc|txt)$/i, "");
+    let made = `${stem}.red`;
+    for (let count = 2; this.find(made); count++) made = `${stem}-${count}.red`;
+    return made;
+  }
+
+  /** @param {string} name */
+  find(name) {
+    return this.held.find((held) => held.name === name);
+  }
+
+  /** The sources that are marked. */
+  get fighters() {
+    return this.held.filter(({ fights }) => fights).map(sourceOf);
+  }
+
+  get all() {
+    return this.held.map(sourceOf);
+  }
+
+  /** The source in the editor. */
+  get current() {
+    return this.shown && sourceOf(this.shown);
+  }
+
+  /**
+   * Marks these sources and no others. A source is added unless there is one with the same text.
+   * @param {Source[]} sources
+   */
+  mark(sources) {
+    const holding = (/** @type {string} */ text) => this.held.find(({ doc }) => doc.getValue() === text);
+    const found = sources.map((source) => holding(source.text) ?? this.add(source));
+    for (const held of this.held) held.fights = found.includes(held);
+    this.list();
+    if (!this.shown || !found.includes(this.shown)) this.show(found[0]);
+    return found.map(sourceOf);
+  }
+
+  /**
+   * Takes files that were dropped or chosen.
+   * @param {File[]} files
+   */
+  async take(files) {
+    let last = null;
+    for (const file of files) {
+      if (file.size > LARGEST_SOURCE) {
+        this.#say(`${file.name} is too large: a source has at most 1 MB.`);
+        continue;
+      }
+      last = this.add({ name: file.name, text: await textOf(file) });
+      last.fights = this.fighters.length < 2;
+    }
+    if (last) this.show(last);
+    this.host.changed();
+    element("desk").hidden = false;
+    this.editor.mirror.refresh();
+  }
+
+  #create() {
+    const held = this.add({ name: "warrior.red", saved: "", text: NEW.join("\n") });
+    this.show(held);
+    this.host.changed();
+    this.editor.mirror.focus();
+    this.editor.mirror.setCursor(1, NEW[1].length);
+  }
+
+  #remove() {
+    const { shown } = this;
+    if (!shown || this.held.length < 2) return;
+    const where = this.host.folder ? "The file in the folder stays." : "It is stored nowhere else.";
+    if (!shown.isExample && !confirm(`Remove ${shown.name} from the list? ${where}`)) return;
+    this.held = this.held.filter((held) => held !== shown);
+    this.show(this.held[0]);
+    this.host.changed();
+  }
+
+  /**
+   * Saves the source in the editor: to the folder if there is one, otherwise as a download.
+   * @param {boolean} isForced whether a file that something else changed is overwritten
+   */
+  async save(isForced) {
+    const { shown } = this;
+    const { folder } = this.host;
+    if (!shown) return;
+    const { name, text } = sourceOf(shown);
+    if (!folder) download(name, text, "text/plain");
+    else {
+      const fault = await folder.save(name, text, isForced);
+      if (fault) {
+        const force = make("button", { className: "link", onclick: () => this.save(true) }, "Overwrite it");
+        refill(element("saved"), `${fault.text}. `, fault.isOther ? force : "");
+        return;
+      }
+    }
+    shown.saved = text;
+    shown.isExample = false;
+    this.list();
+    this.sign();
+    this.host.changed();
+    if (folder) this.#say("saved");
+  }
+
+  /** @param {string} text */
+  #say(text) {
+    element("saved").textContent = text;
+  }
+
+  /** Draws the list. */
+  list() {
+    const lines = this.held.map((held) => {
+      const { name, isExample, fights } = held;
+      const box = make("input", { type: "checkbox", checked: fights, "aria-label": `${name} fights` });
+      box.onchange = () => {
+        held.fights = box.checked;
+        this.host.changed();
+      };
+      const isShown = held === this.shown;
+      const show = { onclick: () => this.show(held), "aria-current": isShown ? "true" : "false" };
+      const button = make("button", show, titleOf(held));
+      const label = make("label", { title: "Fights" }, box);
+      const kind = make("small", {}, isExample ? "example" : "");
+      return make("li", { className: isShown ? "shown" : "" }, label, button, kind);
+    });
+    refill(element("names"), ...lines);
+    element("names").querySelector(".shown")?.scrollIntoView({ block: "nearest" });
+  }
+
+  /** @param {Held} held */
+  show(held) {
+    this.shown = held;
+    this.editor.show(held.doc);
+    this.list();
+    this.sign();
+    this.#showHits();
+    this.lint();
+  }
+
+  /**
+   * Shows beside the lines how often they died and killed.
+   * @param {Hits} hits
+   */
+  takeHits(hits) {
+    this.#hits = hits;
+    this.#showHits();
+  }
+
+  #showHits() {
+    this.editor.showHits(this.#hits.get(this.shown?.name ?? "") ?? new Map());
+  }
+
+  /**
+   * Shows a line of a source.
+   * @param {string} name
+   * @param {number} line
+   */
+  showLine(name, line) {
+    const held = this.find(name);
+    if (!held) return;
+    element("desk").hidden = false;
+    if (held !== this.shown) this.show(held);
+    this.editor.showLine(line);
+  }
+
+  /**
+   * Marks the line that is executed next, or none.
+   * @param {string} name
+   * @param {number} line
+   */
+  markNext(name, line) {
+    this.editor.markNext(this.find(name)?.doc ?? null, line);
+  }
+
+  /** Says whether the source in the editor is saved, and whether the battle that is shown has it. */
+  sign() {
+    const { shown, host } = this;
+    if (!shown) return;
+    const text = shown.doc.getValue();
+    const button = element("names").querySelector(".shown button");
+    if (button) button.textContent = titleOf(shown);
+    const unsaved = host.folder ? "not saved" : "stored in this browser; Download writes a file";
+    if (host.isStale(shown.name, text)) this.#say("changed since this fight: Ctrl-Enter fights it");
+    else this.#say(text === shown.saved ? "" : unsaved);
+  }
+
+  /** Assembles the source in the editor, and shows its errors. */
+  async lint() {
+    const { shown, host } = this;
+    if (!shown) return;
+    const text = shown.doc.getValue();
+    const terms = { ...host.terms(), warriors: 2 };
+    host.pool.drop("lint");
+    const faults = await this.#faults(text, terms);
+    if (!faults || shown !== this.shown || text !== shown.doc.getValue()) return;
+    this.isBroken = faults.length > 0;
+    this.editor.showErrors(faults);
+    element("fault").classList.toggle("bad", this.isBroken);
+    const told = faults.flatMap((one) => [make("b", {}, `Line ${one.line}: `), withCode(one.text), make("br")]);
+    if (this.isBroken) refill(element("fault"), ...told);
+    host.checked();
+  }
+
+  /**
+   * Returns the errors of a source, or null if another one is checked in its place. If there are none, its cells are
+   * shown.
+   * @param {string} text
+   * @param {{settings: Settings, rounds: number, warriors: number}} terms
+   */
+  async #faults(text, terms) {
+    const { pool, meanings } = this.host;
+    try {
+      return await errorsOf(text, meanings, async (source) => {
+        try {
+          const made = await pool.ask("assemble", [source, terms], "lint", 3);
+          if (source === text) this.#showMade(made, terms.settings);
+          return null;
+        } catch (error) {
+          if (error instanceof MarsError) return error;
+          throw error;
+        }
+      });
+    } catch (error) {
+      if (error instanceof Stopped) return null;
+      const why = error instanceof TooLong ? "it takes too long" : String(/** @type {Error} */ (error).message);
+      return [{ line: 1, from: 0, to: 0, text: `This source cannot be assembled: ${why}.` }];
+    }
+  }
+
+  /**
+   * @param {ReturnType<import("../worker/jobs.js").Jobs["assemble"]>} made
+   * @param {Settings} settings
+   */
+  #showMade({ name, cells, lines, load }, { core, longest }) {
+    const byLine = new Map();
+    cells.forEach((cell, index) => {
+      const { line } = lines[index];
+      byLine.set(line, [...(byLine.get(line) ?? []), { cell, text: cellText(cell, core) }]);
+    });
+    this.editor.explain(byLine, core);
+    element("load").textContent = load;
+    refill(element("fault"), `${name || this.shown?.name}: ${cells.length} of ${longest} cells`);
+  }
+}
+
+/**
+ * @param {Held} held
+ * @returns {Source}
+ */
+const sourceOf = ({ name, doc }) => ({ name, text: doc.getValue() });
+
+/** @param {Held} held */
+const titleOf = ({ name, doc, saved }) => name.replace(/\.red$/, "") + (doc.getValue() === saved ? "" : " •");
+
+/**
+ * Returns the text of a file: UTF-8, or Latin-1 if it is not.
+ * @param {File} file
+ */
+async function textOf(file) {
+  const bytes = await file.arrayBuffer();
+  try {
+    return new TextDecoder("utf-8", { fatal: true }).decode(bytes);
+  } catch {
+    return new TextDecoder("latin1").decode(bytes);
+  }
+}

@@ -1,0 +1,174 @@
+/** Beside the core: who fights, the story of the battle, the turn that is shown, and the futures. */
+import { cellText, readCell } from "../model/cells.js";
+import { editText } from "../model/fight.js";
+import { counted, eventWords, joined, moveWords, number, outcome, place } from "../words/battle.js";
+import { instructionWords } from "../words/instruction.js";
+import { element, make, onClick, refill } from "./dom.js";
+import { swatch } from "./palette.js";
+
+/** @typedef {import("../battle/overview.js").Event} Event */
+/** @typedef {import("../worker/desk.js").View} View */
+/** @typedef {import("./session.js").Session} Session */
+/** @typedef {(name: string, line: number) => void} ShowLine shows a line of a source */
+/**
+ * The row of a warrior.
+ * @typedef {{row: HTMLElement, processes: HTMLElement, cells: HTMLElement, bar: HTMLElement, fate: HTMLElement}} Row
+ */
+
+/** With more warriors than that, rows are small. */
+const FEW = 4;
+const PAUSE = "Pause, or step with the arrow keys, to read each turn in words.";
+
+export class Side {
+  /** @type {Row[]} */
+  #rows = [];
+
+  /**
+   * @param {Session} session
+   * @param {ShowLine} show
+   */
+  constructor(session, show) {
+    this.session = session;
+    this.show = show;
+    onClick("undo", () => session.undo());
+    onClick("redo", () => session.redo());
+    onClick("alone", () => session.compare(null));
+    session.listen((change) => {
+      if (change === "battle") this.#open();
+      this.#draw();
+    });
+  }
+
+  #open() {
+    const { opened, known } = this.session;
+    if (!opened) return;
+    const { names } = known;
+    const title = names.length === 2 ? names.join(" against ") : joined(names);
+    document.title = `${title} · Core War`;
+    element("title").textContent = title;
+    this.#rows = names.map((_, who) => this.#row(who));
+    element("legend").className = names.length > FEW ? "many" : "";
+    refill(element("legend"), ...this.#rows.map(({ row }) => row));
+    refill(element("story"), ...opened.events.map((event) => this.#event(event)));
+    this.#openFutures();
+  }
+
+  /**
+   * @param {number} who
+   * @returns {Row}
+   */
+  #row(who) {
+    const { session } = this;
+    const [processes, cells, fate] = [make("td"), make("td"), make("small")];
+    const bar = make("i", { className: "bar" });
+    const name = make("span", {}, make("strong", {}, session.known.names[who]), fate);
+    const choose = { className: "name", title: "Show only this warrior", onclick: () => session.choose(who) };
+    const button = make("button", choose, make("i", { className: "chip" }), name);
+    const style = swatch(session.opened?.order[who] ?? 0);
+    return { row: make("tr", { style }, make("td", {}, button, bar), processes, cells), processes, cells, bar, fate };
+  }
+
+  /** @param {Event} event */
+  #event(event) {
+    const { session } = this;
+    const show = () => {
+      session.jump(event.turn);
+      if (["death", "hit", "edit"].includes(event.kind) && event.address >= 0) session.pin(event.address);
+    };
+    const words = make("span", {}, eventWords(event, session.known));
+    const when = make("span", { className: "when" }, number(event.turn));
+    const line = make("li", {}, make("button", { onclick: show }, when, words));
+    line.dataset.turn = String(event.turn);
+    return line;
+  }
+
+  #openFutures() {
+    const { session } = this;
+    const { futures, future, beside, known } = session;
+    element("futures-box").hidden = futures.length < 2;
+    element("undo").toggleAttribute("disabled", !session.canUndo);
+    element("redo").toggleAttribute("disabled", !session.canRedo);
+    element("alone").hidden = beside === null;
+    const lines = futures.map(({ edits, end }, index) => {
+      const made = edits.map(({ turn, edit }) => `turn ${number(turn)}: ${editText(edit, known.core)}`);
+      const text = `${index}: ${made.join("; ") || "as it was fought"} (${counted(end, "turn")})`;
+      const here = { className: index === future ? "here" : "", onclick: () => session.showFuture(index) };
+      const compare = { className: "link", title: "Show it beside this one", onclick: () => session.compare(index) };
+      return make("li", {}, make("button", here, text), index === future ? null : make("button", compare, "compare"));
+    });
+    refill(element("futures"), ...lines);
+  }
+
+  #draw() {
+    const { view, opened, known } = this.session;
+    if (!view || !opened) return;
+    this.#rows.forEach((row, who) => this.#drawRow(row, who, view));
+    for (const line of element("story").children) {
+      if (line instanceof HTMLElement) line.classList.toggle("past", Number(line.dataset.turn) <= view.turn);
+    }
+    const isOver = view.turn === opened.end;
+    element("outcome").textContent = isOver ? `${outcome(known)} after ${counted(opened.end, "turn")}.` : "";
+    element("alone").hidden = this.session.beside === null;
+    this.#drawTurn(view);
+  }
+
+  /**
+   * @param {Row} row
+   * @param {number} who
+   * @param {View} view
+   */
+  #drawRow({ row, processes, cells, bar, fate }, who, view) {
+    const { opened, known, chosen } = this.session;
+    if (!opened) return;
+    row.className = `${view.processes[who] ? "" : "dead"} ${chosen < 0 || chosen === who ? "" : "dim"}`;
+    processes.textContent = number(view.processes[who]);
+    cells.textContent = number(view.owned[who]);
+    bar.style.width = `${(100 * view.owned[who]) / known.core}%`;
+    const death = opened.deaths.find(({ warrior }) => warrior === who);
+    if (death && death.turn <= view.turn) fate.textContent = `died in turn ${number(death.turn)}`;
+    else if (view.turn === opened.end) fate.textContent = outcome(known).startsWith("A tie") ? "ties" : "wins";
+    else fate.textContent = opened.authors[who] ? `by ${opened.authors[who]}` : "";
+  }
+
+  /** @param {View} view */
+  #drawTurn(view) {
+    const { known, way, move } = this.session;
+    element("told").className = way ? "soft" : "";
+    if (way) element("told").textContent = PAUSE;
+    else if (view.turn === 0) element("told").textContent = "The start: no turn is made yet.";
+    else if (move) element("told").textContent = moveWords(move, known);
+    if (way || view.head === null) {
+      refill(element("following"));
+      return;
+    }
+    const cell = readCell(view.cells, view.head);
+    const sentence = make("span", { className: "soft" }, instructionWords(cell, { core: known.core }));
+    const code = make("code", {}, cellText(cell, known.core));
+    const who = `${known.names[view.next]} at ${place(view.head, known)}: `;
+    refill(element("following"), make("b", {}, "Next: "), who, code, ". ", sentence, " ", this.lineLink(view.head));
+  }
+
+  /**
+   * Returns the line of source of the instruction at an address, if it is known.
+   * @param {number} address
+   */
+  lineOf(address) {
+    const { opened, fight, origins } = this.session;
+    const found = origins && opened?.lines[origins[address]];
+    if (!opened || !fight || !found) return null;
+    const source = fight.warriors[opened.order[found.warrior]];
+    const text = source.text.split("\n")[found.line - 1]?.split(";")[0].trim().replace(/\s+/g, " ") ?? "";
+    return { name: source.name, line: found.line, text };
+  }
+
+  /**
+   * Returns a link to the line of source of the instruction at an address, or null.
+   * @param {number} address
+   */
+  lineLink(address) {
+    const found = this.lineOf(address);
+    if (!found) return null;
+    const show = { className: "link", title: found.text, onclick: () => this.show(found.name, found.line) };
+    return make("button", show, `${found.name}, line ${found.line}`);
+  }
+}

@@ -1,0 +1,329 @@
+/** The core, the strip of time and the controls: what moves. */
+import { NOBODY, cellText, isEmpty, readCell } from "../model/cells.js";
+import { captionWords, number, outcome, ownerName, place, standingWords } from "../words/battle.js";
+import { instructionWords } from "../words/instruction.js";
+import { Core } from "./core.js";
+import { buttons, element, isNarrow, make, onClick, placeTip, refill, typed } from "./dom.js";
+import { Palette } from "./palette.js";
+import { Track } from "./track.js";
+
+/** @typedef {import("../battle/conditions.js").Word} Word */
+/** @typedef {import("../worker/desk.js").View} View */
+/** @typedef {import("./core.js").Marks} Marks */
+/** @typedef {import("./session.js").Session} Session */
+
+const PLAY = "M4 2v12l10-6z";
+const PAUSE = "M3 2h4v12H3zM9 2h4v12H9z";
+const BACKWARDS = "M12 2v12L2 8z";
+/** The speed at the right end of its slider, in turns a second; at the left end it is 1. */
+const FASTEST = 200_000;
+/** Below this speed the next instruction is marked while the battle plays. */
+const SLOW = 15;
+/** The maximum number of marked cells that differ between two futures. */
+const MOST_DIFFERENCES = 2000;
+const EMPTY = "Empty memory. A process that comes here ends.";
+const EVENTS = { splits: "split", ends: "end of a process", dies: "death" };
+
+export class Theatre {
+  /** @type {Palette | null} */
+  palette = null;
+  /** @type {number | null} */
+  hovered = null;
+  #isAsked = false;
+  #caption = "";
+  #saidAt = 0;
+
+  /** @param {Session} session */
+  constructor(session) {
+    this.session = session;
+    this.core = new Core(typed("core", HTMLCanvasElement));
+    this.other = new Core(typed("other-core", HTMLCanvasElement));
+    const ask = (/** @type {number} */ first, /** @type {number} */ last) =>
+      session.desk.overview(session.future, first, last);
+    const [strip, slider] = [typed("overview", HTMLCanvasElement), typed("time", HTMLInputElement)];
+    this.track = new Track(strip, slider, ask, () => this.ask());
+    this.#listenToControls();
+    this.#listenToTrack();
+    this.#listenToCore();
+    session.listen((change) => {
+      if (change === "battle") this.#open();
+      if (change === "look") this.#recolour();
+      if (change === "play") this.#showPlay();
+      this.ask();
+    });
+    new ResizeObserver(() => this.fit()).observe(element("stage"));
+  }
+
+  #listenToControls() {
+    const { session } = this;
+    onClick("first", () => session.jump(0));
+    onClick("last", () => session.jump(session.end));
+    onClick("back", () => session.step(-1));
+    onClick("on", () => session.step(1));
+    onClick("play", () => (session.way > 0 ? session.stop() : session.play(1)));
+    onClick("rewind", () => (session.way < 0 ? session.stop() : session.play(-1)));
+    onClick("again", () => session.play(1));
+    onClick("why-now", () => this.#showDeath());
+    const speed = typed("speed", HTMLInputElement);
+    speed.oninput = () => session.quicken(FASTEST ** (Number(speed.value) / 100));
+    for (const button of buttons("#leaps button")) {
+      button.onclick = () => this.leap(/** @type {Word} */ (button.dataset.word), button.dataset.way === "on");
+    }
+  }
+
+  /**
+   * Goes to the next or the last split, end of a process or death of any warrior.
+   * @param {Word} word
+   * @param {boolean} forward
+   */
+  async leap(word, forward) {
+    if (await this.session.leap([{ word, first: -1 }], forward)) return;
+    const what = EVENTS[/** @type {keyof typeof EVENTS} */ (word)];
+    this.#say(`There is no ${what} ${forward ? "after" : "before"} turn ${number(this.session.turn)}.`);
+  }
+
+  #showDeath() {
+    const death = this.session.opened?.deaths.at(-1);
+    if (!death) return;
+    if (death.address >= 0) this.session.pin(death.address);
+    this.session.jump(death.turn);
+  }
+
+  #listenToTrack() {
+    const { session, track } = this;
+    onClick("whole", () => track.show(0, session.end));
+    track.slider.oninput = () => session.jump(Number(track.slider.value));
+    const strip = element("track");
+    const zoom = (/** @type {WheelEvent} */ event) => {
+      event.preventDefault();
+      track.zoom(1.003 ** event.deltaY, track.turnAt(event));
+    };
+    strip.addEventListener("wheel", zoom, { passive: false });
+    strip.addEventListener("dblclick", (event) => track.zoom(0.2, track.turnAt(event)));
+  }
+
+  #listenToCore() {
+    const { session } = this;
+    for (const core of [this.core, this.other]) {
+      core.canvas.addEventListener("pointermove", (event) => this.#hover(core.addressAt(event)));
+      core.canvas.addEventListener("pointerleave", () => this.#hover(null));
+      core.canvas.addEventListener("click", (event) => {
+        const address = core.addressAt(event);
+        session.pin(address === session.pinned ? null : address);
+      });
+    }
+  }
+
+  /** @param {number | null} address */
+  #hover(address) {
+    if (address === this.hovered) return;
+    this.hovered = address;
+    this.ask();
+  }
+
+  /**
+   * Says something below the core, until the turn changes.
+   * @param {string} text
+   */
+  #say(text) {
+    element("caption").textContent = text;
+    this.#caption = text;
+  }
+
+  #open() {
+    const { opened } = this.session;
+    if (!opened) return;
+    this.track.open(opened);
+    this.hovered = null;
+    this.fit();
+    this.#showPlay();
+  }
+
+  /** Fits the cores into the room that there is. */
+  fit() {
+    const { session } = this;
+    const stage = element("stage");
+    if (!session.opened || !stage.clientWidth) return;
+    const isTwo = session.beside !== null;
+    element("other").hidden = !isTwo;
+    const width = isTwo && !isNarrow() ? stage.clientWidth / 2 : stage.clientWidth;
+    const height = isNarrow() ? Math.min(innerHeight * 0.5, stage.clientWidth * 1.05) : stage.clientHeight;
+    for (const core of isTwo ? [this.core, this.other] : [this.core]) core.fit(session.opened.core, width, height);
+    this.#recolour();
+  }
+
+  #recolour() {
+    const { opened, chosen } = this.session;
+    if (!opened) return;
+    this.palette = new Palette(opened.order, chosen);
+    this.ask();
+  }
+
+  #showPlay() {
+    const { way, rate } = this.session;
+    for (const { id, isOn, path, name, key } of [
+      { id: "play", isOn: way > 0, path: PLAY, name: "Play", key: "space" },
+      { id: "rewind", isOn: way < 0, path: BACKWARDS, name: "Play backwards", key: "J" },
+    ]) {
+      const button = element(id);
+      button.setAttribute("aria-label", isOn ? "Pause" : name);
+      button.title = isOn ? "Pause (space)" : `${name} (${key})`;
+      button.querySelector("path")?.setAttribute("d", isOn ? PAUSE : path);
+      button.classList.toggle("on", isOn);
+    }
+    typed("speed", HTMLInputElement).value = String((100 * Math.log(rate)) / Math.log(FASTEST));
+    element("speed").setAttribute("aria-valuetext", `${number(Math.round(rate))} turns a second`);
+    element("rate").textContent = `${number(Number(rate.toPrecision(2)))} turns/s`;
+  }
+
+  /** Requests one drawing, however much changes until then. */
+  ask() {
+    if (this.#isAsked) return;
+    this.#isAsked = true;
+    requestAnimationFrame(() => {
+      this.#isAsked = false;
+      this.#draw();
+    });
+  }
+
+  #draw() {
+    const { session, palette, core } = this;
+    const { view, opened, way, beside } = session;
+    if (!view || !opened || !palette || view.owner.length !== core.size) return;
+    if (element("other").hidden === (beside !== null)) this.fit();
+    core.draw(view, palette, session.grain, this.#marks(view));
+    if (beside) this.#drawBeside(beside.future, beside.view, palette);
+    if (!performance.getEntriesByName("first fight").length) performance.mark("first fight");
+    this.#showEnding(session.hasEnded && view.turn === opened.end && way === 0);
+    if (way) this.track.follow(view.turn);
+    this.track.draw(palette, view.turn);
+    this.#drawNow(view);
+    this.#drawCaption(view);
+    this.#drawTip(view);
+  }
+
+  /**
+   * @param {View} view
+   * @returns {Marks}
+   */
+  #marks(view) {
+    const { session } = this;
+    const { move, opened, way, rate, pinned } = session;
+    const showsTurn = way === 0 || rate < SLOW;
+    const dead = (opened?.deaths ?? []).filter(({ turn, address }) => turn <= view.turn && address >= 0);
+    return {
+      pinned,
+      hovered: this.hovered,
+      head: showsTurn ? view.head : null,
+      reads: showsTurn && move?.turn === view.turn ? move.reads : [],
+      warrior: move?.warrior ?? 0,
+      differences: this.#differences(),
+      graves: dead.map(({ address, warrior }) => ({ address, warrior })),
+    };
+  }
+
+  /** Returns the addresses of cells that differ in the future that is shown beside this one. */
+  #differences() {
+    const { view, beside } = this.session;
+    if (!view || !beside) return [];
+    const [own, other] = [view.cells, beside.view.cells];
+    const found = [];
+    for (let at = 0; at < own.length && found.length < MOST_DIFFERENCES; at += 3) {
+      if (own[at] !== other[at] || own[at + 1] !== other[at + 1] || own[at + 2] !== other[at + 2]) found.push(at / 3);
+    }
+    return found;
+  }
+
+  /**
+   * @param {number} future
+   * @param {View} view
+   * @param {Palette} palette
+   */
+  #drawBeside(future, view, palette) {
+    const { session } = this;
+    if (view.owner.length !== this.other.size) return;
+    const marks = { ...this.#marks(view), head: view.head, reads: [], graves: [] };
+    this.other.draw(view, palette, session.grain, marks);
+    const isOver = view.turn < session.turn ? ", its end" : "";
+    element("other-name").textContent = `Future ${future} at turn ${number(view.turn)}${isOver}`;
+    element("own-name").textContent = `Future ${session.future}; cells that differ are framed`;
+  }
+
+  /**
+   * Shows who won and what can be done, if the battle came to its end by itself.
+   * @param {boolean} isOver
+   */
+  #showEnding(isOver) {
+    const { opened, known } = this.session;
+    element("ending").hidden = !isOver;
+    if (!isOver || !opened) return;
+    const dead = new Set(opened.deaths.map(({ warrior }) => warrior));
+    const winner = known.names.findIndex((_, who) => !dead.has(who));
+    element("winner").textContent = outcome(known);
+    element("winner").style.color = known.names.length - dead.size === 1 ? (this.palette?.text[winner] ?? "") : "";
+    element("why-now").hidden = dead.size === 0;
+  }
+
+  /** @param {View} view */
+  #drawNow(view) {
+    const { turn, cycle } = view;
+    const { known, end } = this.session;
+    element("whole").hidden = this.track.isWhole;
+    const rest = make("span", { className: "cycle" }, ` · cycle ${number(cycle)}`);
+    refill(element("now"), make("b", {}, `Turn ${number(turn)}`), make("span", {}, ` of ${number(end)}`), rest);
+    const told = [`turn ${turn} of ${end}`, ...standingWords(known.names, view)];
+    element("time").setAttribute("aria-valuetext", told.join(". "));
+  }
+
+  /**
+   * Says what is seen. Numbers change twice a second at most and are not read out; what happens is.
+   * @param {View} view
+   */
+  #drawCaption({ turn, processes, owned }) {
+    const { opened, known, way } = this.session;
+    if (!opened) return;
+    const caption = captionWords(turn, opened.events, known, { processes, cells: owned });
+    const isNumber = caption.includes("%");
+    const now = performance.now();
+    if (caption === this.#caption || (way && isNumber && now - this.#saidAt < 500)) return;
+    this.#saidAt = now;
+    element("caption").setAttribute("aria-live", isNumber ? "off" : "polite");
+    this.#say(caption);
+  }
+
+  /**
+   * Describes the cell under the pointer.
+   * @param {View} view
+   */
+  #drawTip(view) {
+    const tip = element("tip");
+    const address = this.hovered;
+    tip.hidden = address === null;
+    if (address === null) return;
+    const { known } = this.session;
+    const [cell, owner, when] = [readCell(view.cells, address), view.owner[address], view.written[address]];
+    const isFree = owner === NOBODY && isEmpty(view.cells, address);
+    const words = isFree ? EMPTY : instructionWords(cell, { core: known.core, address });
+    const loaded = owner === NOBODY ? "Never written" : `Loaded with ${ownerName(owner, known)}`;
+    const by = when ? `Written by ${ownerName(owner, known)} in turn ${number(when)}` : loaded;
+    const code = make("code", {}, cellText(cell, known.core));
+    const head = make("p", { className: "head" }, make("b", {}, place(address, known)), " ", code);
+    refill(tip, head, make("p", {}, words), make("p", { className: "soft" }, by, this.#standing(view, address)));
+    placeTip(tip, this.core.pointOf(address));
+  }
+
+  /**
+   * Names the warriors with processes on a cell.
+   * @param {View} view
+   * @param {number} address
+   */
+  #standing({ queues, processes }, address) {
+    let first = 0;
+    const found = processes.flatMap((count, who) => {
+      const many = queues.subarray(first, first + count).filter((one) => one === address).length;
+      first += count;
+      return many ? `${this.session.known.names[who]}${many > 1 ? ` ×${number(many)}` : ""}` : [];
+    });
+    return found.length ? `. Here: ${found.join(", ")}` : "";
+  }
+}

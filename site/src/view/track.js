@@ -1,0 +1,302 @@
+/**
+ * The strip of time: above, the cells of each warrior, stacked; below, its processes; between them, splits and ends of
+ * processes; each death with a cross. A slider lies over it. A part that is zoomed is sampled again, so it is exact
+ * too.
+ */
+import { number } from "../words/battle.js";
+import { clamp } from "./dom.js";
+
+/** @typedef {import("../battle/overview.js").Overview} Overview */
+/** @typedef {import("./palette.js").Palette} Palette */
+/** @typedef {{turn: number, warrior: number}} Death */
+/**
+ * What a film is drawn with: `x` is where a turn is; `middle` and `bottom` are the feet of the two curves.
+ * @typedef {object} Drawing
+ * @property {CanvasRenderingContext2D} context
+ * @property {Palette} palette
+ * @property {Overview} overview
+ * @property {number} warriors
+ * @property {number} width
+ * @property {number} middle
+ * @property {number} bottom
+ * @property {(turn: number) => number} x
+ */
+
+/** The least number of turns that are shown, and the height of the scale. */
+const LEAST = 12;
+const FOOT = 17;
+const FONT = "11px system-ui, sans-serif";
+const GROUND = "#0e1217";
+
+export class Track {
+  first = 0;
+  last = 0;
+  #end = 0;
+  #warriors = 0;
+  /** @type {Overview | null} */
+  #overview = null;
+  /** @type {Death[]} */
+  #deaths = [];
+  /** @type {number[]} */
+  #edits = [];
+  #asked = 0;
+  #film = document.createElement("canvas");
+  /** @type {unknown[]} */
+  #drawn = [];
+
+  /**
+   * @param {HTMLCanvasElement} canvas
+   * @param {HTMLInputElement} slider
+   * @param {(first: number, last: number) => Promise<Overview>} ask
+   * @param {() => void} changed
+   */
+  constructor(canvas, slider, ask, changed) {
+    this.canvas = canvas;
+    this.slider = slider;
+    this.ask = ask;
+    this.changed = changed;
+  }
+
+  /** @param {{overview: Overview, end: number, deaths: Death[], edits: {turn: number}[], order: number[]}} opened */
+  open({ overview, end, deaths, edits, order }) {
+    this.#overview = overview;
+    this.#end = this.last = end;
+    this.#deaths = deaths;
+    this.#edits = edits.map(({ turn }) => turn);
+    this.#warriors = order.length;
+    this.first = 0;
+    this.#asked++;
+  }
+
+  get isWhole() {
+    return this.first === 0 && this.last === this.#end;
+  }
+
+  /**
+   * Shows the turns from one to another.
+   * @param {number} first
+   * @param {number} last
+   */
+  async show(first, last) {
+    const length = clamp(last - first, Math.min(LEAST, this.#end), this.#end);
+    this.first = Math.round(clamp(first, 0, this.#end - length));
+    this.last = Math.round(this.first + length);
+    const asked = ++this.#asked;
+    this.changed();
+    const overview = await this.ask(this.first, this.last);
+    if (asked !== this.#asked) return;
+    this.#overview = overview;
+    this.changed();
+  }
+
+  /**
+   * Shows a part of what is shown, or more than that, around a turn that stays in its place.
+   * @param {number} factor
+   * @param {number} turn
+   */
+  zoom(factor, turn) {
+    const length = clamp((this.last - this.first) * factor, Math.min(LEAST, this.#end), this.#end);
+    const first = turn - ((turn - this.first) * length) / Math.max(1, this.last - this.first);
+    return this.show(first, first + length);
+  }
+
+  /**
+   * Keeps a turn among those that are shown.
+   * @param {number} turn
+   */
+  follow(turn) {
+    if (turn >= this.first && turn <= this.last) return;
+    const length = this.last - this.first;
+    const first = turn - length * (turn < this.first ? 0.9 : 0.1);
+    this.show(first, first + length);
+  }
+
+  /** @param {MouseEvent} event */
+  turnAt(event) {
+    const { left, width } = this.canvas.getBoundingClientRect();
+    return Math.round(this.first + clamp((event.clientX - left) / width, 0, 1) * (this.last - this.first));
+  }
+
+  /**
+   * Draws the strip with a line at a turn. The rest is drawn again only if it has changed.
+   * @param {Palette} palette
+   * @param {number} turn
+   */
+  draw(palette, turn) {
+    const { canvas } = this;
+    const { clientWidth: width, clientHeight: height } = canvas;
+    const context = canvas.getContext("2d");
+    if (!context || !this.#overview || !width) return;
+    const what = [palette, this.#overview, this.first, this.last, width, height, devicePixelRatio];
+    if (what.some((value, index) => value !== this.#drawn[index])) {
+      this.#drawn = what;
+      this.#drawFilm(palette, this.#overview, width, height);
+    }
+    context.setTransform(1, 0, 0, 1, 0, 0);
+    context.clearRect(0, 0, canvas.width, canvas.height);
+    context.drawImage(this.#film, 0, 0);
+    context.scale(devicePixelRatio, devicePixelRatio);
+    context.fillStyle = "#fff";
+    context.fillRect(Math.round(this.#across(turn, width)) - 1, 0, 2, height - FOOT + 4);
+    this.slider.min = String(this.first);
+    this.slider.max = String(this.last);
+    this.slider.value = String(turn);
+  }
+
+  /**
+   * @param {number} turn
+   * @param {number} width
+   */
+  #across(turn, width) {
+    return 1.5 + ((turn - this.first) / Math.max(1, this.last - this.first)) * (width - 3);
+  }
+
+  /**
+   * @param {Palette} palette
+   * @param {Overview} overview
+   * @param {number} width
+   * @param {number} height
+   */
+  #drawFilm(palette, overview, width, height) {
+    for (const one of [this.canvas, this.#film]) {
+      one.width = width * devicePixelRatio;
+      one.height = height * devicePixelRatio;
+    }
+    const context = /** @type {CanvasRenderingContext2D} */ (this.#film.getContext("2d"));
+    context.setTransform(devicePixelRatio, 0, 0, devicePixelRatio, 0, 0);
+    const bottom = height - FOOT;
+    const x = (/** @type {number} */ turn) => this.#across(turn, width);
+    const middle = Math.round(bottom * 0.56);
+    const drawing = { context, palette, overview, warriors: this.#warriors, width, middle, bottom, x };
+    const mostCells = drawCells(drawing);
+    drawTicks(drawing);
+    const mostProcesses = drawProcesses(drawing);
+    this.#drawScale(drawing);
+    drawLegend(drawing, mostCells, mostProcesses);
+    this.#drawMoments(drawing);
+  }
+
+  /**
+   * Draws a line at each edit and each death.
+   * @param {Drawing} drawing
+   */
+  #drawMoments({ context, palette, width, bottom, x }) {
+    const isShown = (/** @type {number} */ turn) => turn >= this.first && turn <= this.last;
+    const line = (/** @type {number} */ turn, /** @type {string} */ colour, /** @type {number[]} */ dash) => {
+      context.setLineDash(dash);
+      context.strokeStyle = colour;
+      context.lineWidth = 1.5;
+      context.stroke(new Path2D(`M${x(turn)} 13V${bottom}`));
+    };
+    for (const turn of this.#edits.filter(isShown)) line(turn, "rgba(255,255,255,.6)", [2, 3]);
+    for (const { turn, warrior } of this.#deaths.filter((death) => isShown(death.turn))) {
+      line(turn, palette.mark[warrior], []);
+      context.lineWidth = 2;
+      context.stroke(new Path2D(`M${clamp(x(turn), 5, width - 6) - 4} 3l8 8m0-8l-8 8`));
+    }
+  }
+
+  /**
+   * Draws round numbers of turns, as many as there is room for.
+   * @param {Drawing} drawing
+   */
+  #drawScale({ context, width, bottom, x }) {
+    const least = (this.last - this.first) / (width / 90);
+    const power = 10 ** Math.floor(Math.log10(Math.max(1, least)));
+    const step = [1, 2, 5, 10].map((times) => times * power).find((value) => value >= least) ?? power;
+    context.fillStyle = "#8793a2";
+    context.font = FONT;
+    for (let turn = Math.ceil(this.first / step) * step; turn <= this.last; turn += step) {
+      const at = Math.round(x(turn));
+      const room = context.measureText(number(turn)).width / 2 + 4;
+      context.fillRect(at, bottom, 1, 4);
+      context.textAlign = at < room ? "left" : at > width - room ? "right" : "center";
+      context.fillText(number(turn), clamp(at, 5, width - 5), bottom + 14);
+    }
+  }
+}
+
+/**
+ * Draws the cells of the warriors, stacked. Returns the largest sum.
+ * @param {Drawing} drawing
+ */
+function drawCells({ context, palette, overview: { turns, cells }, warriors, middle, x }) {
+  const below = new Float64Array(turns.length);
+  const row = (/** @type {number} */ at) => cells.slice(at * warriors, (at + 1) * warriors);
+  const sums = turns.map((_, at) => row(at).reduce((sum, count) => sum + count, 0));
+  const most = Math.max(1, ...sums);
+  const y = (/** @type {number} */ at) => middle - 2 - (below[at] / most) * (middle - 8);
+  for (let who = 0; who < warriors; who++) {
+    context.beginPath();
+    turns.forEach((turn, at) => context.lineTo(x(turn), y(at)));
+    for (let at = turns.length - 1; at >= 0; at--) {
+      below[at] += cells[at * warriors + who];
+      context.lineTo(x(turns[at]), y(at));
+    }
+    context.fillStyle = palette.text[who];
+    context.globalAlpha = 0.62;
+    context.fill();
+    context.globalAlpha = 1;
+  }
+  return most;
+}
+
+/**
+ * Draws the processes of the warriors. Returns the largest number.
+ * @param {Drawing} drawing
+ */
+function drawProcesses({ context, palette, overview: { turns, processes }, warriors, middle, bottom, x }) {
+  const most = processes.reduce((one, other) => Math.max(one, other), 1);
+  for (let who = 0; who < warriors; who++) {
+    // Equal curves lie beside each other.
+    const apart = Math.min(2, 12 / warriors) * who;
+    context.beginPath();
+    turns.forEach((turn, at) => {
+      const share = Math.sqrt(processes[at * warriors + who] / most);
+      context.lineTo(x(turn), bottom - 2 - share * (bottom - middle - 14) - apart);
+    });
+    context.strokeStyle = palette.text[who];
+    context.lineWidth = 1.75;
+    context.lineJoin = "round";
+    context.stroke();
+  }
+  return most;
+}
+
+/**
+ * Draws splits and ends of processes, bright if there were many.
+ * @param {Drawing} drawing
+ */
+function drawTicks({ context, overview: { turns, splits, ends }, middle, x }) {
+  const most = [...splits, ...ends].reduce((one, other) => Math.max(one, other), 1);
+  for (let at = 1; at < turns.length; at++) {
+    const [from, to] = [x(turns[at - 1]), x(turns[at])];
+    const wide = Math.max(1, to - from);
+    context.fillStyle = `rgba(255,255,255,${0.18 + (0.5 * splits[at]) / most})`;
+    if (splits[at]) context.fillRect(to - wide, middle, wide, 3);
+    context.fillStyle = `rgba(255,120,110,${0.25 + (0.6 * ends[at]) / most})`;
+    if (ends[at]) context.fillRect(to - wide, middle + 4, wide, 3);
+  }
+}
+
+/**
+ * @param {Drawing} drawing
+ * @param {number} mostCells
+ * @param {number} mostProcesses
+ */
+function drawLegend({ context, width, middle }, mostCells, mostProcesses) {
+  context.font = FONT;
+  context.textAlign = "right";
+  context.lineJoin = "round";
+  const texts = /** @type {const} */ ([
+    [`cells, up to ${number(mostCells)}`, 13],
+    [`processes, up to ${number(mostProcesses)}`, middle + 17],
+  ]);
+  for (const [text, y] of texts) {
+    context.strokeStyle = GROUND;
+    context.lineWidth = 4;
+    context.strokeText(text, width - 16, y);
+    context.fillStyle = "#aab4c0";
+    context.fillText(text, width - 16, y);
+  }
+}

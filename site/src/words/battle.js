@@ -1,0 +1,200 @@
+/** Turns, events and outcomes in plain English. */
+import { BY_HAND, cellText, readCell } from "../model/cells.js";
+
+/** @typedef {import("../battle/overview.js").Event} Event */
+/**
+ * What a battle is called by: names in the order of turns, and labels of addresses.
+ * @typedef {{names: string[], core: number, end: number, deaths: Event[], labels: Map<number, string>}} Known
+ */
+/**
+ * What a turn did. Cells are three words; `owner` is the owner of the cell before; `left` is the number of processes
+ * that the warrior has left.
+ * @typedef {object} Move
+ * @property {number} turn
+ * @property {number} warrior
+ * @property {number} address
+ * @property {Uint32Array} executed
+ * @property {{address: number, before: Uint32Array, after: Uint32Array, owner: number}[]} writes
+ * @property {number[]} reads
+ * @property {number[]} queued
+ * @property {boolean} died
+ * @property {number} left
+ */
+
+/** @param {number} value */
+export const number = (value) => value.toLocaleString("en");
+
+/**
+ * @param {number} value
+ * @param {string} what
+ */
+export function counted(value, what) {
+  const ending = /(s|ch)$/.test(what) ? "es" : "s";
+  return `${number(value)} ${what}${value === 1 ? "" : ending}`;
+}
+
+/** @param {string[]} names */
+export const joined = (names) =>
+  names.length > 1 ? `${names.slice(0, -1).join(", ")} and ${names[names.length - 1]}` : (names[0] ?? "");
+
+/**
+ * Returns distinct names: equal ones are followed by numbers.
+ * @param {string[]} names
+ */
+export function distinct(names) {
+  /** @type {string[]} */
+  const made = [];
+  for (const name of names) {
+    let found = name;
+    const isShared = names.indexOf(name) !== names.lastIndexOf(name);
+    for (let count = 1; isShared && [...names, ...made].includes(found); count++) found = `${name} ${count}`;
+    made.push(found);
+  }
+  return made;
+}
+
+/**
+ * Returns an address, with its label if it has one.
+ * @param {number} address
+ * @param {Known} known
+ */
+export const place = (address, { labels }) =>
+  labels.has(address) ? `${number(address)} (${labels.get(address)})` : number(address);
+
+/**
+ * Returns the name of the owner of a cell.
+ * @param {number} owner
+ * @param {Known} known
+ */
+export const ownerName = (owner, { names }) => names[owner] ?? (owner === BY_HAND ? "you" : "nobody");
+
+/**
+ * Returns who won.
+ * @param {Known} known
+ */
+export function outcome({ names, deaths }) {
+  const dead = new Set(deaths.map(({ warrior }) => warrior));
+  const living = names.filter((_, who) => !dead.has(who));
+  if (living.length === 0) return "No warrior survives";
+  if (living.length === 1) return `${living[0]} ${names.length > 1 ? "wins" : "survives"}`;
+  return living.length === 2 && names.length === 2 ? "A tie: both survive" : `A tie of ${joined(living)}`;
+}
+
+/**
+ * Returns a turn in some sentences.
+ * @param {Move} move
+ * @param {Known} known
+ */
+export function moveWords(move, known) {
+  const { core } = known;
+  const name = known.names[move.warrior];
+  const executed = cellText(readCell(move.executed, 0), core);
+  const sentences = [`${name} executed ${executed} at ${place(move.address, known)}.`];
+  for (const write of move.writes) sentences.push(writeWords(write, move.warrior, known));
+  if (move.reads.length) {
+    const cells = move.reads.slice(0, 4).map((address) => place(address, known));
+    sentences.push(`It looked at ${joined(cells)}.`);
+  }
+  sentences.push(endWords(move, known));
+  return sentences.filter(Boolean).join(" ");
+}
+
+/**
+ * @param {Move["writes"][0]} write
+ * @param {number} warrior
+ * @param {Known} known
+ */
+function writeWords({ address, before, after, owner }, warrior, known) {
+  const text = (/** @type {Uint32Array} */ words) => cellText(readCell(words, 0), known.core);
+  const isSame = before.every((word, index) => word === after[index]);
+  let rest = "";
+  if (isSame) rest = ", as it was";
+  else if (owner < known.names.length && owner !== warrior) rest = `, over ${known.names[owner]}’s ${text(before)}`;
+  return `It wrote ${text(after)} to ${place(address, known)}${rest}.`;
+}
+
+/**
+ * @param {Move} move
+ * @param {Known} known
+ */
+function endWords({ warrior, address, queued, died, left }, known) {
+  if (died) return `That was its last process: ${known.names[warrior]} is dead.`;
+  if (queued.length === 0) return `That process ended; ${number(left)} left.`;
+  const cells = queued.map((one) => place(one, known));
+  if (queued.length === 2) return `It split: processes continue at ${joined(cells)}.`;
+  return queued[0] === (address + 1) % known.core ? "" : `It continues at ${cells[0]}.`;
+}
+
+/**
+ * Returns an event as a line of the battle's story.
+ * @param {Event} event
+ * @param {Known} known
+ */
+export function eventWords(event, known) {
+  const { names } = known;
+  const name = names[event.warrior] ?? "";
+  switch (event.kind) {
+    case "start": {
+      const who = names.length > 4 ? `${names.length} warriors` : joined(names);
+      return `${who} ${names.length > 1 ? "are" : "is"} loaded into the core`;
+    }
+    case "split":
+      return `${name} splits for the first time: two processes`;
+    case "hit":
+      return `${name} writes over a cell of ${names[event.other]}`;
+    case "most":
+      return `${name} peaks at ${number(event.count)} processes`;
+    case "edit":
+      return event.address < 0 ? "You remove a process" : `You edit at cell ${place(event.address, known)}`;
+    case "death":
+      return deathWords(event, known);
+    default:
+      return `${outcome(known)} after ${counted(event.turn, "turn")}`;
+  }
+}
+
+/**
+ * @param {Event} event
+ * @param {Known} known
+ */
+function deathWords({ warrior, other, address, count }, known) {
+  const name = known.names[warrior];
+  if (address < 0) return `${name} dies: you removed its last process`;
+  const [at, when] = [place(address, known), count ? ` in turn ${number(count)}` : ""];
+  const own = count ? `it wrote itself${when}` : "it brought along";
+  if (other === warrior) return `${name} dies at ${at}, a cell that ${own}`;
+  if (other === BY_HAND) return `${name} dies at ${at}, which you wrote`;
+  const killer = known.names[other];
+  if (killer === undefined) return `${name} dies: it runs into empty memory at ${at}`;
+  return `${name} dies: it executes ${at}, which ${killer} ${count ? `wrote${when}` : "brought along"}`;
+}
+
+/**
+ * Returns how many processes and cells each warrior has.
+ * @param {string[]} names
+ * @param {{processes: number[], owned: number[]}} view
+ */
+export const standingWords = (names, { processes, owned }) =>
+  names.map((name, who) => `${name}: ${counted(processes[who], "process")}, ${counted(owned[who], "cell")}`);
+
+/**
+ * Returns what a newcomer sees while the battle plays. `cells` and `processes` are those of each warrior.
+ * @param {number} turn
+ * @param {Event[]} events
+ * @param {Known} known
+ * @param {{processes: number[], cells: number[]}} counts
+ */
+export function captionWords(turn, events, known, { processes, cells }) {
+  const { names, end, core } = known;
+  if (turn >= end) return `${eventWords(events[events.length - 1], known)}.`;
+  const isRecent = (/** @type {Event} */ event) => event.turn <= turn && event.turn > 0 && turn - event.turn < end / 12;
+  const latest = [...events].reverse().find(isRecent);
+  if (latest) return `${eventWords(latest, known)}.`;
+  if (turn < end / 10) {
+    if (names.length === 1) return `${names[0]} has the core to itself.`;
+    return `${joined(names)} share a ring of ${number(core)} cells, and each tries to end the other.`;
+  }
+  const [leader, many] = [cells, processes].map((counts) => counts.indexOf(Math.max(...counts)));
+  const share = `${names[leader]} owns ${Math.round((100 * cells[leader]) / core)} % of the core`;
+  return processes[many] > 2 ? `${share}; ${names[many]} runs ${number(processes[many])} processes.` : `${share}.`;
+}

@@ -1,0 +1,327 @@
+/** The battle that is shown, with all its futures: what a page asks of it. */
+import { readsOf, search } from "../battle/conditions.js";
+import { History } from "../battle/history.js";
+import { ADDRESS, DIED, PROCESS, QUEUED, WARRIOR, changesOf } from "../battle/place.js";
+import { assembleAll, describe } from "../engine/warrior.js";
+import { CELL_WORDS } from "../model/cells.js";
+
+/** @typedef {import("../battle/conditions.js").Condition} Condition */
+/** @typedef {import("../battle/overview.js").Event} Event */
+/** @typedef {import("../battle/overview.js").Overview} Overview */
+/** @typedef {import("../engine/mars.js").Mars} Mars */
+/** @typedef {import("../engine/warrior.js").Warrior} Warrior */
+/** @typedef {import("../model/cells.js").Cell} Cell */
+/** @typedef {import("../model/fight.js").Edit} Edit */
+/** @typedef {import("../model/fight.js").Fight} Fight */
+/** @typedef {import("../model/fight.js").Made} Made */
+/** @typedef {import("../words/battle.js").Move} Move */
+/**
+ * A future as it is opened. Warriors are in the order of their turns; `order` says which source each is. `lines` has
+ * the warrior and the line of each origin.
+ * @typedef {object} Opened
+ * @property {number} future
+ * @property {number} core
+ * @property {number} end
+ * @property {number[]} order
+ * @property {string[]} names
+ * @property {string[]} authors
+ * @property {Event[]} deaths
+ * @property {Event[]} events
+ * @property {Overview} overview
+ * @property {{address: number, name: string, warrior: number}[]} labels
+ * @property {{warrior: number, line: number}[]} lines
+ * @property {Made[]} edits
+ */
+/**
+ * A battle after a turn. `head` is the address that is executed next, or null at the end; `queues` has the addresses of
+ * all processes, warrior by warrior, the next one first, and `processes` their numbers.
+ * @typedef {object} View
+ * @property {number} turn
+ * @property {number} cycle
+ * @property {number} next
+ * @property {number | null} head
+ * @property {Uint32Array} cells
+ * @property {Uint8Array} owner
+ * @property {Uint32Array} written
+ * @property {Uint32Array} queues
+ * @property {number[]} processes
+ * @property {number[]} owned
+ */
+/** @typedef {{turn: number, warrior: number, before: Uint32Array, after: Uint32Array}} CellChange */
+
+/** The number of changes of a cell that are reported, and of futures whose histories are kept. */
+const FEW = 5;
+const KEPT = 4;
+
+export class Desk {
+  /** @type {Map<number, History>} */
+  #histories = new Map();
+  /** @type {Made[][]} */
+  #futures = [];
+  /** @type {Fight | null} */
+  #fight = null;
+  /** @type {Warrior[]} */
+  #warriors = [];
+
+  /** @param {Mars} mars */
+  constructor(mars) {
+    this.mars = mars;
+  }
+
+  /**
+   * Opens a battle: a future for each of its edits, of which the last is returned. An error of a source has its index
+   * as `warrior`; then the battle that was open stays.
+   * @param {Fight} fight
+   */
+  open(fight) {
+    const warriors = assembleAll(this.mars, fight.warriors, fight.warriors.length, fight);
+    const history = History.fight(this.mars, { ...fight, warriors });
+    this.#fight = fight;
+    this.#warriors = warriors;
+    this.#histories = new Map([[0, history]]);
+    this.#futures = [[], ...fight.edits.map((_, index) => fight.edits.slice(0, index + 1))];
+    return this.show(this.#futures.length - 1);
+  }
+
+  get fight() {
+    if (!this.#fight) throw new Error("no battle is open");
+    return this.#fight;
+  }
+
+  /**
+   * Returns the history of a future; those that were used least recently are made again.
+   * @param {number} future
+   * @returns {History}
+   */
+  #history(future) {
+    let found = this.#histories.get(future);
+    if (!found) {
+      const edits = this.#futures[future];
+      const before = this.#futures.findIndex((other) => isSame(other, edits.slice(0, -1)));
+      const { turn, edit } = edits[edits.length - 1];
+      found = this.#history(before).edited(turn, edit);
+    }
+    this.#histories.delete(future);
+    this.#histories.set(future, found);
+    const oldest = [...this.#histories.keys()].find((one) => one !== 0);
+    if (this.#histories.size > KEPT && oldest !== undefined) this.#histories.delete(oldest);
+    return found;
+  }
+
+  /**
+   * Edits a future after a turn. The edits after that turn belong to the future that is left.
+   * @param {number} future
+   * @param {number} turn
+   * @param {Edit} edit
+   */
+  edit(future, turn, edit) {
+    const kept = this.#futures[future].filter((made) => made.turn <= turn);
+    const edits = [...kept, { turn, edit }];
+    const there = this.#futures.findIndex((other) => isSame(other, edits));
+    if (there >= 0) return this.show(there);
+    const before = this.#futures.findIndex((other) => isSame(other, kept));
+    const made = this.#history(before).edited(turn, edit);
+    this.#histories.set(this.#futures.push(edits) - 1, made);
+    return this.show(this.#futures.length - 1);
+  }
+
+  /**
+   * Returns what a page shows of a future besides its turns.
+   * @param {number} future
+   * @returns {Opened}
+   */
+  show(future) {
+    const history = this.#history(future);
+    const { core, end, order, deaths, events, edits } = history;
+    const found = order.map((source) => describe(this.#warriors[source], core));
+    const names = found.map(({ name }, who) => name || this.fight.warriors[order[who]].name.replace(/\.\w+$/, ""));
+    const overview = history.overview(0, end);
+    return {
+      ...{ future, core, end, order, deaths, events, edits, overview, names },
+      authors: found.map(({ author }) => author),
+      ...this.#lines(history),
+    };
+  }
+
+  /**
+   * Returns the labels of the battle, and for each origin the warrior and the line of its source.
+   * @param {History} history
+   */
+  #lines(history) {
+    /** @type {Opened["labels"]} */
+    const labels = [];
+    /** @type {Opened["lines"]} */
+    const lines = [];
+    const { settings, rounds, warriors } = this.fight;
+    history.order.forEach((source, warrior) => {
+      const { start } = describe(this.#warriors[source], history.core);
+      const first = history.start.battle.queue(warrior)[0] - start + history.core;
+      const terms = { settings, rounds, warriors: warriors.length };
+      this.mars.lines(warriors[source].text, terms).forEach(({ line, labels: names }, index) => {
+        lines.push({ warrior, line });
+        for (const name of names) labels.push({ address: (first + index) % history.core, name, warrior });
+      });
+    });
+    return { labels, lines };
+  }
+
+  /**
+   * @param {number} future
+   * @param {number} turn
+   * @returns {View}
+   */
+  turn(future, turn) {
+    const history = this.#history(future);
+    const at = Math.max(0, Math.min(history.end, turn));
+    const { battle, owner, written, owned } = history.place(at);
+    const queues = history.order.map((_, warrior) => battle.queue(warrior));
+    const all = new Uint32Array(queues.reduce((sum, queue) => sum + queue.length, 0));
+    queues.reduce((first, queue) => {
+      all.set(queue, first);
+      return first + queue.length;
+    }, 0);
+    return {
+      turn: at,
+      cycle: battle.cycle,
+      next: battle.next,
+      head: at === history.end ? null : queues[battle.next][0],
+      cells: battle.cells.slice(),
+      owner: owner.slice(),
+      written: written.slice(),
+      queues: all,
+      processes: queues.map((queue) => queue.length),
+      owned: [...owned],
+    };
+  }
+
+  /**
+   * Returns the origin of each cell after a turn, an index of `lines` of the opened future, or a number beyond it.
+   * @param {number} future
+   * @param {number} turn
+   */
+  origins(future, turn) {
+    return this.#history(future).originsAt(turn);
+  }
+
+  /**
+   * Returns what a turn did, from 1.
+   * @param {number} future
+   * @param {number} turn
+   * @returns {Move}
+   */
+  move(future, turn) {
+    const history = this.#history(future);
+    const { records, ...rest } = history.record(turn);
+    const [warrior, address, queued] = [records[WARRIOR], records[ADDRESS], records[QUEUED]];
+    const next = [...records.subarray(PROCESS, PROCESS + queued)];
+    const { battle, owner } = history.place(turn - 1);
+    const left = battle.queue(warrior).length - 1 + queued;
+    const cell = (/** @type {number} */ at) => records.slice(at, at + CELL_WORDS);
+    const writes = changesOf(records, 0, true).map((change) => ({
+      address: change.address,
+      before: cell(change.before),
+      after: cell(change.after),
+      owner: owner[change.address],
+    }));
+    const reads = readsOf({ records, ...rest }, 0).filter((one) => one !== address && !next.includes(one));
+    const executed = battle.cells.slice(CELL_WORDS * address, CELL_WORDS * (address + 1));
+    const died = records[DIED] === 1;
+    return { turn, warrior, address, executed, writes, reads: [...new Set(reads)], queued: next, died, left };
+  }
+
+  /**
+   * @param {number} future
+   * @param {number} first
+   * @param {number} last
+   */
+  overview(future, first, last) {
+    return this.#history(future).overview(first, last);
+  }
+
+  /**
+   * Returns the place where one of the conditions holds next, or held before, and which; null if there is none.
+   * @param {number} future
+   * @param {Condition[]} conditions
+   * @param {number} turn
+   * @param {boolean} forward
+   */
+  search(future, conditions, turn, forward) {
+    const history = this.#history(future);
+    let found = null;
+    for (const [index, condition] of conditions.entries()) {
+      const place = search(history, condition, turn, forward);
+      if (place === null) continue;
+      if (!found || (forward ? place < found.turn : place > found.turn)) found = { turn: place, index };
+    }
+    return found;
+  }
+
+  /**
+   * Returns the place where a number of cycles is completed, or null if the battle ends before.
+   * @param {number} future
+   * @param {number} cycle
+   */
+  until(future, cycle) {
+    const history = this.#history(future);
+    let [low, high] = [0, history.end];
+    if (history.place(high).battle.cycle < cycle) return null;
+    while (low < high) {
+      const middle = Math.floor((low + high) / 2);
+      if (history.place(middle).battle.cycle < cycle) low = middle + 1;
+      else high = middle;
+    }
+    return low;
+  }
+
+  /**
+   * Returns the last changes of a cell up to a turn, the latest first, and the turn of the next one.
+   * @param {number} future
+   * @param {number} address
+   * @param {number} turn
+   */
+  cell(future, address, turn) {
+    const history = this.#history(future);
+    /** @type {CellChange[]} */
+    const changes = [];
+    for (let at = history.place(turn).written[address]; at > 0 && changes.length < FEW; ) {
+      const { records } = history.record(at);
+      const change = changesOf(records, 0).find((one) => one.address === address);
+      // An edit is no turn.
+      if (!change) break;
+      const cell = (/** @type {number} */ first) => records.slice(first, first + CELL_WORDS);
+      changes.push({ turn: at, warrior: records[WARRIOR], before: cell(change.before), after: cell(change.after) });
+      at = history.place(at - 1).written[address];
+    }
+    return { changes, next: history.nextChange(address, turn) };
+  }
+
+  /**
+   * Assembles a line of source as a cell for an address. Labels of the battle can be used. Throws a MarsError.
+   * @param {string} text
+   * @param {number} address
+   * @param {{address: number, name: string}[]} labels
+   * @returns {Cell}
+   */
+  cellOf(text, address, labels) {
+    const { settings } = this.fight;
+    const words = new Set(text.match(/[A-Za-z_]\w*/g));
+    const used = new Map(labels.filter(({ name }) => words.has(name)).map((label) => [label.name, label.address]));
+    const lines = [...used].map(([name, at]) => `${name} EQU (${at - address})`);
+    const { cells } = describe(this.mars.assemble([...lines, text, ""].join("\n"), { settings }), settings.core);
+    if (cells.length !== 1) throw new Error("expected one instruction");
+    return cells[0];
+  }
+
+  /** Returns the bytes of the module's memory and of the marks of the futures that are kept. */
+  memory() {
+    const runs = new Set([...this.#histories.values()].flatMap(({ segments }) => segments.map(({ run }) => run)));
+    const places = [...runs].flatMap(({ marks, ending }) => [...marks, ending]);
+    return { machine: this.mars.memory, marks: places.reduce((sum, { bytes }) => sum + bytes, 0) };
+  }
+}
+
+/**
+ * @param {Made[]} one
+ * @param {Made[]} other
+ */
+const isSame = (one, other) => JSON.stringify(one) === JSON.stringify(other);

@@ -1,0 +1,109 @@
+/** What workers do beside the battle that is shown: they assemble sources, fight matches, and look at rounds. */
+import { History } from "../battle/history.js";
+import { ADDRESS } from "../battle/place.js";
+import { assembleAll, describe, loadText } from "../engine/warrior.js";
+
+/** @typedef {import("../engine/mars.js").Mars} Mars */
+/** @typedef {import("../engine/warrior.js").Warrior} Warrior */
+/** @typedef {import("../model/fight.js").Fight} Fight */
+/** @typedef {import("../model/settings.js").Settings} Settings */
+/**
+ * A death: whose, in which turn, on which line of its own source, and by which line of the killer's source the cell was
+ * written. A line is 0 if it isn't known, and `killer` is -1 if no warrior owned the cell.
+ * @typedef {{warrior: number, turn: number, line: number, killer: number, by: number}} Death
+ */
+/** @typedef {"win" | "tie" | "loss"} Outcome */
+/**
+ * A round; warriors are in the order of the sources.
+ * @typedef {{round: number, end: number, outcomes: Outcome[], deaths: Death[]}} Round
+ */
+
+const EVERYTHING = 0xffffffff;
+
+export class Jobs {
+  /** @param {Mars} mars */
+  constructor(mars) {
+    this.mars = mars;
+  }
+
+  /**
+   * Assembles a source. Throws a MarsError.
+   * @param {string} text
+   * @param {{settings: Settings, rounds: number, warriors?: number}} terms
+   */
+  assemble(text, terms) {
+    const warrior = this.mars.assemble(text, terms);
+    return { ...describe(warrior, terms.settings.core), load: loadText(warrior), lines: this.mars.lines(text, terms) };
+  }
+
+  /**
+   * Assembles sources for a match of two. An error has the index of its source as `warrior`.
+   * @param {{text: string}[]} sources
+   * @param {{settings: Settings, rounds: number}} terms
+   */
+  warriors(sources, terms) {
+    return assembleAll(this.mars, sources, 2, terms).map((warrior) => ({
+      warrior,
+      name: describe(warrior, terms.settings.core).name,
+    }));
+  }
+
+  /**
+   * @param {Warrior[]} warriors
+   * @param {import("../engine/mars.js").Terms & {formula?: string}} terms
+   */
+  match(warriors, terms) {
+    return this.mars.match(warriors, terms);
+  }
+
+  /**
+   * Fights a round, and says by which lines warriors died.
+   * @param {Fight} fight
+   * @returns {Round}
+   */
+  round(fight) {
+    const warriors = assembleAll(this.mars, fight.warriors, fight.warriors.length, fight);
+    const ending = this.mars.start(warriors, fight);
+    // If no warrior dies, the end shows everything, and no records are needed.
+    this.mars.play(ending, EVERYTHING);
+    const [{ round }, end] = [fight, ending.turns];
+    const isTie = ending.deaths.length === 0;
+    const deaths = isTie ? [] : this.#deaths(fight, History.fight(this.mars, { ...fight, warriors }));
+    const living = warriors.length - deaths.length;
+    const isDead = (/** @type {number} */ who) => deaths.some(({ warrior }) => warrior === who);
+    return { round, end, outcomes: warriors.map((_, who) => outcome(!isDead(who), living)), deaths };
+  }
+
+  /**
+   * @param {Fight} fight
+   * @param {History} history
+   * @returns {Death[]}
+   */
+  #deaths({ warriors, settings, rounds }, history) {
+    const { order } = history;
+    const terms = { settings, rounds, warriors: order.length };
+    const lines = order.flatMap((source, who) =>
+      this.mars.lines(warriors[source].text, terms).map(({ line }) => ({ who, line })),
+    );
+    const originAt = (/** @type {number} */ address, /** @type {number} */ turn) =>
+      lines[history.originsAt(turn)[address]];
+    return history.deaths.map(({ warrior, turn, address, other, count: written }) => {
+      // Where the warrior was hit: what the cell was before it was written, or at the start.
+      const turns = [written && other !== warrior ? written - 1 : turn - 1, 0];
+      const hit = turns.map((one) => originAt(address, one)).find((one) => one?.who === warrior);
+      const writer = written ? originAt(history.record(written).records[ADDRESS], written - 1) : undefined;
+      const by = writer?.who === other ? writer.line : 0;
+      return { warrior: order[warrior], turn, line: hit?.line ?? 0, killer: order[other] ?? -1, by };
+    });
+  }
+}
+
+/**
+ * @param {boolean} isAlive
+ * @param {number} living
+ * @returns {Outcome}
+ */
+function outcome(isAlive, living) {
+  if (!isAlive) return "loss";
+  return living === 1 ? "win" : "tie";
+}

@@ -1,0 +1,221 @@
+/** Workers: one for the battle that is shown, and several for everything that is fought beside it. */
+import { MarsError } from "../engine/mars.js";
+
+/** @typedef {import("./desk.js").Desk} Desk */
+/** @typedef {import("./jobs.js").Jobs} Jobs */
+/**
+ * The calls of an object, each answered later.
+ * @template T
+ * @typedef {{[K in keyof T]: T[K] extends (...given: infer A) => infer R ? (...given: A) => Promise<R> : never}} Later
+ */
+/** @typedef {Pick<Jobs, "assemble" | "warriors" | "match" | "round">} Work */
+/** @typedef {{script: string, module: WebAssembly.Module}} Parts where the script of a worker is, and the machine */
+/** @typedef {{done: (value: any) => void, failed: (error: unknown) => void}} Waiting */
+
+/** What a job that was dropped fails with. */
+export class Stopped extends Error {}
+/** What a call that takes too long fails with; its worker is ended. */
+export class TooLong extends Error {}
+
+class Hand {
+  /** @type {Map<number, Waiting>} */
+  #waiting = new Map();
+  #last = 0;
+
+  /** @param {Parts} parts */
+  constructor({ script, module }) {
+    this.worker = new Worker(script);
+    this.worker.onmessage = ({ data }) => {
+      const asked = this.#waiting.get(data.id);
+      this.#waiting.delete(data.id);
+      if (!("error" in data)) asked?.done(data.value);
+      else if (typeof data.error === "string") asked?.failed(new Error(data.error));
+      else asked?.failed(new MarsError(data.error.code, data.error));
+    };
+    this.worker.onerror = (event) => this.#fail(new Error(event.message || "the worker does not start"));
+    /** @type {Promise<unknown>} */
+    this.ready = this.#send("start", [module]);
+    this.ready.catch(() => {});
+  }
+
+  /**
+   * @param {string} call
+   * @param {unknown[]} given
+   * @returns {Promise<any>}
+   */
+  #send(call, given) {
+    return new Promise((done, failed) => {
+      this.#waiting.set(++this.#last, { done, failed });
+      this.worker.postMessage({ id: this.#last, call, given });
+    });
+  }
+
+  /**
+   * Makes a call, once the machine has started. Throws TooLong after `patience` milliseconds.
+   * @param {string} call
+   * @param {unknown[]} given
+   * @param {number} patience
+   */
+  async ask(call, given, patience) {
+    await this.ready;
+    const answer = this.#send(call, given);
+    // If it is late, nothing waits for it.
+    answer.catch(() => {});
+    let timer;
+    const late = new Promise((_, failed) => {
+      timer = setTimeout(() => failed(new TooLong("it takes too long")), patience);
+    });
+    try {
+      return await Promise.race([answer, late]);
+    } finally {
+      clearTimeout(timer);
+    }
+  }
+
+  /** @param {Error} error */
+  #fail(error) {
+    for (const { failed } of this.#waiting.values()) failed(error);
+    this.#waiting.clear();
+  }
+
+  end() {
+    this.worker.terminate();
+    this.#fail(new Stopped("stopped"));
+  }
+}
+
+/**
+ * Milliseconds that a job, a source in the editor, and a battle that is opened may take: a few lines can take
+ * minutes.
+ */
+const PATIENCE = 60_000;
+const PATIENCE_OF_TYPING = 4_000;
+const PATIENCE_OF_OPENING = 20_000;
+
+/**
+ * The desk in a worker of its own. If a call takes too long, the worker is ended, and another one opens the last
+ * battle.
+ */
+export class RemoteDesk {
+  /** @type {unknown[] | null} */
+  #last = null;
+
+  /** @param {Parts} parts */
+  constructor(parts) {
+    this.parts = parts;
+    this.hand = new Hand(parts);
+  }
+
+  /**
+   * @param {string} call
+   * @param {unknown[]} given
+   */
+  async ask(call, given) {
+    const { hand } = this;
+    try {
+      const answer = await hand.ask(call, given, PATIENCE_OF_OPENING);
+      if (call === "open") this.#last = given;
+      return answer;
+    } catch (error) {
+      if (error instanceof TooLong && hand === this.hand) {
+        hand.end();
+        this.hand = new Hand(this.parts);
+        if (this.#last) await this.hand.ask("open", this.#last, PATIENCE);
+      }
+      throw error;
+    }
+  }
+}
+
+/**
+ * Returns the calls of a desk in a worker.
+ * @param {Parts} parts
+ * @returns {Later<Desk>}
+ */
+export function remoteDesk(parts) {
+  const remote = new RemoteDesk(parts);
+  const get = (/** @type {unknown} */ _, /** @type {string} */ call) =>
+    (/** @type {unknown[]} */ ...given) => remote.ask(call, given);
+  return /** @type {any} */ (new Proxy({}, { get }));
+}
+
+/**
+ * A job that waits for a hand: of several the most urgent one is taken, and of those the first.
+ * @typedef {Waiting & {call: string, given: unknown[], urgency: number, group: string}} Job
+ */
+
+/** Hands that take jobs. */
+export class Pool {
+  /** @type {Hand[]} */
+  #idle = [];
+  /** @type {Job[]} */
+  #jobs = [];
+  #count = 0;
+
+  /**
+   * @param {Parts} parts
+   * @param {number} size
+   */
+  constructor(parts, size) {
+    this.parts = parts;
+    this.size = size;
+  }
+
+  /**
+   * @template {keyof Work} K
+   * @param {K} call
+   * @param {Parameters<Work[K]>} given
+   * @param {string} group what `drop` names; the group "lint" has less patience
+   * @param {number} urgency
+   * @returns {Promise<ReturnType<Work[K]>>}
+   */
+  ask(call, given, group, urgency = 0) {
+    return new Promise((done, failed) => {
+      const job = { call, given, urgency, group, done, failed };
+      const at = this.#jobs.findIndex((other) => other.urgency < urgency);
+      this.#jobs.splice(at < 0 ? this.#jobs.length : at, 0, job);
+      this.#next();
+    });
+  }
+
+  /**
+   * Forgets the jobs of a group that have not begun: they fail with Stopped.
+   * @param {string} group
+   */
+  drop(group) {
+    const dropped = this.#jobs.filter((job) => job.group === group);
+    this.#jobs = this.#jobs.filter((job) => job.group !== group);
+    for (const job of dropped) job.failed(new Stopped("stopped"));
+  }
+
+  #next() {
+    while (this.#jobs.length && (this.#idle.length || this.#count < this.size)) {
+      const job = /** @type {Job} */ (this.#jobs.shift());
+      this.#work(this.#idle.pop() ?? this.#hire(), job);
+    }
+  }
+
+  #hire() {
+    this.#count++;
+    return new Hand(this.parts);
+  }
+
+  /**
+   * @param {Hand} hand
+   * @param {Job} job
+   */
+  async #work(hand, job) {
+    try {
+      job.done(await hand.ask(job.call, job.given, job.group === "lint" ? PATIENCE_OF_TYPING : PATIENCE));
+      this.#idle.push(hand);
+    } catch (error) {
+      job.failed(error);
+      if (error instanceof MarsError) this.#idle.push(hand);
+      else {
+        hand.end();
+        this.#count--;
+      }
+    }
+    this.#next();
+  }
+}

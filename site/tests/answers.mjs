@@ -1,0 +1,43 @@
+// Answers questions about battles, for tests that compare JavaScript's history with Python's: fights as JSON on standard
+// input, answers as JSON on standard output.
+//
+//     node site/tests/answers.mjs build/mars.wasm <fights.json
+import fs from "node:fs";
+
+import { MarsError, Mars } from "../src/engine/mars.js";
+import { parseEdit } from "../src/model/fight.js";
+import { Desk } from "../src/worker/desk.js";
+
+const mars = await Mars.load(fs.readFileSync(process.argv[2]));
+
+/** Opens a fight with those of its edits that are possible. */
+function opened(desk, { edits, ...fight }) {
+  let opened = desk.open({ ...fight, rounds: fight.round + 1, position: 0, formula: "", edits: [] });
+  for (const { turn, text } of edits) {
+    try {
+      opened = desk.edit(opened.future, Math.min(turn, opened.end), parseEdit(text, fight.settings.core));
+    } catch (error) {
+      if (!(error instanceof MarsError)) throw error;
+    }
+  }
+  return opened;
+}
+
+function answer({ turns, questions, ...fight }) {
+  const desk = new Desk(mars);
+  const { future, end, deaths, lines, overview } = opened(desk, fight);
+  const states = turns.map((given) => {
+    const turn = Math.min(given, end);
+    const { owner, written, head, cycle, queues } = desk.turn(future, turn);
+    const found = [...desk.origins(future, turn)].map((origin) => lines[origin]?.line ?? 0);
+    return { turn, owner: [...owner], written: [...written], lines: found, head, cycle, queues: [...queues] };
+  });
+  const found = questions.map(({ condition, turn, forward }) =>
+    desk.search(future, [condition], Math.min(turn, end), forward),
+  );
+  const dead = deaths.map(({ turn, warrior }) => [warrior, turn]);
+  const { turns: moments, cells, processes } = overview;
+  return { end, states, found: found.map((one) => one?.turn ?? null), dead, moments, cells, processes };
+}
+
+console.log(JSON.stringify(JSON.parse(fs.readFileSync(0, "utf8")).map(answer)));

@@ -1,0 +1,451 @@
+"""Tests of the site in a browser, which each browser's module imports."""
+from __future__ import annotations
+
+import functools
+import http.server
+import re
+import subprocess
+import threading
+from collections.abc import Iterator
+from pathlib import Path
+
+import pytest
+from browsers import Browser
+from conftest import EXAMPLES, TOP
+from costly import slow
+from counting import PROGRAM
+
+OPCODES = "DAT MOV ADD SUB MUL DIV MOD JMP JMZ JMN DJN SEQ SNE SLT SPL NOP".split()
+MODIFIERS, MODES = "A B AB BA F X I".split(), "#$*@{<}>"
+
+
+class Files(http.server.SimpleHTTPRequestHandler):
+    """Any web server: it knows only the types of files."""
+
+    extensions_map = {".html": "text/html", ".js": "text/javascript", ".wasm": "application/wasm"}
+
+    def log_message(self, *_: object) -> None:
+        ...
+
+
+@pytest.fixture(scope="module")
+def site() -> Iterator[str]:
+    """The address of the built site, served as files."""
+    handler = functools.partial(Files, directory=str(TOP / "build" / "site"))
+    with http.server.ThreadingHTTPServer(("127.0.0.1", 0), handler) as server:
+        threading.Thread(target=server.serve_forever, daemon=True).start()
+        yield f"http://127.0.0.1:{server.server_address[1]}/index.html"
+        server.shutdown()
+
+
+@pytest.fixture
+def page(browser: Browser, site: str) -> Iterator[Browser]:
+    """The page as a newcomer opens it."""
+    browser.open(site)
+    browser.run("localStorage.clear()")
+    browser.open(f"{site}?{id(browser)}")
+    browser.until("window.corewar?.session.view")
+    yield browser
+    found = browser.errors()
+    assert found == [], found
+
+
+def native(*words: object, given: str = "") -> str:
+    command = [PROGRAM, *map(str, words)]
+    return subprocess.run(command, input=given, capture_output=True, encoding="latin-1", check=True).stdout
+
+
+def files(*names: str) -> list[Path]:
+    return [EXAMPLES / f"{name}.red" for name in names]
+
+
+def fight(page: Browser, *names: str) -> None:
+    """Fights some examples and stops at the start."""
+    code = """const found = given[0].map(name => corewar.examples.find(one => one.name === `${name}.red`));
+      await corewar.fight(corewar.shelf.mark(found), false);"""
+    page.run(code, list(names))
+
+
+def stand(page: Browser, turn: int) -> None:
+    """Shows a turn, with all that is shown of it."""
+    page.run("corewar.session.jump(given[0])", turn)
+    page.until("corewar.session.isSettled")
+    page.run("await new Promise(done => setTimeout(done, 150))")
+
+
+def test_a_newcomer_sees_a_fight(page: Browser) -> None:
+    first = page.value("corewar.session.turn")
+    page.until(f"corewar.session.turn > {first} && corewar.session.way === 1")
+    assert page.value("document.title") == "Dwarf against Imp · Core War"
+    assert "share a ring of 8,000 cells" in page.text("caption")
+    assert page.value("!document.getElementById('what').hidden")
+
+
+def test_keys_move_in_time(page: Browser) -> None:
+    page.press(" ")
+    page.until("corewar.session.way === 0 && corewar.session.isSettled")
+    at = page.value("corewar.session.turn")
+    page.press("Right")
+    page.until(f"corewar.session.turn === {at + 1}")
+    page.press("Left", held="Shift")
+    page.until(f"corewar.session.turn === {max(0, at - 9)}")
+    stand(page, 5000)
+    page.press("j")
+    page.until("corewar.session.turn < 5000")
+    page.press("k", "d")
+    page.until("corewar.session.turn === 7798 && corewar.session.isSettled")
+    assert "Imp is dead" in page.text("told") and page.text("outcome") == "Dwarf wins after 7,798 turns."
+    page.press("Home")
+    page.until("corewar.session.turn === 0")
+
+
+def test_a_turn_in_words(page: Browser) -> None:
+    stand(page, 7797)
+    executed = "Dwarf executed MOV.I $2, @2 at 1. It wrote DAT.F #0, #-2800 to 5,203, over Imp’s MOV.I $0, $1."
+    assert page.text("told") == f"{executed} It looked at 3 (bomb)."
+    assert page.text("following").endswith("End the process that executes this. dwarf.red, line 12")
+
+
+def test_a_cell_is_looked_at(page: Browser) -> None:
+    """Under the pointer in words; a click pins it, and it is listed with its changes."""
+    stand(page, 7797)
+    point = page.value("corewar.theatre.core.pointOf(5203)")
+    page.mouse(point["x"], point["y"])
+    page.until("!document.getElementById('tip').hidden")
+    assert "End the process" in page.text("tip") and "Written by Dwarf in turn 7,797" in page.text("tip")
+    page.mouse(point["x"], point["y"], "pointerDown", "pointerUp")
+    page.until("corewar.session.pinned === 5203")
+    page.until("document.getElementById('past').textContent.includes('Turn 7,796 Imp')")
+    assert page.text("where") == "Cell 5,203"
+    page.click("#seek [data-word=changes][data-way=back]")
+    page.until("corewar.session.turn === 7796")
+    page.click("#seek [data-word=reads][data-way=back]")
+    page.until("document.getElementById('cell-words').textContent.includes('is not read before')")
+    page.press("Escape")
+    page.until("corewar.session.pinned === null")
+
+
+@pytest.mark.parametrize("names", [("dwarf", "imp"), ("silk", "paper"), ("scanner", "vampire")])
+def test_turns_are_those_of_the_program(page: Browser, names: tuple[str, str]) -> None:
+    fight(page, *names)
+    end = page.value("corewar.session.end")
+    for turn in (1, end // 3, end // 2 + 1, end):
+        stand(page, turn)
+        assert page.value("corewar.session.turn") == turn
+        listed = native("-e", *files(*names), given=f"run {turn}\nlist 0 8000\n").splitlines()[-8000:]
+        cells = page.value("[...corewar.session.view.cells]")
+        for address, line in enumerate(listed):
+            assert text_of(cells[3 * address : 3 * address + 3]) in line, (turn, address)
+
+
+def text_of(words: list[int]) -> str:
+    """The text of a cell of a core of 8,000."""
+    head, a, b = words
+    first, second = ((value + 3999) % 8000 - 3999 for value in (a, b))
+    modes = MODES[head >> 16 & 255], MODES[head >> 24]
+    return f"{OPCODES[head & 255]}.{MODIFIERS[head >> 8 & 255]} {modes[0]}{first}, {modes[1]}{second}"
+
+
+def test_the_end_leads_to_the_death(page: Browser) -> None:
+    page.run("corewar.session.jump(7700); corewar.session.quicken(400); corewar.session.play(1)")
+    page.until("!document.getElementById('ending').hidden")
+    assert page.text("winner") == "Dwarf wins"
+    page.click("#why-now")
+    page.until("corewar.session.pinned === 5203 && corewar.session.turn === 7798 && corewar.session.isSettled")
+    assert page.text("told").startswith("Imp executed DAT.F #0, #-2800 at 5,203.")
+
+
+def test_edits_make_futures(page: Browser) -> None:
+    stand(page, 7790)
+    page.run("corewar.session.pin(2); await new Promise(done => setTimeout(done, 300))")
+    page.click("#listing .focus .text")
+    page.press("a", held="Control")
+    page.type("jmq 1")
+    page.press("Enter")
+    page.until("document.querySelector('#listing input')?.getAttribute('aria-invalid') === 'true'")
+    assert page.value("corewar.session.futures.length") == 1
+    page.press("a", held="Control")
+    page.type("jmp 0")
+    page.press("Enter")
+    page.until("corewar.session.futures.length === 2 && corewar.session.isSettled")
+    end = page.value("corewar.session.end")
+    lines = native("-e", *files("dwarf", "imp"), given="run 7790\nedit 2 JMP.B $0, $0\nrun 1000000\nshow\n")
+    assert f"turn {end} " in lines
+    page.run("document.activeElement.blur()")
+    page.press("z")
+    page.until("corewar.session.end === 7798 && corewar.session.isSettled")
+    page.press("y")
+    page.until(f"corewar.session.end === {end} && corewar.session.isSettled")
+    assert "turn 7,790: edit 2 JMP.B $0, $0" in page.text("futures")
+    page.click("#futures .link")
+    page.until("corewar.session.beside?.view && !document.getElementById('other').hidden")
+    assert page.text("other-name") == "Future 0 at turn 7,790"
+    page.click("#alone")
+    page.until("document.getElementById('other').hidden")
+
+
+def test_the_debugger_has_a_line(page: Browser) -> None:
+    page.run("corewar.session.stop()")
+
+    def ask(line: str) -> str:
+        code = "await corewar.console.run(given[0]); return document.querySelector('#answers').lastChild.textContent"
+        answer: str = page.run(code, line)
+        return answer
+
+    assert ask("c dies imp") == "the battle is over" and page.value("corewar.session.turn") == 7798
+    ask("rc changes 5203")
+    assert page.value("corewar.session.turn") == 7797
+    assert ask("until 100") == "cycle 100 is already completed; use goto"
+    ask("goto start")
+    ask("until 100")
+    assert page.value("corewar.session.view.cycle") == 100
+    assert ask("edit bomb+1 jmp bomb") == "after turn 200: edit 4 JMP.B $-1, $0"
+    assert ask("move imp 0 3") == "after turn 200: move 1 0 3"
+    ask("break at 3 by imp")
+    assert ask("break at 2..4") == "breakpoint 1: at 2..4"
+    ask("spawn 0 7")
+    assert ask("queue dwarf").endswith(" 7")
+    assert ask("futures").startswith("> 3: after turn 200")
+    assert "unknown command" in ask("nonsense") and "not an address" in ask("edit 8000 nop 0")
+    assert ask("goto start").startswith("next: Dwarf")
+
+
+def test_a_link_carries_the_fight(page: Browser, site: str) -> None:
+    stand(page, 7795)
+    page.run("corewar.session.pin(2); await corewar.console.run('edit 2 jmp 0')")
+    end, link = page.run("return [corewar.session.end, await shared(corewar.session)]")
+    assert len(link) < 900
+    page.open(f"{site}?linked#f={link}")
+    page.until("window.corewar?.session.turn === 7795")
+    assert page.value("[corewar.session.end, corewar.session.pinned, corewar.session.future]") == [end, 2, 1]
+    for broken in ("AAAA", "x", "%00", "q1YqU7JSMlSqBQA"):
+        page.open(f"{site}?{broken}#f={broken}")
+        page.until("window.corewar?.session.view")
+        assert "cannot be shown" in page.text("complaint")
+
+
+def test_strangers_names_are_no_html(page: Browser, site: str) -> None:
+    evil = "<img src=x onerror=alert(1)>"
+    source = f";name {evil}\n;author {evil}\n{evil} MOV 0, 1\nx MOV 0, 1\n;{evil}\n"
+    code = """const fight = {...corewar.session.fight, warriors: given[0].map(text => ({name: given[1], text}))};
+      const copy = {...corewar.session, fight, opened: {edits: []}, turn: 5, pinned: 1};
+      return shared(copy);"""
+    link = page.run(code, [source, source.replace(f"{evil} MOV", "y MOV")], evil)
+    page.open(f"{site}?evil#f={link}")
+    page.until("window.corewar?.session.view")
+    assert "line 3" in page.text("complaint")
+    link = page.run(code, [f";name {evil}\n;author {evil}\nx MOV 0, 1\n"] * 2, f"{evil}.red")
+    page.open(f"{site}?evil2#f={link}")
+    page.until("window.corewar?.session.view && corewar.session.isSettled")
+    page.run("document.getElementById('sources').click(); await corewar.rounds.fight()")
+    assert evil in page.value("document.title")
+    assert page.value("document.querySelectorAll('img').length") == 0
+
+
+def test_the_editor_shows_faults_and_fights(page: Browser, site: str) -> None:
+    page.press("e")
+    page.run(
+        "const {mirror} = corewar.shelf.editor; mirror.setValue(given[0])",
+        "x MVO 0, 1\n MOV 0, bom\n JMP x\nbomb DAT 0\n",
+    )
+    page.until("document.getElementById('fault').classList.contains('bad')")
+    assert "did you mean MOV?" in page.text("fault") and "did you mean bomb?" in page.text("fault")
+    assert page.value("[...document.querySelectorAll('.CodeMirror .fault')].map(one => one.textContent)") == [
+        "MVO",
+        "bom",
+    ]
+    page.run("corewar.shelf.editor.mirror.setValue(given[0]); corewar.shelf.editor.mirror.focus()", "MOV 0, 1 ; mine\n")
+    page.until("!document.getElementById('fault').classList.contains('bad')")
+    page.press("Enter", held="Control")
+    page.until("corewar.session.fight.warriors[0].text === 'MOV 0, 1 ; mine\\n'")
+    page.run("await new Promise(done => setTimeout(done, 600))")
+    page.open(f"{site}?again")
+    page.until("window.corewar?.session.view")
+    assert page.value("corewar.session.fight.warriors[0].text") == "MOV 0, 1 ; mine\n"
+
+
+def test_a_source_that_takes_minutes(page: Browser) -> None:
+    """It loses its worker, and the page lives: in the editor, and in a fight."""
+    page.run("corewar.shelf.show(corewar.shelf.add({name: 'slow.red', text: given[0]}))", slow())
+    page.until("document.getElementById('fault').textContent.includes('takes too long')")
+    turn = page.value("corewar.session.turn")
+    page.until(f"corewar.session.turn !== {turn}")
+    page.run("corewar.shelf.show(corewar.shelf.find('dwarf.red'))")
+    page.until("document.getElementById('fault').textContent.includes('Dwarf: 4 of 100 cells')")
+    page.run("corewar.fight([{name: 'slow.red', text: given[0]}])", slow())
+    page.until("document.getElementById('complaint').textContent === 'it takes too long'")
+    stand(page, 7798)
+    assert "Imp is dead" in page.text("told")
+
+
+def test_files_are_opened(page: Browser) -> None:
+    """Sources, load files, and files that are not UTF-8."""
+    code = """await corewar.shelf.take([new File([new Uint8Array(given[1])], given[0])]);
+      await corewar.shelf.lint();
+      return [corewar.shelf.shown.name, document.getElementById('fault').textContent];"""
+    stone = b";name St\xe9ne\nadd #5, 3\nmov 2, @2\njmp -2\ndat 0, 0\n"
+    assert page.run(code, "stone.red", [*stone])[0] == "stone.red"
+    load = native("--load", *files("dwarf"))
+    assert page.run(code, "dwarf.load", [*load.encode()]) == ["dwarf.load.red", "Dwarf: 4 of 100 cells"]
+    assert page.text("load") == load
+    assert page.run(code, "large.red", [59] * 1_048_577)[0] == "dwarf.load.red"
+    assert "too large" in page.text("saved")
+
+
+def table(*words: object) -> list[list[int]]:
+    """The points, wins, ties and losses of a table of the program."""
+    lines = native("-b", *words).splitlines()[1:]
+    return [[int(number) for number in line.split()[:4]] for line in lines]
+
+
+def test_rounds_are_those_of_the_program(page: Browser) -> None:
+    fight(page, "scanner", "bomber")
+    page.run("await corewar.rounds.fight()")
+    found = re.findall(r"(\d+) wins?, (\d+) ties?, (\d+) loss", page.text("tally"))
+    rows = table("-r", 100, *files("scanner", "bomber"))
+    assert [[*map(int, one)] for one in found] == [row[1:] for row in rows]
+    assert re.search(r"\d+× Lookout died on its line \d+, on what Hail wrote by line \d+", page.text("why"))
+    page.click("#strip button:nth-child(8)")
+    page.until("corewar.session.fight.round === 7 && document.querySelectorAll('#strip .here').length === 1")
+
+
+def test_the_bench_is_the_program(page: Browser) -> None:
+    page.click("[data-view=bench]")
+    page.until("document.querySelectorAll('#bench-rows .stack').length === corewar.examples.length - 1")
+    rows = page.value(
+        "[...corewar.bench.rows].map(([name, row]) => [name, row.points, row.wins, row.ties, row.losses])"
+    )
+    for name, *counts in rows[::4]:
+        assert table("-r", 100, EXAMPLES / "dwarf.red", EXAMPLES / name)[0] == counts, name
+
+
+def test_the_league_is_the_program(page: Browser) -> None:
+    page.run(
+        "rounds.value = '20'; rounds.dispatchEvent(new Event('change'));"
+        "corewar.show('league'); await corewar.league.hold()"
+    )
+    page.until("document.querySelectorAll('#league-table tr').length === corewar.examples.length + 1")
+    names = sorted(path.stem for path in EXAMPLES.glob("*.red"))
+    told = page.value(
+        "[...document.querySelectorAll('#league-table tr')].slice(1).map(row => row.cells[2].textContent)"
+    )
+    points = sorted((row[0] for row in table("-r", 20, "--league", *files(*names))), reverse=True)
+    assert [int(text.replace(",", "")) for text in told] == points
+
+
+def test_own_settings(page: Browser) -> None:
+    code = """hill.value = ''; hill.dispatchEvent(new Event('change'));
+      document.getElementById('own-core').value = '800'; document.getElementById('own-cycles').value = '50';
+      document.getElementById('own-formula').value = 'W'; document.querySelector('#own-form .main').click();"""
+    page.run(code)
+    page.until("corewar.session.fight.settings.core === 800 && corewar.session.end === 100")
+    assert page.value("[corewar.terms.value.formula, hill.value]") == ["W", ""]
+    page.run("document.getElementById('own-core').value = '50'; document.querySelector('#own-form .main').click()")
+    page.run(
+        "hill.value = ''; hill.dispatchEvent(new Event('change')); document.getElementById('own-core').value = '50'"
+    )
+    page.run("document.querySelector('#own-form .main').click()")
+    page.until("document.getElementById('complaint').textContent === 'these parameters are impossible'")
+
+
+def test_many_warriors(page: Browser) -> None:
+    names = sorted(path.stem for path in EXAMPLES.glob("*.red"))
+    fight(page, *names)
+    assert page.value("corewar.session.known.names.length") == len(names)
+    page.run("await corewar.fight(Array(16).fill(corewar.examples[0]), false)")
+    assert page.value("corewar.session.known.names.slice(-1)") == ["Hail 16"]
+    page.run("await corewar.fight(Array(17).fill(corewar.examples[0]), false)")
+    assert "1 to 16 warriors" in page.text("complaint")
+
+
+def test_a_lesson_is_judged(page: Browser) -> None:
+    page.click("[data-view=learn]")
+    judge = "document.querySelectorAll('.lesson')[given[0]].querySelector('.main').click()"
+    verdict = "document.querySelectorAll('.lesson .verdict')[%d].textContent === '%s'"
+    page.run(judge, 1)
+    page.until(verdict % (1, f"In turn {page.value('corewar.session.turn'):,} no warrior dies."))
+    stand(page, 7798)
+    page.run(judge, 1)
+    page.until(verdict % (1, "That is the turn."))
+    page.run("document.querySelectorAll('.lesson')[3].querySelector('button').click()")
+    page.until("corewar.shelf.shown.name.startsWith('a-tie')")
+    page.run(
+        "corewar.shelf.editor.mirror.setValue('MOV 0, 1\\n');"
+        "document.querySelectorAll('.lesson')[3].querySelector('.main').click()"
+    )
+    page.until(verdict % (3, "1 cells; 0 won, 100 tied, 0 lost of 100. Well done."))
+
+
+@pytest.mark.parametrize("view", ["battle", "bench", "league", "learn"])
+def test_no_window_scrolls_sideways(page: Browser, view: str) -> None:
+    page.run("corewar.show(given[0]); corewar.showDesk(true)", view)
+    try:
+        for width in (390, 768, 1280, 2560):
+            page.resize(width, 844)
+            page.until("document.documentElement.scrollWidth <= innerWidth + 1")
+    finally:
+        page.resize(1280, 800)
+
+
+CONTRAST = """
+const parse = colour => (colour.match(/[\\d.]+/g) ?? [0, 0, 0, 0]).map(Number);
+const light = ([r, g, b]) => [r, g, b].map(v => v / 255).map(v => v <= .03928 ? v / 12.92 : ((v + .055) / 1.055) ** 2.4)
+  .reduce((sum, v, i) => sum + v * [.2126, .7152, .0722][i], 0);
+const ground = one => {
+  for (let at = one; at; at = at.parentElement) {
+    const colour = parse(getComputedStyle(at).backgroundColor);
+    if (colour.length < 4 || colour[3] > .99) return colour;
+  }
+  return [255, 255, 255];
+};
+const poor = [];
+for (const one of document.querySelectorAll("body *")) {
+  const text = [...one.childNodes].filter(node => node.nodeType === 3).map(node => node.data.trim()).join("");
+  if (!text || !one.checkVisibility()) continue;
+  if (one.closest("[disabled], .CodeMirror-measure, noscript, script, .match")) continue;
+  const [a, b] = [light(parse(getComputedStyle(one).color)), light(ground(one))].sort((x, y) => y - x);
+  if ((a + .05) / (b + .05) < 4.5) poor.push(`${one.tagName}#${one.id}.${one.className}: ${text.slice(0, 20)}`);
+}
+return poor;"""
+
+
+UNNAMED = """
+const isNamed = one => (one.getAttribute("aria-label") ?? one.closest("label, button")?.textContent)?.trim();
+return [...document.querySelectorAll("button, input, select, canvas[tabindex]")]
+  .filter(one => !isNamed(one) && one.type !== "file").map(one => one.outerHTML.slice(0, 80));"""
+
+
+@pytest.mark.parametrize("theme", ["light", "dark"])
+def test_texts_have_contrast_and_controls_have_names(page: Browser, theme: str) -> None:
+    page.run("document.documentElement.dataset.theme = given[0]; corewar.showDesk(true)", theme)
+    for view in ("battle", "bench", "league", "learn"):
+        page.run("corewar.show(given[0]); await new Promise(done => setTimeout(done, 200))", view)
+        assert page.run(CONTRAST) == [], view
+    assert page.run(UNNAMED) == []
+
+
+def test_memory_stays(page: Browser) -> None:
+    """Over 500 fights neither the machine nor what is kept of battles grows."""
+    code = """const [one, other] = [corewar.examples[0], corewar.examples[3]];
+      corewar.terms.value = {...corewar.terms.value, settings: {...corewar.terms.value.settings, cycles: 500}};
+      for (let seed = 1; seed <= given[0]; seed++) {
+        const fight = {...corewar.terms.value, seed, round: 0, warriors: [one, other], edits: []};
+        await corewar.session.open(fight, {plays: false});
+      }
+      return corewar.session.desk.memory();"""
+    first = page.run(code, 10)
+    assert page.run(code, 500) == first
+
+
+def test_a_page_in_one_file(page: Browser, browser: Browser, tmp_path: Path) -> None:
+    """It opens from a disk, and saves another one."""
+    stand(page, 7797)
+    text = page.run("return pageWith(await shared(corewar.session))")
+    (tmp_path / "fight.html").write_text(text, encoding="utf-8")
+    browser.open(f"file://{tmp_path}/fight.html")
+    browser.until("window.corewar?.session.turn === 7797 && corewar.session.isSettled")
+    again: str = browser.run("return pageWith(await shared(corewar.session))")
+    (tmp_path / "again.html").write_text(again, encoding="utf-8")
+    browser.open(f"file://{tmp_path}/again.html#t=5000")
+    browser.until("window.corewar?.session.turn === 5000 && corewar.session.isSettled")
+    browser.open("about:blank")
