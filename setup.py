@@ -11,7 +11,7 @@ from wheel.bdist_wheel import bdist_wheel
 
 INSIDE = ["build/libmars.so.1", "include/mars.h"]
 SITE = "build/site"
-READER = "python/corewar/engine/header.py"
+READER = "python/corewar/model/header.py"
 # The files for editors, which `make editors` writes.
 SHARE = Path("build/share")
 

@@ -1,6 +1,7 @@
 """Random battles for hypothesis: warriors of any cells in a small core, and lines of the debugger.
 
-The calls on load files and lines of the debugger return the states and rows with which battles as values are compared.
+States and rows are those of a battle that is led to a place by one call for each line. What the debugger lists there is
+the same (`is_listed`).
 """
 from __future__ import annotations
 
@@ -12,12 +13,12 @@ from hypothesis import strategies as st
 from numpy.typing import NDArray
 
 from corewar.engine.battles import Battle
-from corewar.engine.binding import ROOM, array, call, library, slice_of
-from corewar.engine.calls import Match, debug, held, lines_of, loads
+from corewar.engine.calls import Match, read_load
+from corewar.engine.warriors import Warrior
 from corewar.model.cells import MODES, MODIFIERS, OPCODES, Cells, Records, cell_of, cell_text
 from corewar.model.edits import Edit
+from corewar.model.faults import Fault
 from corewar.model.settings import Settings
-from corewar.model.warriors import Warrior
 
 NUMBERS = st.integers(-9, 9)
 CELLS = st.builds(
@@ -36,7 +37,8 @@ CELLS = st.builds(
 def warriors(draw: st.DrawFn) -> Warrior:
     cells = draw(st.lists(CELLS, min_size=1, max_size=8))
     origin = draw(st.integers(0, len(cells) - 1))
-    return Warrior("\n".join([f"ORG {origin}", *cells, ""]).encode())
+    # The core of the match reads its numbers by value.
+    return read_load("\n".join([f"ORG {origin}", *cells, ""]).encode())
 
 
 @st.composite
@@ -69,7 +71,7 @@ def edits(draw: st.DrawFn) -> str:
     )
 
 
-MOVES = st.one_of(edits(), st.sampled_from(["step", "run 3", "run 11", "undo", "redo"]))
+MOVES = st.one_of(edits(), st.sampled_from(["step", "run 3", "run 11"]))
 
 
 # The maximum number of turns of one debugger command.
@@ -104,38 +106,32 @@ class State(NamedTuple):
     over: bool
 
 
-def led(fight: Match, round: int, lines: Sequence[str], history: int) -> tuple[Any, ...]:
-    """The first arguments of a call on the battle of a round after debugger commands."""
-    given = held(fight.settings, round + 1, fight.seed, fight.position)
-    return given, *loads(fight.warriors), round, history, *slice_of("uint8_t", lines_of(lines))
-
-
-def rows(call_name: str, kind: str, first: int, most: int, *given: Any) -> Records:
-    made, count = array(kind, most), library()[0].new("size_t *")
-    call(call_name, *led(*given), first, *slice_of(kind, made), count)
-    return made[: count[0]]
+def led(fight: Match, round: int = 0, lines: Sequence[str] = (), turns: int = 0) -> Battle:
+    """The battle of a round after some lines, `step`, `run N` or edits, and then a number of turns. An edit that is
+    refused changes nothing.
+    """
+    battle = Battle(fight, round)
+    for line in lines:
+        word, _, number = line.partition(" ")
+        if word in ("step", "run"):
+            battle.play(int(number or 1))
+            continue
+        try:
+            battle.edit(edit_of(line, fight.settings.core))
+        except Fault:
+            pass
+    battle.play(turns)
+    return battle
 
 
 def record(fight: Match, round: int = 0, lines: Sequence[str] = (), first: int = 0, most: int = 1) -> Records:
-    """The records of turns, after some debugger commands and then `first` turns."""
-    return rows("mars_record", "MarsRecord", first, most, fight, round, lines, 1)
+    """The records of turns, after some lines and then `first` turns."""
+    return led(fight, round, lines, first).play(most, records=most)[0]
 
 
 def touched(fight: Match, round: int = 0, lines: Sequence[str] = (), first: int = 0, most: int = 1) -> Records:
     """The cells that turns touch, with the same arguments."""
-    return rows("mars_touched", "MarsTouched", first, most, fight, round, lines, 1)
-
-
-def state(fight: Match, round: int = 0, lines: Sequence[str] = (), turns: int = 0, history: int = 1) -> State:
-    """The state after some debugger commands and then a number of turns."""
-    count, given = len(fight.warriors), [*led(fight, round, lines, history), turns]
-    cells, counts, deaths = array("MarsCell", fight.settings.core), array("size_t", count), array("MarsDeath", count)
-    standing, processes = library()[0].new("MarsStanding *"), array("uint32_t", count * fight.settings.processes)
-    buffers = (("MarsCell", cells), ("size_t", counts), ("uint32_t", processes), ("MarsDeath", deaths))
-    assert call("mars_state", *given, *(part for buffer in buffers for part in slice_of(*buffer)), standing) != ROOM
-    queues = np.split(processes[: standing.processes], np.cumsum(counts.astype(np.intp))[:-1])
-    found = cells, queues, deaths[: standing.deaths]
-    return State(*found, standing.turns, standing.cycle, standing.next, bool(standing.over))
+    return led(fight, round, lines, first).play(most, touched=most)[1]
 
 
 def same(one: State | Battle, other: State | Battle) -> bool:
@@ -146,10 +142,17 @@ def same(one: State | Battle, other: State | Battle) -> bool:
     )
 
 
-def is_listed(fight: Match, lines: list[str], now: State | Battle) -> bool:
-    """Whether the debugger lists this state, cells and queues, where these lines lead it."""
-    core = fight.settings.core
+def is_listed(fight: Match, lines: Sequence[str], now: State | Battle, round: int = 0) -> bool:
+    """Whether the debugger lists this state, cells, queues and deaths, where these lines lead it."""
+    core, dead = fight.settings.core, dict(now.deaths.tolist())
     expected = [f"{address} {cell_text(cell, core)}" for address, cell in enumerate(now.cells)]
     expected += [" ".join([f"queue {number}:", *map(str, queue)]) for number, queue in enumerate(now.queues)]
-    asked = [f"list 0 {core}", *(f"queue {number}" for number in range(len(now.queues)))]
-    return debug(fight, [*lines, *asked]).splitlines()[-len(expected) :] == expected
+    expected += [f"turn {now.turns} cycle {now.cycle} next {now.next} alive {len(now.queues) - len(dead)}"]
+    for number, queue in enumerate(now.queues):
+        expected.append(
+            f"warrior {number} " + (f"dead {dead[number]}" if number in dead else f"processes {len(queue)}")
+        )
+    expected.append(f"battle {'over' if now.over else 'running'}")
+    asked = [f"list 0 {core}", *(f"queue {number}" for number in range(len(now.queues))), "show"]
+    told = Battle(fight, round).debug([*lines, *asked]).splitlines()[-len(expected) :]
+    return [line.partition(" at ")[0] for line in told] == expected

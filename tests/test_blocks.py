@@ -1,22 +1,22 @@
 """Battles as blocks of words: their turns, their edits, and words that are not a battle.
 
-States and rows are compared with the calls on load files, edits with the lines of the debugger. The words that the
-library accepts are compared with `is_battle`, which is written from the rules of a battle only.
+States and edits are compared with the replies of the debugger, rows with the states before and after their turns. The
+words that the library accepts are compared with `is_battle`, which is written from the rules of a battle only.
 """
 from __future__ import annotations
 
 import random
-from itertools import accumulate, pairwise
 from typing import Any
 
 import numpy as np
 import pytest
-from battles import State, matches, record, state, touched
+from battles import is_listed, matches
 from hypothesis import given, strategies as st
 from numpy.typing import NDArray
 
-from corewar.engine.binding import ROOM, array, call, kind, library, slice_of
-from corewar.engine.calls import Match, assemble, debug, held, loads
+from corewar.engine.battles import Battle, resumed
+from corewar.engine.binding import ROOM, array, call, held, kind, library, slice_of
+from corewar.engine.calls import Match, assemble, fighters
 from corewar.model.cells import MODES, MODIFIERS, OPCODES
 from corewar.model.faults import Fault
 from corewar.model.settings import Settings
@@ -33,7 +33,7 @@ def started(fight: Match, round: int = 0) -> Words:
     """The battle of a round, with the capacity that it needs."""
     settings = held(fight.settings, round + 1, fight.seed, fight.position)
     words = array("uint32_t", library()[1].mars_words(settings, len(fight.warriors)))
-    assert call("mars_start", settings, *loads(fight.warriors), round, *slices(words)) == 0
+    assert call("mars_start", settings, *fighters(fight.warriors, fight.settings.core), round, *slices(words)) == 0
     return words
 
 
@@ -56,42 +56,47 @@ def header(words: Words) -> Any:
     return words[:64].view(kind("MarsBattle"))[0]
 
 
-def is_state(words: Words, now: State) -> bool:
-    """Whether the words are the block of a state, followed by zeros."""
-    head = header(words)
-    cells = words[64 : 64 + 3 * head["core"]].view(kind("MarsCell"))
-    ends = [*accumulate(head["queue"][: head["warriors"]], initial=64 + 3 * head["core"])]
-    queues = [words[start:end] for start, end in pairwise(ends)]
-    places = [int(head[name]) for name in ("turns", "cycle", "next", "over")]
+def is_turn(before: Battle, row: Any, touched: Any, after: Battle) -> bool:
+    """Whether the rows of a turn are what it changed."""
+    warrior, cells = before.next, before.cells.copy()
+    for change in row["change"][: row["changes"]]:
+        if cells[change["address"]] != change["before"] or change["address"] not in touched["address"]:
+            return False
+        cells[change["address"]] = change["after"]
+    queue, queued = before.queues[warrior], row["process"][: row["queued"]]
+    numbers = [row[name] for name in ("warrior", "address", "next", "cycle", "died")]
+    is_dead = len(after.deaths) > len(before.deaths)
     return (
-        places == [now.turns, now.cycle, now.next, now.over]
-        and np.array_equal(cells, now.cells)
-        and [*map(list, queues)] == [*map(list, now.queues)]
-        and np.array_equal(head["death"][: head["deaths"]], now.deaths)
-        and ends[-1] == head["words"]
+        numbers == [warrior, queue[0], after.next, after.cycle, is_dead]
+        and np.array_equal(cells, after.cells)
+        and np.array_equal(np.append(queue[1:], queued), after.queues[warrior])
+        and touched["address"][0] == queue[0]
+        and 4 <= touched["count"] <= 8
+        and not (row["change"][row["changes"] :].tobytes() + row["process"][row["queued"] :].tobytes()).strip(b"\0")
+        and not touched["address"][touched["count"] :].any()
     )
 
 
 @given(matches(), st.integers(0, 2), st.integers(0, 60), st.integers(0, 30))
 def test_turns(fight: Match, round: int, first: int, more: int) -> None:
-    """After turns a battle is that state, its rows are those records, and turns one by one make the same words."""
+    """After turns a battle is what the debugger lists; its rows and words are those of single turns."""
     try:
         words = started(fight, round)
-    except Fault as fault:
-        with pytest.raises(Fault, match=str(fault)):
-            state(fight, round)
+    except Fault:
         return
     play(words, first)
-    assert is_state(words, state(fight, round, turns=first))
+    assert is_listed(fight, [f"run {first}"] if first else [], resumed(words), round)
     single = words.copy()
-    made = play(words, more, more + 2)
-    for rows, told in zip(made, (record, touched)):
-        expected = told(fight, round, first=first, most=more)
-        assert np.array_equal(rows[: len(expected)], expected) and not rows[len(expected) :].view(np.uint32).any()
-    for _ in range(more):
+    records, touched = play(words, more, more + 2)
+    for turn in range(more):
+        before = resumed(single)
         play(single, 1)
+        if before.over:
+            assert not records[turn:].view(np.uint32).any() and not touched[turn:].view(np.uint32).any()
+            break
+        assert is_turn(before, records[turn], touched[turn], resumed(single))
     length = header(words)["words"]
-    assert is_state(words, state(fight, round, turns=first + more)) and np.array_equal(words[:length], single[:length])
+    assert np.array_equal(words[:length], single[:length])
 
 
 NUMBERS = st.integers(0, 4)
@@ -119,8 +124,8 @@ def test_edits(fight: Match, first: int, what: int, warrior: int, place: int, ad
     except Fault as fault:
         refused = str(fault)
         assert fault.code == EDIT and np.array_equal(words, before)
-    assert is_state(words, state(fight, lines=lines))
-    assert debug(fight, lines).splitlines()[-1] == refused or not refused
+    assert is_listed(fight, lines, resumed(words))
+    assert Battle(fight).debug(lines).splitlines()[-1] == refused or not refused
 
 
 SMALL = Settings(core=8, processes=3, cycles=10, longest=1, distance=1)

@@ -11,11 +11,12 @@ from random import Random
 import pytest
 from conftest import TOP, Run
 
-from corewar.engine.calls import load_file
+from corewar.engine.calls import assemble
 from corewar.explain import LOOKED_FOR, errors_of, fix, read_faults, read_otherwise, told, told_of
 from corewar.explain.meanings import EXPRESSION, KINDS
 from corewar.explain.source import MODIFIERS, OPERATIONS, PREDEFINED
-from corewar.model.faults import ASSEMBLY, FORMULA, PROBLEMS, Fault
+from corewar.model.faults import ASSEMBLY, FORMULA, LINEUP, WARRIOR, Fault
+from corewar.model.header import names
 from corewar.model.settings import Settings
 
 # A source, the error that the library finds in it, and a part of the explanation.
@@ -89,7 +90,7 @@ SOURCES = [
 @pytest.mark.parametrize("text, fault, expected", SOURCES)
 def test_causes(text: str, fault: str, expected: str) -> None:
     with pytest.raises(Fault) as found:
-        load_file(text)
+        assemble(text)
     sentences = told(found.value, text.encode())
     assert str(found.value) == fault and expected in sentences[0] and len(sentences) <= 2
 
@@ -120,7 +121,7 @@ def mutated(count: int) -> Iterator[tuple[str, set[int]]]:
                 continue
             changed = dice.choice(FAULTS)(lines[number], found)
             try:
-                load_file("\n".join([*original[:number], changed, *original[number + 1 :]]))
+                assemble("\n".join([*original[:number], changed, *original[number + 1 :]]))
             except Fault:
                 lines[number] = changed
                 wrong.add(number + 1)
@@ -137,7 +138,7 @@ def test_all_errors_of_a_source_are_found() -> None:
     """Nearly each of them, and nearly none that is not there."""
     planted, found, more = 0, 0, 0
     for text, wrong in mutated(200):
-        reported = {line_to_correct(*error) for error in errors_of(text.encode(), load_file)}
+        reported = {line_to_correct(*error) for error in errors_of(text.encode(), assemble)}
         planted, found, more = planted + len(wrong), found + len(wrong & reported), more + len(reported - wrong)
     assert planted > 250 and found >= 0.99 * planted and more <= 0.01 * planted
 
@@ -154,13 +155,13 @@ def test_advice_makes_no_source_worse() -> None:
     """A source in which one advice was followed has fewer errors."""
     applied = 0
     for text, _ in mutated(200):
-        errors = [*errors_of(text.encode(), load_file)]
+        errors = [*errors_of(text.encode(), assemble)]
         for fault, sentences in errors:
             advice = next(filter(None, (form.match(sentences[0]) for form in ADVICE)), None)
             if advice:
                 lines, number = text.split("\n"), line_to_correct(fault, sentences) - 1
                 lines[number] = re.sub(rf"\b{advice['old']}\b", advice["new"], lines[number], count=1)
-                assert len([*errors_of("\n".join(lines).encode(), load_file)]) < len(errors), (text, sentences)
+                assert len([*errors_of("\n".join(lines).encode(), assemble)]) < len(errors), (text, sentences)
                 applied += 1
     assert applied > 100
 
@@ -170,16 +171,16 @@ LOOPS = "a FOR 2\nb FOR 2\nx NOP\nROF\nROF\n"
 
 def test_names_in_loops() -> None:
     """The counters of all loops around are joined; a loop without one gets one first."""
-    ((_, sentences),) = errors_of(LOOPS.encode(), load_file)
+    ((_, sentences),) = errors_of(LOOPS.encode(), assemble)
     assert sentences == ["`x` is in a loop with several iterations; write `x&a&b`."]
-    assert load_file(LOOPS.replace("x NOP", "x&a&b NOP"))
-    ((_, sentences),) = errors_of(LOOPS.replace("a FOR", "FOR").encode(), load_file)
+    assert assemble(LOOPS.replace("x NOP", "x&a&b NOP"))
+    ((_, sentences),) = errors_of(LOOPS.replace("a FOR", "FOR").encode(), assemble)
     assert "give the FOR in line 1 a counter" in sentences[0]
 
 
 def test_a_label_of_another_line_is_not_lost() -> None:
     """A label that an operand names is not taken for a misspelt opcode, and leaves no second error."""
-    ((fault, sentences),) = errors_of(b"top stx 0, 1\n jmp top\n", load_file)
+    ((fault, sentences),) = errors_of(b"top stx 0, 1\n jmp top\n", assemble)
     assert str(fault) == "line 1: 2 Operation" and "`top`" not in sentences[0]
 
 
@@ -211,8 +212,11 @@ def test_each_fault_of_the_library_is_known() -> None:
     """The explained texts are those of the errors."""
     for number, name in enumerate(("", "Operation", "Operand", "", "AssertFailed", "BadOrigin", "Empty", "TooLong"), 1):
         assert not name or f"{number} {name}" in KINDS and told(Fault(ASSEMBLY, number, line=1), b"")
-    for number, name in enumerate(PROBLEMS[:-1], 1):
+    for number, name in [*names("TEXT").items()][:-1]:
         assert told(Fault(ASSEMBLY, 1, number, line=1), b"") == [KINDS[f"1 Text {number} {name}"]]
+    for code, kind in ((WARRIOR, "warrior"), (LINEUP, "lineup")):
+        for number, name in names(kind.upper()).items():
+            assert told(Fault(code, number, warrior=3), b"") == [KINDS[f"{kind} {number} {name}"]]
     for number in range(1, 6):
         faults = [Fault(ASSEMBLY, 4, 0, number), Fault(ASSEMBLY, 1, 10, number), Fault(FORMULA, number)]
         assert all(told(fault, b"") for fault in faults)
@@ -328,7 +332,7 @@ OF_MATCHES = ["three and more warriors", "starting positions", "`-F`", "`-l` abo
 
 @pytest.mark.parametrize("row, text, expected", DIFFERENT)
 def test_each_row_of_the_table_is_looked_for(row: str, text: str, expected: str) -> None:
-    faults = [fault for fault, _ in errors_of(text.encode(), load_file)]
+    faults = [fault for fault, _ in errors_of(text.encode(), assemble)]
     assert any(expected in note for note in read_otherwise(text.encode(), faults))
 
 
@@ -356,12 +360,12 @@ FIXED = [
 
 @pytest.mark.parametrize("text, same", FIXED)
 def test_what_is_fixed(text: str, same: str | None) -> None:
-    fixed = fix(text.encode(), load_file)
-    assert [*errors_of(text.encode(), load_file)]
+    fixed = fix(text.encode(), assemble)
+    assert [*errors_of(text.encode(), assemble)]
     if same is None:
-        assert [*errors_of(fixed, load_file)]
+        assert [*errors_of(fixed, assemble)]
     else:
-        assert load_file(fixed) == load_file(same) and fix(fixed, load_file) == fixed
+        assert assemble(fixed).load == assemble(same).load and fix(fixed, assemble) == fixed
 
 
 def test_what_cannot_be_fixed_is_reported(run: Run, tmp_path: Path) -> None:
@@ -379,10 +383,10 @@ def test_fix(run: Run, tmp_path: Path) -> None:
     assert fixed == source.replace(b"i FOR 2\nmov.i 0, i ;", b"i__ FOR 2\nmov.i 0, i__ ;").replace(
         b"x&i jmp x&i", b"x&i__ jmp x&i__"
     )
-    assert load_file(fixed) == load_file(source.replace(b"mov.i", b"mov.I"))
+    assert assemble(fixed).load == assemble(source.replace(b"mov.i", b"mov.I")).load
     unread = b"a cat\n  /\\_/\\\n;redcode\nMOV 0, 1\nEND\nlast \\\nline\n"
     for valid in (b"i FOR 2\r\nmov.I 0, i\r\nROF", unread):
-        assert fix(valid, load_file) == valid
+        assert fix(valid, assemble) == valid
 
 
 def test_it_is_soon_there() -> None:
@@ -405,11 +409,11 @@ def test_it_is_soon_there() -> None:
     }
     for name, text in sources.items():
         with pytest.raises(Fault) as found:
-            load_file(text)
+            assemble(text)
         begun = time.process_time()
         assert told(found.value, text.encode()), name
         read_otherwise(text.encode())
-        fix(text.encode(), load_file)
+        fix(text.encode(), assemble)
         assert time.process_time() - begun < 20, name
 
 

@@ -13,10 +13,10 @@ from battles import (
     edits,
     is_listed,
     matches,
+    led,
     record,
     run_lines,
     same,
-    state,
     touched,
 )
 from conftest import EXAMPLES
@@ -27,7 +27,7 @@ from corewar.battle.conditions import Condition, last_change, search
 from corewar.battle.frames import frames, parts
 from corewar.battle.history import BY_HAND, NOBODY, History
 from corewar.engine.battles import Battle
-from corewar.engine.calls import HISTORY, Match, assemble, debug
+from corewar.engine.calls import Match, assemble
 from corewar.engine.sources import read
 from corewar.model.cells import Cells, cell_of, cell_text
 from corewar.model.edits import Edit
@@ -86,7 +86,7 @@ def test_each_state_is_the_machine_s(fight: Match, round: int, places: list[tupl
     history, lines = edited(History(fight, round), places)
     first = history.segments[-1].first
     for turn in range(first, history.end + 1):
-        expected = state(fight, round, lines, turn - first)
+        expected = led(fight, round, lines, turn - first)
         assert same(history.state(turn), expected) and same(told(history, turn), expected)
         assert np.array_equal(history.deaths(turn), expected.deaths)
     assert np.array_equal(history.ending.cells, history.state(history.end).cells)
@@ -101,13 +101,9 @@ def test_each_state_is_the_machine_s(fight: Match, round: int, places: list[tupl
         assert np.array_equal(changes.after[own], after[changes.addresses[own]])
 
 
-@given(matches(), st.lists(MOVES, max_size=4), st.integers(0, 60))
-def test_a_state_is_what_the_debugger_lists(fight: Match, lines: list[str], turn: int) -> None:
-    now = state(fight, 0, lines, turn, HISTORY)
-    assert is_listed(fight, [*lines, *run_lines(turn)], now)
-    told = debug(fight, [*lines, *run_lines(turn), "show"]).splitlines()[-len(fight.warriors) - 2 :]
-    assert told[0].startswith(f"turn {now.turns} cycle {now.cycle} next {now.next} ")
-    assert (told[-1] == "battle over") == now.over and sum(" dead " in line for line in told) == len(now.deaths)
+@given(matches(), st.integers(0, 2), st.lists(MOVES, max_size=4), st.integers(0, 60))
+def test_a_state_is_what_the_debugger_lists(fight: Match, round: int, lines: list[str], turn: int) -> None:
+    assert is_listed(fight, [*lines, *run_lines(turn)], led(fight, round, lines, turn), round)
 
 
 def steps(history: History) -> Iterator[tuple[int, Battle, Battle]]:
@@ -225,7 +221,7 @@ OUTSIDE = st.sampled_from(["edit 61 DAT.F $0, $0", "kill 0 9", "fill 3 2 DAT.F $
 def test_an_edit_is_refused_where_the_debugger_refuses_it(fight: Match, part: float, line: str) -> None:
     history = History(fight)
     turn, edit = int(part * history.end), edit_of(line, fight.settings.core)
-    reply = debug(fight, [*run_lines(turn), line]).splitlines()[-1]
+    reply = Battle(fight).debug([*run_lines(turn), line]).splitlines()[-1]
     if reply.startswith(("refused", "unknown")):
         with pytest.raises(Fault) as fault:
             history.edited(turn, edit)
@@ -233,7 +229,7 @@ def test_an_edit_is_refused_where_the_debugger_refuses_it(fight: Match, part: fl
     else:
         made = history.edited(turn, edit)
         assert made.edits == ((turn, edit),) and edit_of(edit.text(fight.settings.core), fight.settings.core) == edit
-        assert same(made.state(turn), state(fight, 0, [*run_lines(turn), line]))
+        assert same(made.state(turn), led(fight, 0, [*run_lines(turn), line]))
 
 
 def test_what_is_no_turn_is_rejected() -> None:
@@ -245,7 +241,7 @@ def test_what_is_no_turn_is_rejected() -> None:
     with pytest.raises(Fault, match="4 Warriors"):
         History(Match(()))
     with pytest.raises(TypeError):
-        debug(history.fight, "step")
+        Battle(history.fight).debug("step")
     for text in ("edit", "jmp -3", "DAT.F $0,$0", "DAT.F $0, $0\n", "DAT.F $0, $١"):
         with pytest.raises(Refused, match="expected a cell such as"):
             cell_of(text, 8000)
@@ -265,7 +261,7 @@ def test_a_battle_is_a_value(fight: Match, round: int, first: int, more: int, li
     battle, other = Battle(fight, round), Battle(fight, round)
     battle.play(first)
     restored, copied = Battle.of_bytes(bytes(battle)), battle.copy()
-    assert battle == restored == copied and same(battle, state(fight, round, turns=first))
+    assert battle == restored == copied and same(battle, led(fight, round, turns=first))
     records, seen = copied.play(more, records=more + 2, touched=more)
     assert battle == restored and restored.play(more)[0].size == 0 and restored == copied
     assert np.array_equal(records, record(fight, round, first=first, most=more)[: len(records)])

@@ -11,10 +11,9 @@ from corewar.battle import history as module, labels
 from corewar.battle.history import History
 from corewar.battle.labels import Sources
 from corewar.battle.origins import Origins
-from corewar.engine.calls import Match, assemble, source_lines
+from corewar.engine.calls import Match, assemble, read_load, source_lines
 from corewar.engine.sources import read
 from corewar.model.faults import Refused
-from corewar.model.warriors import Warrior
 
 # The parts of a cell that no instruction changes except by a copy of the whole cell.
 KEPT = ("op", "modifier", "a_mode", "b_mode")
@@ -112,6 +111,6 @@ def test_a_bomb_has_the_line_of_its_thrower() -> None:
 
 def test_whitespace_of_a_load_file() -> None:
     """All control characters are whitespace, as the library reads them."""
-    warrior = Warrior(b"NOP 0, 0\n\x01NOP 0, 0\n\x01\nORG \x1b1\nMOV 0, 1\n")
-    assert (len(warrior), warrior.origin) == (3, 1)
+    warrior = read_load(b"NOP 0, 0\n\x01NOP 0, 0\n\x01\nORG \x1b1\nMOV 0, 1\n")
+    assert (len(warrior), warrior.start) == (3, 1)
     assert History(Match((warrior,))).state(0).queues[0].tolist() == [1]

@@ -82,9 +82,7 @@ def test_bad_words_and_faults(run: Run) -> None:
     done = run("why", "nowhere.red")
     assert (done.returncode, done.stderr) == (1, "corewar: nowhere.red: No such file or directory\n")
     seventeen = run("why", *["@imp"] * 17)
-    assert seventeen.returncode == 2 and seventeen.stderr.startswith(
-        "corewar: settings 4 Warriors\n  A match has 1 to 16"
-    )
+    assert seventeen.returncode == 2 and "a match has at most 16 warriors, not 17" in seventeen.stderr
 
 
 def test_streams(run: Run) -> None:

@@ -21,7 +21,7 @@ from corewar.cli.main import COMMANDS
 from corewar.editor.answers import ANSWERS, Params, diagnostic
 from corewar.editor.text import Text
 from corewar.editor.wire import Wire
-from corewar.engine.calls import load_file
+from corewar.engine.calls import assemble
 from corewar.explain import words
 from corewar.model.cells import MODES, MODIFIERS, OPCODES
 from corewar.model.faults import Fault, Refused
@@ -50,7 +50,7 @@ SOURCES = [
 
 
 def text_of(source: str) -> Text:
-    return Text(source, load_file, Settings())
+    return Text(source, assemble, Settings())
 
 
 def asked(text: Text, method: str, line: int, column: int, **more: Any) -> Any:
@@ -275,7 +275,7 @@ def test_hover() -> None:
 def test_values(source: str, expected: dict[str, list[int]]) -> None:
     line = next(number for number, one in enumerate(source.split("\n"), 1) if re.search(r"\b(DAT|MOV|m$)", one))
     for core in (8000, 8001, 80, 3, 1):
-        text = Text(source, load_file, Settings(core, core, 80000, min(core, 100), min(core, 100)))
+        text = Text(source, assemble, Settings(core, core, 80000, min(core, 100), min(core, 100)))
         for expression, values in expected.items():
             wanted = [core if expression == "CORESIZE" else value for value in values]
             assert text.values(line, expression) in ([wanted] if core > 80 else [wanted, []])
@@ -337,7 +337,7 @@ def outcomes(source: str) -> list[bytes | str]:
     found: list[bytes | str] = []
     for settings in HILLS.values():
         try:
-            found.append(load_file(source.encode("utf-8", "replace"), settings))
+            found.append(assemble(source.encode("utf-8", "replace"), settings).load)
         except Fault as fault:
             found.append(str(fault))
     return found

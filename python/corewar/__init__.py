@@ -13,18 +13,19 @@ The package calls the library that `scripts/library` builds, and requires cffi a
 from . import league as _league  # (loaded first, so that `corewar.league` stays the call below)
 from .battle.history import History
 from .engine.battles import Battle
-from .engine.calls import Match, Row, assemble, debug, league, match, population
+from .engine.calls import Match, Row, assemble, league, match, population
+from .engine.outcomes import outcomes, shares
 from .engine.sources import Limit, read
+from .engine.warriors import Warrior
 from .model.cells import cell_of, cell_text
 from .model.edits import Edit
 from .model.faults import Fault, FileFault, Refused
 from .model.settings import HILLS, Settings
-from .model.warriors import Warrior
 
 # The version of the kit: of this package, the Debian packages and the library (MARS_VERSION in its header).
-__version__ = "1.3"
+__version__ = "2.0"
 
 __all__ = [
     "HILLS", "Battle", "Edit", "Fault", "FileFault", "History", "Limit", "Match", "Refused", "Row", "Settings",
-    "Warrior", "assemble", "cell_of", "cell_text", "debug", "league", "match", "population", "read",
+    "Warrior", "assemble", "cell_of", "cell_text", "league", "match", "outcomes", "population", "read", "shares",
 ]  # fmt: skip

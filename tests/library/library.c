@@ -43,55 +43,57 @@ static const char PLACES[] = "4 x01\n4 x02\n4 x03\n6\n7\n";
 static const char LINES[] = "step\nrun 5\nundo\nshow\nlist 0 5\nquit\n";
 static const char FORMULA[] = "(W*W-1)/S";
 static const MarsEdit EDIT = {4, 1, 0, 5, {0, 0, 0, 0, 0, 0}};
-enum { WORDS = 64 + 3 * 800 + 3 * 800 };
-static uint8_t loads[4096];
-static size_t lengths[17], all;
+enum { WORDS = 64 + 3 * 800 + 3 * 800, CELLS = 5, CALLS = 13 };
+static MarsCell cells[17 * CELLS];
+static MarsWarrior warriors[17]; /* the same warrior several times */
+static MarsProgram program;
 static uint32_t block[WORDS]; /* the battle of a round, as it starts */
+static uint8_t load[1024];
+static size_t load_length;
+static const MarsLineup LINEUPS[] = {{5, 3, {0, 1, 2}}, {0, 2, {2, 0}}};
 
 /* What a call left. */
 typedef struct {
     uint8_t text[2048];
     size_t length;
     MarsRow rows[3];
+    MarsOutcome outcomes[3 * 5];
     MarsRecord records[9];
     MarsTouched touched[9];
-    MarsCell cells[800];
-    size_t counts[3];
-    uint32_t processes[20];
-    MarsDeath deaths[3];
+    MarsCell cells[20];
     uint32_t battle[WORDS];
-    MarsStanding standing;
+    MarsProgram program;
     MarsFault fault;
     uint32_t answer;
 } Left;
 
-/* What is there before a call: the calls from 10 on take a battle. */
+/* What is there before a call: the calls from 9 on take a battle. */
 static void prepare(int which, Left *got) {
     memset(got, 7, sizeof *got);
-    if (which >= 10) memcpy(got->battle, block, sizeof block);
+    if (which >= 9) memcpy(got->battle, block, sizeof block);
 }
 
 static void call(int which, Left *got) {
     prepare(which, got);
-    const uint8_t *formula = (const uint8_t *)FORMULA;
-    size_t bytes = strlen(FORMULA);
-    if (which == 0) got->answer = mars_assemble(&SETTINGS, 2, (const uint8_t *)SOURCE, strlen(SOURCE), got->text, sizeof got->text, &got->length, &got->fault);
-    if (which == 1) got->answer = mars_match(&SETTINGS, formula, bytes, loads, all, lengths, 3, got->rows, 3, &got->fault);
-    if (which == 2) got->answer = mars_league(&SETTINGS, formula, bytes, loads, all, lengths, 3, got->rows, 3, &got->fault);
-    if (which == 3) got->answer = mars_population(&SETTINGS, formula, bytes, loads, all, lengths, 3, got->rows, 2, &got->fault);
-    if (which == 4) got->answer = mars_debug(&SETTINGS, loads, all, lengths, 3, 50, (const uint8_t *)LINES, strlen(LINES), got->text, sizeof got->text, &got->length, &got->fault);
-    if (which == 5) got->answer = mars_record(&SETTINGS, loads, all, lengths, 3, 2, 50, (const uint8_t *)LINES, strlen(LINES), 4, got->records, 9, &got->length, &got->fault);
-    if (which == 6) got->answer = mars_state(&SETTINGS, loads, all, lengths, 3, 2, 50, (const uint8_t *)LINES, strlen(LINES), 4, got->cells, 800, got->counts, 3, got->processes, 20, got->deaths, 3, &got->standing, &got->fault);
-    if (which == 7) got->answer = mars_lines(&SETTINGS, 2, (const uint8_t *)SOURCE, strlen(SOURCE), got->text, sizeof got->text, &got->length, &got->fault);
-    if (which == 8) got->answer = mars_touched(&SETTINGS, loads, all, lengths, 3, 2, 50, (const uint8_t *)LINES, strlen(LINES), 4, got->touched, 9, &got->length, &got->fault);
-    if (which == 9) got->answer = mars_start(&SETTINGS, loads, all, lengths, 3, 2, got->battle, WORDS, &got->fault);
-    if (which == 10) got->answer = mars_play(got->battle, WORDS, 20, got->records, 9, got->touched, 9, &got->fault);
-    if (which == 11) got->answer = mars_edit(got->battle, WORDS, &EDIT, &got->fault);
-    if (which == 12) got->answer = mars_check(got->battle, WORDS, &got->fault);
+    const uint8_t *formula = (const uint8_t *)FORMULA, *lines = (const uint8_t *)LINES, *source = (const uint8_t *)SOURCE;
+    size_t bytes = strlen(FORMULA), source_length = strlen(SOURCE);
+    if (which == 0) got->answer = mars_assemble(&SETTINGS, 2, source, source_length, got->cells, 20, &got->program, &got->fault);
+    if (which == 1) got->answer = mars_lines(&SETTINGS, 2, source, source_length, got->text, sizeof got->text, &got->length, &got->fault);
+    if (which == 2) got->answer = mars_read_load(&SETTINGS, load, load_length, got->cells, 20, &got->program, &got->fault);
+    if (which == 3) got->answer = mars_write_load(&SETTINGS, cells, CELLS, &program, got->text, sizeof got->text, &got->length, &got->fault);
+    if (which == 4) got->answer = mars_match(&SETTINGS, formula, bytes, cells, 3 * CELLS, warriors, 3, got->rows, 3, &got->fault);
+    if (which == 5) got->answer = mars_league(&SETTINGS, formula, bytes, cells, 3 * CELLS, warriors, 3, got->rows, 3, &got->fault);
+    if (which == 6) got->answer = mars_population(&SETTINGS, formula, bytes, cells, 3 * CELLS, warriors, 3, got->rows, 2, &got->fault);
+    if (which == 7) got->answer = mars_outcomes(&SETTINGS, cells, 3 * CELLS, warriors, 3, LINEUPS, 2, got->outcomes, 3 * 5, &got->fault);
+    if (which == 8) got->answer = mars_start(&SETTINGS, cells, 3 * CELLS, warriors, 3, 2, got->battle, WORDS, &got->fault);
+    if (which == 9) got->answer = mars_play(got->battle, WORDS, 20, got->records, 9, got->touched, 9, &got->fault);
+    if (which == 10) got->answer = mars_edit(got->battle, WORDS, &EDIT, &got->fault);
+    if (which == 11) got->answer = mars_check(got->battle, WORDS, &got->fault);
+    if (which == 12) got->answer = mars_debug(got->battle, WORDS, 50, lines, strlen(LINES), got->text, sizeof got->text, &got->length, &got->fault);
 }
 
 static int is_kept(const Left *got, const Left *blank) {
-    const char *from = (const char *)got->rows, *upto = (const char *)&got->standing;
+    const char *from = (const char *)got->rows, *upto = (const char *)&got->program;
     return memcmp(got->text, blank->text, sizeof got->text) == 0 && memcmp(from, blank->rows, upto - from) == 0;
 }
 
@@ -115,25 +117,51 @@ static int holds(int which, long each) {
 /* Null pointers with the length 0. */
 static int are_nulls_taken(void) {
     Left got;
-    size_t none = 0;
     memset(&got, 0, sizeof got);
     const MarsSettings *settings = &SETTINGS;
     const uint8_t *source = (const uint8_t *)SOURCE, *formula = (const uint8_t *)FORMULA;
-    return mars_assemble(settings, 2, NULL, 0, NULL, 0, &got.length, &got.fault) == MARS_ASSEMBLY && got.fault.number == 7
-        && mars_assemble(settings, 2, source, strlen(SOURCE), NULL, 0, &got.length, &got.fault) == MARS_ROOM && got.length == lengths[0]
+    size_t bytes = strlen(FORMULA), all = 3 * CELLS;
+    MarsWarrior none = {0, 0};
+    return mars_assemble(settings, 2, NULL, 0, NULL, 0, &got.program, &got.fault) == MARS_ASSEMBLY && got.fault.number == MARS_ASSEMBLY_EMPTY
+        && mars_assemble(settings, 2, source, strlen(SOURCE), NULL, 0, &got.program, &got.fault) == MARS_ROOM && got.program.warrior.length == CELLS
         && mars_lines(settings, 2, source, strlen(SOURCE), NULL, 0, &got.length, &got.fault) == MARS_ROOM && got.length == strlen(PLACES)
-        && mars_match(settings, NULL, 0, loads, all, lengths, 3, got.rows, 3, &got.fault) == MARS_FORMULA && got.fault.number == 1
-        && mars_match(settings, formula, strlen(FORMULA), NULL, 0, &none, 1, got.rows, 1, &got.fault) == MARS_LOAD && got.fault.number == 3
-        && mars_league(settings, formula, strlen(FORMULA), NULL, 0, NULL, 0, NULL, 0, &got.fault) == MARS_DONE
-        && mars_population(settings, formula, strlen(FORMULA), loads, all, lengths, 3, NULL, 0, &got.fault) == MARS_DONE
-        && mars_debug(settings, loads, all, lengths, 3, 9, NULL, 0, NULL, 0, &got.length, &got.fault) == MARS_DONE && got.length == 0
-        && mars_record(settings, loads, all, lengths, 3, 0, 9, NULL, 0, 0, NULL, 0, &got.length, &got.fault) == MARS_DONE && got.length > 9
-        && mars_touched(settings, loads, all, lengths, 3, 0, 9, NULL, 0, 0, NULL, 0, &got.length, &got.fault) == MARS_DONE && got.length > 9
-        && mars_state(settings, loads, all, lengths, 3, 0, 9, NULL, 0, 0, NULL, 0, NULL, 0, NULL, 0, NULL, 0, &got.standing, &got.fault) == MARS_ROOM
-        && got.standing.processes == 3
-        && mars_start(settings, loads, all, lengths, 3, 0, NULL, 0, &got.fault) == MARS_ROOM
-        && mars_play(got.battle, 0, 1, NULL, 0, NULL, 0, &got.fault) == MARS_BLOCK && got.fault.number == 1
-        && mars_check(NULL, 0, &got.fault) == MARS_BLOCK && got.fault.number == 1;
+        && mars_read_load(settings, NULL, 0, NULL, 0, &got.program, &got.fault) == MARS_LOAD && got.fault.number == MARS_LOAD_EMPTY
+        && mars_write_load(settings, cells, CELLS, &program, NULL, 0, &got.length, &got.fault) == MARS_ROOM && got.length == load_length
+        && mars_match(settings, NULL, 0, cells, all, warriors, 3, got.rows, 3, &got.fault) == MARS_FORMULA && got.fault.number == MARS_EXPRESSION_SYNTAX
+        && mars_match(settings, formula, bytes, NULL, 0, &none, 1, got.rows, 1, &got.fault) == MARS_WARRIOR && got.fault.number == MARS_WARRIOR_LENGTH
+        && mars_league(settings, formula, bytes, NULL, 0, NULL, 0, NULL, 0, &got.fault) == MARS_DONE
+        && mars_population(settings, formula, bytes, cells, all, warriors, 3, NULL, 0, &got.fault) == MARS_DONE
+        && mars_outcomes(settings, NULL, 0, NULL, 0, NULL, 0, NULL, 0, &got.fault) == MARS_DONE
+        && mars_start(settings, cells, all, warriors, 3, 0, NULL, 0, &got.fault) == MARS_ROOM
+        && mars_debug(block, WORDS, 9, NULL, 0, NULL, 0, &got.length, &got.fault) == MARS_DONE && got.length == 0
+        && mars_play(got.battle, 0, 1, NULL, 0, NULL, 0, &got.fault) == MARS_BLOCK && got.fault.number == MARS_BLOCK_SHORT
+        && mars_check(NULL, 0, &got.fault) == MARS_BLOCK && got.fault.number == MARS_BLOCK_SHORT;
+}
+
+/* A program is what its load file says, and the other way round. */
+static int are_loads_read(void) {
+    Left got;
+    MarsProgram wrong = program;
+    memset(wrong.name, 'x', sizeof wrong.name);
+    if (mars_write_load(&SETTINGS, cells, CELLS, &wrong, got.text, sizeof got.text, &got.length, &got.fault) != MARS_WARRIOR || got.fault.number != MARS_WARRIOR_NAME) return 0;
+    call(2, &got);
+    return !memcmp(got.cells, cells, CELLS * sizeof *cells) && !memcmp(&got.program, &program, sizeof program) && program.warrior.start == 1
+        && !strcmp((const char *)program.name, "Loops");
+}
+
+/* The outcomes of a lineup add up to its row. */
+static int are_outcomes_rows(void) {
+    Left got;
+    call(7, &got);
+    MarsSettings settings = SETTINGS;
+    settings.seed = LINEUPS[0].seed;
+    if (mars_match(&settings, (const uint8_t *)FORMULA, strlen(FORMULA), cells, 3 * CELLS, warriors, 3, got.rows, 3, &got.fault) != MARS_DONE) return 0;
+    for (size_t place = 0; place < 3; place++) {
+        uint64_t survived = 0;
+        for (size_t round = 0; round < 3; round++) survived += got.outcomes[3 * round + place].survived;
+        if (survived != got.rows[place].wins + got.rows[place].ties) return 0;
+    }
+    return got.outcomes[0].start == 0 && got.outcomes[9].start == 0 && got.outcomes[10].start >= SETTINGS.distance;
 }
 
 /* A battle is as long as mars_words says or shorter, and plays on alike in one call and in several. */
@@ -158,57 +186,65 @@ static int are_battles_values(void) {
 static int are_lines_told(void) {
     Left got, other;
     const uint8_t *wrong = (const uint8_t *)"NOP\nFOO 1";
-    call(7, &got);
+    call(1, &got);
     if (got.length != strlen(PLACES) || memcmp(got.text, PLACES, got.length) || got.text[got.length] != 7) return 0;
     uint32_t lines = mars_lines(&SETTINGS, 2, wrong, 9, got.text, 9, &got.length, &got.fault);
-    return lines == mars_assemble(&SETTINGS, 2, wrong, 9, other.text, 9, &other.length, &other.fault) && got.fault.line == 2
+    return lines == mars_assemble(&SETTINGS, 2, wrong, 9, other.cells, 9, &other.program, &other.fault) && got.fault.line == 2
         && memcmp(&got.fault, &other.fault, sizeof got.fault) == 0;
 }
 
 /* Whether these calls are refused for this setting, whatever else is wrong. */
-static int is_refused_for(uint32_t number, const MarsSettings *settings, size_t warriors, size_t rows, uint32_t history) {
+static int is_refused_for(uint32_t number, const MarsSettings *settings, size_t count, size_t rows) {
     Left got;
     const uint8_t *wrong = (const uint8_t *)"W+";
-    uint32_t contests = mars_match(settings, wrong, 2, loads, all, lengths, warriors, got.rows, rows, &got.fault);
+    uint32_t contests = mars_match(settings, wrong, 2, cells, count * CELLS, warriors, count, got.rows, rows, &got.fault);
     int is_so = contests == MARS_SETTINGS && got.fault.number == number;
-    if (number == 7) return is_so && mars_league(settings, wrong, 2, loads, all, lengths, warriors, got.rows, rows, &got.fault) == contests && got.fault.number == 7;
-    uint32_t debugger = mars_debug(settings, loads, all - 1, lengths, warriors, history, NULL, 0, got.text, 0, &got.length, &got.fault);
-    return is_so && debugger == MARS_SETTINGS && got.fault.number == number;
+    if (number == MARS_SETTINGS_ROWS) return is_so && mars_league(settings, wrong, 2, cells, count * CELLS, warriors, count, got.rows, rows, &got.fault) == contests && got.fault.number == number;
+    uint32_t started = mars_start(settings, cells, count * CELLS - 1, warriors, count, 3, got.battle, WORDS, &got.fault);
+    return is_so && started == MARS_SETTINGS && got.fault.number == number;
 }
 
-/* An error has the same number in each call, before the parameters, or after them and before the formula and the load files. */
+/* An error has the same number in each call, before the parameters, or after them and before the formula and the warriors. */
 static int are_mistakes_told_in_order(void) {
     MarsSettings bad = SETTINGS, placed = SETTINGS, both = SETTINGS;
     bad.core = 0, placed.position = 1, both.position = 1, both.distance = 0;
     MarsRow rows[3];
     MarsFault fault;
-    const uint8_t *wrong = (const uint8_t *)"W+";
-    return is_refused_for(4, &bad, 0, 0, 0) && is_refused_for(4, &bad, 17, 3, 0) && is_refused_for(7, &bad, 3, 2, 9) && is_refused_for(3, &placed, 3, 3, 9)
-        && mars_league(&both, wrong, 2, loads, all, lengths, 3, rows, 3, &fault) == MARS_PARAMETERS && fault.number == 6
-        && mars_league(&placed, wrong, 2, loads, all, lengths, 3, rows, 3, &fault) == MARS_SETTINGS && fault.number == 3
-        && mars_match(&SETTINGS, wrong, 2, loads, all - 1, lengths, 3, rows, 3, &fault) == MARS_FORMULA;
+    const uint8_t *wrong = (const uint8_t *)"W+", *formula = (const uint8_t *)FORMULA;
+    size_t all = 3 * CELLS;
+    MarsLineup lineup = {0, 1, {3}};
+    MarsOutcome outcome;
+    return is_refused_for(MARS_SETTINGS_WARRIORS, &bad, 0, 0) && is_refused_for(MARS_SETTINGS_WARRIORS, &bad, 17, 3)
+        && is_refused_for(MARS_SETTINGS_ROWS, &bad, 3, 2) && is_refused_for(MARS_SETTINGS_POSITION, &placed, 3, 3)
+        && mars_league(&both, wrong, 2, cells, all, warriors, 3, rows, 3, &fault) == MARS_PARAMETERS && fault.number == MARS_PARAMETERS_DISTANCE
+        && mars_league(&placed, wrong, 2, cells, all, warriors, 3, rows, 3, &fault) == MARS_SETTINGS && fault.number == MARS_SETTINGS_POSITION
+        && mars_match(&SETTINGS, wrong, 2, cells, all - 1, warriors, 3, rows, 3, &fault) == MARS_FORMULA
+        && mars_match(&SETTINGS, formula, strlen(FORMULA), cells, all - 1, warriors, 3, rows, 3, &fault) == MARS_SETTINGS && fault.number == MARS_SETTINGS_LENGTHS
+        && mars_outcomes(&bad, cells, all, warriors, 3, &lineup, 1, &outcome, 1, &fault) == MARS_LINEUP && fault.number == MARS_LINEUP_INDEX;
 }
 
 int main(void) {
     int passed = 0, failed = 0;
     Left first;
     call(0, &first);
-    for (int i = 0; i < 3; i++) {
-        memcpy(loads + all, first.text, first.length);
-        lengths[i] = first.length;
-        all += first.length;
+    program = first.program;
+    for (size_t i = 0; i < sizeof warriors / sizeof *warriors; i++) {
+        memcpy(cells + i * CELLS, first.cells, CELLS * sizeof *cells);
+        warriors[i] = program.warrior;
     }
-    uint32_t started = mars_start(&SETTINGS, loads, all, lengths, 3, 2, block, WORDS, &first.fault);
-    for (int which = 0; which < 13 && started == MARS_DONE; which++)
+    call(3, &first);
+    memcpy(load, first.text, load_length = first.length);
+    uint32_t started = mars_start(&SETTINGS, cells, 3 * CELLS, warriors, 3, 2, block, WORDS, &first.fault);
+    for (int which = 0; which < CALLS && started == MARS_DONE; which++)
         for (long each = 0; each < 2; each++) {
             int is_so = holds(which, each);
             passed += is_so, failed += !is_so;
             if (!is_so) printf("call %d, %s refused\n", which, each ? "all from one on" : "one");
         }
-    int others[] = {mars_version() == MARS_VERSION, are_nulls_taken(), are_lines_told(), are_mistakes_told_in_order(), are_battles_values()};
+    int others[] = {mars_version() == MARS_VERSION, are_nulls_taken(), are_lines_told(), are_loads_read(), are_outcomes_rows(), are_mistakes_told_in_order(), are_battles_values()};
     for (size_t i = 0; i < sizeof others / sizeof *others; i++) {
         passed += others[i], failed += !others[i];
-        if (!others[i]) printf("%s\n", (const char *[]){"the version", "null pointers", "the lines of a source", "the order of mistakes", "battles as values"}[i]);
+        if (!others[i]) printf("%s\n", (const char *[]){"the version", "null pointers", "the lines of a source", "load files", "outcomes", "the order of mistakes", "battles as values"}[i]);
     }
     printf("%d passed, %d failed\n", passed, failed);
     return failed != 0;

@@ -1,7 +1,7 @@
 """Compares the library for C, through the package, with what the program gives.
 
 Assemblies, matches, leagues, transcripts and errors are those of the program; a population is the sum of its matches; two threads
-get what one does. (tests/test_history.py holds records, states and what turns touch against transcripts.) A C program calls each
+get what one does. (tests/test_blocks.py holds states, records and what turns touch against transcripts.) A C program calls each
 export with each request for memory refused in turn, as it is, under valgrind and under AddressSanitizer; the example in Rust is built.
 """
 import os
@@ -19,8 +19,10 @@ from hypothesis import HealthCheck, given, settings as how, strategies as st
 
 import corewar
 from corewar.engine import calls
-from corewar.model import faults
-from corewar.model.settings import NUMBERS
+from corewar.engine.binding import library
+from corewar.model import cells, faults
+from corewar.model.header import names, numbers
+from corewar.model.settings import MOST_OF_LEAGUE, MOST_WARRIORS, NUMBERS
 
 ARCHIVE = os.environ.get("MARS_ARCHIVE") or f"{TOP}/crates/mars_c/out/libmars_c.a"
 HEADER = Path(TOP, "include", "mars.h").read_text()
@@ -107,9 +109,9 @@ def file_of(folder, name, data):
     return str(path)
 
 
-def files_of(warriors, folder):
-    """The warriors in files, by their load files."""
-    return [file_of(folder, f"{number}.load", one.load) for number, one in enumerate(warriors)]
+def files_of(loads, folder):
+    """The load files in files."""
+    return [file_of(folder, f"{number}.load", load) for number, load in enumerate(loads)]
 
 
 def plain(table):
@@ -141,7 +143,7 @@ def loads():
 
     for _ in range(dice.choice([1, 2, 2, 2, 2, 3, 5])):
         cells = "".join(cell() for _ in range(dice.randrange(1, 6)))
-        yield corewar.Warrior(f"ORG 0\n{cells}{'' if dice.randrange(60) else 'X'}\n".encode())
+        yield f"ORG 0\n{cells}{'' if dice.randrange(60) else 'X'}\n".encode()
 
 
 def settings():
@@ -160,7 +162,8 @@ def test_assemblies(tmp_path):
         held = settings() if len(text) < 200 else corewar.Settings()
         expected = started("--load", *words_of(held), file_of(tmp_path, "source.red", text))
         count += isinstance(expected, str)
-        assert called(calls.load_file, text, held, warriors=1) == expected, text
+        made = called(corewar.assemble, text, held, warriors=1)
+        assert getattr(made, "load", made) == expected, text
     assert 50 < count < 250, "so many of the random sources are faulty"
 
 
@@ -170,10 +173,10 @@ def test_faults_of_files(tmp_path):
         path = file_of(tmp_path, "faulty.red", text.encode())
         assert called(corewar.assemble, text) == started("--load", path), text[:40]
     for text in BAD_LOADS:
-        warriors = [corewar.assemble("MOV 0, 1"), corewar.Warrior(text.encode())]
-        with pytest.raises(corewar.Fault) as found:
-            corewar.match(warriors)
-        assert (str(found.value), found.value.warrior) == (started("-b", *files_of(warriors, tmp_path)), 1), text[:40]
+        path = file_of(tmp_path, "faulty.load", text.encode())
+        with pytest.raises(corewar.FileFault) as found:
+            corewar.read(path)
+        assert str(found.value.fault) == started("-b", path), text[:40]
 
 
 def test_faults_of_settings():
@@ -182,18 +185,16 @@ def test_faults_of_settings():
         assert called(corewar.match, [imp], settings=corewar.Settings(**words)) == fault
     for call, *words in ((corewar.match, 1, 0), (corewar.match, 100001, 1), (corewar.league, 1, 2147483647)):
         assert called(call, [imp] * 2, *words).startswith("settings")
-    for count, position, fault in ((3, 400, 3), (2, 99, 3), (2, 7901, 3), (17, 0, 4), (0, 0, 4)):
-        expected = f"settings {fault} {faults.KINDS[2][1][fault - 1]}"
+    for count, position, fault in ((3, 400, 3), (2, 99, 3), (2, 7901, 3), (0, None, 4)):
+        expected = f"settings {fault} {names('SETTINGS')[fault]}"
         assert called(corewar.match, [imp] * count, position=position) == expected
-    for history, count, fault in (
-        (0, 1, "6 History"),
-        (1000001, 1, "6 History"),
-        (1, 0, "4 Warriors"),
-        (1, 17, "4 Warriors"),
-    ):
-        assert called(corewar.debug, corewar.Match((imp,) * count), [], history) == f"settings {fault}"
+    for call in (corewar.match, lambda warriors: corewar.Battle(corewar.Match(warriors))):
+        with pytest.raises(corewar.Refused, match="a match has at most 16 warriors, not 17"):
+            call([imp] * 17)
     assert called(corewar.Battle, corewar.Match((imp,), rounds=100001), 100000) == "settings 1 Rounds"
     battle = corewar.Battle(corewar.Match((imp,)))
+    for history in (0, 1000001):
+        assert called(battle.debug, [], history) == "settings 6 History"
     for words in ({"turns": -1}, {"turns": 1 << 32}, {"turns": 1, "records": -1}, {"turns": 1, "touched": 1 << 32}):
         with pytest.raises(ValueError):
             battle.play(**words)
@@ -203,21 +204,28 @@ def test_contests(tmp_path):
     """Random matches and leagues: the rows, or the error."""
     fought = 0
     for index in range(1000):
-        warriors, held, rounds, seed = [*loads()], settings(), dice.randrange(1, 6), dice.randrange(1, 1 << 30)
+        files, held, rounds, seed = [*loads()], settings(), dice.randrange(1, 6), dice.randrange(1, 1 << 30)
         formula = dice.choice(["(W*W-1)/S", "(W*W-1)/S", "5*W-S", "W/(S-1)", "W+"])
-        words = [f"-r={rounds}", f"--seed={seed}", f"--score={formula}", *words_of(held), *files_of(warriors, tmp_path)]
-        is_league = index % 4 == 0 and len(warriors) > 1
+        words = [f"-r={rounds}", f"--seed={seed}", f"--score={formula}", *words_of(held), *files_of(files, tmp_path)]
+        is_league = index % 4 == 0 and len(files) > 1
         expected = plain(started("-b", *["--league"] * is_league, *words))
         fought += not isinstance(expected, str)
         call = corewar.league if is_league else corewar.match
-        assert called(call, warriors, rounds, seed, held, formula=formula) == expected, words
+
+        def run():
+            warriors = [calls.read_load(load, held) for load in files]
+            return call(warriors, rounds, seed, held, formula=formula)
+
+        told = called(run)
+        # The program reads the formula before the files.
+        assert told == expected or "load" in told and isinstance(expected, str), words
     assert 500 < fought < 990
 
 
 def test_populations():
     """A population: the sums of its matches; with a position, too."""
     warriors = [corewar.read(path) for path in EXAMPLES]
-    for position in (0, 400):
+    for position in (None, 400):
         sums = []
         for one in warriors[:3]:
             rows = [corewar.match([one, other], 5, 7, position=position)[0] for other in warriors[3:7]]
@@ -235,17 +243,18 @@ MOVES = st.one_of(
 @given(matches(), st.lists(MOVES, max_size=12))
 def test_transcripts(tmp_path, fight, lines):
     """What the debugger answers is what that of the program does."""
-    words = ["-e", f"--seed={fight.seed}", *words_of(fight.settings), *files_of(fight.warriors, tmp_path)]
+    words = ["-e", f"--seed={fight.seed}", *words_of(fight.settings), *files_of([one.load for one in fight.warriors], tmp_path)]
     answers = started(*words, input="".join(f"{line}\n" for line in lines).encode())
-    assert called(corewar.debug, fight, lines) == (answers if isinstance(answers, str) else answers.decode())
+    told = called(lambda: corewar.Battle(fight).debug(lines))
+    assert told == (answers if isinstance(answers, str) else answers.decode())
 
 
 def test_longer_answers():
     """Buffers that have to grow, and later rounds, which begin in turn."""
     imp, split = corewar.assemble("MOV 0, 1"), corewar.assemble("SPL 0\nJMP -1")
-    assert len(corewar.debug(corewar.Match((imp,)), ["list 0 8000"]).splitlines()) == 8000
-    told = corewar.debug(corewar.Match((split,)), ["run 20000", "show"])
+    assert len(corewar.Battle(corewar.Match((imp,))).debug(["list 0 8000"]).splitlines()) == 8000
     battle = corewar.Battle(corewar.Match((split,)))
+    told = battle.debug(["run 20000", "show"])
     battle.play(20000)
     assert len(battle.queues[0]) == int(told.split("processes ")[1].split()[0])
     three = corewar.Match((imp,) * 3, seed=7, rounds=4)
@@ -315,11 +324,17 @@ def test_rust(tmp_path, built):
 
 
 def test_header():
-    """The numbers and names of the header are those of the package."""
-    named = {name for _, names in faults.KINDS.values() for name in names} | {*faults.PROBLEMS}
-    named -= {*faults.KINDS[2][1], "OutOfMemory", "NoWarrior", "TooMany"}
-    assert [name for name in named if not re.search(rf"\d {name}\b", HEADER)] == []
-    assert len(re.findall(r"^ +MARS_\w+ = \d+", HEADER, re.M)) == len(faults.KINDS) + 2
+    """The numbers of the header are those that a compiler gives them, and those of the package."""
+    compiled = {name: getattr(library()[1], f"MARS_{name}") for name in numbers()}
+    assert compiled == numbers() and len(compiled) > 100
+    for code, (kind, enumeration) in faults.KINDS.items():
+        name = "EDIT" if kind == "refused" else kind.upper().replace(" ", "_")
+        assert numbers()[name] == code and bool(names(enumeration)) == bool(enumeration)
+        assert getattr(faults, {"OUT_OF_MEMORY": "MEMORY"}.get(name, name), code) == code
+    assert [*map(numbers().get, [*cells.OPCODES, *cells.MODIFIERS])] == [*range(16), *range(7)]
+    greatest = {"PROCESSES": "processes", "CORE": "core", "CYCLES": "cycles", "ROUNDS": "rounds", "SEED": "seed"}
+    assert all(numbers()[f"MAX_{name}"] == NUMBERS[number].greatest for name, number in greatest.items())
+    assert (numbers()["MAX_WARRIORS"], numbers()["MAX_LEAGUE"]) == (MOST_WARRIORS, MOST_OF_LEAGUE)
 
 
 def test_script():

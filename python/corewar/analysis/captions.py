@@ -46,7 +46,7 @@ def words(history: History) -> list[str]:
     """Returns the arguments of `corewar` that select this battle, with its files."""
     fight, given = history.fight, Settings()
     numbers = {**vars(fight.settings), "rounds": fight.rounds, "seed": fight.seed, "position": fight.position}
-    usual = {**vars(given), "rounds": 1, "seed": 1, "position": 0}
+    usual = {**vars(given), "rounds": 1, "seed": 1, "position": None}
     told = [
         text for name, value in numbers.items() if value != usual[name] for text in (NUMBERS[name].word, str(value))
     ]

@@ -231,7 +231,7 @@ class History:
         """Returns the owners and the turns of the start."""
         owners, start = np.full(self.core, NOBODY, np.uint8), Battle(self.fight, self.round)
         for number, warrior in enumerate(self.warriors):
-            first = int(start.queues[number][0]) - warrior.origin
+            first = int(start.queues[number][0]) - warrior.start
             owners[(first + np.arange(len(warrior))) % self.core] = number
         owners[self.changed_by_hand(0)] = BY_HAND
         return owners, np.zeros(self.core, np.int64)

@@ -10,7 +10,7 @@ from weakref import WeakKeyDictionary
 from ..engine.battles import Battle
 from ..engine.calls import source_lines
 from ..model.faults import Fault
-from ..model.warriors import printable
+from ..model.printing import printable
 from .history import BY_HAND, History
 from .origins import Origins
 
@@ -41,7 +41,7 @@ class Sources:
         start = Battle(history.fight, history.round)
         self._origins: WeakKeyDictionary[History, Origins] = WeakKeyDictionary()
         for number, warrior in enumerate(history.warriors):
-            first = int(start.queues[number][0]) - warrior.origin
+            first = int(start.queues[number][0]) - warrior.start
             texts = (warrior.source or b"").decode("latin-1").split("\n")
             for place, (line, labels) in enumerate(self._read(history, number)):
                 address = (first + place) % history.core

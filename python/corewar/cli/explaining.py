@@ -8,9 +8,10 @@ from collections.abc import Callable, Iterator
 import click
 
 from ..engine.sources import Assembler, Overrun, read_file, read_warriors
+from ..engine.warriors import Warrior
 from ..explain import LOOKED_FOR, errors_of, excerpt, fix, read_faults, read_otherwise, told, told_of
 from ..model.faults import ASSEMBLY, Fault, FileFault, Refused
-from ..model.warriors import printable
+from ..model.printing import printable
 from .layout import Command
 from .options import Asked, battle_options
 from .telling import tell, tell_fault
@@ -101,10 +102,10 @@ def fix_file(asked: Asked, path: str) -> int:
     return int(bool(errors))
 
 
-def loader(asked: Asked, path: str, assembler: Assembler) -> Callable[[bytes], bytes]:
+def loader(asked: Asked, path: str, assembler: Assembler) -> Callable[[bytes], Warrior]:
     """Returns what assembles a source within the limits; an overrun of a limit is an error of the file."""
 
-    def load(text: bytes) -> bytes:
+    def load(text: bytes) -> Warrior:
         try:
             return assembler.assemble(text, asked.settings, asked.rounds)
         except Overrun as overrun:

@@ -16,12 +16,13 @@ from rich.console import Console
 from rich.progress import BarColumn, MofNCompleteColumn, Progress, TimeRemainingColumn
 
 from ..engine.files import replace_file
+from ..engine.warriors import Warrior
 from ..league.contest import Contest, Matches, Rows, all_pairs, enter
 from ..league.places import cluster, threads
 from ..league.results import Results
 from ..league.table import FORMATS, League
 from ..model.faults import FileFault
-from ..model.warriors import Warrior, printable
+from ..model.printing import printable
 from .layout import EXECUTION, STATUSES, Command, Number, Option
 from .options import Asked, Output, Picture, battle_options, with_options
 from .telling import tell, tell_fault

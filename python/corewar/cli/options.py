@@ -13,7 +13,7 @@ import click
 from ..engine.calls import Match
 from ..engine.sources import Limit, read_warriors
 from ..model.faults import FileFault
-from ..model.settings import FORMULA, HILLS, NUMBERS, Settings, whole
+from ..model.settings import FORMULA, HILLS, MOST_WARRIORS, NUMBERS, Settings, whole
 from .layout import CORE, MATCH, Number, Option
 
 PICTURES = (".png", ".svg", ".pdf")
@@ -29,13 +29,15 @@ class Asked:
     settings: Settings
     rounds: int
     seed: int
-    position: int
+    position: int | None
     formula: str
     round: int
     limit: Limit
 
     def fight(self) -> Match:
         """The match of the files. Each file is read once. Raises FileFault."""
+        if len(self.files) > MOST_WARRIORS:
+            raise click.UsageError(f"a match has at most {MOST_WARRIORS} warriors, not {len(self.files)}")
         warriors = read_warriors(self.files, self.settings, self.rounds, self.limit)
         return Match(warriors, self.settings, self.seed, self.position, self.rounds)
 
@@ -173,7 +175,6 @@ def battle_options(*, one_round: bool = False, needs_files: bool = True) -> Deco
         @functools.wraps(command)
         def asking(*, files: tuple[str, ...], settings: Settings, limit: Limit, round_: int = 0, **given: Any) -> Any:
             contest: dict[str, Any] = {name: given.pop(name) for name in ("rounds", "seed", "position", "formula")}
-            contest["position"] = contest["position"] or 0
             return command(Asked(tuple(with_folders(files)), settings, round=round_, limit=limit, **contest), **given)
 
         files = click.argument(

@@ -9,12 +9,12 @@ import click
 
 from ..battle.frames import parts
 from ..battle.history import History
-from ..engine.calls import load_file
-from ..model.cells import Cell, cell_of
+from ..engine.calls import assemble
+from ..model.cells import Cell
 from ..model.edits import Edit
 from ..model.faults import Fault, FileFault
 from ..model.settings import whole
-from ..model.warriors import printable
+from ..model.printing import printable
 from .layout import Command, Number
 from .options import Asked, Decorator, Output, Picture, battle_options, with_options
 
@@ -161,7 +161,8 @@ def edit_of(text: str, asked: Asked) -> tuple[int, Edit]:
 def cell_of_line(line: str, asked: Asked) -> Cell:
     """The cell that a line of source makes."""
     try:
-        load = load_file(f"{line}\n", asked.settings, asked.rounds, len(asked.files))
+        warrior = assemble(f"{line}\n", asked.settings, asked.rounds, len(asked.files))
     except Fault as fault:
         raise click.BadParameter(f"`{line}` is not an instruction: {fault}", param_hint="--edit") from None
-    return cell_of(load.decode().strip().rpartition("\n")[2], asked.settings.core)
+    cell: Cell = warrior.cells[-1].tolist()
+    return cell

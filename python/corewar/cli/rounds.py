@@ -10,7 +10,7 @@ from ..analysis.captions import command
 from ..analysis.telling import counted
 from ..battle.rounds import rounds_of, sums
 from ..engine.calls import Match, Row, match
-from ..model.warriors import printable
+from ..model.printing import printable
 from .layout import Command
 from .options import Asked, Output, battle_options
 

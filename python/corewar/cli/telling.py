@@ -5,7 +5,7 @@ import click
 
 from ..explain import told
 from ..model.faults import Fault, FileFault, Refused
-from ..model.warriors import printable
+from ..model.printing import printable
 
 
 def tell(text: str) -> None:

@@ -5,7 +5,7 @@ from pathlib import Path
 
 import click
 
-from ..engine.binding import CHECKOUT, INSTALLED
+from ..model.header import CHECKOUT, INSTALLED
 from ..model.faults import FileFault
 from .layout import Command, Number
 from .options import Output

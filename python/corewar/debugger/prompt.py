@@ -21,7 +21,7 @@ from pygments.lexers.esoteric import RedcodeLexer
 from ..battle.conditions import OF_CELLS, OF_WARRIORS
 from ..engine.sources import read_file
 from ..model.faults import Refused
-from ..model.warriors import printable
+from ..model.printing import printable
 from .commands import COMMANDS, Command, Left, execute, find_command
 from .session import Session
 

@@ -9,9 +9,9 @@ from ..analysis.telling import Teller
 from ..battle.conditions import OF_CELLS, OF_WARRIORS, Condition, search
 from ..battle.history import History
 from ..battle.labels import Sources
-from ..engine.calls import load_file
+from ..engine.calls import assemble
 from ..explain import told
-from ..model.cells import Cell, cell_of
+from ..model.cells import Cell
 from ..model.edits import Edit
 from ..model.faults import Fault, Refused
 from ..model.settings import whole
@@ -141,11 +141,12 @@ class Session:
         given = [f"{name} EQU ({self.sources.addresses[name] - address})" for name in labels]
         fight, source = self.history.fight, "\n".join([*given, line, ""])
         try:
-            load = load_file(source, fight.settings, fight.rounds, len(self.names))
+            warrior = assemble(source, fight.settings, fight.rounds, len(self.names))
         except Fault as fault:
             kind, cause = str(fault).partition(": ")[2], told(fault, source.encode())[0]
             raise Refused(f"`{line}` is not an instruction: {kind}: {cause}") from None
-        return cell_of(load.decode().strip().rpartition("\n")[2], self.history.core)
+        cell: Cell = warrior.cells[-1].tolist()
+        return cell
 
     def process(self, warrior: int, text: str) -> int:
         """Returns the index of a process of a warrior; the next one is 0."""

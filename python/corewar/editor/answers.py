@@ -156,7 +156,8 @@ def rename(text: Text, params: Params) -> Any:
         line = lines[one.number - 1]
         lines[one.number - 1] = line[: one.first] + new + line[one.last :]
     try:
-        is_same = text.load("\n".join([*lines, ""]).encode("utf-8", "replace")) == text.load(text.data)
+        changed_data = "\n".join([*lines, ""]).encode("utf-8", "replace")
+        is_same = text.load(changed_data).load == text.load(text.data).load
     except Refused:
         is_same = False
     if not is_same:

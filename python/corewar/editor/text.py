@@ -12,9 +12,10 @@ from ..engine.calls import source_lines
 from ..explain import errors_of
 from ..explain.errors import kind_of
 from ..explain.source import Advice, Source, read_source
+from ..model.cells import cell_text
 from ..model.faults import Refused
 from ..model.settings import HILLS, Settings
-from ..model.warriors import Warrior
+from ..engine.warriors import Warrior
 from .names import Names, Token
 
 # A comment that names a hill.
@@ -48,7 +49,7 @@ class Text:
     Lines count from 1 and columns from 0, in characters. Positions of the protocol count both from 0, in UTF-16 units.
     """
 
-    def __init__(self, text: str, assemble: Callable[[bytes, Settings], bytes], settings: Settings) -> None:
+    def __init__(self, text: str, assemble: Callable[[bytes, Settings], Warrior], settings: Settings) -> None:
         hill = HILL.search(text)
         self.settings = HILLS.get(hill[1].lower(), settings) if hill else settings
         self.data = text.encode("utf-8", "replace")
@@ -88,21 +89,19 @@ class Text:
         code = text.partition(";")[0].rstrip() or text
         return self.span(number, len(code) - len(code.lstrip()), len(code))
 
-    def load(self, data: bytes) -> bytes:
-        """Returns the load file of a source with the settings of this one. Raises Refused."""
+    def load(self, data: bytes) -> Warrior:
+        """Returns the warrior of a source with the settings of this one. Raises Refused."""
         return self._assemble(data, self.settings)
 
     def cells_of(self, data: bytes) -> Cells:
         """Returns the cells of a source with the settings of this one, or nothing if it has an error."""
         try:
-            listing = str(Warrior(self.load(data))).removesuffix("\n").split("\n")
-            lines = source_lines(data, self.settings)
+            cells, lines = self.load(data).cells, source_lines(data, self.settings)
         except Refused:
             return {}
         found: Cells = {}
-        # Comments and the start come before the cells.
-        for index, ((number, _), cell) in enumerate(zip(lines, listing[len(listing) - len(lines) :])):
-            found.setdefault(number, []).append((index, cell))
+        for index, ((number, _), cell) in enumerate(zip(lines, cells)):
+            found.setdefault(number, []).append((index, cell_text(cell, self.settings.core)))
         return found
 
     @cached_property

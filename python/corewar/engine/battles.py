@@ -1,6 +1,7 @@
 """A battle as a value: a block of words that the library plays, edits and checks in place."""
 from __future__ import annotations
 
+from collections.abc import Sequence
 from typing import Any
 
 import numpy as np
@@ -9,12 +10,14 @@ from numpy.typing import NDArray
 from ..model.cells import Cells, Records
 from ..model.edits import SET, Edit
 from ..model.faults import EDIT, Fault
-from .binding import array, call, kind, library, number, slice_of
-from .calls import Match, held, loads
+from .binding import array, call, held, kind, library, number, slice_of, text
+from .calls import Match, check_count, fighters
 
 Words = NDArray[np.uint32]
 # The number of words before the cells, and a number of turns that no battle exceeds.
 HEADER, ALL = 64, (1 << 32) - 1
+# The size of the debugger's history in places, if none is given.
+HISTORY = 200_000
 # The number of an edit's error if an address is outside the core or the first one is above the last.
 ADDRESS = 2
 
@@ -28,13 +31,14 @@ class Battle:
     The battle is at the start of the round, and `play` and `edit` change it in place. Its core, queues and deaths are
     views of its words, so a program may also write to them; the next call checks the words, as `check` does at once.
     `bytes(battle)` are the words without unused capacity, the `MarsBattle` of the API for C: equal battles have equal
-    bytes. Raises `Fault` if the match is invalid.
+    bytes. Raises `Fault` if the match is invalid, and `Refused` if it has more than 16 warriors.
     """
 
     def __init__(self, fight: Match, round: int = 0) -> None:
+        check_count(fight.warriors)
         settings = held(fight.settings, number(round) + 1, fight.seed, fight.position)
         self._words: Words = array("uint32_t", library()[1].mars_words(settings, len(fight.warriors)))
-        call("mars_start", settings, *loads(fight.warriors), round, *self._slice())
+        call("mars_start", settings, *fighters(fight.warriors, fight.settings.core), round, *self._slice())
 
     @staticmethod
     def of_bytes(data: bytes) -> Battle:
@@ -48,6 +52,9 @@ class Battle:
 
     def __eq__(self, other: object) -> bool:
         return isinstance(other, Battle) and bytes(self) == bytes(other)
+
+    def __repr__(self) -> str:
+        return f"<Battle of {self._head['warriors']} warriors after {self.turns} turns>"
 
     __hash__ = None  # type: ignore[assignment]  # (a battle changes)
 
@@ -136,6 +143,20 @@ class Battle:
         if is_fill:
             # The library has checked the new cell.
             self.cells[edit.address : edit.last + 1] = self.cells[edit.address]
+
+    def debug(self, lines: Sequence[str], history: int = HISTORY) -> str:
+        """Runs the debugger of `mars -e` on the battle, which stays as it is, and returns its replies.
+
+        - `lines`: the commands, without ends of lines
+        - `history`: the size of the history in places, 1 to 1,000,000
+
+        Raises `Fault` if `history` is out of its range or memory runs out. A command that cannot be executed has a
+        reply that begins with `refused`. Raises `TypeError` for a text, since its letters would be taken for commands.
+        """
+        if isinstance(lines, str):
+            raise TypeError("expected a sequence of debugger commands, not a text")
+        given = [*self._slice(), number(history), *slice_of("uint8_t", "".join(f"{line}\n" for line in lines).encode())]
+        return text(65536, lambda *room: call("mars_debug", *given, *room)).decode("latin-1")
 
 
 def of_mark(data: bytes) -> Battle:

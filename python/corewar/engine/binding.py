@@ -2,13 +2,12 @@
 
 The library is the file that MARS_LIBRARY names; otherwise the first of these that exists: libmars.so.1 beside this
 file (in a wheel), build/libmars.so of the checkout that contains this file, lib/libmars.so.1 of the prefix in which
-the package is installed, or of the system. The header is the file that MARS_HEADER names; otherwise mars.h beside this
-file, or include/mars.h of the same folders. A call releases the interpreter lock, and several threads may call at once.
+the package is installed, or of the system. A call releases the interpreter lock, and several threads may call at once.
 """
 from __future__ import annotations
 
 import os
-from collections.abc import Sequence
+from collections.abc import Callable
 from functools import lru_cache
 from importlib import import_module
 from pathlib import Path
@@ -20,26 +19,18 @@ import numpy as np
 from numpy.typing import NDArray
 
 from ..model.faults import Fault, Refused
-from .header import declarations
+from ..model.header import CHECKOUT, ENGINE, INSTALLED, declarations, header
+from ..model.settings import Settings
 
 # The result of a call whose buffer is too short, which is not an error.
 ROOM = 10
 OPENING = Lock()
-HERE = Path(__file__).resolve()
-CHECKOUT = HERE.parents[3]
 # The types of the header that setup.py puts into a wheel.
-READY = HERE.with_name("declared.py")
-# The possible prefixes of `make install`, first the one in which this file is installed.
-INSTALLED = [*HERE.parents[5:6], Path("/usr/local"), Path("/usr")]
+READY = ENGINE / "declared.py"
 
 
 class NoLibrary(Refused):
     """The library or its header is missing, or their versions differ."""
-
-
-def found(variable: str, places: Sequence[Path]) -> str | None:
-    """Returns the file that an environment variable names, or the first of these files that exists."""
-    return os.environ.get(variable) or next((str(path) for path in places if path.is_file()), None)
 
 
 def library() -> tuple[Any, Any]:
@@ -54,18 +45,18 @@ def library() -> tuple[Any, Any]:
 def opened() -> tuple[Any, Any]:
     """Returns the types of the header, and the library."""
     below = [folder / "lib" / "libmars.so.1" for folder in INSTALLED]
-    built = [HERE.parent / "libmars.so.1", CHECKOUT / "build" / "libmars.so", *below]
-    shared = found("MARS_LIBRARY", built)
+    built = [ENGINE / "libmars.so.1", CHECKOUT / "build" / "libmars.so", *below]
+    shared = os.environ.get("MARS_LIBRARY") or next((str(path) for path in built if path.is_file()), None)
     if shared is None:
         raise NoLibrary("cannot find libmars.so; build it with scripts/library or set MARS_LIBRARY")
-    ffi, header = types()
+    ffi, source = types()
     try:
         calls: Any = ffi.dlopen(shared)
     except OSError as fault:
         raise NoLibrary(f"{shared}: {fault}") from None
     given, wanted = calls.mars_version(), calls.MARS_VERSION
     if given // 1000 != wanted // 1000 or given < wanted:
-        raise NoLibrary(f"{shared} has version {given}, but {header} has {wanted}; rebuild it with scripts/library")
+        raise NoLibrary(f"{shared} has version {given}, but {source} has {wanted}; rebuild it with scripts/library")
     return ffi, calls
 
 
@@ -75,13 +66,12 @@ def types() -> tuple[Any, str]:
     """
     if READY.is_file() and "MARS_HEADER" not in os.environ:
         return import_module(f".{READY.stem}", __package__).ffi, str(READY)
-    headers = [folder / "include" / "mars.h" for folder in (CHECKOUT, *INSTALLED)]
-    header = found("MARS_HEADER", [HERE.parent / "mars.h", *headers])
-    if header is None:
+    path = header()
+    if path is None:
         raise NoLibrary("cannot find mars.h; install it with `make install` or set MARS_HEADER")
     ffi = cffi.FFI()
-    ffi.cdef(declarations(Path(header).read_text()))
-    return ffi, header
+    ffi.cdef(declarations(Path(path).read_text()))
+    return ffi, path
 
 
 @lru_cache(maxsize=None)
@@ -105,7 +95,10 @@ def array(name: str, count: int) -> NDArray[Any]:
 
 def slice_of(name: str, values: bytes | bytearray | NDArray[Any]) -> tuple[Any, int]:
     """Returns a pointer to values of a type, and their number."""
-    return values if isinstance(values, bytes) else library()[0].from_buffer(f"{name}[]", values), len(values)
+    if name == "uint8_t" and isinstance(values, bytes):
+        return values, len(values)
+    held = library()[0].from_buffer(f"{name}[]", values)
+    return held, len(held)
 
 
 def number(value: int) -> int:
@@ -113,6 +106,12 @@ def number(value: int) -> int:
     if not 0 <= value < 1 << 32:
         raise ValueError(f"expected a number from 0 to 4294967295, not {value}")
     return value
+
+
+def held(settings: Settings, rounds: int = 1, seed: int = 1, position: int | None = None) -> Any:
+    """Returns the settings in the form that a call expects."""
+    numbers = {**vars(settings), "rounds": rounds, "seed": seed, "position": position or 0}
+    return library()[0].new("MarsSettings *", {name: number(value) for name, value in numbers.items()})
 
 
 def call(name: str, *given: Any) -> int:
@@ -123,3 +122,12 @@ def call(name: str, *given: Any) -> int:
     if answer not in (0, ROOM):
         raise Fault(fault.code, fault.number, fault.problem, fault.expression, fault.line, fault.warrior)
     return answer
+
+
+def text(room: int, ask: Callable[..., int]) -> bytes:
+    """Returns the text of a call. A buffer that is too short is replaced once."""
+    length, buffer = library()[0].new("size_t *"), bytearray(room)
+    if ask(*slice_of("uint8_t", buffer), length) == ROOM:
+        buffer = bytearray(length[0])
+        ask(*slice_of("uint8_t", buffer), length)
+    return bytes(buffer[: length[0]])

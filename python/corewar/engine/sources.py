@@ -4,6 +4,7 @@ of a few lines can take minutes or all memory within the limits of the language.
 from __future__ import annotations
 
 import multiprocessing
+import os
 import resource
 import signal
 import threading
@@ -13,10 +14,10 @@ from multiprocessing.connection import Connection
 from typing import Any
 
 from ..model.faults import ASSEMBLY, LOAD, MEMORY, Fault, FileFault, Refused
-from ..model.settings import LARGEST_FILE, Settings
-from ..model.warriors import Warrior
+from ..model.settings import LARGEST_FILE, Settings, settings_of
 from .binding import library
-from .calls import load_file, match
+from .calls import assemble, read_load
+from .warriors import Warrior
 
 
 @dataclass(frozen=True)
@@ -57,22 +58,24 @@ class Assembler:
             self._process.join()
             self._process = None
 
-    def assemble(self, source: bytes, settings: Settings = Settings(), rounds: int = 1, warriors: int = 2) -> bytes:
-        """Returns the load file of a source. Raises `Fault`, and Overrun if it takes more than a limit."""
+    def assemble(self, source: bytes, settings: Settings = Settings(), rounds: int = 1, warriors: int = 2) -> Warrior:
+        """Returns the warrior of a source, without file and source. Raises `Fault`, and Overrun if it takes more than a
+        limit.
+        """
         with self._lock:
             if self._process is None:
                 self._begin()
             assert self._pipe is not None
             try:
                 self._pipe.send((source, settings, rounds, warriors))
-                load, fault = self._pipe.recv()
+                made: Warrior | Fault = self._pipe.recv()
             except (EOFError, OSError):
                 raise self._overrun() from None
-        if fault and fault[0] == MEMORY:
+        if isinstance(made, Warrior):
+            return made
+        if made.code == MEMORY:
             raise Overrun(f"assembling takes more than {self.limit.megabytes} MB of memory")
-        if fault:
-            raise Fault(*fault)
-        return bytes(load)
+        raise made
 
     def _begin(self) -> None:
         # A missing library is reported by this call, and not by the process.
@@ -122,14 +125,14 @@ def serve(pipe: Connection, limit: Limit, other: Connection | None) -> None:
             return
 
 
-def answer(*given: Any) -> tuple[bytes, tuple[int, ...] | None]:
-    """Returns the load file of a source, or the numbers of its error."""
+def answer(source: bytes, *given: Any) -> Warrior | Fault:
+    """Returns the warrior of a source, without it, or its error."""
     try:
-        return load_file(*given), None
+        return replace(assemble(source, *given), source=None)
     except Fault as fault:
-        return b"", (fault.code, fault.number, fault.problem, fault.expression, fault.line, fault.warrior)
+        return fault
     except MemoryError:
-        return b"", (MEMORY,)
+        return Fault(MEMORY)
 
 
 def lower(kind: int, most: int) -> None:
@@ -151,7 +154,7 @@ def read_file(path: str) -> bytes:
 
 
 def read_warrior(
-    assemble: Callable[..., bytes], path: str, settings: Settings = Settings(), rounds: int = 1, warriors: int = 2
+    assemble: Callable[..., Warrior], path: str, settings: Settings, rounds: int = 1, warriors: int = 2
 ) -> Warrior:
     """Returns the warrior of a file: of a load file if its name ends in .load, otherwise of a source. Raises FileFault,
     and Fault if the settings are invalid.
@@ -159,10 +162,8 @@ def read_warrior(
     text = read_file(path)
     try:
         if path.endswith(".load"):
-            # The library reads a load file when it runs a match, so a match of one cycle finds its error.
-            match([Warrior(text)], settings=replace(settings, cycles=1))
-            return Warrior(text, path)
-        return Warrior(assemble(text, settings, rounds, warriors), path, text)
+            return read_load(text, settings, path)
+        return replace(assemble(text, settings, rounds, warriors), file=path, source=text)
     except Overrun as overrun:
         raise FileFault(path, str(overrun), text) from None
     except Fault as fault:
@@ -186,7 +187,9 @@ def read_warriors(
         return tuple(read_warrior(assembler.assemble, path, settings, rounds, count) for path in paths)
 
 
-def read(path: str, settings: Settings = Settings(), rounds: int = 1, warriors: int = 2) -> Warrior:
+def read(
+    path: str | os.PathLike[str], settings: Settings | str = "94nop", rounds: int = 1, warriors: int = 2
+) -> Warrior:
     """Reads a warrior from a file: a load file if the name ends in .load, otherwise a source.
 
     - `path`: the name of the file, or `-` for standard input; it has at most 1,048,576 bytes
@@ -195,4 +198,4 @@ def read(path: str, settings: Settings = Settings(), rounds: int = 1, warriors: 
     Raises `FileFault` if the file cannot be read or has an error, and `Fault` if the settings are invalid. There is no
     limit of time and memory.
     """
-    return read_warrior(load_file, path, settings, rounds, warriors)
+    return read_warrior(assemble, os.fspath(path), settings_of(settings), rounds, warriors)

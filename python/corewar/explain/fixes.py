@@ -4,12 +4,14 @@ from __future__ import annotations
 import re
 from collections.abc import Callable
 
+from ..engine.warriors import Warrior
+from ..model.cells import signed
 from ..model.faults import Refused
 from .errors import replaced
 from .pmars import loops_of_modifiers
 from .source import NAME, OPCODES, Line, Loop, Source, read_source
 
-Load = Callable[[bytes], bytes]
+Load = Callable[[bytes], Warrior]
 # A fix changes the lines of a source; a line may become several, separated by ends of lines.
 Fix = Callable[[Source, list[str], Load], None]
 # The greatest count of a loop.
@@ -21,7 +23,7 @@ MOST_COUNTS = 20
 def fix(data: bytes, load: Load) -> bytes:
     """Returns the source with each construct replaced that is known to be rejected here and accepted by pMARS.
 
-    - `load`: returns the load file of a source; it computes counts
+    - `load`: assembles a source; it computes counts
     """
     for one in (join_lines, separate_labels, drop_names, remove_asserts, move_equates, rename_counters, compute_counts):
         lines = data.decode("latin-1").split("\n")
@@ -142,8 +144,8 @@ def value_of(source: Source, number: int, expression: str, load: Load) -> int | 
     before = [replaced(line, source, "") if line.word in OPCODES else line.text for line in source.lines[: number - 1]]
 
     def probe(text: str) -> int:
-        made = load("\n".join([*before, f"DAT.F #({text}), #0", ""]).encode("latin-1", "replace")).decode("latin-1")
-        return int(made.rstrip().rpartition("#")[0].rpartition("#")[2].rstrip(" ,"))
+        made = load("\n".join([*before, f"DAT.F #({text}), #0", ""]).encode("latin-1", "replace"))
+        return signed(int(made.cells[-1]["a"]), made.core)
 
     try:
         value = max(0, probe(expression))

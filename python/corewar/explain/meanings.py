@@ -36,6 +36,13 @@ MEANINGS = {
     "load 3 Empty": "The load file has no cell; reading stops at an END, also before the first cell.",
     "load 4 BadOrigin": "The start is not one of the cells; ORG and END count them from 0.",
     "load 6 Version": "The first line begins with `;load ` but is not `;load 2 ` followed by a core size.",
+    "warrior 1 Length": "The number of cells is not from 1 to the maximum length of the settings.",
+    "warrior 2 Start": "The start is not the index of a cell.",
+    "warrior 3 Cell": "A cell has an opcode, a modifier or a mode that does not exist.",
+    "warrior 4 Field": "A number of a cell is not from 0 to the core size minus 1.",
+    "warrior 5 Name": "A name has more than 60 bytes, or one that is not a printable character of ASCII.",
+    "lineup 1 Count": "A lineup has 1 to 16 warriors.",
+    "lineup 2 Index": "A lineup has an index for which there is no warrior.",
     **OF_SOURCES["errors"],
     "8 TooLong": f"This is the first instruction beyond the maximum length; {GREATER}.",
 }
@@ -45,12 +52,12 @@ MEANINGS = {
 OF_EXPRESSIONS = ("4 Expression ", "1 Text 10 Expression ", "formula 1 Expression ")
 KINDS = {**{head + kind: text for head in OF_EXPRESSIONS for kind, text in EXPRESSION.items()}, **MEANINGS}
 # An error message, after the names of programs and of a file.
-TOLD = re.compile(rf"(?:(.*?): )?(?:line (\d{{1,9}}): )?({'|'.join(map(re.escape, KINDS))})$")
+TOLD = re.compile(rf"(?:(.*?): )?(?:(?:line|index) (\d{{1,9}}): )?({'|'.join(map(re.escape, KINDS))})$")
 
 
 def told(fault: Fault, source: bytes) -> list[str]:
     """Explains an error and what to do, in one or two sentences: by the causes that the source shows, or in general."""
-    return told_of(re.sub(r"^line \d+: ", "", str(fault)), fault.line, source)
+    return told_of(re.sub(r"^(line|index) \d+: ", "", str(fault)), fault.line, source)
 
 
 def told_of(kind: str, number: int, source: bytes) -> list[str]:

@@ -11,9 +11,9 @@ from numpy.typing import NDArray
 
 from ..engine.calls import match
 from ..engine.sources import Assembler, Limit, read_warrior
+from ..engine.warriors import Warrior
 from ..model.faults import FileFault, Refused
 from ..model.settings import FORMULA, NUMBERS, Settings
-from ..model.warriors import HEAD, Warrior
 
 # Rows of five numbers: points, wins, ties and losses of the first warrior, and points of the second one.
 Counts = NDArray[np.int64]
@@ -30,7 +30,7 @@ class Contest:
     settings: Settings = Settings()
     rounds: int = 1
     seed: int = 1
-    position: int = 0
+    position: int | None = None
     formula: str = FORMULA
 
     @property
@@ -72,12 +72,11 @@ def checked(counts: object, matches: int, rounds: int) -> Counts:
 
 
 def digests_of(warrior: Warrior) -> tuple[bytes, bytes]:
-    """Returns the digests by which the matches of a warrior are known: of its load file without name and author, on
-    which no result depends, and of the whole load file, by which version 1.2 stored results.
+    """Returns the digests by which the matches of a warrior are known: of its cells and start, as its load file has
+    them without name and author, and of the whole load file, by which version 1.2 stored results.
     """
-    load, head = warrior.load, HEAD.match(warrior.load)
-    nameless = load[: load.index(b"\n") + 1] + load[head.end() :] if head else load
-    return hashlib.sha256(nameless).digest(), hashlib.sha256(load).digest()
+    first, _, _, rest = warrior.load.split(b"\n", 3)
+    return hashlib.sha256(first + b"\n" + rest).digest(), hashlib.sha256(warrior.load).digest()
 
 
 def enter(contest: Contest, files: Sequence[str], limit: Limit) -> tuple[list[Warrior], list[FileFault]]:

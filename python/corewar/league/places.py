@@ -6,7 +6,7 @@ import sys
 from collections.abc import Callable, Iterator
 from concurrent.futures import FIRST_COMPLETED, CancelledError, Future, ThreadPoolExecutor, wait
 from contextlib import contextmanager
-from dataclasses import dataclass
+from dataclasses import dataclass, replace
 from itertools import islice
 from typing import Any
 
@@ -14,7 +14,7 @@ import numpy as np
 
 from ..engine.binding import library
 from ..model.faults import Refused
-from ..model.warriors import Warrior
+from ..engine.warriors import Warrior
 from .contest import Contest, Counts, Matches, Pairs, Rows, checked, fight
 
 # The maximum cycles of a bundle here, a quarter of a second, and the number of bundles that wait for a thread.
@@ -82,14 +82,14 @@ def versions() -> str:
     return f"corewar {__version__}, library {library()[1].mars_version()}"
 
 
-def fight_there(wanted: str, contest: Contest, loads: dict[int, bytes], pairs: Pairs) -> Counts | str:
+def fight_there(wanted: str, contest: Contest, warriors: dict[int, Warrior], pairs: Pairs) -> Counts | str:
     """Returns the counts of a bundle, on a worker; an error as text, since text can be sent. A worker with other
     versions runs nothing, because its results would be stored for good.
     """
     try:
         if versions() != wanted:
             return f"a worker has {versions()}, but this league is run by {wanted}"
-        return fight(contest, {number: Warrior(load) for number, load in loads.items()}, pairs)
+        return fight(contest, warriors, pairs)
     except Refused as fault:
         return str(fault)
 
@@ -144,8 +144,9 @@ def cluster(matches: Matches, address: str) -> Iterator[Place]:
 
     def submit(rows: Rows) -> Future[Any]:
         pairs = matches.pairs[rows]
-        loads = {number: matches.warriors[number].load for number in np.unique(pairs).tolist()}
-        handed_out: Future[Any] = executor.submit(fight_there, wanted, matches.contest, loads, pairs)
+        # A worker needs no source.
+        warriors = {number: replace(matches.warriors[number], source=None) for number in np.unique(pairs).tolist()}
+        handed_out: Future[Any] = executor.submit(fight_there, wanted, matches.contest, warriors, pairs)
         return handed_out
 
     wanted = versions()

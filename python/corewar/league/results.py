@@ -1,6 +1,6 @@
 """Stores results of matches in an SQLite file, so that no match is run twice.
 
-A match is identified by its settings and by the digests of its two load files without names and authors, in their
+A match is identified by its settings and by the digests of the cells and starts of its two warriors, in their
 order, since its results depend only on these. Results are written once a second, all of them or none, so a process that
 is killed loses at most those of its last second. Several processes may use one file.
 """
@@ -16,7 +16,7 @@ from contextlib import contextmanager
 from typing import Any, TypeVar
 
 from ..model.faults import Refused
-from ..model.warriors import printable
+from ..model.printing import printable
 from .contest import Matches, Rows
 
 TABLE = """CREATE TABLE IF NOT EXISTS fought (contest TEXT, first BLOB, second BLOB,

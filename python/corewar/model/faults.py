@@ -3,23 +3,37 @@ from __future__ import annotations
 
 from typing import Any
 
-EXPRESSIONS = ["Syntax", "Unknown", "DivideByZero", "Range", "Depth"]
-PROBLEMS = "NotAscii BadToken UnclosedFor RofAlone BadCount LabelInCount Duplicate EquDepth TooLong Expression".split()
-# The kind of each result of the library except 0, and the names of its numbers from 1 on.
-KINDS: dict[int, tuple[str, list[str]]] = {
-    1: ("out of memory", []),
-    2: ("settings", ["Rounds", "Seed", "Position", "Warriors", "Lengths", "History", "Rows", "Round"]),
-    3: ("parameters", ["CoreSize", "Processes", "Cycles", "Limit", "Length", "Distance"]),
-    4: ("formula", EXPRESSIONS),
-    5: ("assembly", "Text Operation Operand Expression AssertFailed BadOrigin Empty TooLong".split()),
-    6: ("load", ["Syntax", "TooLong", "Empty", "BadOrigin", "OutOfMemory", "Version"]),
-    7: ("placement", ["NoRoom", "BadSeed"]),
-    8: ("battle", ["NoWarrior", "TooMany", "Overlap", "StartOutside", "FieldOutside"]),
-    9: ("score", EXPRESSIONS),
-    11: ("block", "Short Mark Parameters Warriors Cell Queue Deaths Clock Head".split()),
-    12: ("refused", "NoSuchEdit Address FieldOutside NoSuchWarrior NoSuchProcess WarriorDead QueueFull".split()),
+from .header import names
+
+# The kind of each result of the library except 0 and ROOM, and the enumeration of the header that names its numbers.
+KINDS: dict[int, tuple[str, str]] = {
+    1: ("out of memory", ""),
+    2: ("settings", "SETTINGS"),
+    3: ("parameters", "PARAMETERS"),
+    4: ("formula", "EXPRESSION"),
+    5: ("assembly", "ASSEMBLY"),
+    6: ("load", "LOAD"),
+    7: ("placement", "PLACEMENT"),
+    8: ("battle", "BATTLE"),
+    9: ("score", "EXPRESSION"),
+    11: ("block", "BLOCK"),
+    12: ("refused", "EDIT"),
+    13: ("warrior", "WARRIOR"),
+    14: ("lineup", "LINEUP"),
 }
-MEMORY, SETTINGS, PARAMETERS, FORMULA, ASSEMBLY, LOAD, SCORE, EDIT = 1, 2, 3, 4, 5, 6, 9, 12
+MEMORY, SETTINGS, PARAMETERS, FORMULA, ASSEMBLY, LOAD, SCORE, BLOCK, EDIT, WARRIOR, LINEUP = (
+    1,
+    2,
+    3,
+    4,
+    5,
+    6,
+    9,
+    11,
+    12,
+    13,
+    14,
+)
 
 
 class Refused(Exception):
@@ -35,8 +49,8 @@ class Fault(Refused):
     - `code`: the result of the call, as listed in the API for C; `kind` is the first word of most texts
     - `number`: the number of the error; `name` is its name, or "" if it has none
     - `problem`, `expression`: the numbers of nested errors, or 0
-    - `line`: the line of a source or a load file, from 1, or 0 if the error has no line
-    - `warrior`: the index of a load file, from 0
+    - `line`: the line of a source or a load file, from 1; or the address or index of a wrong cell; otherwise 0
+    - `warrior`: the index of a wrong warrior or lineup, from 0
     """
 
     def __init__(
@@ -44,12 +58,18 @@ class Fault(Refused):
     ) -> None:
         self.code, self.number, self.problem, self.expression = code, number, problem, expression
         self.line, self.warrior = line, warrior
-        self.kind, names = KINDS[code]
-        self.name = named(names, number)
-        where = f"line {line}: " if code in (ASSEMBLY, LOAD) else ""
+        self.kind, enumeration = KINDS[code]
+        self.name = names(enumeration).get(number, "") if number else ""
         head = [] if code == ASSEMBLY else [self.kind, "1 Expression"] if code == FORMULA else [self.kind]
-        told = [numbered(names, number), numbered(PROBLEMS, problem), numbered(EXPRESSIONS, expression)]
-        super().__init__(where + " ".join([*head, *filter(None, told)]))
+        nested = "PARAMETERS" if code == BLOCK else "TEXT"
+        told = [numbered(enumeration, number), numbered(nested, problem), numbered("EXPRESSION", expression)]
+        super().__init__(self._place() + " ".join([*head, *filter(None, told)]))
+
+    def _place(self) -> str:
+        """Returns where the error is, as its text begins."""
+        if self.code in (ASSEMBLY, LOAD):
+            return f"line {self.line}: "
+        return f"index {self.warrior}: " if self.code in (WARRIOR, LINEUP) else ""
 
     def __reduce__(self) -> tuple[Any, ...]:
         # A pool of processes hangs if an exception cannot be unpickled.
@@ -72,11 +92,6 @@ class FileFault(Refused):
         return FileFault, (self.file, self.fault, self.text)
 
 
-def named(names: list[str], number: int) -> str:
-    """Returns the name of a number from 1 on, or ""."""
-    return names[number - 1] if 0 < number <= len(names) else ""
-
-
-def numbered(names: list[str], number: int) -> str:
+def numbered(enumeration: str, number: int) -> str:
     """Returns a number with its name, or "" for 0."""
-    return f"{number} {named(names, number)}" if number else ""
+    return f"{number} {names(enumeration).get(number, '')}" if number else ""

@@ -49,6 +49,15 @@ HILLS = {
 }
 
 
+def settings_of(given: Settings | str) -> Settings:
+    """Returns settings, given as such or by the name of a hill. Raises ValueError for another name."""
+    if isinstance(given, Settings):
+        return given
+    if given not in HILLS:
+        raise ValueError(f"expected settings or one of {', '.join(HILLS)}, not {given!r}")
+    return HILLS[given]
+
+
 @dataclass(frozen=True)
 class Number:
     """A number among the options: its option in `mars`, what it means, its bounds, and its range in words if that

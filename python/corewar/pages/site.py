@@ -12,12 +12,12 @@ from collections.abc import Sequence
 from pathlib import Path
 from typing import Any
 
-from ..engine.binding import CHECKOUT
 from ..engine.calls import Match
 from ..model.edits import Edit
 from ..model.faults import Refused
+from ..model.header import CHECKOUT
 from ..model.settings import FORMULA, Settings
-from ..model.warriors import Warrior
+from ..engine.warriors import Warrior
 
 # Where the site is in an installation and in a wheel, and in a checkout.
 INSTALLED, BUILT = Path(__file__).with_name("site"), CHECKOUT / "build" / "site"
@@ -70,7 +70,7 @@ def page_of(
         "s": fight.seed,
         "n": fight.rounds,
         "r": round,
-        "p": fight.position,
+        "p": fight.position or 0,
         "f": formula,
         "w": [source_of(warrior) for warrior in fight.warriors],
         "e": [(after, edit.text(fight.settings.core)) for after, edit in edits],

@@ -4,6 +4,7 @@ from __future__ import annotations
 import os
 from collections.abc import Generator
 from contextlib import ExitStack
+from dataclasses import replace
 from typing import Any
 
 import numpy as np
@@ -15,7 +16,7 @@ from ..league.places import threads
 from ..league.results import Results
 from ..model.faults import Fault, Refused
 from ..model.settings import Settings
-from ..model.warriors import Warrior
+from ..engine.warriors import Warrior
 from .folder import coded
 
 JOBS = len(os.sched_getaffinity(0))
@@ -38,7 +39,8 @@ def warrior_of(assembler: Assembler, source: dict[str, str], contest: Contest) -
     """Returns the warrior of a source. Raises Refused."""
     text = coded(source["text"])
     try:
-        return Warrior(assembler.assemble(text, contest.settings, contest.rounds, 2), source["name"], text)
+        warrior = assembler.assemble(text, contest.settings, contest.rounds, 2)
+        return replace(warrior, file=source["name"], source=text)
     except (Fault, Overrun) as fault:
         raise Refused(f"{source['name']}: {fault}") from None
 

@@ -1,0 +1,128 @@
+"""How each warrior fares in each round of many matches, as an array."""
+from __future__ import annotations
+
+from collections.abc import Sequence
+from concurrent.futures import ThreadPoolExecutor
+from typing import Any
+
+import numpy as np
+from numpy.typing import ArrayLike, NDArray
+
+from ..model.settings import MOST_WARRIORS, Settings, settings_of
+from .binding import array, call, held, number, slice_of
+from .calls import fighters
+from .warriors import Warrior
+
+# What is known of a warrior in a round.
+OUTCOME = np.dtype([("survived", "?"), ("turns", "u4"), ("cycles", "u4"), ("start", "u4")])
+# The number of parts for each thread, so that all end at about the same time.
+PARTS = 4
+
+
+def outcomes(
+    warriors: Sequence[Warrior],
+    lineups: ArrayLike | None = None,
+    rounds: int = 1,
+    seeds: int | Sequence[int] = 1,
+    settings: Settings | str = "94nop",
+    position: int | None = None,
+    jobs: int = 1,
+) -> NDArray[Any]:
+    """Runs a match of each lineup, and returns how each of its warriors fares in each round.
+
+    - `lineups`: the indices of the warriors of each match, in their order: 1 to 16 for each, and as many for each; None
+      for one match of all warriors
+    - `rounds`: the number of rounds of each match, 1 to 100,000
+    - `seeds`: the seed of all matches, or one for each, 1 to 2,147,483,646
+    - `settings`, `position`: as for `match`; a position is only for lineups of two
+    - `jobs`: the number of threads
+
+    Returns an array of the shape (lineups, rounds, warriors of a lineup) with these fields:
+
+    - `survived`: whether the warrior lives at the end of the round
+    - `turns`: the number of turns that all warriors had made when it died, including its last one; of all turns if it
+      survived
+    - `cycles`: the number of complete cycles when it died; the cycle limit if it survived
+    - `start`: the address of its first cell
+
+    The sums over the rounds are the rows of `match`. Raises ValueError for lineups of different lengths, and `Fault` if
+    a number, a lineup or a warrior is invalid, if the core is too small, or if memory runs out.
+    """
+    given = settings_of(settings)
+    table = table_of([range(len(warriors))] if lineups is None else lineups, seeds)
+    count = int(table["count"].max(initial=0))
+    # The library refuses a seed that is out of its range, but takes 0 in a lineup for that of the settings.
+    fixed = held(given, rounds, int(table["seed"].min(initial=1)), position), *fighters(warriors, given.core)
+
+    def run(part: NDArray[Any]) -> NDArray[Any]:
+        made = array("MarsOutcome", len(part) * rounds * count)
+        call("mars_outcomes", *fixed, *slice_of("MarsLineup", part), *slice_of("MarsOutcome", made))
+        return made
+
+    with ThreadPoolExecutor(jobs) as pool:
+        parts = pool.map(run, np.array_split(table, min(len(table), jobs * PARTS) if jobs > 1 else 1))
+    rows = np.concatenate([*parts]).reshape(len(table), rounds, count)
+    found = np.empty(rows.shape, OUTCOME)
+    for field in ("survived", "turns", "start"):
+        found[field] = rows[field]
+    found["cycles"] = cycles_of(found["turns"], found["survived"], given.cycles)
+    return found
+
+
+def table_of(lineups: ArrayLike, seeds: int | Sequence[int]) -> NDArray[Any]:
+    """Returns lineups in the form that the library expects. Raises ValueError."""
+    try:
+        indices = np.asarray(lineups, np.int64)
+    except (ValueError, TypeError):
+        raise ValueError("expected lineups of whole numbers, all of the same length") from None
+    if indices.shape == (0,):
+        indices = indices.reshape(0, 0)
+    if indices.ndim != 2:
+        raise ValueError(f"expected an array of lineups, with 2 dimensions and not {indices.ndim}")
+    for value in (indices.min(initial=0), indices.max(initial=0), *np.atleast_1d(seeds)):
+        number(int(value))
+    table = array("MarsLineup", len(indices))
+    # The library refuses a lineup that is too long by its count.
+    table["count"], table["warrior"][:, : indices.shape[1]] = indices.shape[1], indices[:, :MOST_WARRIORS]
+    table["seed"] = seeds
+    return table
+
+
+def cycles_of(turns: NDArray[np.uint32], survived: NDArray[np.bool_], limit: int) -> NDArray[np.int64]:
+    """Returns the number of complete cycles when each warrior died, or the limit if it survived.
+
+    In a cycle each living warrior makes a turn. So after each death, as many cycles are complete as fit into the turns
+    since the end of the cycle of the death before it.
+    """
+    count = turns.shape[-1]
+    order = np.argsort(np.where(survived, 1 << 32, turns.astype(np.int64)), axis=-1, kind="stable")
+    deaths = np.take_along_axis(turns, order, -1).astype(np.int64)
+    made = np.empty(turns.shape, np.int64)
+    # The last turn of the cycle of the latest death, and the number of cycles that are complete then.
+    end, complete = np.zeros((2, *turns.shape[:-1]), np.int64)
+    for place in range(count):
+        left = count - place
+        whole = (deaths[..., place] - 1 - end) // left
+        is_later = whole >= 0
+        made[..., place] = complete - 1 + np.where(is_later, whole + 1, 0)
+        end, complete = end + np.where(is_later, (whole + 1) * left, 0), made[..., place] + 1
+    found = np.empty_like(made)
+    np.put_along_axis(found, order, made, -1)
+    return np.where(survived, limit, found)
+
+
+def shares(made: NDArray[Any], cycles: int) -> NDArray[np.float64]:
+    """Returns the reward of each warrior of outcomes if those who live in a cycle share W/`cycles`, with W warriors: in
+    a round they get W together.
+
+    - `made`: what `outcomes` returned
+    - `cycles`: the cycle limit of its settings
+    """
+    # A warrior also lives in the cycle in which it dies.
+    lived = np.minimum(made["cycles"].astype(np.int64) + 1, cycles).astype(float)
+    order = np.argsort(lived, axis=-1, kind="stable")
+    ends = np.take_along_axis(lived, order, -1)
+    steps = np.diff(ends, axis=-1, prepend=0) / np.arange(lived.shape[-1], 0, -1)
+    gained = np.empty_like(lived)
+    np.put_along_axis(gained, order, steps.cumsum(-1), -1)
+    return gained * lived.shape[-1] / cycles

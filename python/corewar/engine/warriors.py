@@ -1,0 +1,125 @@
+"""Warriors as values."""
+from __future__ import annotations
+
+import struct
+from collections.abc import Sequence
+from dataclasses import dataclass
+from functools import cached_property
+from pathlib import Path
+
+import numpy as np
+
+from ..model.cells import Cell, Cells
+from ..model.printing import printable
+from ..model.settings import Settings, settings_of
+from .binding import call, held, kind, library, number, slice_of, text
+
+# A cell as the library has it: opcode, modifier, modes and numbers.
+CELL = struct.Struct("=4B2I")
+
+
+@dataclass(frozen=True, repr=False)
+class Warrior:
+    """A warrior as a value, which `assemble`, `read` and `Warrior.from_cells` return.
+
+    - `name`, `author`: at most 60 printable characters of ASCII; "Unknown" and "Anonymous" if none are given
+    - `data`: its cells as bytes, each a `MarsCell` of the API for C
+    - `start`: the index of the cell at which it starts, from 0
+    - `core`: the core size for which the numbers of its cells are; a core of another size reads them by value, as a
+      load file says
+    - `file`: the name of the file that it was read from, or ""
+    - `source`: its source, or None without one
+
+    Equal warriors have equal fields. `len(warrior)` is its number of cells, and `str(warrior)` its load file as text.
+    """
+
+    name: str
+    author: str
+    data: bytes
+    start: int
+    core: int
+    file: str = ""
+    source: bytes | None = None
+
+    @staticmethod
+    def from_cells(
+        cells: Sequence[Cell | np.void] | Cells,
+        start: int = 0,
+        name: str = "Unknown",
+        author: str = "Anonymous",
+        settings: Settings | str = "94nop",
+    ) -> Warrior:
+        """Returns the warrior with these cells.
+
+        - `cells`: an array of cells, or the six numbers of each: opcode, modifier, modes and numbers of A and B, as
+          `cell_of` returns them; the last two are from 0 to the core size minus 1
+        - `start`: the index of the cell at which it starts, from 0
+        - `settings`: the parameters of the core, or the name of a hill
+
+        Raises ValueError for what is not six numbers. Their ranges are checked by the calls that use the warrior, which
+        raise `Fault`, such as `warrior 4 Field`.
+        """
+        return Warrior(name, author, packed(cells), start, settings_of(settings).core)
+
+    @property
+    def cells(self) -> Cells:
+        """The cells, a read-only array with the fields op, modifier, a_mode, b_mode, a and b."""
+        return np.frombuffer(self.data, kind("MarsCell"))
+
+    def cells_in(self, core: int) -> bytes:
+        """Returns the cells as a core of a size reads them: each number by value."""
+        if core == self.core or core < 1:
+            return self.data
+        cells = self.cells.copy()
+        for field in ("a", "b"):
+            numbers = cells[field].astype(np.int64)
+            cells[field] = np.where(numbers > self.core // 2, numbers - self.core, numbers) % core
+        return cells.tobytes()
+
+    @cached_property
+    def load(self) -> bytes:
+        """The load file. Raises `Fault` if a name, the start or a cell is invalid."""
+        # The library refuses a name of more than 60 bytes.
+        names = [name.encode(errors="surrogatepass")[:64] for name in (self.name, self.author)]
+        program = library()[0].new("MarsProgram *", [[len(self), number(self.start)], *names])
+        given = [
+            held(Settings(core=self.core, longest=self.core, distance=self.core)),
+            *slice_of("MarsCell", self.data),
+        ]
+        return text(1024, lambda *room: call("mars_write_load", *given, program, *room))
+
+    @property
+    def title(self) -> str:
+        """The name and the author, as tables show them."""
+        return f"{self.called} by {self.author}"
+
+    @property
+    def called(self) -> str:
+        """The name with only printable characters, or the name of the file if the warrior has no name."""
+        return printable(self.file if self.name in ("", "Unknown") and self.file else self.name or "Unknown")
+
+    @property
+    def files(self) -> tuple[str, str, str]:
+        """The names that stand for its file: as given, without the folder, and without folder and ending."""
+        path = Path(self.file)
+        return self.file, path.name, path.stem
+
+    def __len__(self) -> int:
+        """Returns the number of cells."""
+        return len(self.data) // CELL.size
+
+    def __str__(self) -> str:
+        return self.load.decode("latin-1")
+
+    def __repr__(self) -> str:
+        return f"<Warrior {self.title} of length {len(self)}>"
+
+
+def packed(cells: Sequence[Cell | np.void] | Cells) -> bytes:
+    """Returns cells as bytes. Raises ValueError."""
+    if isinstance(cells, np.ndarray) and cells.dtype == kind("MarsCell"):
+        return cells.tobytes()
+    try:
+        return b"".join(CELL.pack(*(cell.tolist() if isinstance(cell, np.void) else cell)) for cell in cells)
+    except (struct.error, TypeError) as fault:
+        raise ValueError(f"expected the six numbers of each cell: {fault}") from None
