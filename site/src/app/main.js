@@ -277,6 +277,7 @@ class Page {
     for (const button of buttons("#views button")) button.onclick = () => this.show(button.dataset.view ?? "battle");
     onClick("sources", () => this.showDesk(element("desk").hidden));
     onClick("fight", () => this.fightMarked());
+    onClick("fight-here", () => this.fightMarked());
     onClick("another", () => this.another());
     onClick("next-fight", () => this.another());
     onClick("theme", changeTheme);
