@@ -1,5 +1,5 @@
-// Answers questions about battles, for tests that compare JavaScript's history with Python's: fights as JSON on standard
-// input, answers as JSON on standard output.
+// Answers questions about battles, for tests that compare JavaScript's history with Python's: fights as JSON on
+// standard input, answers as JSON on standard output.
 //
 //     node site/tests/answers.mjs build/mars.wasm <fights.json
 import fs from "node:fs";

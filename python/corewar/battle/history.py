@@ -100,6 +100,9 @@ class History:
         self._blocks = lru_cache(maxsize=KEPT)(ask)
         self._written: dict[int, tuple[Owners, NDArray[np.int64]]] = {}
 
+    def __repr__(self) -> str:
+        return f"<History of {', '.join(self.names)}, round {self.round}, {self.end} turns>"
+
     def warrior(self, named: str) -> int:
         """Returns the number of the warrior with this number, name or file. Raises `Refused` if there is none."""
         number = whole(named)

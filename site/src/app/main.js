@@ -32,16 +32,17 @@ const MOST_WORKERS = 16;
 class Page {
   /**
    * @param {import("../worker/pool.js").Parts} made
+   * @param {import("../view/session.js").RemoteDesk} desk
    * @param {Server | null} server
    * @param {Data} given
    */
-  constructor(made, server, { examples, lessons, meanings }) {
+  constructor(made, desk, server, { examples, lessons, meanings }) {
     this.server = server;
     this.examples = examples;
     this.meanings = meanings;
     this.isNew = !kept.sources;
     this.pool = new Pool(made, clamp(navigator.hardwareConcurrency || 4, 1, MOST_WORKERS));
-    this.session = new Session(remoteDesk(made), (text) => this.complain(text));
+    this.session = new Session(desk, (text) => this.complain(text));
     this.terms = new Terms((isShown) => this.#takeTerms(isShown));
     this.terms.value = { ...USUAL, ...kept.terms };
     this.shelf = new Shelf({
@@ -277,6 +278,7 @@ class Page {
     for (const button of buttons("#views button")) button.onclick = () => this.show(button.dataset.view ?? "battle");
     onClick("sources", () => this.showDesk(element("desk").hidden));
     onClick("fight", () => this.fightMarked());
+    onClick("fight-here", () => this.fightMarked());
     onClick("another", () => this.another());
     onClick("next-fight", () => this.another());
     onClick("theme", changeTheme);
@@ -316,8 +318,11 @@ function changeTheme() {
 
 async function main() {
   if (kept.theme) document.documentElement.dataset.theme = kept.theme;
-  const [made, server] = await Promise.all([parts(), Server.find()]);
-  const page = new Page(made, server, data());
+  const made = parts();
+  const desk = remoteDesk(made);
+  const server = await Server.find();
+  const page = new Page(made, desk, server, data());
+  await made.module;
   await page.begin();
   page.listen();
   // For tests, and for the curious.

@@ -25,16 +25,25 @@ export function data() {
 /** Returns the fight that is inside the page, or "". */
 export const ownFight = () => textOf("page-fight");
 
-/** @returns {Promise<Parts>} */
-export async function parts() {
-  const [machine, worker] = [textOf("mars-code"), textOf("worker-code")];
-  if (machine && worker) {
-    const script = URL.createObjectURL(new Blob([worker], { type: "text/javascript" }));
-    return { script, module: await WebAssembly.compile(await inflated(machine)) };
-  }
+async function compiled() {
+  const machine = textOf("mars-code");
+  if (machine) return WebAssembly.compile(await inflated(machine));
   const answer = await fetch("mars.wasm");
   if (!answer.ok) throw new Error(`mars.wasm: ${answer.status} ${answer.statusText}`);
-  return { script: "worker.js", module: await WebAssembly.compile(await answer.arrayBuffer()) };
+  return WebAssembly.compile(await answer.arrayBuffer());
+}
+
+/**
+ * Returns the parts at once: workers load their script while the machine is compiled.
+ * @returns {Parts}
+ */
+export function parts() {
+  const worker = textOf("worker-code");
+  const module = compiled();
+  // An error is reported by the first call of a worker.
+  module.catch(() => {});
+  if (!worker) return { script: "worker.js", module };
+  return { script: URL.createObjectURL(new Blob([worker], { type: "text/javascript" })), module };
 }
 
 /**

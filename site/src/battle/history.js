@@ -5,7 +5,7 @@
  * records of turns are read when they are needed.
  */
 import { MOST_TURNS } from "../model/settings.js";
-import { NOBODY } from "../model/cells.js";
+import { NOBODY, writeCell } from "../model/cells.js";
 import { describe } from "../engine/warrior.js";
 import { Origins, UNKNOWN } from "./origins.js";
 import { Chronicle, EVENT, Sampler } from "./overview.js";
@@ -313,7 +313,8 @@ export class History {
     const dead = place.battle.deaths.length;
     if (edit.kind === "cell") {
       const { address, last, cell } = edit;
-      for (let at = address; at <= last; at++) this.mars.edit(place.battle, { kind: "cell", address: at, cell });
+      this.mars.edit(place.battle, { kind: "cell", address, cell });
+      for (let at = address + 1; at <= last; at++) writeCell(place.battle.cells, at, cell);
     } else this.mars.edit(place.battle, edit);
     place.noteEdit(before, this.origins);
     const run = new Run(this.mars, this.origins, place, { edit, dead });

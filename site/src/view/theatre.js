@@ -77,7 +77,10 @@ export class Theatre {
    * @param {boolean} forward
    */
   async leap(word, forward) {
-    if (await this.session.leap([{ word, first: -1 }], forward)) return;
+    const found = await this.session.leap([{ word, first: -1 }], forward);
+    const death = word === "dies" ? this.session.opened?.deaths.find(({ turn }) => turn === found?.turn) : undefined;
+    if (death && death.address >= 0) this.session.pin(death.address);
+    if (found) return;
     const what = EVENTS[/** @type {keyof typeof EVENTS} */ (word)];
     this.#say(`There is no ${what} ${forward ? "after" : "before"} turn ${number(this.session.turn)}.`);
   }

@@ -9,7 +9,10 @@ import { MarsError } from "../engine/mars.js";
  * @typedef {{[K in keyof T]: T[K] extends (...given: infer A) => infer R ? (...given: A) => Promise<R> : never}} Later
  */
 /** @typedef {Pick<Jobs, "assemble" | "warriors" | "match" | "round">} Work */
-/** @typedef {{script: string, module: WebAssembly.Module}} Parts where the script of a worker is, and the machine */
+/**
+ * Where the script of a worker is, and the machine.
+ * @typedef {{script: string, module: Promise<WebAssembly.Module>}} Parts
+ */
 /** @typedef {{done: (value: any) => void, failed: (error: unknown) => void}} Waiting */
 
 /** What a job that was dropped fails with. */
@@ -34,7 +37,7 @@ class Hand {
     };
     this.worker.onerror = (event) => this.#fail(new Error(event.message || "the worker does not start"));
     /** @type {Promise<unknown>} */
-    this.ready = this.#send("start", [module]);
+    this.ready = module.then((compiled) => this.#send("start", [compiled]));
     this.ready.catch(() => {});
   }
 

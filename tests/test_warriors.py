@@ -1,0 +1,195 @@
+"""Warriors as values, and how they fare in many matches."""
+from __future__ import annotations
+
+import pickle
+import random
+from pathlib import Path
+from typing import Any
+
+import numpy as np
+import pytest
+from battles import matches
+from conftest import EXAMPLES
+from hypothesis import given
+
+import corewar
+from corewar import Fault, Match, Settings, Warrior
+from corewar.battle.history import History
+from corewar.engine.outcomes import OUTCOME
+from corewar.model.cells import MODES, MODIFIERS, OPCODES
+
+
+@given(matches())
+def test_a_warrior_is_a_value(fight: Match) -> None:
+    """Equal warriors have equal cells, load files and digests, also in other processes."""
+    for warrior in fight.warriors:
+        same = Warrior.from_cells(warrior.cells, warrior.start)
+        assert same == warrior and hash(same) == hash(warrior) and pickle.loads(pickle.dumps(warrior)) == warrior
+        assert Warrior.from_cells(warrior.cells.tolist(), warrior.start) == same and len(same) == len(warrior.cells)
+        assert str(warrior) == warrior.load.decode() and not warrior.cells.flags.writeable
+        assert Warrior.from_cells([*warrior.cells], warrior.start, settings="nano") != warrior
+
+
+@given(matches())
+def test_another_core_reads_numbers_by_value(fight: Match) -> None:
+    """A warrior fights in a core of another size as its load file says."""
+    read = [corewar.engine.calls.read_load(one.load, fight.settings) for one in fight.warriors]
+    assert [one.core for one in read] == [fight.settings.core] * len(read)
+    assert [one.cells_in(fight.settings.core) for one in fight.warriors] == [one.data for one in read]
+
+
+def test_what_a_caller_may_give(tmp_path: Path) -> None:
+    """Paths, hills by name, and short texts of values."""
+    dwarf, imp = corewar.read(EXAMPLES / "dwarf.red"), corewar.assemble("MOV 0, 1", "nano", file=tmp_path / "imp.red")
+    assert (dwarf.name, dwarf.author, dwarf.start, dwarf.core) == ("Dwarf", "A. K. Dewdney", 0, 8000)
+    assert (imp.name, imp.author, imp.called, imp.core) == ("Unknown", "Anonymous", str(tmp_path / "imp.red"), 80)
+    nano = corewar.HILLS["nano"]
+    assert corewar.match([dwarf, imp], 5, 7, "nano") == corewar.match([dwarf, imp], 5, 7, nano)
+    fight = Match([dwarf, corewar.assemble("MOV 0, 1")], "nano")
+    assert fight == Match(fight.warriors, nano) and fight.position is None
+    texts = [repr(dwarf), repr(fight), repr(corewar.Battle(fight)), repr(History(fight))]
+    assert texts == [
+        "<Warrior Dwarf by A. K. Dewdney of length 4>",
+        "<Match of Dwarf, Unknown>",
+        "<Battle of 2 warriors after 0 turns>",
+        f"<History of Dwarf, Unknown, round 0, {History(fight).end} turns>",
+    ]
+    with pytest.raises(ValueError, match="expected settings or one of 94nop, 94x, tiny, nano, not 'micro'"):
+        corewar.match([dwarf], settings="micro")
+
+
+CELL = (1, 6, 1, 1, 0, 1)
+
+
+@pytest.mark.parametrize(
+    "given, name",
+    [
+        ({"cells": []}, "Length"),
+        ({"cells": [CELL] * 101}, "Length"),
+        ({"start": 1}, "Start"),
+        ({"cells": [CELL, (16, 0, 0, 0, 0, 0)]}, "Cell"),
+        ({"cells": [CELL, (0, 0, 0, 0, 0, 8000)]}, "Field"),
+        ({"name": "x" * 61}, "Name"),
+        ({"author": "ü" * 100}, "Name"),
+    ],
+    ids=str,
+)
+def test_errors_of_warriors(given: dict[str, Any], name: str) -> None:
+    """Each call reports a wrong warrior by name and index, and a wrong cell by its index."""
+    wrong, right = Warrior.from_cells(**{"cells": [CELL], **given}), Warrior.from_cells([CELL])
+    line = 1 if name in ("Cell", "Field") else 0
+    if name != "Name":
+        for run in (corewar.match, corewar.league, corewar.outcomes, lambda both: corewar.Battle(Match(both))):
+            with pytest.raises(Fault) as found:
+                run([right, wrong])
+            told = found.value
+            assert (told.kind, told.name, told.warrior, told.line) == ("warrior", name, 1, line)
+            assert str(told).startswith("index 1: warrior ")
+    if name == "Name" or len(wrong) < 100:
+        with pytest.raises(Fault) as found:
+            wrong.load
+        assert (found.value.kind, found.value.name, found.value.line) == ("warrior", name, line)
+
+
+@pytest.mark.parametrize("cell", [(1, 2, 3), (1, 6, 1, 1, 0, -1), (256, 6, 1, 1, 0, 1), 5, "MOV 0, 1"], ids=str)
+def test_what_is_no_cell(cell: Any) -> None:
+    with pytest.raises(ValueError, match="expected the six numbers of each cell"):
+        Warrior.from_cells([cell])
+
+
+SMALL = Settings(core=400, processes=20, cycles=150, longest=10, distance=10)
+
+
+def random_warriors(dice: random.Random, count: int) -> list[Warrior]:
+    """Random warriors; what moves and splits is drawn more often, so that many live for a while."""
+    weights = [9 if name in ("MOV", "SPL", "JMP") else 1 for name in OPCODES]
+
+    def cell() -> tuple[int, ...]:
+        kinds = dice.choices(range(16), weights)[0], dice.randrange(len(MODIFIERS))
+        return *kinds, dice.randrange(len(MODES)), dice.randrange(len(MODES)), dice.randrange(9), dice.randrange(9)
+
+    return [Warrior.from_cells([cell() for _ in range(dice.randint(1, 10))], settings=SMALL) for _ in range(count)]
+
+
+def test_outcomes_are_those_of_matches_and_battles() -> None:
+    """In random melees of 2 to 8: the sums over the rounds are rows of matches, and a round is what its battle shows."""
+    dice, died = random.Random(70), 0
+    for _ in range(1000):
+        warriors, count, rounds = random_warriors(dice, 10), dice.randint(2, 8), dice.randint(1, 3)
+        lineups = [dice.sample(range(10), count) for _ in range(2)]
+        seeds = [dice.randint(1, 2_147_483_646) for _ in lineups]
+        made = corewar.outcomes(warriors, lineups, rounds, seeds, SMALL, jobs=2)
+        assert made.shape == (2, rounds, count) and made.dtype == OUTCOME
+        for lineup, seed, rows in zip(lineups, seeds, made):
+            fighters = [warriors[index] for index in lineup]
+            survivors = rows["survived"].sum(axis=1)
+            sums = [[], [], []]
+            wins = (rows["survived"] & (survivors == 1)[:, None]).sum(axis=0).tolist()
+            lives, match = rows["survived"].sum(axis=0).tolist(), corewar.match(fighters, rounds, seed, SMALL)
+            assert [(row.wins, row.wins + row.ties, row.losses) for row in match] == [
+                (won, lived, rounds - lived) for won, lived in zip(wins, lives)
+            ]
+            round = dice.randrange(rounds)
+            died += check_round(Match(fighters, SMALL, seed, rounds=rounds), round, rows[round])
+    assert died > 2000
+
+
+def check_round(fight: Match, round: int, row: Any) -> int:
+    """Compares the outcomes of a round with the records of its battle, and returns the number of deaths."""
+    battle, count = corewar.Battle(fight, round), len(fight.warriors)
+    first = [int(queue[0]) for queue in battle.queues]
+    records, _ = battle.play(records=count * SMALL.cycles)
+    deaths = dict(battle.deaths.tolist())
+    for place, warrior in enumerate(fight.warriors):
+        number = (place - round) % count
+        death, told = deaths.get(number), row[place]
+        assert told["start"] == (first[number] - warrior.start) % SMALL.core
+        assert (bool(told["survived"]), int(told["turns"])) == (death is None, death or battle.turns)
+        # The record of the turn before has the number of cycles that were complete.
+        cycles = SMALL.cycles if death is None else int(records["cycle"][death - 2]) if death > 1 else 0
+        assert told["cycles"] == cycles
+    return len(deaths)
+
+
+def test_lineups() -> None:
+    """One lineup of all by default, threads, seeds of each, and what is refused."""
+    warriors = [corewar.read(EXAMPLES / f"{name}.red") for name in ("dwarf", "imp", "silk")]
+    pairs = [[0, 1], [1, 2], [2, 0]]
+    made = corewar.outcomes(warriors, pairs, 4, [3, 4, 5])
+    assert np.array_equal(made, corewar.outcomes(warriors, np.array(pairs), 4, [3, 4, 5], "94nop", jobs=3))
+    assert np.array_equal(made[1:2], corewar.outcomes(warriors[1:], rounds=4, seeds=4))
+    assert corewar.outcomes(warriors, []).shape == (0, 1, 0) and corewar.outcomes(warriors).shape == (1, 1, 3)
+    placed = corewar.outcomes(warriors, pairs, position=400)
+    assert placed["start"].tolist() == [[[0, 400]]] * 3
+    for lineups, words, fault in (
+        ([[0, 3]], {}, "index 0: lineup 2 Index"),
+        ([[0] * 16, [0] * 16, [3] * 16], {}, "index 2: lineup 2 Index"),
+        ([[0] * 17], {}, "index 0: lineup 1 Count"),
+        ([[]], {}, "index 0: lineup 1 Count"),
+        (pairs, {"seeds": 0}, "settings 2 Seed"),
+        (pairs, {"seeds": [1, 0, 1]}, "settings 2 Seed"),
+        (pairs, {"seeds": 2**31 - 1}, "settings 2 Seed"),
+        (pairs, {"rounds": 0}, "settings 1 Rounds"),
+        ([[0, 1, 2]], {"position": 400}, "settings 3 Position"),
+    ):
+        with pytest.raises(Fault) as found:
+            corewar.outcomes(warriors, lineups, **words)
+        assert str(found.value) == fault
+    for lineups, words in ([[0, 1], [2]], {}), ([0, 1], {}), ([[-1, 0]], {}), (pairs, {"seeds": [1, 2]}), (pairs, {"jobs": 0}):
+        with pytest.raises(ValueError):
+            corewar.outcomes(warriors, lineups, **words)
+
+
+def test_shares() -> None:
+    """In each cycle those who live share, and all shares of a round make as many as there are warriors."""
+    made = np.zeros((1, 3), OUTCOME)
+    made["cycles"] = [[1, 4, 10]]
+    # Three share 2 cycles, two of them 3 more, and the last one has the other 5.
+    shared = [2 / 3, 2 / 3 + 3 / 2, 2 / 3 + 3 / 2 + 5]
+    assert np.allclose(corewar.shares(made, 10), [[share * 3 / 10 for share in shared]])
+    dice = random.Random(3)
+    for _ in range(20):
+        made = corewar.outcomes(random_warriors(dice, 5), rounds=10, settings=SMALL)
+        shared = corewar.shares(made, SMALL.cycles)
+        lives = (made["cycles"].max(axis=-1) == SMALL.cycles)
+        assert np.allclose(shared.sum(axis=-1)[lives], 5)
