@@ -108,9 +108,10 @@ packages: $(PROGRAM) $(LIBRARY) $(SITE)
 	cd build/package && dpkg-buildpackage -b -us -uc
 
 # Built from a copy, since setuptools leaves folders in its source; building it again gives the same bytes.
-wheel: $(LIBRARY) $(SITE) editors
+wheel: $(LIBRARY) $(SITE)
 	rm -rf build/wheel
-	$(call copy,.,build/wheel/kit,pyproject.toml setup.py README.md python include build/libmars.so.1 build/site build/share)
+	$(call copy,.,build/wheel/kit,pyproject.toml setup.py README.md python include build/libmars.so.1 build/site)
+	$(COREWAR) packaging/editors.py build/wheel/kit/build/share
 	$(call licences,build/wheel/kit/licences)
 	SOURCE_DATE_EPOCH=$$(git -c safe.directory='*' log -1 --format=%ct 2>/dev/null || stat -c %Y CHANGELOG.md) \
 		/usr/bin/python3 -m pip wheel --no-deps --no-build-isolation --no-cache-dir -q -w build build/wheel/kit

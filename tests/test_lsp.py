@@ -148,6 +148,18 @@ def test_corrections(source: str, title: str, expected: str) -> None:
     assert asked(text, "codeAction", 50, 0) == []
 
 
+def test_each_correction_removes_an_error() -> None:
+    count = 0
+    for source, _ in test_explain.mutated(60):
+        text = text_of(source)
+        for error in text.errors:
+            where = text.error_range(error)
+            for one in asked(text, "codeAction", *where["start"].values()):
+                count += 1
+                assert len(text_of(edited(source, one["edit"])).errors) < len(text.errors)
+    assert count > 30
+
+
 def edited(text: str, edit: Params) -> str:
     """The text after an edit, whose positions are in UTF-16 units, as a client applies it."""
     for change in sorted(edit["changes"][URI], key=lambda one: [*one["range"]["start"].values()], reverse=True):

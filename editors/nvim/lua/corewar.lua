@@ -16,7 +16,8 @@ local client
 local function started(command)
   if not (client and vim.lsp.get_client_by_id(client)) then
     -- The server itself waits until nothing is typed.
-    client = vim.lsp.start_client({ name = "corewar", cmd = command, flags = { debounce_text_changes = 0 } })
+    local config = { name = "corewar", cmd = command, flags = { debounce_text_changes = 0 } }
+    client = (vim.lsp.start or vim.lsp.start_client)(config)
     if client then
       vim.diagnostic.config({ update_in_insert = true }, vim.lsp.diagnostic.get_namespace(client))
     end

@@ -3,19 +3,20 @@
 
 mod mars;
 
-use mars::Settings;
+use mars::{Settings, Warrior};
 use std::{env, error::Error, fs};
 
 const USAGE: &str = "usage: fight ROUNDS FILE..";
 
-/// Returns the load file of a warrior's file.
-fn load_file(path: &str, settings: &Settings, warriors: usize) -> Result<Vec<u8>, Box<dyn Error>> {
+/// Returns the warrior of a file.
+fn read(path: &str, settings: &Settings, warriors: usize) -> Result<Warrior, Box<dyn Error>> {
     let bytes = fs::read(path).map_err(|fault| format!("{path}: {fault}"))?;
-    if path.ends_with(".load") {
-        return Ok(bytes);
-    }
-    Ok(mars::assemble(&bytes, settings, u32::try_from(warriors)?)
-        .map_err(|fault| format!("{path}: {fault}"))?)
+    let read = if path.ends_with(".load") {
+        mars::read_load(&bytes, settings)
+    } else {
+        mars::assemble(&bytes, settings, u32::try_from(warriors)?)
+    };
+    Ok(read.map_err(|fault| format!("{path}: {fault}"))?)
 }
 
 fn main() -> Result<(), Box<dyn Error>> {
@@ -27,11 +28,11 @@ fn main() -> Result<(), Box<dyn Error>> {
         rounds: rounds.parse().map_err(|_| USAGE)?,
         ..Settings::default()
     };
-    let loads = files
+    let warriors = files
         .iter()
-        .map(|path| load_file(path, &settings, files.len()))
+        .map(|path| read(path, &settings, files.len()))
         .collect::<Result<Vec<_>, _>>()?;
-    let rows = mars::fight(&loads, &settings, "(W*W-1)/S")?;
+    let rows = mars::fight(&warriors, &settings, "(W*W-1)/S")?;
     println!("  points   wins   ties losses  file");
     for (row, path) in rows.iter().zip(files) {
         println!(

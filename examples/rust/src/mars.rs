@@ -49,6 +49,42 @@ pub struct Row {
     pub losses: u64,
 }
 
+/// A cell of a warrior; see the enumerations of the header.
+#[repr(C)]
+#[derive(Clone, Copy, Debug, Default, PartialEq, Eq)]
+pub struct Cell {
+    pub op: u8,
+    pub modifier: u8,
+    pub a_mode: u8,
+    pub b_mode: u8,
+    pub a: u32,
+    pub b: u32,
+}
+
+/// The number of cells of a warrior, and the index of the cell at which it starts.
+#[repr(C)]
+#[derive(Clone, Copy, Debug, Default, PartialEq, Eq)]
+pub struct Extent {
+    pub length: u32,
+    pub start: u32,
+}
+
+/// A program, besides its cells.
+#[repr(C)]
+#[derive(Clone, Copy, Debug)]
+struct Program {
+    extent: Extent,
+    name: [u8; 64],
+    author: [u8; 64],
+}
+
+/// A warrior.
+#[derive(Clone, Debug, PartialEq, Eq)]
+pub struct Warrior {
+    pub cells: Vec<Cell>,
+    pub start: u32,
+}
+
 /// The error of a call; fields that do not apply are 0.
 #[repr(C)]
 #[derive(Clone, Copy, Debug, Default, PartialEq, Eq)]
@@ -57,9 +93,9 @@ pub struct Fault {
     pub number: u32,
     pub problem: u32,
     pub expression: u32,
-    /// The line of a source or a load file, from 1.
+    /// The line of a source or a load file, from 1; or the index of a wrong cell.
     pub line: u64,
-    /// The index of a load file, from 0.
+    /// The index of a wrong warrior, from 0.
     pub warrior: u64,
 }
 
@@ -85,9 +121,19 @@ extern "C" {
         warriors: u32,
         source: *const u8,
         source_length: usize,
-        buffer: *mut u8,
-        buffer_length: usize,
-        length: *mut usize,
+        cells: *mut Cell,
+        cell_count: usize,
+        program: *mut Program,
+        fault: *mut Fault,
+    ) -> u32;
+
+    fn mars_read_load(
+        settings: *const Settings,
+        load: *const u8,
+        load_length: usize,
+        cells: *mut Cell,
+        cell_count: usize,
+        program: *mut Program,
         fault: *mut Fault,
     ) -> u32;
 
@@ -95,61 +141,99 @@ extern "C" {
         settings: *const Settings,
         formula: *const u8,
         formula_length: usize,
-        loads: *const u8,
-        loads_length: usize,
-        lengths: *const usize,
-        warriors: usize,
+        cells: *const Cell,
+        cell_count: usize,
+        warriors: *const Extent,
+        warrior_count: usize,
         rows: *mut Row,
         row_count: usize,
         fault: *mut Fault,
     ) -> u32;
 }
 
-/// Returns the load file of a source; `warriors` is the value of WARRIORS.
-pub fn assemble(source: &[u8], settings: &Settings, warriors: u32) -> Result<Vec<u8>, Fault> {
-    let (mut buffer, mut length, mut fault) = (vec![0; 4096], 0, Fault::default());
-    loop {
-        // The pointers are valid for the given lengths, and the output overlaps nothing.
-        let answer = unsafe {
-            mars_assemble(
-                settings,
-                warriors,
-                source.as_ptr(),
-                source.len(),
-                buffer.as_mut_ptr(),
-                buffer.len(),
-                &mut length,
-                &mut fault,
-            )
-        };
-        match answer {
-            0 => break,
-            ROOM => buffer.resize(length, 0),
-            _ => return Err(fault),
-        }
-    }
-    buffer.truncate(length);
-    Ok(buffer)
+/// Returns the warrior of a source; `warriors` is the value of WARRIORS.
+pub fn assemble(source: &[u8], settings: &Settings, warriors: u32) -> Result<Warrior, Fault> {
+    // The pointers are valid for the given lengths, and the output overlaps nothing.
+    warrior_of(|cells, program, fault| unsafe {
+        mars_assemble(
+            settings,
+            warriors,
+            source.as_ptr(),
+            source.len(),
+            cells.as_mut_ptr(),
+            cells.len(),
+            program,
+            fault,
+        )
+    })
 }
 
-/// Runs a match of 1 to 16 load files and returns the row of each. The formula is the score of a survivor.
-pub fn fight(loads: &[Vec<u8>], settings: &Settings, formula: &str) -> Result<Vec<Row>, Fault> {
-    let lengths: Vec<usize> = loads.iter().map(Vec::len).collect();
-    let (bytes, mut rows, mut fault) = (
-        loads.concat(),
-        vec![Row::default(); loads.len()],
-        Fault::default(),
-    );
+/// Returns the warrior of a load file.
+pub fn read_load(load: &[u8], settings: &Settings) -> Result<Warrior, Fault> {
+    // As above.
+    warrior_of(|cells, program, fault| unsafe {
+        mars_read_load(
+            settings,
+            load.as_ptr(),
+            load.len(),
+            cells.as_mut_ptr(),
+            cells.len(),
+            program,
+            fault,
+        )
+    })
+}
+
+/// Returns the warrior that a call writes, which is called again if it has more cells than the buffer.
+fn warrior_of(
+    call: impl Fn(&mut [Cell], &mut Program, &mut Fault) -> u32,
+) -> Result<Warrior, Fault> {
+    let (mut cells, mut fault) = (vec![Cell::default(); 128], Fault::default());
+    let mut program = Program {
+        extent: Extent::default(),
+        name: [0; 64],
+        author: [0; 64],
+    };
+    loop {
+        let answer = call(&mut cells, &mut program, &mut fault);
+        if answer != 0 && answer != ROOM {
+            return Err(fault);
+        }
+        cells.resize(program.extent.length as usize, Cell::default());
+        if answer == 0 {
+            return Ok(Warrior {
+                cells,
+                start: program.extent.start,
+            });
+        }
+    }
+}
+
+/// Runs a match of 1 to 16 warriors and returns the row of each. The formula is the score of a survivor.
+pub fn fight(
+    warriors: &[Warrior],
+    settings: &Settings,
+    formula: &str,
+) -> Result<Vec<Row>, Fault> {
+    let cells: Vec<Cell> = warriors.iter().flat_map(|one| one.cells.clone()).collect();
+    let extents: Vec<Extent> = warriors
+        .iter()
+        .map(|one| Extent {
+            length: one.cells.len() as u32,
+            start: one.start,
+        })
+        .collect();
+    let (mut rows, mut fault) = (vec![Row::default(); warriors.len()], Fault::default());
     // The pointers are valid for the given lengths, and the output overlaps nothing.
     let answer = unsafe {
         mars_match(
             settings,
             formula.as_ptr(),
             formula.len(),
-            bytes.as_ptr(),
-            bytes.len(),
-            lengths.as_ptr(),
-            lengths.len(),
+            cells.as_ptr(),
+            cells.len(),
+            extents.as_ptr(),
+            extents.len(),
             rows.as_mut_ptr(),
             rows.len(),
             &mut fault,

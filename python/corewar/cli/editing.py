@@ -18,10 +18,10 @@ from .options import core_options
 )
 @core_options
 def lsp(settings: Settings) -> int:
-    """Show errors, values and names in an editor, by the Language Server Protocol.
+    """Show errors, values and names in an editor.
 
-    An editor starts this command and talks to it over standard input and output. A comment such as `;redcode-tiny`
-    selects the settings of that hill for its source; the options are for all other sources.
+    An editor starts this command and talks to it by the Language Server Protocol, over standard input and output. A
+    comment such as `;redcode-tiny` selects the settings of that hill for its source; the options are for all others.
     """
     from ..editor.server import serve
 
