@@ -30,15 +30,15 @@ const ratios = [];
 console.log("match              native  WebAssembly  ratio");
 for (const match of MATCHES) {
   const files = match.split(" ").map((name) => fileURLToPath(new URL(`examples/${name}.red`, TOP)));
-  const loads = files.map((file) => mars.assemble(fs.readFileSync(file)));
-  const rows = mars.match(loads, { rounds, position: POSITION });
+  const warriors = files.map((file) => mars.assemble(fs.readFileSync(file)));
+  const rows = mars.match(warriors, { rounds, position: POSITION });
   if (rows.some(({ ties }) => ties !== rounds)) {
     console.log(`${match}: a warrior dies, so the number of turns is unknown`);
     continue;
   }
   const options = ["-b", "-r", String(rounds), "-F", String(POSITION), ...files];
   const native = measured(() => execFileSync(program, options));
-  const webassembly = measured(() => mars.match(loads, { rounds, position: POSITION }));
+  const webassembly = measured(() => mars.match(warriors, { rounds, position: POSITION }));
   ratios.push(webassembly / native);
   const columns = [native.toFixed(2).padStart(8), webassembly.toFixed(2).padStart(12), ratios.at(-1).toFixed(2).padStart(6)];
   console.log(match.padEnd(17), ...columns);

@@ -9,7 +9,8 @@ import path from "node:path";
 import { after, test } from "node:test";
 
 import { Battle } from "../src/engine/battle.js";
-import { BLOCK, EDIT, Mars, MarsError, OUT_OF_MEMORY } from "../src/engine/mars.js";
+import { ASSEMBLY, BLOCK, EDIT, LOAD, OUT_OF_MEMORY, WARRIOR } from "../src/engine/layout.js";
+import { Mars, MarsError } from "../src/engine/mars.js";
 import { MODES, MODIFIERS, OPCODES, cellText } from "../src/model/cells.js";
 import { DEFAULTS, HILLS } from "../src/model/settings.js";
 
@@ -27,7 +28,6 @@ const random = (limit) => {
 };
 const pick = (list) => list[random(list.length)];
 const example = (name) => fs.readFileSync(new URL(`${name}.red`, EXAMPLES), "utf8");
-const text = (bytes) => new TextDecoder().decode(bytes);
 
 function randomSource(length) {
   const operand = () => `${pick([...MODES])}${random(40) - 20}`;
@@ -76,13 +76,14 @@ test("random battles are those of the native program", () => {
   for (let index = 0; index < BATTLES; index++) {
     const fight = randomFight();
     const { settings, sources, seed, rounds } = fight;
-    const loads = sources.map((source) => mars.assemble(source, { settings, warriors: sources.length, rounds }));
+    const warriors = sources.map((source) => mars.assemble(source, { settings, warriors: sources.length, rounds }));
     const table = native(fight, ["-b"]).trimEnd().split("\n").slice(1);
-    const rows = mars.match(loads, { settings, seed, rounds });
+    const rows = mars.match(warriors, { settings, seed, rounds });
     const numbers = rows.map(({ points, wins, ties, losses }) => [points, wins, ties, losses]);
     assert.deepEqual(table.map((line) => line.trim().split(/\s+/).slice(0, 4).map(Number)), numbers);
 
-    const battle = mars.start(loads, { settings, seed, rounds });
+    const battle = mars.start(warriors, { settings, seed, rounds });
+    const first = battle.copy();
     const turns = random(300);
     mars.play(battle, turns);
     mars.check(battle);
@@ -90,20 +91,23 @@ test("random battles are those of the native program", () => {
     const listed = native(fight, ["-e"], lines).trimEnd().split("\n").slice(turns ? 1 : 0);
     const cells = listed.map((line) => /[A-Z]{3}\.\S+ \S+, \S+/.exec(line)?.[0]);
     assert.deepEqual(cells, Array.from(cells, (_, address) => cellText(battle.cell(address), settings.core)));
-    assert.equal(mars.debug(loads, lines, { settings, seed, rounds }).trimEnd().split("\n").at(-1), listed.at(-1));
+    assert.equal(mars.debug(first, lines).trimEnd().split("\n").at(-1), listed.at(-1));
   }
 });
 
 test("a load file is that of the native program", () => {
   for (const name of ["dwarf", "paper", "silk"]) {
     const fight = { settings: DEFAULTS, sources: [example(name)], seed: 1, rounds: 1 };
-    assert.equal(text(mars.assemble(example(name))), native(fight, ["--load"]));
+    const warrior = mars.assemble(example(name));
+    const load = mars.writeLoad(warrior);
+    assert.equal(load, native(fight, ["--load"]));
+    assert.deepEqual(mars.readLoad(load), warrior);
   }
 });
 
 test("turns one by one are turns at once, with their records", () => {
-  const loads = [mars.assemble(example("dwarf")), mars.assemble(example("imp"))];
-  const [single, whole] = [mars.start(loads), mars.start(loads)];
+  const warriors = [mars.assemble(example("dwarf")), mars.assemble(example("imp"))];
+  const [single, whole] = [mars.start(warriors), mars.start(warriors)];
   const { records, touched } = mars.play(whole, 100, { records: 100, touched: 100 });
   for (let turn = 0; turn < 100; turn++) {
     const one = mars.play(single, 1, { records: 1, touched: 1 });
@@ -131,8 +135,18 @@ test("edits are made or refused by name, and wrong words are no battle", () => {
   assert.throws(() => new Battle(new Uint32Array(64)), TypeError);
 });
 
-test("errors have their line", () => {
-  assert.throws(() => mars.assemble("MOV 0, 1\nFOO 1\n"), { code: 5, number: 2, line: 2 });
+test("errors have their line or their index", () => {
+  assert.throws(() => mars.assemble("MOV 0, 1\nFOO 1\n"), { code: ASSEMBLY, number: 2, line: 2 });
+  assert.throws(() => mars.readLoad("MOV 0\n"), { code: LOAD, number: 1, line: 1 });
+  const imp = mars.assemble("MOV 0, 1");
+  const wrong = { ...imp, cells: Uint32Array.of(...imp.cells, 16, 0, 0) };
+  assert.throws(() => mars.match([imp, wrong]), { code: WARRIOR, number: 3, warrior: 1, line: 1 });
+  assert.throws(() => mars.writeLoad({ ...imp, name: "é" }), { code: WARRIOR, number: 5 });
+});
+
+test("a long warrior fits", () => {
+  const long = mars.assemble("NOP 0\n".repeat(300), { settings: { ...DEFAULTS, longest: 300, distance: 300 } });
+  assert.equal(long.cells.length, 900);
 });
 
 test("out of memory is an error like any other, and calls succeed once memory is free again", async () => {
@@ -145,7 +159,7 @@ test("out of memory is an error like any other, and calls succeed once memory is
   assert.deepEqual(errorOf(() => full.assemble("MOV 0, 1")), [OUT_OF_MEMORY, 0]);
   for (const block of blocks) instance.exports.mars_free(block);
   const imp = full.assemble("MOV 0, 1");
-  assert.equal(text(imp).split("\n").at(-2), "MOV.I $0, $1");
+  assert.equal(full.writeLoad(imp).split("\n").at(-2), "MOV.I $0, $1");
   assert.equal(full.match([imp, imp], { settings: HILLS.nano })[0].ties, 1);
 });
 

@@ -54,7 +54,7 @@ function passes({ goal, opponents, sources }, source) {
   const warriors = [source, ...others].map((text) => mars.assemble(text, { rounds: 100 }));
   const { wins = 0, survives = 0, cells = Infinity } = goal;
   const [row] = mars.match(warriors, { rounds: 100 });
-  return describe(warriors[0], 8000).cells.length <= cells && row.wins >= wins && row.wins + row.ties >= survives;
+  return describe(warriors[0]).cells.length <= cells && row.wins >= wins && row.wins + row.ties >= survives;
 }
 
 test("there are ten lessons, and each has what it needs", () => {

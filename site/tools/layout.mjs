@@ -1,5 +1,5 @@
 // Writes site/src/engine/layout.js from include/mars.h: the position of each field of each struct in
-// memory, and the numbers of the results.
+// memory, the numbers of results, limits and edits, and the names of errors.
 //
 //     node site/tools/layout.mjs include/mars.h            prints it
 //     node site/tools/layout.mjs include/mars.h --check    fails if layout.js is not what is printed
@@ -9,6 +9,10 @@ import fs from "node:fs";
 const LAYOUT = new URL("../src/engine/layout.js", import.meta.url);
 // The module has the types of a 64-bit C compiler.
 const SIZES = { uint8_t: 1, uint32_t: 4, int64_t: 8, uint64_t: 8, size_t: 8 };
+
+// Enumerations of errors, by what all their names begin with.
+const ERRORS = ["SETTINGS", "PARAMETERS", "EXPRESSION", "ASSEMBLY", "TEXT", "LOAD", "PLACEMENT", "BATTLE", "BLOCK"];
+ERRORS.push("EDIT", "WARRIOR", "LINEUP");
 
 const aligned = (offset, alignment) => Math.ceil(offset / alignment) * alignment;
 
@@ -36,13 +40,41 @@ function structsOf(text) {
   return structs;
 }
 
+/** Returns the enumerations of the header, each as names without MARS_ with their numbers. */
+function enumerationsOf(text) {
+  return Array.from(text.matchAll(/\benum \{([^}]*)\}/g), ([, body]) => {
+    let next = 0;
+    return Array.from(body.matchAll(/MARS_(\w+)(?: = (\d+))?/g), ([, name, given]) => {
+      const number = Number(given ?? next);
+      next = number + 1;
+      return [name, number];
+    });
+  });
+}
+
+/** Returns the name of an error as messages spell it, such as DivideByZero. */
+const spelled = (name) => name.replace(/([A-Z])([A-Z]*)(_|$)/g, (_, first, rest) => first + rest.toLowerCase());
+
+/** Returns the lines of layout.js about numbers. Those of opcodes, modifiers and modes are in model/cells.js. */
+function numbersOf(text) {
+  const constants = [];
+  const names = ["", "/** The names of errors by their numbers. */", "export const ERROR_NAMES = {"];
+  for (const enumeration of enumerationsOf(text)) {
+    const kind = ERRORS.find((error) => enumeration.every(([name]) => name.startsWith(`${error}_`)));
+    const told = enumeration.map(([name, number]) => `${number}: "${spelled(name.slice(kind?.length + 1))}"`);
+    if (kind) names.push(`  ${kind}: { ${told.join(", ")} },`);
+    else if (!enumeration.some(([name]) => name === "DAT" || name === "A" || name === "DIRECT")) {
+      constants.push(...enumeration.map(([name, number]) => `export const ${name} = ${number};`));
+    }
+  }
+  return [...constants, ...names, "};"];
+}
+
 /** Returns the text of layout.js. */
 function moduleOf(text) {
   const lines = ["// Written by site/tools/layout.mjs from include/mars.h; do not edit."];
   lines.push(`export const VERSION = ${/#define MARS_VERSION (\d+)/.exec(text)[1]};`);
-  for (const [, name, value] of text.matchAll(/\bMARS_([A-Z_]+) = (\d+)/g)) {
-    lines.push(`export const ${name} = ${value};`);
-  }
+  lines.push(...numbersOf(text));
   for (const [name, { size, fields }] of Object.entries(structsOf(text))) {
     lines.push("", `export const ${name} = {`, `  size: ${size},`);
     for (const [field, offset] of Object.entries(fields)) lines.push(`  ${field}: ${offset},`);

@@ -318,6 +318,8 @@ def test_rust(tmp_path, built):
     done = fight("20", *EXAMPLES[:3])
     assert (done.returncode, done.stderr) == (0, "")
     assert plain(done.stdout.encode()) == plain(started("-b", "-r", "20", *EXAMPLES[:3]))
+    loads = files_of([corewar.read(path).load for path in EXAMPLES[:3]], tmp_path)
+    assert plain(fight("20", *loads).stdout.encode()) == plain(done.stdout.encode())
     done = fight("20", file_of(tmp_path, "source.red", b"MOV 0, 1\nFOO 1\n"))
     assert (done.returncode, done.stdout) == (1, "")
     assert "answer 5, number 2, problem 0, expression 0, line 2" in done.stderr

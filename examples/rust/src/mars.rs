@@ -210,11 +210,7 @@ fn warrior_of(
 }
 
 /// Runs a match of 1 to 16 warriors and returns the row of each. The formula is the score of a survivor.
-pub fn fight(
-    warriors: &[Warrior],
-    settings: &Settings,
-    formula: &str,
-) -> Result<Vec<Row>, Fault> {
+pub fn fight(warriors: &[Warrior], settings: &Settings, formula: &str) -> Result<Vec<Row>, Fault> {
     let cells: Vec<Cell> = warriors.iter().flat_map(|one| one.cells.clone()).collect();
     let extents: Vec<Extent> = warriors
         .iter()

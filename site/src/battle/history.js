@@ -132,7 +132,7 @@ export class History {
     const owner = new Uint8Array(core).fill(NOBODY);
     const origin = new Uint16Array(core).fill(UNKNOWN);
     this.order.forEach((source, warrior) => {
-      const { start, cells } = describe(warriors[source], core);
+      const { start, cells } = describe(warriors[source]);
       const first = battle.queue(warrior)[0] - start + core;
       cells.forEach((_, index) => {
         const address = (first + index) % core;

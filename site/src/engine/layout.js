@@ -1,5 +1,14 @@
 // Written by site/tools/layout.mjs from include/mars.h; do not edit.
-export const VERSION = 1003;
+export const VERSION = 2000;
+export const MAX_CORE = 1048576;
+export const MAX_PROCESSES = 65536;
+export const MAX_CYCLES = 10000000;
+export const MAX_WARRIORS = 16;
+export const MAX_LEAGUE = 65536;
+export const MAX_ROUNDS = 100000;
+export const MAX_SEED = 2147483646;
+export const MAX_HISTORY = 1000000;
+export const MAX_FORMULA = 256;
 export const DONE = 0;
 export const OUT_OF_MEMORY = 1;
 export const SETTINGS = 2;
@@ -13,7 +22,29 @@ export const SCORE = 9;
 export const ROOM = 10;
 export const BLOCK = 11;
 export const EDIT = 12;
+export const WARRIOR = 13;
+export const LINEUP = 14;
 export const MARK = 22167885;
+export const SET_CELL = 1;
+export const MOVE_PROCESS = 2;
+export const KILL_PROCESS = 3;
+export const ADD_PROCESS = 4;
+
+/** The names of errors by their numbers. */
+export const ERROR_NAMES = {
+  SETTINGS: { 1: "Rounds", 2: "Seed", 3: "Position", 4: "Warriors", 5: "Lengths", 6: "History", 7: "Rows", 8: "Round" },
+  PARAMETERS: { 1: "CoreSize", 2: "Processes", 3: "Cycles", 4: "Limit", 5: "Length", 6: "Distance" },
+  EXPRESSION: { 1: "Syntax", 2: "Unknown", 3: "DivideByZero", 4: "Range", 5: "Depth" },
+  ASSEMBLY: { 1: "Text", 2: "Operation", 3: "Operand", 4: "Expression", 5: "AssertFailed", 6: "BadOrigin", 7: "Empty", 8: "TooLong" },
+  TEXT: { 1: "NotAscii", 2: "BadToken", 3: "UnclosedFor", 4: "RofAlone", 5: "BadCount", 6: "LabelInCount", 7: "Duplicate", 8: "EquDepth", 9: "TooLong", 10: "Expression" },
+  LOAD: { 1: "Syntax", 2: "TooLong", 3: "Empty", 4: "BadOrigin", 6: "Version" },
+  PLACEMENT: { 1: "NoRoom", 2: "BadSeed" },
+  BATTLE: { 3: "Overlap", 4: "StartOutside", 5: "FieldOutside" },
+  BLOCK: { 1: "Short", 2: "Mark", 3: "Parameters", 4: "Warriors", 5: "Cell", 6: "Queue", 7: "Deaths", 8: "Clock", 9: "Head" },
+  EDIT: { 1: "NoSuchEdit", 2: "Address", 3: "FieldOutside", 4: "NoSuchWarrior", 5: "NoSuchProcess", 6: "WarriorDead", 7: "QueueFull" },
+  WARRIOR: { 1: "Length", 2: "Start", 3: "Cell", 4: "Field", 5: "Name" },
+  LINEUP: { 1: "Count", 2: "Index" },
+};
 
 export const MarsSettings = {
   size: 40,
@@ -29,12 +60,39 @@ export const MarsSettings = {
   position: 36,
 };
 
+export const MarsWarrior = {
+  size: 8,
+  length: 0,
+  start: 4,
+};
+
+export const MarsProgram = {
+  size: 136,
+  warrior: 0,
+  name: 8,
+  author: 72,
+};
+
 export const MarsRow = {
   size: 32,
   points: 0,
   wins: 8,
   ties: 16,
   losses: 24,
+};
+
+export const MarsLineup = {
+  size: 72,
+  seed: 0,
+  count: 4,
+  warrior: 8,
+};
+
+export const MarsOutcome = {
+  size: 12,
+  survived: 0,
+  turns: 4,
+  start: 8,
 };
 
 export const MarsCell = {
@@ -77,16 +135,6 @@ export const MarsDeath = {
   size: 8,
   warrior: 0,
   turns: 4,
-};
-
-export const MarsStanding = {
-  size: 32,
-  turns: 0,
-  cycle: 4,
-  next: 8,
-  over: 12,
-  processes: 16,
-  deaths: 24,
 };
 
 export const MarsFault = {

@@ -4,25 +4,35 @@
  * Nothing outlives a call: what a call takes of the module's memory it gives back. A battle is a value of the caller's.
  */
 import {
-  BLOCK,
+  ADD_PROCESS,
   DONE,
-  EDIT,
+  KILL_PROCESS,
+  MOVE_PROCESS,
+  MarsCell,
   MarsEdit,
   MarsFault,
+  MarsProgram,
   MarsRecord,
   MarsRow,
   MarsSettings,
   MarsTouched,
+  MarsWarrior,
   OUT_OF_MEMORY,
   ROOM,
+  SET_CELL,
   VERSION,
 } from "./layout.js";
 import { Battle } from "./battle.js";
 import { DEFAULTS, FORMULA } from "../model/settings.js";
-import { writeCell } from "../model/cells.js";
+import { CELL_WORDS, writeCell } from "../model/cells.js";
 
 /** @typedef {import("../model/settings.js").Settings} Settings */
 /** @typedef {import("../model/cells.js").Cell} Cell */
+/**
+ * A warrior, as a value: `cells` are three words for each cell, whose numbers are for the core size of the settings with
+ * which it was assembled or read, and `start` is the index of the cell at which it starts.
+ * @typedef {{name: string, author: string, start: number, cells: Uint32Array}} Warrior
+ */
 /** @typedef {{points: number, wins: number, ties: number, losses: number}} Row the result of a warrior */
 /** @typedef {{settings?: Settings, rounds?: number, seed?: number, position?: number}} Terms */
 /** @typedef {(number | bigint)[]} Arguments */
@@ -35,7 +45,9 @@ import { writeCell } from "../model/cells.js";
 
 const RECORD_WORDS = MarsRecord.size / 4;
 const TOUCHED_WORDS = MarsTouched.size / 4;
-const KINDS = { cell: 1, move: 2, kill: 3, add: 4 };
+const KINDS = { cell: SET_CELL, move: MOVE_PROCESS, kill: KILL_PROCESS, add: ADD_PROCESS };
+/** The number of cells for which a buffer is made first. */
+const CELLS = 128;
 const encoder = new TextEncoder();
 const decoder = new TextDecoder();
 
@@ -88,15 +100,42 @@ export class Mars {
   }
 
   /**
-   * Assembles a source and returns its load file. Throws a MarsError with the line.
+   * Assembles a source and returns its warrior. Throws a MarsError with the line.
    * @param {string | Uint8Array} source
    * @param {{settings?: Settings, rounds?: number, warriors?: number}} terms what ROUNDS and WARRIORS stand for
-   * @returns {Uint8Array}
    */
   assemble(source, { settings = DEFAULTS, rounds = 1, warriors = 2 } = {}) {
     return this.#within(() => {
       const given = [this.#settings(settings, { rounds }), warriors, ...this.#bytes(source)];
-      return this.#text("mars_assemble", given, 4096);
+      return this.#program("mars_assemble", given);
+    });
+  }
+
+  /**
+   * Returns the warrior of a load file. Throws a MarsError with the line.
+   * @param {string | Uint8Array} load
+   * @param {{settings?: Settings}} terms
+   */
+  readLoad(load, { settings = DEFAULTS } = {}) {
+    return this.#within(() => this.#program("mars_read_load", [this.#settings(settings, {}), ...this.#bytes(load)]));
+  }
+
+  /**
+   * Returns the text of the load file of a warrior. Throws a MarsError if a cell, the start or a name is invalid.
+   * @param {Warrior} warrior
+   * @param {{settings?: Settings}} terms
+   */
+  writeLoad({ name, author, start, cells }, { settings = DEFAULTS } = {}) {
+    return this.#within(() => {
+      const program = this.#take(MarsProgram.size);
+      const bytes = new Uint8Array(this.#exports.memory.buffer, Number(program), MarsProgram.size).fill(0);
+      // The library refuses a name of more than 60 bytes.
+      bytes.set(encoder.encode(name).subarray(0, 64), MarsProgram.name);
+      bytes.set(encoder.encode(author).subarray(0, 64), MarsProgram.author);
+      const count = cells.length / CELL_WORDS;
+      this.#words(program, 2).set([count, start]);
+      const given = [this.#settings(settings, {}), this.#wordsOf(cells), BigInt(count), program];
+      return decoder.decode(this.#text("mars_write_load", given, 4096));
     });
   }
 
@@ -118,26 +157,26 @@ export class Mars {
 
   /**
    * Runs a match of 1 to 16 warriors and returns a row for each.
-   * @param {Uint8Array[]} loads load files
+   * @param {Warrior[]} warriors
    * @param {Terms & {formula?: string}} terms
    */
-  match(loads, terms = {}) {
-    return this.#rows("mars_match", loads, loads.length, terms);
+  match(warriors, terms = {}) {
+    return this.#rows("mars_match", warriors, warriors.length, terms);
   }
 
   /**
    * Runs a league, a match of every two of up to 65,536 warriors, and returns a row for each.
-   * @param {Uint8Array[]} loads
+   * @param {Warrior[]} warriors
    * @param {Terms & {formula?: string}} terms
    */
-  league(loads, terms = {}) {
-    return this.#rows("mars_league", loads, loads.length, terms);
+  league(warriors, terms = {}) {
+    return this.#rows("mars_league", warriors, warriors.length, terms);
   }
 
   /**
    * Runs a match of each candidate with each opponent and returns the sum of each candidate's rows.
-   * @param {Uint8Array[]} candidates
-   * @param {Uint8Array[]} opponents
+   * @param {Warrior[]} candidates
+   * @param {Warrior[]} opponents
    * @param {Terms & {formula?: string}} terms
    */
   population(candidates, opponents, terms = {}) {
@@ -146,15 +185,15 @@ export class Mars {
 
   /**
    * Returns the battle of a round, from 0, as it starts.
-   * @param {Uint8Array[]} loads
+   * @param {Warrior[]} warriors
    * @param {Terms & {round?: number}} terms
    */
-  start(loads, { settings = DEFAULTS, round = 0, rounds = round + 1, seed = 1, position = 0 } = {}) {
+  start(warriors, { settings = DEFAULTS, round = 0, rounds = round + 1, seed = 1, position = 0 } = {}) {
     return this.#within(() => {
       const given = this.#settings(settings, { rounds, seed, position });
-      const words = Number(this.#exports.mars_words(given, loads.length));
+      const words = Number(this.#exports.mars_words(given, warriors.length));
       const block = this.#take(4 * words);
-      this.#call("mars_start", [given, ...this.#loads(loads), round, block, BigInt(words)]);
+      this.#call("mars_start", [given, ...this.#fighters(warriors), round, block, BigInt(words)]);
       return new Battle(this.#words(block, words).slice());
     });
   }
@@ -211,15 +250,15 @@ export class Mars {
   }
 
   /**
-   * Returns what the debugger answers to its lines, over the battle of the first round.
-   * @param {Uint8Array[]} loads
+   * Returns what the debugger answers to its lines, over a battle, which stays as it is.
+   * @param {Battle} battle
    * @param {string} lines
-   * @param {Terms & {history?: number}} terms `history` is the number of places that can be walked back to
+   * @param {{history?: number}} size the number of places that can be walked back to
    */
-  debug(loads, lines, { settings = DEFAULTS, rounds = 1, seed = 1, position = 0, history = 200_000 } = {}) {
+  debug(battle, lines, { history = 200_000 } = {}) {
     return this.#within(() => {
-      const given = [this.#settings(settings, { rounds, seed, position }), ...this.#loads(loads), history];
-      return decoder.decode(this.#text("mars_debug", [...given, ...this.#bytes(lines)], 65_536));
+      const given = [...this.#block(battle), history, ...this.#bytes(lines)];
+      return decoder.decode(this.#text("mars_debug", given, 65_536));
     });
   }
 
@@ -274,14 +313,22 @@ export class Mars {
   }
 
   /**
+   * Copies words into the memory; returns their address.
+   * @param {Uint32Array} words
+   */
+  #wordsOf(words) {
+    const block = this.#take(4 * words.length);
+    this.#words(block, words.length).set(words);
+    return block;
+  }
+
+  /**
    * Copies a battle into the memory; returns the arguments for it.
    * @param {Battle} battle
    * @returns {[bigint, bigint]}
    */
   #block({ words }) {
-    const block = this.#take(4 * words.length);
-    this.#words(block, words.length).set(words);
-    return [block, BigInt(words.length)];
+    return [this.#wordsOf(words), BigInt(words.length)];
   }
 
   /**
@@ -301,19 +348,21 @@ export class Mars {
   }
 
   /**
-   * Copies load files into the memory, one after another; returns the arguments for them.
-   * @param {Uint8Array[]} loads
+   * Copies warriors into the memory; returns the arguments for them.
+   * @param {Warrior[]} warriors
    */
-  #loads(loads) {
-    const whole = new Uint8Array(loads.reduce((total, load) => total + load.length, 0));
-    const lengths = new BigUint64Array(loads.length);
+  #fighters(warriors) {
+    const counts = warriors.map(({ cells }) => cells.length / CELL_WORDS);
+    const total = counts.reduce((sum, count) => sum + count, 0);
+    const cells = this.#take(MarsCell.size * total);
     let end = 0;
-    loads.forEach((load, index) => {
-      whole.set(load, end);
-      end += load.length;
-      lengths[index] = BigInt(load.length);
-    });
-    return [...this.#bytes(whole), this.#bytes(new Uint8Array(lengths.buffer))[0], BigInt(loads.length)];
+    for (const warrior of warriors) {
+      this.#words(cells, CELL_WORDS * total).set(warrior.cells, end);
+      end += warrior.cells.length;
+    }
+    const places = this.#take(MarsWarrior.size * warriors.length);
+    this.#words(places, 2 * warriors.length).set(warriors.flatMap(({ start }, index) => [counts[index], start]));
+    return [cells, BigInt(total), places, BigInt(warriors.length)];
   }
 
   /**
@@ -337,6 +386,29 @@ export class Mars {
   }
 
   /**
+   * Makes a call that writes a program, a second time with a larger buffer if the first is too short.
+   * @param {string} name
+   * @param {Arguments} given
+   * @returns {Warrior}
+   */
+  #program(name, given) {
+    const program = this.#take(MarsProgram.size);
+    let cells = this.#take(MarsCell.size * CELLS);
+    const result = this.#call(name, [...given, cells, BigInt(CELLS), program], ROOM);
+    const [length, start] = this.#words(program, 2);
+    if (result === ROOM) {
+      cells = this.#take(MarsCell.size * length);
+      this.#call(name, [...given, cells, BigInt(length), program]);
+    }
+    const bytes = new Uint8Array(this.#exports.memory.buffer, Number(program), MarsProgram.size);
+    const [named, author] = [MarsProgram.name, MarsProgram.author].map((at) => {
+      const field = bytes.slice(at, at + 64);
+      return decoder.decode(field.subarray(0, field.indexOf(0)));
+    });
+    return { name: named, author, start, cells: this.#words(cells, CELL_WORDS * length).slice() };
+  }
+
+  /**
    * Makes a call that writes bytes, a second time with a larger buffer if the first is too short.
    * @param {string} name
    * @param {Arguments} given
@@ -357,16 +429,16 @@ export class Mars {
   /**
    * Makes a call that runs matches and fills rows.
    * @param {string} name
-   * @param {Uint8Array[]} loads
+   * @param {Warrior[]} warriors
    * @param {number} count
    * @param {Terms & {formula?: string}} terms
    * @returns {Row[]}
    */
-  #rows(name, loads, count, { settings = DEFAULTS, rounds = 1, seed = 1, position = 0, formula = FORMULA }) {
+  #rows(name, warriors, count, { settings = DEFAULTS, rounds = 1, seed = 1, position = 0, formula = FORMULA }) {
     return this.#within(() => {
       const rows = this.#take(MarsRow.size * count);
       const given = [this.#settings(settings, { rounds, seed, position }), ...this.#bytes(formula)];
-      this.#call(name, [...given, ...this.#loads(loads), rows, BigInt(count)]);
+      this.#call(name, [...given, ...this.#fighters(warriors), rows, BigInt(count)]);
       const view = this.#view(rows);
       const number = (/** @type {number} */ offset) => Number(view.getBigInt64(offset, true));
       return Array.from({ length: count }, (_, index) => ({
@@ -378,5 +450,3 @@ export class Mars {
     });
   }
 }
-
-export { BLOCK, EDIT, OUT_OF_MEMORY };

@@ -1,4 +1,5 @@
 /** What an error of a source means, where it is, and what to do. */
+import { ASSEMBLY, ERROR_NAMES, OUT_OF_MEMORY } from "../engine/layout.js";
 
 /**
  * The fields of a MarsError.
@@ -9,12 +10,8 @@
  * @typedef {{line: number, from: number, to: number, text: string}} Explained
  */
 
-const ASSEMBLY = 5;
-const OUT_OF_MEMORY = 1;
-const ERRORS = ["", "Text", "Operation", "Operand", "Expression", "AssertFailed", "BadOrigin", "Empty", "TooLong"];
-const PROBLEMS = ["", "NotAscii", "BadToken", "UnclosedFor", "RofAlone", "BadCount", "LabelInCount"];
-PROBLEMS.push("Duplicate", "EquDepth", "TooLong", "Expression");
-const EXPRESSIONS = ["", "Syntax", "Unknown", "DivideByZero", "Range", "Depth"];
+/** @type {Record<string, Record<number, string>>} */
+const { ASSEMBLY: ERRORS, TEXT: PROBLEMS, EXPRESSION: EXPRESSIONS } = ERROR_NAMES;
 const OPERATIONS = "DAT MOV ADD SUB MUL DIV MOD JMP JMZ JMN DJN SEQ SNE SLT SPL NOP CMP ORG END EQU FOR ROF".split(" ");
 const PREDEFINED = /^(CORESIZE|MAX\w+|WARRIORS|ROUNDS|CURLINE|VERSION|MINDISTANCE)$/;
 const NAMES = /[A-Za-z_]\w*/g;

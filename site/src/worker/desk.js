@@ -133,7 +133,7 @@ export class Desk {
   show(future) {
     const history = this.#history(future);
     const { core, end, order, deaths, events, edits } = history;
-    const found = order.map((source) => describe(this.#warriors[source], core));
+    const found = order.map((source) => describe(this.#warriors[source]));
     const names = found.map(({ name }, who) => name || this.fight.warriors[order[who]].name.replace(/\.\w+$/, ""));
     const overview = history.overview(0, end);
     return {
@@ -154,7 +154,7 @@ export class Desk {
     const lines = [];
     const { settings, rounds, warriors } = this.fight;
     history.order.forEach((source, warrior) => {
-      const { start } = describe(this.#warriors[source], history.core);
+      const { start } = this.#warriors[source];
       const first = history.start.battle.queue(warrior)[0] - start + history.core;
       const terms = { settings, rounds, warriors: warriors.length };
       this.mars.lines(warriors[source].text, terms).forEach(({ line, labels: names }, index) => {
@@ -307,7 +307,7 @@ export class Desk {
     const words = new Set(text.match(/[A-Za-z_]\w*/g));
     const used = new Map(labels.filter(({ name }) => words.has(name)).map((label) => [label.name, label.address]));
     const lines = [...used].map(([name, at]) => `${name} EQU (${at - address})`);
-    const { cells } = describe(this.mars.assemble([...lines, text, ""].join("\n"), { settings }), settings.core);
+    const { cells } = describe(this.mars.assemble([...lines, text, ""].join("\n"), { settings }));
     if (cells.length !== 1) throw new Error("expected one instruction");
     return cells[0];
   }

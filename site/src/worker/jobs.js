@@ -1,7 +1,7 @@
 /** What workers do beside the battle that is shown: they assemble sources, fight matches, and look at rounds. */
 import { History } from "../battle/history.js";
 import { ADDRESS } from "../battle/place.js";
-import { assembleAll, describe, loadText } from "../engine/warrior.js";
+import { assembleAll, describe } from "../engine/warrior.js";
 
 /** @typedef {import("../engine/mars.js").Mars} Mars */
 /** @typedef {import("../engine/warrior.js").Warrior} Warrior */
@@ -33,7 +33,8 @@ export class Jobs {
    */
   assemble(text, terms) {
     const warrior = this.mars.assemble(text, terms);
-    return { ...describe(warrior, terms.settings.core), load: loadText(warrior), lines: this.mars.lines(text, terms) };
+    const load = this.mars.writeLoad(warrior, terms);
+    return { ...describe(warrior), load, lines: this.mars.lines(text, terms) };
   }
 
   /**
@@ -44,7 +45,7 @@ export class Jobs {
   warriors(sources, terms) {
     return assembleAll(this.mars, sources, 2, terms).map((warrior) => ({
       warrior,
-      name: describe(warrior, terms.settings.core).name,
+      name: describe(warrior).name,
     }));
   }
 
