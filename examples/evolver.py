@@ -35,7 +35,7 @@ SIZE, BEST, ROUNDS = 100, 15, 20
 def cell(dice):
     """A random cell."""
     number = lambda: f"{dice.choice(MODES)}{dice.randrange(-9, 10) if dice.randrange(3) else dice.randrange(80)}"
-    return f"{dice.choice(OPCODES)}.{dice.choice(MODIFIERS)} {number()}, {number()}"
+    return corewar.cell_of(f"{dice.choice(OPCODES)}.{dice.choice(MODIFIERS)} {number()}, {number()}", NANO.core)
 
 
 def child(dice, one, other):
@@ -48,7 +48,7 @@ def child(dice, one, other):
 
 
 def warrior(cells):
-    return corewar.Warrior("\n".join([";load 2 80", ";name Evolved", ";author evolver.py", "ORG 0", *cells, ""]).encode())
+    return corewar.Warrior.from_cells(cells, name="Evolved", author="evolver.py", settings=NANO)
 
 
 @dataclass
@@ -93,7 +93,8 @@ def main():
     candidates, count = [Candidate([cell(dice) for _ in range(5)], []) for _ in range(SIZE)], 0
     while time.monotonic() < end:
         count += 1
-        fight(candidates, opponents, count)
+        # Seeds near one another would give related positions.
+        fight(candidates, opponents, dice.randrange(1, 1 << 30))
         best = candidates[:BEST]
         if count & (count - 1) == 0:
             print(f"generation {count}: {measure(best[0].cells, opponents):.2f} points per round", file=sys.stderr)

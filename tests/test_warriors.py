@@ -175,7 +175,13 @@ def test_lineups() -> None:
         with pytest.raises(Fault) as found:
             corewar.outcomes(warriors, lineups, **words)
         assert str(found.value) == fault
-    for lineups, words in ([[0, 1], [2]], {}), ([0, 1], {}), ([[-1, 0]], {}), (pairs, {"seeds": [1, 2]}), (pairs, {"jobs": 0}):
+    for lineups, words in (
+        ([[0, 1], [2]], {}),
+        ([0, 1], {}),
+        ([[-1, 0]], {}),
+        (pairs, {"seeds": [1, 2]}),
+        (pairs, {"jobs": 0}),
+    ):
         with pytest.raises(ValueError):
             corewar.outcomes(warriors, lineups, **words)
 
@@ -191,5 +197,5 @@ def test_shares() -> None:
     for _ in range(20):
         made = corewar.outcomes(random_warriors(dice, 5), rounds=10, settings=SMALL)
         shared = corewar.shares(made, SMALL.cycles)
-        lives = (made["cycles"].max(axis=-1) == SMALL.cycles)
+        lives = made["cycles"].max(axis=-1) == SMALL.cycles
         assert np.allclose(shared.sum(axis=-1)[lives], 5)
