@@ -112,7 +112,7 @@ def random_warriors(dice: random.Random, count: int) -> list[Warrior]:
 
 
 def test_outcomes_are_those_of_matches_and_battles() -> None:
-    """In random melees of 2 to 8: the sums over the rounds are rows of matches, and a round is what its battle shows."""
+    """In random melees of 2 to 8: sums over rounds are rows of matches, and a round is what its battle shows."""
     dice, died = random.Random(70), 0
     for _ in range(1000):
         warriors, count, rounds = random_warriors(dice, 10), dice.randint(2, 8), dice.randint(1, 3)
@@ -123,7 +123,6 @@ def test_outcomes_are_those_of_matches_and_battles() -> None:
         for lineup, seed, rows in zip(lineups, seeds, made):
             fighters = [warriors[index] for index in lineup]
             survivors = rows["survived"].sum(axis=1)
-            sums = [[], [], []]
             wins = (rows["survived"] & (survivors == 1)[:, None]).sum(axis=0).tolist()
             lives, match = rows["survived"].sum(axis=0).tolist(), corewar.match(fighters, rounds, seed, SMALL)
             assert [(row.wins, row.wins + row.ties, row.losses) for row in match] == [
