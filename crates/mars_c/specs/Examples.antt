@@ -1,7 +1,7 @@
 -- Worked examples, as theorems: errors, cells, programs and records as numbers, warriors in an array, the positions of a later round, what is out of its range, and
 -- populations.
-use Rattle.std.specs.Prelude.{◌≡◌, ℕ, zero, suc, pos, refl, true, false, All, List, [], ◌∷◌, None, Some, Ok, Err, codes, replicate}
-use Rattle.std.proofs.Common.{arith, subst}
+use Rattle.std.specs.Prelude.{◌≡◌, ℕ, zero, suc, pos, refl, true, false, All, List, [], ◌∷◌, None, Some, Ok, Err, codes, replicate, slice_index_or}
+use Rattle.std.proofs.Common.{ap, arith, subst}
 use Rattle.std.proofs.lemmas.List.Elements.{All-cons, All-nil}
 use Rattle.mars_cell.specs.Cells.{FitsCore}
 use Rattle.mars_cell.specs.ParameterFaults.{checked_parameters}
@@ -44,10 +44,10 @@ use Rattle.mars_c.specs.Cells.{plain_cell}
 use Rattle.mars_c.specs.Blocks.{Means, played_rows}
 use Rattle.mars_c.specs.Codes.{block_fault_of, fault_of, numbered}
 use Rattle.mars_c.specs.Contests.{population}
-use Rattle.mars_c.specs.Entrants.{AreEntrants, named, plain_name, plain_program}
+use Rattle.mars_c.specs.Entrants.{AreEntrants, IsEntrant, named, plain_name, plain_program}
 use Rattle.mars_c.specs.Records.{change_of, turn_row}
 use Rattle.mars_c.specs.Touches.{touched_row}
-use Rattle.mars_c.specs.Outcomes.{indices_of, plain_fate, rows_for, seeded}
+use Rattle.mars_c.specs.Outcomes.{IsLineup, indices_of, plain_fate, rows_for, seeded}
 use Rattle.mars_c.specs.Refusals.{IsOutside, fight_refusal}
 use Rattle.mars_c.specs.declared.faults.BlockRefusal.TheVariants as blocks
 use Rattle.mars_c.specs.declared.faults.CallRefusal.TheVariants.{Assembly, Battle, Lineup, Load, OutOfMemory, Placement, Score, Warrior}
@@ -254,6 +254,10 @@ positions_are_judged = (
 abbrev numbers : MarsCell
 numbers = record { op = 1; modifier = 6; a_mode = 1; b_mode = 1; a = 0; b = 1 }
 
+-- DAT.F $0, $0 as numbers
+abbrev other : MarsCell
+other = record { op = 0; modifier = 4; a_mode = 1; b_mode = 1; a = 0; b = 0 }
+
 abbrev of_length : ℕ → ℕ → MarsWarrior
 of_length length start = record { length = length; start = start }
 
@@ -278,7 +282,31 @@ warriors_lie_one_after_another = (
   (omega arith, record { cells_same = refl; fits = fit 2; short = omega arith; start_same = refl; inside = omega arith; name_same = refl; author_same = refl }, refl),
 )
 
+-- A warrior starts at one of its cells, is not longer than the maximum, and has no number outside the core; its cells, its start and its names are those that are given.
+pub wrong_warriors :
+    ((w : WarriorValue) → IsEntrant (parameters_in (nano 1 1 0)) (numbers ∷ []) 1 [] [] w → ⊥)
+    × ((w : WarriorValue) → IsEntrant (parameters_in (nano 1 1 0)) (replicate 6 numbers) 0 [] [] w → ⊥)
+    × (IsEntrant (parameters_in (nano 1 1 0)) (numbers ∷ numbers ∷ []) 1 [] [] (imps 2 0) → ⊥)
+    × (IsEntrant (parameters_in (nano 1 1 0)) (numbers ∷ []) 0 [] [] (imps 2 0) → ⊥)
+    × (IsEntrant (parameters_in (nano 1 1 0)) (numbers ∷ []) 0 (codes "A") [] (imps 1 0) → ⊥)
+    × (IsEntrant (parameters_in (nano 1 1 0)) (numbers ∷ []) 0 [] (codes "A") (imps 1 0) → ⊥)
+wrong_warriors = (
+  λ w e. omega (arith, e.inside),
+  λ w e. omega (arith, e.short),
+  λ e. let start = e.start_same in omega (arith, start),
+  λ e. let cells = e.cells_same in cc,
+  λ e. let name = e.name_same in cc,
+  λ e. let author = e.author_same in cc,
+)
+
+-- two warriors whose cells are not those that are left
+pub each_warrior_has_its_own_cells : AreEntrants (parameters_in (nano 1 1 0)) (numbers ∷ other ∷ []) (of_length 1 0 ∷ of_length 1 0 ∷ []) (imps 1 0 ∷ imps 1 0 ∷ []) → ⊥
+each_warrior_has_its_own_cells all = let op = ap (λ (cells : List MarsCell). (slice_index_or cells 0 numbers).op) all.2.1.cells_same in omega (arith, op)
+
 -- a name is followed by zeros, and ends before the first
+pub name_has_64_bytes : plain_name (codes "A") ≡ 65 ∷ replicate 63 0
+name_has_64_bytes = refl
+
 pub name_is_padded : named (plain_name (codes "Imp")) ≡ codes "Imp"
 name_is_padded = refl
 
@@ -306,6 +334,11 @@ of_two = record { seed = 0; count = 2; warrior = 4 ∷ 1 ∷ 9 ∷ [] }
 
 pub lineup_has_two : indices_of of_two ≡ 4 ∷ 1 ∷ []
 lineup_has_two = refl
+
+-- lineups of none and of seventeen warriors, and one with an index too many
+pub wrong_lineups : (IsLineup 5 (record { seed = 0; count = 0; warrior = [] }) → ⊥) × (IsLineup 5 (record { seed = 0; count = 17; warrior = [] }) → ⊥)
+    × (IsLineup 4 of_two → ⊥)
+wrong_lineups = (λ l. omega (arith, l.warriors.0), λ l. omega (arith, l.warriors.1), λ l. let inside = l.indices 0 0 (omega arith) in omega (arith, inside))
 
 -- three rounds of two and of two warriors
 pub rows_are_counted : rows_for (nano 3 7 0) (of_two ∷ of_two ∷ []) ≡ 12

@@ -1,5 +1,5 @@
 -- Laws of the definitions.
-use Rattle.std.specs.Prelude.{◌≡◌, ℕ, zero, suc, ◌+◌, ◌*◌, ◌-◌, ◌≤◌, ℤ, List, [], ◌∷◌, length, map, false, Option, Ok, All, AllPairs}
+use Rattle.std.specs.Prelude.{◌≡◌, ◌==◌, ℕ, zero, suc, ◌+◌, ◌*◌, ◌-◌, ◌≤◌, ℤ, ◌+ℤ◌, Bool, not, List, [], ◌∷◌, ◌++◌, length, map, false, Option, Ok, All, AllPairs}
 use Rattle.std.specs.Int.Signed.{lt_z}
 use Rattle.std.specs.List.{filter, flat_map}
 use Rattle.std.specs.List.Sorted.{IsPermutation, IsNonDecreasing}
@@ -9,7 +9,7 @@ use Rattle.redcode_text.specs.Tokens.{Scanned}
 use Rattle.mars_match.specs.Fates.{fates}
 use Rattle.mars_match.specs.Placement.{FitsTwo, ascending, starts_in_order}
 use Rattle.mars_match.specs.Rounds.{Outcome, outcomes, table_of}
-use Rattle.mars_match.specs.Leagues.{league_of}
+use Rattle.mars_match.specs.Leagues.{Pair, PlacedRow, all_pairs, league_of, own_rows, rows_of_pairs, sum_of_rows}
 use Rattle.mars_match.specs.Results.{ranked, has_points}
 use Rattle.mars_match.specs.Tables.{RowValue}
 use Rattle.mars_match.specs.declared.fates.Fate.{Fate}
@@ -61,3 +61,29 @@ abbrev pub FatesAreOutcomes : Type 0
 FatesAreOutcomes = (p : Parameters) (warriors : List WarriorValue) (formula : Scanned) (fixed : Option ℕ) (n k seed : ℕ) (all : List Outcome) →
     1 ≤ length warriors → FitsTwo p (length warriors) fixed → outcomes p warriors formula fixed n k seed ≡ Ok all →
     (made : List Fate) × (fates p warriors fixed n k seed ≡ Ok made) × (map (λ (f : Fate). f.survived) made ≡ flat_map (λ (o : Outcome). o.lived) all)
+
+-- two rows, added up
+abbrev pub added_rows : RowValue → RowValue → RowValue
+added_rows a b = record { name = a.name; author = a.author; points = a.points +ℤ b.points; wins = a.wins + b.wins; ties = a.ties + b.ties; losses = a.losses + b.losses }
+
+-- the pairs of a part and the other pairs have rows, and the sums of each warrior over all rows are those over the part's and over the others', added up
+pub record AddsUp (p : Parameters) (formula : Scanned) (fixed : Option ℕ) (n seed : ℕ) (is_in : Pair → Bool) (pairs : List Pair) (rows : List PlacedRow) : Type 0 where
+  pub inside : List PlacedRow
+  pub outside : List PlacedRow
+  pub inside_rows : rows_of_pairs p formula fixed n seed (filter is_in pairs) ≡ Ok inside
+  pub outside_rows : rows_of_pairs p formula fixed n seed (filter (λ pair. not (is_in pair)) pairs) ≡ Ok outside
+  pub sums : (w : WarriorValue) (i : ℕ) → sum_of_rows w (own_rows i rows) ≡ added_rows (sum_of_rows w (own_rows i inside)) (sum_of_rows w (own_rows i outside))
+
+-- however the pairs of a league are divided, the sums of the parts add up to those of the league
+abbrev pub LeaguesAddUp : Type 0
+LeaguesAddUp = (p : Parameters) (formula : Scanned) (fixed : Option ℕ) (n seed : ℕ) (is_in : Pair → Bool) (pairs : List Pair) (rows : List PlacedRow) →
+    rows_of_pairs p formula fixed n seed pairs ≡ Ok rows → AddsUp p formula fixed n seed is_in pairs rows
+
+-- warrior k is the second of a pair
+abbrev pub is_of : ℕ → Pair → Bool
+is_of k pair = pair.second == k
+
+-- without the pairs of the last warrior, the pairs of a league are those of the others
+abbrev pub NewcomersChangeNothing : Type 0
+NewcomersChangeNothing = (warriors : List WarriorValue) (newcomer : WarriorValue) →
+    filter (λ pair. not (is_of (length warriors) pair)) (all_pairs 0 (warriors ++ newcomer ∷ [])) ≡ all_pairs 0 warriors

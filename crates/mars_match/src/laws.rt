@@ -1,5 +1,5 @@
 //! Laws of the definitions: they make no calls.
-ghost use Rattle.mars_match.specs.Laws.{EachHasOneOrder, EachMatchIsCounted, EachRoundIsCounted, FatesAreOutcomes, FullCoresLeaveNoChoice, RanksByPoints};
+ghost use Rattle.mars_match.specs.Laws.{EachHasOneOrder, EachMatchIsCounted, EachRoundIsCounted, FatesAreOutcomes, FullCoresLeaveNoChoice, LeaguesAddUp, NewcomersChangeNothing, RanksByPoints};
 
 /// Each list of values has one ascending order: the same values, none of them less than one before it.
 pub fn each_has_one_order()
@@ -30,4 +30,14 @@ pub fn each_match_is_counted()
 /// Those who survive by the fates of a match are those who live by its outcomes, so its rows are sums over its fates.
 pub fn fates_are_outcomes()
     ensures { FatesAreOutcomes }
+{}
+
+/// However the pairs of a league are divided, the sums of the parts add up to those of the league.
+pub fn leagues_add_up()
+    ensures { LeaguesAddUp }
+{}
+
+/// Without the pairs of the last warrior, the pairs of a league are those of the others.
+pub fn newcomers_change_nothing()
+    ensures { NewcomersChangeNothing }
 {}
