@@ -115,8 +115,8 @@ def test_a_cell_is_looked_at(page: Browser) -> None:
     assert "End the process" in page.text("tip") and "Written by Dwarf in turn 7,797" in page.text("tip")
     page.mouse(point["x"], point["y"], "pointerDown", "pointerUp")
     page.until("corewar.session.pinned === 5203")
+    page.until("document.getElementById('where').textContent === 'Cell 5,203'")
     page.until("document.getElementById('past').textContent.includes('Turn 7,796 Imp')")
-    assert page.text("where") == "Cell 5,203"
     page.click("#seek [data-word=changes][data-way=back]")
     page.until("corewar.session.turn === 7796")
     page.click("#seek [data-word=reads][data-way=back]")
