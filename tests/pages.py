@@ -115,8 +115,8 @@ def test_a_cell_is_looked_at(page: Browser) -> None:
     assert "End the process" in page.text("tip") and "Written by Dwarf in turn 7,797" in page.text("tip")
     page.mouse(point["x"], point["y"], "pointerDown", "pointerUp")
     page.until("corewar.session.pinned === 5203")
+    page.until("document.getElementById('where').textContent === 'Cell 5,203'")
     page.until("document.getElementById('past').textContent.includes('Turn 7,796 Imp')")
-    assert page.text("where") == "Cell 5,203"
     page.click("#seek [data-word=changes][data-way=back]")
     page.until("corewar.session.turn === 7796")
     page.click("#seek [data-word=reads][data-way=back]")
@@ -360,18 +360,18 @@ def test_many_warriors(page: Browser) -> None:
 
 def test_a_lesson_is_judged(page: Browser) -> None:
     page.click("[data-view=learn]")
-    judge = "document.querySelectorAll('.lesson')[given[0]].querySelector('.main').click()"
-    verdict = "document.querySelectorAll('.lesson .verdict')[%d].textContent === '%s'"
+    judge = "document.querySelectorAll('#lessons .lesson')[given[0]].querySelector('.main').click()"
+    verdict = "document.querySelectorAll('#lessons .verdict')[%d].textContent === '%s'"
     page.run(judge, 1)
     page.until(verdict % (1, f"In turn {page.value('corewar.session.turn'):,} no warrior dies."))
     stand(page, 7798)
     page.run(judge, 1)
     page.until(verdict % (1, "That is the turn."))
-    page.run("document.querySelectorAll('.lesson')[3].querySelector('button').click()")
+    page.run("document.querySelectorAll('#lessons .lesson')[3].querySelector('button').click()")
     page.until("corewar.shelf.shown.name.startsWith('a-tie')")
     page.run(
         "corewar.shelf.editor.mirror.setValue('MOV 0, 1\\n');"
-        "document.querySelectorAll('.lesson')[3].querySelector('.main').click()"
+        "document.querySelectorAll('#lessons .lesson')[3].querySelector('.main').click()"
     )
     page.until(verdict % (3, "1 cells; 0 won, 100 tied, 0 lost of 100. Well done."))
 

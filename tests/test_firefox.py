@@ -4,8 +4,11 @@ from __future__ import annotations
 from collections.abc import Iterator
 
 import pytest
-from browsers import Browser, firefox
-from pages import *  # noqa: F401,F403
+
+pytest.register_assert_rewrite("pages")
+
+from browsers import Browser, firefox  # noqa: E402
+from pages import *  # noqa: E402,F401,F403
 
 
 @pytest.fixture(scope="module")

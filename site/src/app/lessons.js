@@ -70,7 +70,7 @@ export class Lessons {
       const { isDone: isPassed, text } = await this.judge(lesson);
       refill(verdict, withCode(text));
       card.classList.toggle("done", isPassed);
-      if (isPassed) this.#pass(lesson);
+      if (isPassed) this.#pass(lesson, card);
     };
     const hint = make("details", {}, make("summary", {}, "Hint"), make("p", {}, withCode(lesson.hint)));
     const paragraphs = lesson.text.map((text) => make("p", {}, withCode(text)));
@@ -80,12 +80,17 @@ export class Lessons {
     return card;
   }
 
-  /** @param {Lesson} lesson */
-  #pass(lesson) {
+  /**
+   * Keeps that a lesson is done. Beside the battle the next one is offered.
+   * @param {Lesson} lesson
+   * @param {HTMLElement} card
+   */
+  #pass(lesson, card) {
     this.keep([...this.done.add(lesson.id)]);
+    if (element("lessons").contains(card)) return;
+    this.#list();
     const next = this.lessons[this.lessons.indexOf(lesson) + 1];
-    if (element("lesson-box").hidden || !next) this.#list();
-    else element("lesson-box").append(" ", make("button", { onclick: () => this.begin(next) }, "Next lesson"));
+    if (next) refill(card, ...card.childNodes, make("button", { onclick: () => this.begin(next) }, "Next lesson"));
   }
 
   /** @param {Lesson} lesson */

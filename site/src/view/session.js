@@ -74,7 +74,8 @@ export class Session {
   #wantedBeside = null;
   #exact = 0;
   #then = 0;
-  #isAsking = false;
+  /** @type {Promise<void> | null} */
+  #going = null;
 
   /**
    * @param {RemoteDesk} desk
@@ -105,7 +106,7 @@ export class Session {
 
   /** Whether the turn that is wanted is shown, with what it did. */
   get isSettled() {
-    return !this.#isAsking && this.view?.turn === this.wanted;
+    return this.#going === null && this.view?.turn === this.wanted;
   }
 
   /** How many turns a shade of the core lasts: all shades are about a second of play. */
@@ -161,20 +162,26 @@ export class Session {
   }
 
   /**
-   * Shows a turn. While the desk prepares one, the latest wish counts.
+   * Shows a turn. While the desk prepares one, the latest wish counts. Resolves when that is shown.
    * @param {number} turn
    */
-  async go(turn) {
+  go(turn) {
     this.wanted = clamp(Math.round(turn), 0, this.end);
-    if (this.#isAsking) return;
-    this.#isAsking = true;
+    this.#going ??= this.#showWanted();
+    return this.#going;
+  }
+
+  async #showWanted() {
+    // What follows ends after this call has returned, even if there is nothing to show.
+    await null;
     try {
       while (this.view?.turn !== this.wanted || this.#isIncomplete) await this.#show(this.wanted);
     } catch (error) {
-      this.stop();
+      this.way = 0;
+      this.#tell("play");
       this.complain(String(/** @type {Error} */ (error).message));
     } finally {
-      this.#isAsking = false;
+      this.#going = null;
     }
   }
 

@@ -112,6 +112,7 @@ export class RemoteDesk {
   /**
    * @param {string} call
    * @param {unknown[]} given
+   * @returns {Promise<unknown>}
    */
   async ask(call, given) {
     const { hand } = this;
@@ -120,6 +121,8 @@ export class RemoteDesk {
       if (call === "open") this.#last = given;
       return answer;
     } catch (error) {
+      // The calls that waited for a worker that was ended are made again.
+      if (error instanceof Stopped && hand !== this.hand) return this.ask(call, given);
       if (error instanceof TooLong && hand === this.hand) {
         hand.end();
         this.hand = new Hand(this.parts);
