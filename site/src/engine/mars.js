@@ -29,8 +29,8 @@ import { CELL_WORDS, writeCell } from "../model/cells.js";
 /** @typedef {import("../model/settings.js").Settings} Settings */
 /** @typedef {import("../model/cells.js").Cell} Cell */
 /**
- * A warrior, as a value: `cells` are three words for each cell, whose numbers are for the core size of the settings with
- * which it was assembled or read, and `start` is the index of the cell at which it starts.
+ * A warrior, as a value: `cells` are three words for each cell, whose numbers are for the core size of the settings by
+ * which it was assembled or read; `start` is the index of the cell at which it starts.
  * @typedef {{name: string, author: string, start: number, cells: Uint32Array}} Warrior
  */
 /** @typedef {{points: number, wins: number, ties: number, losses: number}} Row the result of a warrior */
