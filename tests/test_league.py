@@ -22,10 +22,10 @@ from test_pages import unpacked
 
 import corewar
 from corewar.engine.calls import assemble
-from corewar.league.contest import Contest, Matches, all_pairs, digests_of
-from corewar.league.places import Place, threads
-from corewar.league.results import Results
-from corewar.league.table import League
+from corewar.contests.contest import Contest, Matches, all_pairs, digests_of
+from corewar.contests.places import Place, threads
+from corewar.contests.results import Results
+from corewar.contests.table import League
 from corewar.model.faults import Refused
 from corewar.model.settings import HILLS, Settings
 from corewar.pictures.shades import LOST, NO_MATCH, TIED, WON, mixed

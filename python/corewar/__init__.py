@@ -10,7 +10,6 @@
 
 The package calls the library that `scripts/library` builds, and requires cffi and NumPy.
 """
-from . import league as _league  # (loaded first, so that `corewar.league` stays the call below)
 from .battle.history import History
 from .engine.battles import Battle
 from .engine.calls import Match, Row, assemble, league, match, population

@@ -17,10 +17,10 @@ from rich.progress import BarColumn, MofNCompleteColumn, Progress, TimeRemaining
 
 from ..engine.files import replace_file
 from ..engine.warriors import Warrior
-from ..league.contest import Contest, Matches, Rows, all_pairs, enter
-from ..league.places import cluster, threads
-from ..league.results import Results
-from ..league.table import FORMATS, League
+from ..contests.contest import Contest, Matches, Rows, all_pairs, enter
+from ..contests.places import cluster, threads
+from ..contests.results import Results
+from ..contests.table import FORMATS, League
 from ..model.faults import FileFault
 from ..model.printing import printable
 from .layout import EXECUTION, STATUSES, Command, Number, Option

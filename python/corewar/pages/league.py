@@ -6,7 +6,7 @@ from typing import Any
 
 from ..analysis.telling import counted
 from ..engine.calls import Match
-from ..league.table import League
+from ..contests.table import League
 from ..model.settings import label
 from ..pictures.shades import mixed
 from .render import render, write_page

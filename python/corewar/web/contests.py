@@ -11,9 +11,9 @@ import numpy as np
 from numpy.typing import NDArray
 
 from ..engine.sources import Assembler, Overrun
-from ..league.contest import Contest, Matches, all_pairs
-from ..league.places import threads
-from ..league.results import Results
+from ..contests.contest import Contest, Matches, all_pairs
+from ..contests.places import threads
+from ..contests.results import Results
 from ..model.faults import Fault, Refused
 from ..model.settings import Settings
 from ..engine.warriors import Warrior
