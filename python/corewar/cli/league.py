@@ -39,6 +39,14 @@ def address(context: click.Context, param: click.Parameter, given: str | None) -
 
 
 FILE = Output(dir_okay=False, writable=True)
+JOBS = click.option(
+    "--jobs",
+    cls=Option,
+    group=EXECUTION,
+    type=Number(1),
+    default=len(os.sched_getaffinity(0)),
+    help="Number of parallel matches, 1 or more  [default: number of CPUs]",
+)
 PLACE = [
     click.option(
         "--results",
@@ -47,14 +55,7 @@ PLACE = [
         type=FILE,
         help="Store results in this file; skip matches already in it",
     ),
-    click.option(
-        "--jobs",
-        cls=Option,
-        group=EXECUTION,
-        type=Number(1),
-        default=len(os.sched_getaffinity(0)),
-        help="Number of parallel matches, 1 or more  [default: number of CPUs]",
-    ),
+    JOBS,
     click.option(
         "--scheduler",
         cls=Option,

@@ -26,7 +26,7 @@ GROUPS = {
         "page": "pictures",
         "explain": "explaining",
     },
-    "Contests": {"league": "league", "challenge": "league"},
+    "Contests": {"league": "league", "challenge": "league", "melee": "melee"},
     "Editors": {"lsp": "editing"},
 }
 COMMANDS = {name: module for group in GROUPS.values() for name, module in group.items()}

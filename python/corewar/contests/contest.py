@@ -79,13 +79,17 @@ def digests_of(warrior: Warrior) -> tuple[bytes, bytes]:
     return hashlib.sha256(first + b"\n" + rest).digest(), hashlib.sha256(warrior.load).digest()
 
 
-def enter(contest: Contest, files: Sequence[str], limit: Limit) -> tuple[list[Warrior], list[FileFault]]:
-    """Returns the warriors of files, in order, and the errors of the other files. Raises `Fault` for the settings."""
+def enter(
+    contest: Contest, files: Sequence[str], limit: Limit, count: int = 2
+) -> tuple[list[Warrior], list[FileFault]]:
+    """Returns the warriors of files, for matches of `count` warriors, in order, and the errors of the other files.
+    Raises `Fault` for the settings.
+    """
     warriors, faults = [], []
     with Assembler(limit) as assembler:
         for file in files:
             try:
-                warriors.append(read_warrior(assembler.assemble, file, contest.settings, contest.rounds))
+                warriors.append(read_warrior(assembler.assemble, file, contest.settings, contest.rounds, count))
             except FileFault as left:
                 faults.append(left)
     return warriors, faults

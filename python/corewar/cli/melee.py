@@ -1,0 +1,61 @@
+"""`melee`: matches of several warriors in random lineups."""
+from __future__ import annotations
+
+import os
+
+import click
+
+from ..contests.contest import Contest, enter
+from ..contests.melee import melee as run
+from ..model.printing import printable
+from ..model.settings import MOST_WARRIORS
+from .layout import Command, Number
+from .league import JOBS, LEFT_OUT, write
+from .options import Asked, battle_options
+from .telling import tell, tell_fault
+
+
+@click.command(
+    cls=Command,
+    examples=["corewar melee --lineups 1000 hill/*.red", "corewar melee --size 8 --lineups 500 -r 10 hill"],
+    statuses=LEFT_OUT,
+)
+@battle_options()
+@click.option(
+    "--size",
+    type=Number(2, MOST_WARRIORS),
+    default=4,
+    show_default=True,
+    help=f"Number of warriors in a match, 2 to {MOST_WARRIORS}",
+)
+@click.option(
+    "--lineups", type=Number(1, 1_000_000), default=100, show_default=True, help="Number of matches, 1 to 1000000"
+)
+@JOBS
+def melee(asked: Asked, size: int, lineups: int, jobs: int) -> int:
+    """Run matches of several warriors in random lineups, and rank all warriors.
+
+    All warriors are in the same number of matches, or in one more. The score is the points for 100 rounds; equal scores
+    share a rank. A file with an error is reported and left out.
+    """
+    if len(asked.files) < size:
+        raise click.UsageError(f"expected at least {size} files for matches of {size}, not {len(asked.files)}")
+    contest = Contest(asked.settings, asked.rounds, asked.seed, asked.position, asked.formula)
+    warriors, faults = enter(contest, asked.files, asked.limit, size)
+    for fault in faults:
+        tell_fault(fault)
+    if len(warriors) < size:
+        tell(f"{len(warriors)} warriors are left, but a match has {size}")
+        return 1
+    try:
+        table = run(contest, warriors, size, lineups, jobs)
+    except KeyboardInterrupt:
+        tell("stopped")
+        # Matches that are under way aren't waited for.
+        os._exit(130)
+    lines = ["  rank    score rounds   wins   ties losses  warrior"]
+    for one in table:
+        numbers = f"{one.rank:6} {one.score:8.1f} {one.rounds:6} {one.wins:6} {one.ties:6} {one.losses:6}"
+        lines.append(f"{numbers}  {printable(one.warrior.title)}")
+    write("\n".join(lines), None)
+    return 1 if faults else 0

@@ -1,0 +1,95 @@
+"""melee: random lineups, and the table of all warriors."""
+from __future__ import annotations
+
+import random
+import signal
+import time
+from pathlib import Path
+
+import pytest
+from conftest import EXAMPLES, Run, begin
+
+import corewar
+from corewar.contests.contest import Contest
+from corewar.contests.melee import Standing, lineups_of, melee, score_of
+from corewar.model.settings import HILLS
+
+NAMES = "dwarf imp silk paper vampire bomber".split()
+
+
+def warriors() -> list[corewar.Warrior]:
+    return [corewar.read(EXAMPLES / f"{name}.red") for name in NAMES]
+
+
+@pytest.mark.parametrize("formula", ["(W*W-1)/S", "W-S", "10-3*S"])
+def test_it_is_the_sum_of_its_matches(formula: str) -> None:
+    """Each standing is the sum of the rows of the matches, whatever the number of threads."""
+    contest = Contest(rounds=3, seed=9, formula=formula)
+    table = melee(contest, warriors(), 3, 20, 1)
+    assert table == melee(contest, warriors(), 3, 20, 3)
+    dice, sums = random.Random(9), {name: [0] * 5 for name in NAMES}
+    lineups = lineups_of(len(NAMES), 3, 20, dice)
+    for lineup in lineups:
+        rows = corewar.match([warriors()[one] for one in lineup], 3, dice.randint(1, 2_147_483_646), formula=formula)
+        for one, row in zip(lineup, rows):
+            added = [row.points, 3, row.wins, row.ties, row.losses]
+            sums[NAMES[one]] = [before + number for before, number in zip(sums[NAMES[one]], added)]
+    for one in table:
+        points, *rest = sums[Path(one.warrior.file).stem]
+        assert (one.score, [one.rounds, one.wins, one.ties, one.losses]) == (100 * points / one.rounds, rest)
+    assert [one.rank for one in table] == [1 + sum(other.score > one.score for other in table) for one in table]
+
+
+def test_lineups_are_fair() -> None:
+    """No warrior is twice in a lineup, all are equally often, and each is anywhere in its lineup."""
+    lineups = lineups_of(7, 4, 100, random.Random(1))
+    assert all(len({*lineup}) == 4 for lineup in lineups)
+    counts = [sum(lineup.count(one) for lineup in lineups) for one in range(7)]
+    assert sum(counts) == 400 and max(counts) - min(counts) <= 1
+    assert all({lineup.index(one) for lineup in lineups if one in lineup} == {0, 1, 2, 3} for one in range(7))
+
+
+def test_scores_are_those_of_the_formula() -> None:
+    assert [score_of("(W*W-1)/S", 16, left) for left in (1, 2, 16)] == [255, 127, 15]
+    with pytest.raises(corewar.Fault, match="score 3 DivideByZero"):
+        score_of("W/(S-1)", 3, 1)
+
+
+def test_equal_scores_share_a_rank() -> None:
+    imp = corewar.assemble("JMP 0", "nano")
+    table = melee(Contest(HILLS["nano"]), [imp] * 3, 3, 2, 1)
+    assert table == [Standing(1, 200.0, 2, 0, 2, 0, imp)] * 3
+
+
+def test_the_command(run: Run, tmp_path: Path) -> None:
+    """The table, files that are left out, and what is refused."""
+    (tmp_path / "bad.red").write_text("foo 1\n")
+    (tmp_path / "many.red").write_text(";assert WARRIORS == 3\nmov 0, 1\n")
+    files = [f"@{name}" for name in NAMES]
+    done = run("melee", "--size", 3, "--lineups", 14, "-r", 2, "many.red", *files)
+    head, *rows = done.stdout.splitlines()
+    assert (done.returncode, head.split()[:3], len(rows)) == (0, ["rank", "score", "rounds"], 7)
+    assert done.stdout == run("melee", "--size", 3, "--lineups", 14, "-r", 2, "many.red", *files, "--jobs", 1).stdout
+    left = run("melee", "--size", 3, "bad.red", *files)
+    assert left.returncode == 1 and len(left.stdout.splitlines()) == 7 and "bad.red: line 1: 2 Operation" in left.stderr
+    few = run("melee", "bad.red", *files[:3])
+    assert (few.returncode, few.stdout) == (1, "") and "3 warriors are left, but a match has 4" in few.stderr
+    for words, told in (
+        (["--size", 17, *files], "expected a number from 2 to 16, not `17`"),
+        (["--size", 8, *files], "expected at least 8 files for matches of 8, not 6"),
+        (["--score", "W+", *files], "formula 1 Expression 1 Syntax"),
+        (["-F", 400, *files], "settings 3 Position"),
+        (["--size", 6, "-d", 2000, *files], "placement 1 NoRoom"),
+        (["--lineups", 0, *files], "expected a number from 1 to 1000000"),
+    ):
+        refused = run("melee", *words)
+        assert refused.returncode in (1, 2) and told in refused.stderr and not refused.stdout
+
+
+def test_it_can_be_stopped() -> None:
+    """Ctrl-C ends it at once."""
+    started = begin("melee", "--lineups", 100000, *(EXAMPLES / f"{name}.red" for name in NAMES))
+    time.sleep(3)
+    started.send_signal(signal.SIGINT)
+    _, told = started.communicate(timeout=20)
+    assert (started.returncode, told) == (130, "corewar: stopped\n")
