@@ -53,7 +53,7 @@ def matches(draw: st.DrawFn) -> Match:
         read_limit=draw(st.sampled_from([0, 0, 7])),
         write_limit=draw(st.sampled_from([0, 0, 5])),
     )
-    return Match(tuple(draw(warriors()) for _ in range(count)), settings, draw(st.integers(1, 9999)))
+    return Match(tuple(draw(warriors()) for _ in range(count)), 1, draw(st.integers(1, 9999)), settings)
 
 
 @st.composite

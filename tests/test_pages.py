@@ -115,7 +115,7 @@ def test_the_points_of_a_picture() -> None:
     from corewar.model.settings import Settings
 
     imp = read(str(EXAMPLES / "imp.red"), warriors=1)
-    history = History(Match((imp,), Settings(core=8, cycles=7, longest=1, distance=1)))
+    history = History(Match((imp,), settings=Settings(core=8, cycles=7, longest=1, distance=1)))
     made = points(history, View(list(range(8)), range(8), 8))
     owned, standing = made[0, 0], made[0, 1]
     for row in range(7):

@@ -45,8 +45,8 @@ def test_what_a_caller_may_give(tmp_path: Path) -> None:
     assert (imp.name, imp.author, imp.called, imp.core) == ("Unknown", "Anonymous", str(tmp_path / "imp.red"), 80)
     nano = corewar.HILLS["nano"]
     assert corewar.match([dwarf, imp], 5, 7, "nano") == corewar.match([dwarf, imp], 5, 7, nano)
-    fight = Match([dwarf, corewar.assemble("MOV 0, 1")], "nano")
-    assert fight == Match(fight.warriors, nano) and fight.position is None
+    fight = Match([dwarf, corewar.assemble("MOV 0, 1")], settings="nano")
+    assert fight == Match(fight.warriors, settings=nano) and fight.position is None
     texts = [repr(dwarf), repr(fight), repr(corewar.Battle(fight)), repr(History(fight))]
     assert texts == [
         "<Warrior Dwarf by A. K. Dewdney of length 4>",
@@ -129,7 +129,7 @@ def test_outcomes_are_those_of_matches_and_battles() -> None:
                 (won, lived, rounds - lived) for won, lived in zip(wins, lives)
             ]
             round = dice.randrange(rounds)
-            died += check_round(Match(fighters, SMALL, seed, rounds=rounds), round, rows[round])
+            died += check_round(Match(fighters, rounds, seed, SMALL), round, rows[round])
     assert died > 2000
 
 

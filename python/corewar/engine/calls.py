@@ -22,31 +22,31 @@ class Match:
     """The warriors of a match in the order of their files, and how they are placed in the core.
 
     - `warriors`: 1 to 16 warriors
-    - `settings`: the parameters of the core, or the name of a hill
+    - `rounds`: the number of rounds, 1 to 100,000
     - `seed`: the seed for the starting positions, 1 to 2,147,483,646
+    - `settings`: the parameters of the core, or the name of a hill
     - `position`: the address of the second of two warriors, from the minimum distance to the core size minus it; None
       draws the positions from the seed
-    - `rounds`: the number of rounds, 1 to 100,000
 
     The ranges are checked by the calls that use the match.
     """
 
     warriors: tuple[Warrior, ...]
-    settings: Settings
-    seed: int
-    position: int | None
     rounds: int
+    seed: int
+    settings: Settings
+    position: int | None
 
     def __init__(
         self,
         warriors: Sequence[Warrior],
-        settings: Settings | str = "94nop",
-        seed: int = 1,
-        position: int | None = None,
         rounds: int = 1,
+        seed: int = 1,
+        settings: Settings | str = "94nop",
+        position: int | None = None,
     ) -> None:
-        given = {"warriors": tuple(warriors), "settings": settings_of(settings), "seed": seed, "position": position}
-        vars(self).update(given, rounds=rounds)
+        given = {"rounds": rounds, "seed": seed, "settings": settings_of(settings), "position": position}
+        vars(self).update(given, warriors=tuple(warriors))
 
     def __repr__(self) -> str:
         return f"<Match of {', '.join(warrior.called for warrior in self.warriors)}>"

@@ -23,7 +23,7 @@ def write_pages(folder: Path, league: League) -> None:
     """
     contest, warriors = league.matches.contest, tuple(league.warriors)
     has_matrix = len(warriors) <= LARGEST_MATRIX
-    match = Match(warriors, contest.settings, contest.seed, contest.position, contest.rounds)
+    match = Match(warriors, contest.rounds, contest.seed, contest.settings, contest.position)
     battles = page_of(match, contest.formula) if has_matrix else ""
     numbers = {**vars(contest.settings), "rounds": contest.rounds, "seed": contest.seed, "position": contest.position}
     told = [f"{label(name)} {value:,}" for name, value in numbers.items() if value]
