@@ -61,7 +61,7 @@ def melee(contest: Contest, warriors: Sequence[Warrior], size: int, count: int, 
     seeds = [dice.randint(1, NUMBERS["seed"].greatest) for _ in lineups]
     made = outcomes(warriors, lineups, contest.rounds, seeds, contest.settings, contest.position, jobs)
     places = np.array(lineups)[:, None, :]
-    # How many rounds each warrior survived with so many survivors.
+    # In how many rounds each warrior was one of 0, 1, 2 .. survivors.
     lives = np.zeros((len(warriors), size + 1), np.int64)
     survivors = np.broadcast_to(made["survived"].sum(axis=-1, keepdims=True), made.shape)
     np.add.at(lives, (np.broadcast_to(places, made.shape), survivors), made["survived"])
