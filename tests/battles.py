@@ -13,8 +13,8 @@ from hypothesis import strategies as st
 from numpy.typing import NDArray
 
 from corewar.engine.battles import Battle
-from corewar.engine.calls import Match, read_load
-from corewar.engine.warriors import Warrior
+from corewar.engine.calls import Match
+from corewar.engine.warriors import Warrior, read_load
 from corewar.model.cells import MODES, MODIFIERS, OPCODES, Cells, Records, cell_of, cell_text
 from corewar.model.edits import Edit
 from corewar.model.faults import Fault

@@ -11,8 +11,9 @@ from corewar.battle import history as module, labels
 from corewar.battle.history import History
 from corewar.battle.labels import Sources
 from corewar.battle.origins import Origins
-from corewar.engine.calls import Match, assemble, read_load, source_lines
+from corewar.engine.calls import Match, assemble, source_lines
 from corewar.engine.sources import read
+from corewar.engine.warriors import read_load
 from corewar.model.faults import Refused
 
 # The parts of a cell that no instruction changes except by a copy of the whole cell.

@@ -259,7 +259,7 @@ def wait_for_results(path: Path, count: int) -> None:
 def test_it_goes_on_where_it_was_ended(folder: Path) -> None:
     """After a kill and after Ctrl-C, which reports how many are stored, the table is the same, and all are stored."""
     path, before = folder / "kept.sqlite", 0
-    words = ["-r", 300, "--jobs", 1, "--results", path, *(EXAMPLES / name for name in NAMES[:7])]
+    words = ["-r", 800, "--jobs", 1, "--results", path, *(EXAMPLES / name for name in NAMES[:7])]
     for how in (signal.SIGKILL, signal.SIGINT):
         process = begin("league", *words)
         wait_for_results(path, before)
@@ -275,7 +275,7 @@ def test_it_goes_on_where_it_was_ended(folder: Path) -> None:
         before = kept
     both = [begin("league", *words) for _ in range(2)]
     tables = [process.communicate(timeout=300) for process in both]
-    own = own_rows(EXAMPLES, f"-o -r 300 {' '.join(NAMES[:7])}")
+    own = own_rows(EXAMPLES, f"-o -r 800 {' '.join(NAMES[:7])}")
     assert [(rows(output), told) for output, told in tables] == 2 * [(own, "")] and count_kept(path) == 21
 
 

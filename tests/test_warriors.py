@@ -16,6 +16,7 @@ import corewar
 from corewar import Fault, Match, Settings, Warrior
 from corewar.battle.history import History
 from corewar.engine.outcomes import OUTCOME
+from corewar.engine.warriors import read_load
 from corewar.model.cells import MODES, MODIFIERS, OPCODES
 
 
@@ -33,7 +34,7 @@ def test_a_warrior_is_a_value(fight: Match) -> None:
 @given(matches())
 def test_another_core_reads_numbers_by_value(fight: Match) -> None:
     """A warrior fights in a core of another size as its load file says."""
-    read = [corewar.engine.calls.read_load(one.load, fight.settings) for one in fight.warriors]
+    read = [read_load(one.load, fight.settings) for one in fight.warriors]
     assert [one.core for one in read] == [fight.settings.core] * len(read)
     assert [one.cells_in(fight.settings.core) for one in fight.warriors] == [one.data for one in read]
 
@@ -85,6 +86,11 @@ def test_errors_of_warriors(given: dict[str, Any], name: str) -> None:
             told = found.value
             assert (told.kind, told.name, told.warrior, told.line) == ("warrior", name, 1, line)
             assert str(told).startswith("index 1: warrior ")
+    if name in ("Field", "Cell"):
+        for hill in ("nano", "94x"):
+            with pytest.raises(Fault) as found:
+                corewar.match([right, wrong], settings=hill)
+            assert (found.value.name, found.value.warrior, found.value.line) == (name, 1, line)
     if name == "Name" or len(wrong) < 100:
         with pytest.raises(Fault) as found:
             wrong.load

@@ -18,8 +18,8 @@ from counting import PROGRAM, SCRIPTS, TOP, skip
 from hypothesis import HealthCheck, given, settings as how, strategies as st
 
 import corewar
-from corewar.engine import calls
 from corewar.engine.binding import library
+from corewar.engine.warriors import read_load
 from corewar.model import cells, faults
 from corewar.model.header import names, numbers
 from corewar.model.settings import MOST_OF_LEAGUE, MOST_WARRIORS, NUMBERS
@@ -213,7 +213,7 @@ def test_contests(tmp_path):
         call = corewar.league if is_league else corewar.match
 
         def run():
-            warriors = [calls.read_load(load, held) for load in files]
+            warriors = [read_load(load, held) for load in files]
             return call(warriors, rounds, seed, held, formula=formula)
 
         told = called(run)

@@ -8,13 +8,10 @@ from typing import Any
 
 import numpy as np
 
-from ..model.faults import Refused
+from ..model.faults import Fault, Refused
 from ..model.settings import FORMULA, MOST_WARRIORS, Settings, settings_of
-from .binding import ROOM, array, call, held, library, number, slice_of, text
-from .warriors import Warrior
-
-# The number of cells for which a buffer is made first.
-CELLS = 128
+from .binding import array, call, held, number, slice_of, text
+from .warriors import Warrior, program
 
 
 @dataclass(frozen=True, init=False, repr=False)
@@ -91,23 +88,6 @@ def assemble(
     return replace(made, file=os.fspath(file), source=data)
 
 
-def read_load(load: bytes, settings: Settings | str = "94nop", file: str = "") -> Warrior:
-    """Returns the warrior of a load file. Raises `Fault` with the line of an error in it."""
-    return replace(program("mars_read_load", settings, 1, [], load), file=file)
-
-
-def program(call_name: str, settings: Settings | str, rounds: int, more: list[int], data: bytes) -> Warrior:
-    """Returns the warrior of a source or a load file."""
-    given = settings_of(settings)
-    parts = [held(given, rounds), *more, *slice_of("uint8_t", data)]
-    cells, made = array("MarsCell", CELLS), library()[0].new("MarsProgram *")
-    if call(call_name, *parts, *slice_of("MarsCell", cells), made) == ROOM:
-        cells = array("MarsCell", made.warrior.length)
-        call(call_name, *parts, *slice_of("MarsCell", cells), made)
-    name, author = (bytes(field).rstrip(b"\0").decode("ascii") for field in (made.name, made.author))
-    return Warrior(name, author, cells[: made.warrior.length].tobytes(), made.warrior.start, given.core)
-
-
 def source_lines(
     source: bytes, settings: Settings = Settings(), rounds: int = 1, warriors: int = 2
 ) -> list[tuple[int, list[str]]]:
@@ -182,9 +162,14 @@ def check_count(warriors: Sequence[Warrior]) -> None:
 
 def fighters(warriors: Sequence[Warrior], core: int) -> tuple[Any, ...]:
     """Returns the cells of warriors one after another, and the length and start of each, for a core of a size."""
-    places = [value for warrior in warriors for value in (len(warrior), number(warrior.start))]
-    cells = b"".join(warrior.cells_in(core) for warrior in warriors)
-    return *slice_of("MarsCell", cells), *slice_of("MarsWarrior", np.array(places, np.uint32))
+    cells, places = list[bytes](), list[int]()
+    for index, warrior in enumerate(warriors):
+        try:
+            cells.append(warrior.cells_in(core))
+        except Fault as fault:
+            raise Fault(fault.code, fault.number, line=fault.line, warrior=index) from None
+        places += len(warrior), number(warrior.start)
+    return *slice_of("MarsCell", b"".join(cells)), *slice_of("MarsWarrior", np.array(places, np.uint32))
 
 
 def rows(

@@ -16,8 +16,8 @@ from typing import Any
 from ..model.faults import ASSEMBLY, LOAD, MEMORY, Fault, FileFault, Refused
 from ..model.settings import LARGEST_FILE, Settings, settings_of
 from .binding import library
-from .calls import assemble, read_load
-from .warriors import Warrior
+from .calls import assemble
+from .warriors import Warrior, read_load
 
 
 @dataclass(frozen=True)

@@ -3,7 +3,7 @@ from __future__ import annotations
 
 import struct
 from collections.abc import Sequence
-from dataclasses import dataclass
+from dataclasses import dataclass, replace
 from functools import cached_property
 from pathlib import Path
 
@@ -12,10 +12,12 @@ import numpy as np
 from ..model.cells import Cell, Cells
 from ..model.printing import printable
 from ..model.settings import Settings, settings_of
-from .binding import call, held, kind, library, number, slice_of, text
+from .binding import ROOM, array, call, held, kind, library, number, slice_of, text
 
 # A cell as the library has it: opcode, modifier, modes and numbers.
 CELL = struct.Struct("=4B2I")
+# The number of cells for which a buffer is made first.
+CELLS = 128
 
 
 @dataclass(frozen=True, repr=False)
@@ -67,14 +69,10 @@ class Warrior:
         return np.frombuffer(self.data, kind("MarsCell"))
 
     def cells_in(self, core: int) -> bytes:
-        """Returns the cells as a core of a size reads them: each number by value."""
-        if core == self.core or core < 1:
+        """Returns the cells as a core of a size reads them: each number by value. Raises `Fault`."""
+        if core == self.core or core < len(self):
             return self.data
-        cells = self.cells.copy()
-        for field in ("a", "b"):
-            numbers = cells[field].astype(np.int64)
-            cells[field] = np.where(numbers > self.core // 2, numbers - self.core, numbers) % core
-        return cells.tobytes()
+        return read_load(self.load, Settings(core=core, longest=core, distance=core)).data
 
     @cached_property
     def load(self) -> bytes:
@@ -123,3 +121,20 @@ def packed(cells: Sequence[Cell | np.void] | Cells) -> bytes:
         return b"".join(CELL.pack(*(cell.tolist() if isinstance(cell, np.void) else cell)) for cell in cells)
     except (struct.error, TypeError) as fault:
         raise ValueError(f"expected the six numbers of each cell: {fault}") from None
+
+
+def read_load(load: bytes, settings: Settings | str = "94nop", file: str = "") -> Warrior:
+    """Returns the warrior of a load file. Raises `Fault` with the line of an error in it."""
+    return replace(program("mars_read_load", settings, 1, [], load), file=file)
+
+
+def program(call_name: str, settings: Settings | str, rounds: int, more: list[int], data: bytes) -> Warrior:
+    """Returns the warrior of a source or a load file."""
+    given = settings_of(settings)
+    parts = [held(given, rounds), *more, *slice_of("uint8_t", data)]
+    cells, made = array("MarsCell", CELLS), library()[0].new("MarsProgram *")
+    if call(call_name, *parts, *slice_of("MarsCell", cells), made) == ROOM:
+        cells = array("MarsCell", made.warrior.length)
+        call(call_name, *parts, *slice_of("MarsCell", cells), made)
+    name, author = (bytes(field).rstrip(b"\0").decode("ascii") for field in (made.name, made.author))
+    return Warrior(name, author, cells[: made.warrior.length].tobytes(), made.warrior.start, given.core)
