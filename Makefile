@@ -17,7 +17,7 @@ VERSION := $(shell sed -n 's/^__version__ = "\(.*\)"/\1/p' python/corewar/__init
 # The day of the last commit, so that packing it again gives the same bytes.
 DATE = $(shell git -c safe.directory='*' log -1 --format=%cD 2>/dev/null || date -R)
 PROGRAM = crates/mars/out/mars
-LIBRARY = build/libmars.so.1 build/libmars.a
+LIBRARY = build/libmars.so.2 build/libmars.a
 WASM = build/mars.wasm
 SITE = build/site/one.html
 # What the site is made of.
@@ -77,7 +77,7 @@ install: $(PROGRAM) $(LIBRARY) $(SITE) man completion editors
 	install -D -m 755 $(PROGRAM) $(to)/bin/mars
 	install -D -m 755 packaging/corewar $(to)/bin/corewar
 	install -D -m 644 -t $(to)/lib $(LIBRARY)
-	ln -sf libmars.so.1 $(to)/lib/libmars.so
+	ln -sf libmars.so.2 $(to)/lib/libmars.so
 	install -D -m 644 -t $(to)/include include/mars.h
 	install -d $(to)/lib/pkgconfig
 	sed 's|@PREFIX@|$(PREFIX)|; s|@VERSION@|$(VERSION)|' packaging/mars.pc >$(to)/lib/pkgconfig/mars.pc
@@ -91,7 +91,7 @@ install: $(PROGRAM) $(LIBRARY) $(SITE) man completion editors
 	$(call copy,.,$(documents),--exclude=mars.1 README.md CHANGELOG.md docs examples)
 
 uninstall:
-	rm -f $(to)/bin/mars $(to)/bin/corewar $(to)/lib/libmars.so $(to)/lib/libmars.so.1 $(to)/lib/libmars.a
+	rm -f $(to)/bin/mars $(to)/bin/corewar $(to)/lib/libmars.so $(to)/lib/libmars.so.2 $(to)/lib/libmars.a
 	rm -f $(to)/include/mars.h $(to)/lib/pkgconfig/mars.pc $(to)/share/man/man1/mars.1 $(to)/share/man/man1/corewar.1 $(to)/share/man/man1/corewar-*.1
 	rm -f $(bash)/mars $(bash)/corewar $(zsh)/_mars $(zsh)/_corewar
 	rm -f $(to)/share/vim/vimfiles/*/redcode.vim $(to)/share/nvim/site/*/redcode.vim $(to)/share/nvim/site/lua/corewar.lua
@@ -110,7 +110,7 @@ packages: $(PROGRAM) $(LIBRARY) $(SITE)
 # Built from a copy, since setuptools leaves folders in its source; building it again gives the same bytes.
 wheel: $(LIBRARY) $(SITE)
 	rm -rf build/wheel
-	$(call copy,.,build/wheel/kit,pyproject.toml setup.py README.md python include build/libmars.so.1 build/site)
+	$(call copy,.,build/wheel/kit,pyproject.toml setup.py README.md python include build/libmars.so.2 build/site)
 	$(COREWAR) packaging/editors.py build/wheel/kit/build/share
 	$(call licences,build/wheel/kit/licences)
 	SOURCE_DATE_EPOCH=$$(git -c safe.directory='*' log -1 --format=%ct 2>/dev/null || stat -c %Y CHANGELOG.md) \

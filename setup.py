@@ -1,4 +1,4 @@
-"""Builds what pyproject.toml cannot express: a wheel with libmars.so.1 and mars.h, which any Python on x86-64 Linux calls by cffi, and
+"""Builds what pyproject.toml cannot express: a wheel with libmars.so.2 and mars.h, which any Python on x86-64 Linux calls by cffi, and
 with the built site."""
 import runpy
 import shutil
@@ -9,7 +9,7 @@ from setuptools import Distribution, setup
 from setuptools.command.build_py import build_py
 from wheel.bdist_wheel import bdist_wheel
 
-INSIDE = ["build/libmars.so.1", "include/mars.h"]
+INSIDE = ["build/libmars.so.2", "include/mars.h"]
 SITE = "build/site"
 READER = "python/corewar/model/header.py"
 # The files for editors, which `make editors` writes.

@@ -20,7 +20,7 @@ from counting import PROGRAM, skip
 
 # Names below a prefix: one of each kind that is installed.
 INSTALLED = [
-    *("bin/corewar", "bin/mars", "include/mars.h", "lib/libmars.a", "lib/libmars.so", "lib/libmars.so.1"),
+    *("bin/corewar", "bin/mars", "include/mars.h", "lib/libmars.a", "lib/libmars.so", "lib/libmars.so.2"),
     *("lib/pkgconfig/mars.pc", "lib/python3/dist-packages/corewar/pages/site/one.html"),
     *("share/bash-completion/completions/corewar", "share/bash-completion/completions/mars"),
     *("share/doc/mars/README.md", "share/doc/mars/docs/user/TUTORIAL.md", "share/doc/mars/examples/rust/src/main.rs"),
@@ -75,7 +75,7 @@ def test_what_is_installed(prefix: Path) -> None:
     assert [f"share/man/man1/corewar-{name}.1" for name in sorted(COMMANDS)] == [n for n in names if "/corewar-" in n]
     assert not [name for name in names if "__pycache__" in name or "target" in name]
     assert all(os.access(prefix / "bin" / name, os.X_OK) for name in ("mars", "corewar"))
-    assert (prefix / "lib/libmars.so").readlink() == Path("libmars.so.1")
+    assert (prefix / "lib/libmars.so").readlink() == Path("libmars.so.2")
     told = (prefix / "lib/pkgconfig/mars.pc").read_text()
     assert told.startswith(f"prefix={prefix}\n") and f"\nVersion: {corewar.__version__}\n" in told
 
@@ -96,7 +96,7 @@ def test_it_calls_what_is_installed(prefix: Path) -> None:
     code += "print(open('/proc/self/maps').read(), next(path for path in EXAMPLES if path.is_dir()))"
     environment = {"PYTHONPATH": str(prefix / "lib/python3/dist-packages")}
     told = started(prefix, "/usr/bin/python3", "-P", "-c", code, env=environment).stdout
-    assert f"{prefix}/lib/libmars.so.1\n" in told and told.endswith(f" {prefix}/share/doc/mars/examples\n")
+    assert f"{prefix}/lib/libmars.so.2\n" in told and told.endswith(f" {prefix}/share/doc/mars/examples\n")
 
 
 def test_a_library_that_is_not_there_is_told(prefix: Path) -> None:

@@ -61,7 +61,7 @@ def test_it_is_the_same_again() -> None:
 def test_it_calls_its_own_library(environment: Path) -> None:
     code = "import corewar.engine.binding as b; b.library(); print(b.ENGINE, open('/proc/self/maps').read())"
     told = started(environment, "python", "-c", code)
-    assert told.startswith(f"{environment}/lib/") and f"{told.split()[0]}/libmars.so.1\n" in told
+    assert told.startswith(f"{environment}/lib/") and f"{told.split()[0]}/libmars.so.2\n" in told
 
 
 def test_no_header_is_parsed(environment: Path) -> None:

@@ -278,8 +278,8 @@ def test_shared(built):
     def told(*words):
         return subprocess.run([*words, f"{built}/libmars.so"], capture_output=True, text=True).stdout
 
-    assert os.readlink(f"{built}/libmars.so") == "libmars.so.1"
-    assert "soname: [libmars.so.1]" in told("readelf", "--dynamic")
+    assert os.readlink(f"{built}/libmars.so") == "libmars.so.2"
+    assert "soname: [libmars.so.2]" in told("readelf", "--dynamic")
     exported = {line.split()[-1] for line in told("nm", "--dynamic", "--defined-only").splitlines()}
     assert exported == {*re.findall(r"^(?:uint32_t|size_t) (mars_\w+)\(", HEADER, re.M)}
 

@@ -1,7 +1,7 @@
 """The library for C as its header declares it: its types as those of NumPy, and its calls.
 
-The library is the file that MARS_LIBRARY names; otherwise the first of these that exists: libmars.so.1 beside this
-file (in a wheel), build/libmars.so of the checkout that contains this file, lib/libmars.so.1 of the prefix in which
+The library is the file that MARS_LIBRARY names; otherwise the first of these that exists: libmars.so.2 beside this
+file (in a wheel), build/libmars.so of the checkout that contains this file, lib/libmars.so.2 of the prefix in which
 the package is installed, or of the system. A call releases the interpreter lock, and several threads may call at once.
 """
 from __future__ import annotations
@@ -44,8 +44,8 @@ def library() -> tuple[Any, Any]:
 @lru_cache(maxsize=None)
 def opened() -> tuple[Any, Any]:
     """Returns the types of the header, and the library."""
-    below = [folder / "lib" / "libmars.so.1" for folder in INSTALLED]
-    built = [ENGINE / "libmars.so.1", CHECKOUT / "build" / "libmars.so", *below]
+    below = [folder / "lib" / "libmars.so.2" for folder in INSTALLED]
+    built = [ENGINE / "libmars.so.2", CHECKOUT / "build" / "libmars.so", *below]
     shared = os.environ.get("MARS_LIBRARY") or next((str(path) for path in built if path.is_file()), None)
     if shared is None:
         raise NoLibrary("cannot find libmars.so; build it with scripts/library or set MARS_LIBRARY")
