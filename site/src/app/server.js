@@ -61,6 +61,18 @@ export class Server {
   }
 
   /**
+   * Returns the text of a source as it is now, or null if it is gone.
+   * @param {string} name
+   */
+  async load(name) {
+    const answer = await fetch(`${this.path}/sources`);
+    const all = /** @type {Kept[]} */ (await answer.json());
+    const found = all.find((one) => one.name === name && one.text !== undefined);
+    if (found) this.#seen.set(name, found.seen);
+    return found?.text ?? null;
+  }
+
+  /**
    * Runs a league on the processors of this machine, with the results that are stored.
    * @param {Source[]} sources
    * @param {MatchTerms} terms
