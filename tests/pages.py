@@ -79,7 +79,7 @@ def test_a_newcomer_sees_a_fight(page: Browser) -> None:
     assert page.value("document.title") == "Dwarf against Imp · Core War"
     assert "share a ring of 8,000 cells" in page.text("caption")
     assert page.value("!document.getElementById('what').hidden")
-    # The story keeps its end for the end, unless somebody wants to know.
+    # The story keeps its end for the end, unless a user wants to know.
     shown = "[...document.querySelectorAll('#story li:not([hidden])')].length"
     assert page.value(shown) == 1
     page.click("#spoil")
