@@ -13,7 +13,7 @@ import pytest
 from browsers import Browser
 from conftest import EXAMPLES, TOP
 from costly import slow
-from counting import PROGRAM
+from counting import PROGRAM, skip
 
 OPCODES = "DAT MOV ADD SUB MUL DIV MOD JMP JMZ JMN DJN SEQ SNE SLT SPL NOP".split()
 MODIFIERS, MODES = "A B AB BA F X I".split(), "#$*@{<}>"
@@ -31,6 +31,8 @@ class Files(http.server.SimpleHTTPRequestHandler):
 @pytest.fixture(scope="module")
 def site() -> Iterator[str]:
     """The address of the built site, served as files."""
+    if not (TOP / "build" / "site").is_dir():
+        skip("the site", "it is not built; `make site` builds it", "esbuild")
     handler = functools.partial(Files, directory=str(TOP / "build" / "site"))
     with http.server.ThreadingHTTPServer(("127.0.0.1", 0), handler) as server:
         threading.Thread(target=server.serve_forever, daemon=True).start()
