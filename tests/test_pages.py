@@ -10,15 +10,11 @@ from pathlib import Path
 from typing import Any
 
 import pytest
-from battles import edit_of, edits, matches
 from conftest import EXAMPLES, TOP, Run
 from counting import skip
-from hypothesis import given, strategies as st
 
-from corewar.battle.frames import frames, parts
 from corewar.battle.history import History
 from corewar.engine.calls import Match
-from corewar.model.faults import Refused
 
 if not (TOP / "build" / "site").is_dir():
     skip("pages", "the site is not built; `make site` builds it", "esbuild")
@@ -30,21 +26,6 @@ def unpacked(page: str) -> dict[str, Any]:
     assert found
     fight: dict[str, Any] = json.loads(zlib.decompress(base64.urlsafe_b64decode(found[1] + "=="), wbits=-15))
     return fight
-
-
-@given(matches(), st.integers(0, 3), st.integers(1, 30), st.lists(edits(), max_size=2))
-def test_frames_are_what_the_machine_says(fight: Match, round: int, count: int, lines: list[str]) -> None:
-    history = History(fight, round)
-    for line in lines:
-        try:
-            history = history.edited(history.end // 2, edit_of(line, history.core))
-        except Refused:
-            pass
-    owners = history.owners(0).copy()
-    for frame in frames(history, parts(0, history.end, count)):
-        owners[frame.addresses] = frame.writers
-        assert (owners == history.owners(frame.turn)).all()
-        assert [one.tolist() for one in frame.queues] == [one.tolist() for one in history.state(frame.turn).queues]
 
 
 def test_files_are_replaced_whole_or_not_at_all(run: Run, tmp_path: Path) -> None:

@@ -86,7 +86,11 @@ export class Server {
     for (let part = await reader.read(); !part.done; part = await reader.read()) {
       const lines = (rest + part.value).split("\n");
       rest = lines.pop() ?? "";
-      for (const line of lines) yield JSON.parse(line).map(resultOf);
+      for (const line of lines) {
+        const told = JSON.parse(line);
+        if ("fault" in told) throw new Error(told.fault);
+        yield told.map(resultOf);
+      }
     }
   }
 }
