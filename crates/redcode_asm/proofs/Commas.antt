@@ -1,6 +1,5 @@
 -- Tokens up to the first comma.
-use Rattle.std.proofs.Common.{◌≡◌, ℕ, ◌≤◌, List, [], ◌∷◌, ◌++◌, take, drop, length, Bool, true, false, refl, ap, sym, ◌∙◌, ◌==◌, ◌||◌, if◌then◌else◌, Result, Err, arith}
-use Rattle.std.proofs.lemmas.List.{drop_all, take-append-drop}
+use Rattle.std.proofs.Common.{◌≡◌, List, [], ◌∷◌, ◌++◌, length, Bool, true, false, refl, ap, ◌∙◌, ◌==◌, ◌||◌, if◌then◌else◌, Result, Err, arith}
 use Rattle.std.specs.List.{list_any, onto_first}
 use Rattle.mars_cell.specs.declared.instruction.Op.{Op}
 use Rattle.redcode_asm.specs.declared.fault.AsmProblem.{AsmProblem}
@@ -25,15 +24,6 @@ whole-by false t (p ∷ ps) = refl
 pub parts-whole : (ts : List Token) → parts_at_commas ts ≡ prepend [] (parts_at_commas ts)
 parts-whole [] = refl
 parts-whole (t ∷ ts) = whole-by (is_comma t.kind) t (parts_at_commas ts)
-
-pub parts-first : (t : Token) (ts : List Token) (b : Bool) → is_comma t.kind ≡ b → parts_at_commas (t ∷ ts) ≡ parts_by b t (parts_at_commas ts)
-parts-first t ts b e = ap (λ b. parts_by b t (parts_at_commas ts)) e
-
--- at the end
-pub parts-end : (ts : List Token) (i : ℕ) → length ts ≤ i → prepend (take i ts) (parts_at_commas (drop i ts)) ≡ ts ∷ []
-parts-end ts i past =
-    let none = drop_all i ts past in
-    ap (λ rest. prepend (take i ts) (parts_at_commas rest)) none ∙ ap (λ front. front ∷ []) (ap (λ rest. take i ts ++ rest) (sym none) ∙ take-append-drop i ts)
 
 -- ---- operands
 

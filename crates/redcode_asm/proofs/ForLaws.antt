@@ -1,17 +1,4 @@
 -- What laws and the crates above stand on, and no function of this crate.
-pub mod Alike
-pub mod AlikeCells
-pub mod AlikeLines
-pub mod AlikePrograms
-pub mod AlikeSources
 pub mod FreeNames
 pub mod InFront
-pub mod LoadAssembled
-pub mod LoadSources
-pub mod Parts
-pub mod PrintedCells
-pub mod PrintedLines
-pub mod PrintedTokens
 pub mod ReadBack
-pub mod RenamedSources
-pub mod Unplaced

@@ -1,31 +1,18 @@
--- The laws of names, of sources that are alike, of an instruction in front, of load files and of score formulas.
-use Rattle.std.specs.Prelude.{◌≡◌, ◌≢◌, ⊤, ℕ, ◌-◌, ◌/◌, ◌^◌, ◌<◌, ◌≤◌, nat_le, if◌then◌else◌, ℤ, pos, List, [], ◌∷◌, ◌++◌, length, All, true, Some, is_some, Ok, IfErr, codes}
+-- The laws of names, of an instruction in front, of load files and of score formulas.
+use Rattle.std.specs.Prelude.{◌≡◌, ◌≢◌, ⊤, ℕ, ℤ, List, [], ◌∷◌, true, Ok, IfErr, codes}
 use Rattle.std.specs.Str.{str_eq_ignore_ascii_case}
-use Rattle.mars_cell.specs.declared.instruction.Cell.{Cell}
-use Rattle.mars_cell.specs.declared.instruction.Mode.{Mode}
-use Rattle.mars_cell.specs.declared.instruction.Mode.TheVariants as mode
-use Rattle.mars_cell.specs.Cells.{FitsCore}
 use Rattle.mars_cell.specs.Load.{load}
 use Rattle.mars_cell.specs.Parameters.{Parameters, AreInRange}
-use Rattle.mars_cell.specs.Warriors.{WarriorValue, IsWarrior}
-use Rattle.mars_cell.specs.Text.{cell_text}
-use Rattle.mars_cell.specs.Words.{op_name, op_of, modifier_name, modifier_of}
+use Rattle.mars_cell.specs.Warriors.{WarriorValue}
+use Rattle.mars_cell.specs.Words.{op_of, modifier_of}
 use Rattle.mars_cell.specs.Written.{load_text}
 use Rattle.redcode_text.specs.Results.{◌>>=◌}
 use Rattle.redcode_text.specs.declared.fault.ExprFault.{ExprFault}
 use Rattle.redcode_text.specs.declared.fault.ExprFault.TheVariants.{DivideByZero, Range}
-use Rattle.redcode_text.specs.Tokens.{Scanned, name_index, tokens, with_name}
-use Rattle.redcode_text.specs.declared.token.Sign.{Sign}
-use Rattle.redcode_text.specs.declared.token.Sign.TheVariants as sign
-use Rattle.redcode_text.specs.declared.token.TokenKind.{TokenKind}
-use Rattle.redcode_text.specs.declared.token.TokenKind.TheVariants.{Number, Name}
-use Rattle.redcode_text.specs.declared.token.TokenKind.TheVariants as token
-use Rattle.redcode_text.specs.Expression.{kinds}
-use Rattle.redcode_text.specs.Alike.{AreAlike}
-use Rattle.redcode_text.specs.Expansion.{ProgramValue, expansion}
-use Rattle.redcode_text.specs.Laws.{HasItsJoins, IsBodyLine, IsCounterName, IsInstructionLine, IsLine, IsRenaming, JoinsAreRenamed, copies, counter_lines, loop_lines, renamed, text_of_lines, written_rounds}
-use Rattle.redcode_text.specs.Lines.{Line, Predefined, directive_value, is_instruction, name_at, predefined_value, with_current_line}
-use Rattle.redcode_asm.specs.Assembly.{Placed, assembly, at_line, cell_of, cells_of, instructions, predefined, warrior_of}
+use Rattle.redcode_text.specs.Tokens.{Scanned}
+use Rattle.redcode_text.specs.Expansion.{ProgramValue}
+use Rattle.redcode_text.specs.Lines.{Line, Predefined, is_instruction, name_at, predefined_value, with_current_line}
+use Rattle.redcode_asm.specs.Assembly.{assembly, at_line, cell_of, cells_of, instructions, warrior_of}
 use Rattle.redcode_asm.specs.Formula.{formula_of, score_of}
 
 -- a fault that an expression has by its values alone
@@ -56,42 +43,6 @@ abbrev pub NamesAreFree : Type 0
 NamesAreFree = (ps : Predefined) (p : Parameters) (source : ProgramValue) (names : List (List ℕ)) → ((n : ℕ) → SaysTheSame ps (name_at source.names n) (name_at names n))
     → warrior_of ps p source ≡ warrior_of ps p (record source { names = names })
 
--- a word that is a modifier, in either case, stays
-abbrev pub KeepsModifiers : (List ℕ → List ℕ) → Type 0
-KeepsModifiers rename = (word : List ℕ) → is_some (modifier_of word) ≡ true → rename word ≡ word
-
--- A source with its names renamed is assembled to the same warrior, or has the same fault, on the same line. Its labels, EQU names and counters are
--- renamed wherever they stand, also in joins and behind `;assert`. A word that is an operation, a modifier or a predefined name isn't, nor does
--- a name become one: a word is renamed the same wherever it stands, so that a label `a` keeps its name, as the modifier does. Where `&` stands in
--- the source, digits at the end of a name stay, since a join adds some.
-abbrev pub RenamedSourcesAreTheSame : Type 0
-RenamedSourcesAreTheSame = (p : Parameters) (rounds warriors : ℕ) (rename : List ℕ → List ℕ) (source : List ℕ)
-    → IsRenaming (predefined p rounds warriors) rename → KeepsModifiers rename → JoinsAreRenamed rename source
-    → assembly p rounds warriors (renamed rename source) ≡ assembly p rounds warriors source
-
--- two sources whose programs are the same, name for name, are assembled to the same warrior
-abbrev pub AlikeSourcesAssembleAlike : Type 0
-AlikeSourcesAssembleAlike = (p : Parameters) (rounds warriors : ℕ) (one other : List ℕ) (s t : ProgramValue) (w : WarriorValue)
-    → expansion (predefined p rounds warriors) one ≡ Ok s → expansion (predefined p rounds warriors) other ≡ Ok t → AreAlike s t
-    → assembly p rounds warriors one ≡ Ok w → assembly p rounds warriors other ≡ Ok w
-
--- A loop without a counter, written out by hand, gives the same warrior: where a source with the loop is assembled, so is the source with as many
--- copies of the loop's body in its place. It holds one way only: written out, there are fewer lines and tokens to count.
-abbrev pub LoopsAreWrittenOut : Type 0
-LoopsAreWrittenOut = (p : Parameters) (rounds warriors n : ℕ) (before body after : List (List ℕ)) (w : WarriorValue)
-    → n < 2 ^ 63 → All IsLine before → All IsLine body → All IsLine after → All IsBodyLine body
-    → assembly p rounds warriors (text_of_lines (before ++ (loop_lines n body ++ after))) ≡ Ok w
-    → assembly p rounds warriors (text_of_lines (before ++ (copies n body ++ after))) ≡ Ok w
-
--- A loop with a counter, written out by hand, gives the same warrior: where a source with the loop is assembled, so is the source with the loop's body
--- for each round in its place, the round standing for the counter, and its digits for the counter's joins. It holds one way only, as without a counter.
-abbrev pub CounterLoopsAreWrittenOut : Type 0
-CounterLoopsAreWrittenOut = (p : Parameters) (rounds warriors : ℕ) (counter : List ℕ) (n : ℕ) (before body after : List (List ℕ)) (w : WarriorValue)
-    → IsCounterName counter → n < 2 ^ 63 → All IsLine before → All IsLine body → All IsLine after → All IsInstructionLine body → All (HasItsJoins counter) body
-    → All IsInstructionLine (written_rounds counter 1 n body)
-    → assembly p rounds warriors (text_of_lines (before ++ (counter_lines counter n body ++ after))) ≡ Ok w
-    → assembly p rounds warriors (text_of_lines (before ++ (written_rounds counter 1 n body ++ after))) ≡ Ok w
-
 -- a program with one more line, in front of its lines
 abbrev pub with_line_in_front : Line → ProgramValue → ProgramValue
 with_line_in_front l source = record source { lines = l ∷ source.lines }
@@ -104,47 +55,3 @@ InstructionsInFrontMoveNothing = (ps : Predefined) (m : ℕ) (source : ProgramVa
     let front = with_line_in_front l source in
     cells_of ps m front (instructions front)
     ≡ (at_line l.number (cell_of ps m front (record { index = 0; line = l })) >>= λ c. cells_of ps m source (instructions source) >>= λ cs. Ok (c ∷ cs))
-
--- the sign of a mode
-abbrev pub sign_of : Mode → Sign
-sign_of mode.Immediate = sign.Hash
-sign_of mode.Direct = sign.Dollar
-sign_of mode.AIndirect = sign.Star
-sign_of mode.BIndirect = sign.At
-sign_of mode.APredecrement = sign.OpenBrace
-sign_of mode.BPredecrement = sign.Less
-sign_of mode.APostincrement = sign.CloseBrace
-sign_of mode.BPostincrement = sign.Greater
-
--- the tokens of a number of a core of m cells, as it is printed
-abbrev pub number_kinds : ℕ → ℕ → List TokenKind
-number_kinds m n = if nat_le n (m / 2) then Number (pos n) ∷ [] else token.Sign sign.Minus ∷ Number (pos (m - n)) ∷ []
-
-abbrev pub operand_kinds : ℕ → Mode → ℕ → List TokenKind
-operand_kinds m x n = token.Sign (sign_of x) ∷ number_kinds m n
-
--- the tokens of a cell, as it is printed; its opcode and its modifier are names with these indices
-abbrev pub cell_kinds : ℕ → Cell → ℕ → ℕ → List TokenKind
-cell_kinds m c opcode modifier =
-    Name opcode ∷ token.Sign sign.Dot ∷ Name modifier ∷ ((operand_kinds m c.a_mode c.a ++ token.Sign sign.Comma ∷ []) ++ operand_kinds m c.b_mode c.b)
-
--- the text of a cell is read as its tokens, and its opcode and its modifier are two further names where they are new
-abbrev pub CellIsScanned : Type 0
-CellIsScanned = (m : ℕ) (c : Cell) (line at room : ℕ) (names : List (List ℕ)) → m < 2 ^ 32 → FitsCore m c → 10 ≤ room →
-    let opcode = op_name c.op in
-    let suffix = modifier_name c.modifier in
-    let more = with_name names opcode in
-    (s : Scanned) × (tokens [] line at room names (cell_text m c) ≡ Ok s) × (kinds s.tokens ≡ cell_kinds m c (name_index names opcode) (name_index more suffix)) × (s.names ≡ with_name more suffix)
-
--- an instruction of the tokens of a cell is assembled to the cell, where there is no EQU name
-abbrev pub CellIsAssembled : Type 0
-CellIsAssembled = (ps : Predefined) (m : ℕ) (c : Cell) (source : ProgramValue) (p : Placed) (opcode suffix : ℕ) → m < 2 ^ 32 → FitsCore m c → source.equates ≡ []
-    → p.line.operation ≡ Some opcode → op_of (name_at source.names opcode) ≡ Some c.op → modifier_of (name_at source.names suffix) ≡ Some c.modifier
-    → Name opcode ∷ kinds p.line.rest ≡ cell_kinds m c opcode suffix → cell_of ps m source p ≡ Ok c
-
--- The load file of a warrior is a source of that warrior, where its names are what `;name` and `;author` give of them: not empty, and without a
--- blank at either end. Each cell is at most ten tokens and the start two, so 6,553 cells are the most that stay within 65,536 tokens whatever they are.
-abbrev pub LoadFileIsSource : Type 0
-LoadFileIsSource = (p : Parameters) (rounds warriors : ℕ) (w : WarriorValue) → AreInRange p → IsWarrior w → length w.cells ≤ p.max_length → length w.cells ≤ 6553
-    → All (FitsCore p.core_size) w.cells → w.name ≢ [] → directive_value w.name ≡ w.name → w.author ≢ [] → directive_value w.author ≡ w.author
-    → assembly p rounds warriors (load_text p.core_size w) ≡ Ok w

@@ -1,5 +1,5 @@
 //! Laws of the definitions. The functions do nothing; their contracts are the laws.
-ghost use Rattle.redcode_asm.specs.Laws.{AlikeSourcesAssembleAlike, AssembledLoadIsRead, CellIsAssembled, CellIsScanned, CounterLoopsAreWrittenOut, InstructionsInFrontMoveNothing, LoadFileIsSource, LoopsAreWrittenOut, NamesAreFree, RenamedSourcesAreTheSame, ScoresHaveValues};
+ghost use Rattle.redcode_asm.specs.Laws.{AssembledLoadIsRead, InstructionsInFrontMoveNothing, NamesAreFree, ScoresHaveValues};
 
 /// `Formula::score` of a formula that `Formula::new` read is refused by DivideByZero and Range alone.
 pub fn scores_have_values()
@@ -16,54 +16,9 @@ pub fn names_are_free()
     ensures { NamesAreFree }
 {}
 
-/// A source with its names renamed is assembled to the same warrior, or has the same fault, on the same line. Labels, EQU
-/// names and counters are renamed wherever they stand, also in joins and behind `;assert`: one for one, by names, none of
-/// which is an operation, a modifier or a predefined name. Where `&` stands in the source, digits at the end of a name stay.
-pub fn renamed_sources_are_the_same()
-    ensures { RenamedSourcesAreTheSame }
-{}
-
-/// Two sources whose programs are the same, name for name, are assembled to the same warrior: in which order names are met,
-/// on which lines things stand and where in the text makes no difference.
-pub fn alike_sources_assemble_alike()
-    ensures { AlikeSourcesAssembleAlike }
-{}
-
-/// A loop without a counter, written out by hand, gives the same warrior: where a source with `FOR n`, some lines and `ROF`
-/// is assembled, so is the source with those lines n times in its place. None of the lines is a FOR or a ROF or begins
-/// `;redcode`; what stands before and behind the loop may be anything, so it may be inside other loops.
-pub fn loops_are_written_out()
-    ensures { LoopsAreWrittenOut }
-{}
-
-/// A loop with a counter, written out by hand, gives the same warrior: where a source with `i FOR n`, some lines and `ROF`
-/// is assembled, so is the source with those lines for each round in its place, with the round for the counter and its
-/// digits for the counter's joins. The lines are instructions alone, their joins are the counter's, and its name is no
-/// operation and doesn't end in a digit; before and behind may stand anything.
-pub fn counter_loops_are_written_out()
-    ensures { CounterLoopsAreWrittenOut }
-{}
-
 /// An instruction in front moves nothing: where it has no label, and no name of the program is CURLINE, the cells are its
 /// own and then those of the others as they were without it. A fault of its own comes first, and one of the others is the
 /// same.
 pub fn instructions_in_front_move_nothing()
     ensures { InstructionsInFrontMoveNothing }
-{}
-
-/// The text of a cell, as a line outside loops, is scanned as its tokens: the opcode, `.`, the modifier, and for each
-/// operand its mode's sign and its number, with a comma between them.
-pub fn cell_is_scanned()
-    ensures { CellIsScanned }
-{}
-
-/// An instruction whose tokens are those of a cell is assembled to that cell, where the source has no EQU name.
-pub fn cell_is_assembled()
-    ensures { CellIsAssembled }
-{}
-
-/// The load file of a warrior of at most 6,553 cells is a source of that very warrior, where its names are not empty and
-/// have no blank at either end: what `mars_cell::read_load` reads of it, the assembler makes of it as well.
-pub fn load_file_is_source()
-    ensures { LoadFileIsSource }
 {}

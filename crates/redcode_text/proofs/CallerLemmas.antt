@@ -1,54 +1,6 @@
--- What the crates above may cite of values, replacements, sums in short, the spelling of trees, the words that a name may be, lines that are read one after
--- another, programs that are the same, name for name, and sources with their names renamed, whose definitions they don't see into.
-use Rattle.std.proofs.lemmas.List.{length-map}
-use Rattle.std.proofs.Common.{◌≡◌, ◌∙◌, List, [], ◌∷◌, length, refl, ap, sym, arith}
-use Rattle.redcode_text.specs.declared.token.Token.{Token}
-use Rattle.redcode_text.specs.Equates.{Equate, substitution}
-use Rattle.redcode_text.specs.Tokens.{without_line}
-use Rattle.redcode_text.specs.Expression.{kinds}
-use Rattle.redcode_text.proofs.ForLaws.Agreement.{gives-weaker, pairwise-itself}
-use Rattle.redcode_text.proofs.ForLaws.Likeness.{Equal, LikeEquate, equal-index, kind-like, same-kinds}
-use Rattle.redcode_text.proofs.ForLaws.Replacements.{replaced-alike}
+-- What the crates above may cite: that names and authors are printed text, and how trees of expressions are spelled.
 pub use Rattle.redcode_text.proofs.ForLaws.PrintedNames.{program-printed}
-pub use Rattle.redcode_text.proofs.ForLaws.Moved.{kinds-moved, moved_tokens, substitution-moved}
-pub use Rattle.redcode_text.proofs.ForLaws.HeadLines.{author-read, code-whole, load-read, name-read, start-kind}
-pub use Rattle.redcode_text.proofs.ForLaws.KeptNames.{KeepNames, named-with, with-keeps}
-pub use Rattle.redcode_text.proofs.ForLaws.LineRead.{line_more, operation-read, operation_more}
-pub use Rattle.redcode_text.proofs.ForLaws.PlainRows.{IsPlain, all-read, each_row, ended, plain-tree, row-read}
-pub use Rattle.redcode_text.proofs.ForLaws.TokensRead.{Leads, Seen, blank-leads, decimal-is, end-leads, name-leads, number-leads, token-leads}
 pub use Rattle.redcode_text.specs.Trees.{spelling, is_prefix, IsLevelled}
 pub use Rattle.redcode_text.proofs.Trees.{rank-≤5}
 pub use Rattle.redcode_text.proofs.Shapes.{shaped}
 pub use Rattle.redcode_text.proofs.Splits.{tree-spelled}
-pub use Rattle.redcode_text.proofs.ForLaws.Agreement.{Agree, AgreeOption, BothGive, Pairwise, Same, agree-after, agree-bind, agree-same, agree-value, pairwise-filter, pairwise-last, pairwise-length, pairwise-map}
-pub use Rattle.redcode_text.proofs.ForLaws.AlikeValues.{substitution-same, value-same}
-pub use Rattle.redcode_text.proofs.Named.{AreDistinct, IsNamed}
-pub use Rattle.redcode_text.proofs.ForLaws.SameNames.{SameAssert, SameEquate, SameKind, SameLine, SameName, SameToken, SameTokens, asserts-same, equates-same, index-same, lines-same}
-pub use Rattle.redcode_text.proofs.ForLaws.SourcePrograms.{loops-written-out, source-named}
-pub use Rattle.redcode_text.proofs.ForLaws.CountedOut.{counter-loops}
-pub use Rattle.redcode_text.proofs.ForLaws.RenamedKinds.{operation-same, value-renamed}
-pub use Rattle.redcode_text.proofs.ForLaws.RenamedPrograms.{RenamedAssert, RenamedEquate, RenamedLine, RenamedProgram, source-renamed}
-pub use Rattle.redcode_text.proofs.ForLaws.RenamedReadings.{name-renamed}
-pub use Rattle.redcode_text.proofs.ForLaws.Likeness.{SameKinds}
-
--- ---- tokens of the same kinds, wherever they stand
-
-pub length-kinds : (ts us : List Token) → kinds ts ≡ kinds us → length ts ≡ length us
-length-kinds ts us e = sym (length-map ts (λ t. t.kind)) ∙ ap length e ∙ length-map us (λ t. t.kind)
-
-are-like : (ts us : List Token) → kinds ts ≡ kinds us → SameKinds ts us
-are-like [] [] e = tt
-are-like [] (u ∷ us) e = absurd (omega (arith, length-kinds [] (u ∷ us) e))
-are-like (t ∷ ts) [] e = absurd (omega (arith, length-kinds (t ∷ ts) [] e))
-are-like (t ∷ ts) (u ∷ us) e =
-    let first : t.kind ≡ u.kind = cc in
-    let rest : kinds ts ≡ kinds us = cc in
-    (first, are-like ts us rest)
-
--- tokens of the same kinds are replaced by tokens of the same kinds
-pub replaced-like : (equates : List Equate) (ts us : List Token) → kinds ts ≡ kinds us → BothGive (λ (xs ys : List Token). kinds xs ≡ kinds ys) (without_line (substitution equates ts)) (without_line (substitution equates us))
-replaced-like equates ts us e =
-    let one : Token → Token → Type 0 = λ t u. t.kind ≡ u.kind in
-    gives-weaker SameKinds (λ xs ys. kinds xs ≡ kinds ys) (without_line (substitution equates ts)) (without_line (substitution equates us))
-    (replaced-alike Equal one equal-index (λ t u. kind-like t.kind u.kind) equates equates
-    (pairwise-itself (LikeEquate Equal one) (λ e. (refl, pairwise-itself SameKinds (pairwise-itself one (λ t. refl)) e.lines)) equates) ts us (are-like ts us e)) same-kinds

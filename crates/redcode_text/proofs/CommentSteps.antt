@@ -1,11 +1,10 @@
 -- What a comment line adds.
-use Rattle.std.proofs.Common.{◌≡◌, ℕ, ◌+◌, List, [], ◌∷◌, ◌&&◌, ◌==◌, drop, length, Bool, true, false, cond, nat_eq, Some, None, Result, Ok, refl, ap, sym, ◌∙◌, arith}
-use Rattle.std.proofs.lemmas.Bool.{eqb-true}
+use Rattle.std.proofs.Common.{◌≡◌, ℕ, ◌+◌, List, ◌∷◌, ◌&&◌, drop, Bool, true, false, cond, nat_eq, Some, None, Result, Ok, refl, ap, sym, ◌∙◌, arith}
 use Rattle.std.specs.Prelude.{codes}
 use Rattle.std.specs.List.{starts_with}
 use Rattle.std.specs.Str.{str_to_ascii_lowercase}
 use Rattle.redcode_text.specs.declared.fault.TextProblem.{TextProblem}
-use Rattle.redcode_text.specs.Code.Comments.{Said, assert_at, assert_or_nothing, author_or, author_said, name_or, printed_value, said, said_line, text_found, with_name_text}
+use Rattle.redcode_text.specs.Code.Comments.{Said, assert_at, assert_or_nothing, author_or, author_said, name_or, said, said_line, text_found}
 use Rattle.redcode_text.specs.Lines.{Reading, assert_line, comment_line, directive_value, unless_empty}
 use Rattle.redcode_text.specs.Source.{SourceRow, blank_len, directive_text, directive_text_at, ends_word, has_directive_word, without_blanks}
 
@@ -62,15 +61,3 @@ module _ (row : SourceRow) (st : Reading) where
 -- the same with what is kept of it
 pub as-said : (what : Said) (row : SourceRow) (st : Reading) → what ≡ said row.bytes → comment_line row st ≡ said_line what row st
 as-said what row st e = comment-said row st ∙ ap (λ s. said_line s row st) (sym e)
-
-given : (l old : List ℕ) (n : ℕ) → n ≡ length l → (n == 0) ≡ false → unless_empty l old ≡ l
-given [] old n e h = let c : true ≡ false = sym (ap (λ m. m == 0) e) ∙ h in cc
-given (b ∷ bs) old n e h = refl
-
-empty : (l old : List ℕ) (n : ℕ) → n ≡ length l → (n == 0) ≡ true → unless_empty l old ≡ old
-empty [] old n e h = refl
-empty (b ∷ bs) old n e h = let z : n ≡ 0 = eqb-true n 0 h in absurd (omega (arith, e, z))
-
-module _ (st : Reading) (text value : List ℕ) (n : ℕ) (is : printed_value text ≡ value) (len : n ≡ length value) where
-  pub name-given : (n == 0) ≡ false → with_name_text text st ≡ record st { name = value }
-  name-given h = ap (λ l. record st { name = l }) (ap (λ l. unless_empty l st.name) is ∙ given value st.name n len h)

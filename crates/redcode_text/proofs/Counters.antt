@@ -1,6 +1,6 @@
 -- Counters by their indices among the names.
-use Rattle.std.proofs.Common.{◌≡◌, ◌∙◌, ℕ, ◌+◌, ◌-◌, ◌<◌, suc, List, [], ◌∷◌, length, map, reverse, Option, Some, None, option_map, refl, ap, subst, sym, arith}
-use Rattle.std.proofs.lemmas.List.{get_or-reverse, length-append, length-reverse}
+use Rattle.std.proofs.Common.{◌≡◌, ◌∙◌, ℕ, ◌-◌, ◌<◌, suc, List, [], ◌∷◌, length, map, reverse, Option, Some, None, option_map, refl, ap, subst, sym, arith}
+use Rattle.std.proofs.lemmas.List.{get_or-reverse, length-reverse}
 use Rattle.redcode_text.specs.Code.Counters.{AreThere, IsThere, open_loop, open_loops}
 use Rattle.redcode_text.specs.declared.lexer.open_loops.OpenLoop as code
 use Rattle.redcode_text.specs.Lines.{name_at}
@@ -10,12 +10,6 @@ use Rattle.redcode_text.proofs.NamesMore.{at-append, with-front}
 -- ---- names that grow
 
 module _ (names : List (List ℕ)) (name : List ℕ) where
-  there-more : (n : ℕ) → n < length names → n < length (with_name names name)
-  there-more n less =
-      let (more, e) = with-front names name in
-      let len : length (with_name names name) ≡ length names + length more = ap length e ∙ length-append names more in
-      omega (arith, less, len)
-
   counter-kept : (o : Option ℕ) → IsThere names o → option_map (name_at (with_name names name)) o ≡ option_map (name_at names) o
   counter-kept None there = refl
   counter-kept (Some n) there =

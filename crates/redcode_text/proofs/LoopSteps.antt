@@ -9,8 +9,8 @@ use Rattle.redcode_text.specs.declared.fault.TextFault.{TextFault}
 use Rattle.redcode_text.specs.declared.fault.TextProblem.{TextProblem}
 use Rattle.redcode_text.specs.declared.fault.TextProblem.TheVariants.{NotAscii, BadToken, UnclosedFor, RofAlone, BadCount, LabelInCount, Duplicate, EquDepth, TooLong, Expression, OutOfMemory}
 use Rattle.redcode_text.specs.Expansion.{Head, flat, head_line, in_round, rof_line, rounds}
-use Rattle.redcode_text.specs.Lines.{Predefined, Reading, plain_line, unless_ended}
-use Rattle.redcode_text.specs.Code.Loops.{IsFor, IsPlain, one_loop}
+use Rattle.redcode_text.specs.Lines.{Predefined, Reading, unless_ended}
+use Rattle.redcode_text.specs.Code.Loops.{IsFor, one_loop}
 use Rattle.redcode_text.specs.Outcomes.{FailsAt}
 use Rattle.redcode_text.specs.Code.Rows.{row_of}
 use Rattle.redcode_text.specs.Source.{Items, Nothing, Loop, SourceRow}
@@ -194,10 +194,3 @@ rof-fails-at ps rows i j at r s st h a fault hi hj is ends ri si e t n w = rof-f
 
 pub loop-done-at : (ps : Predefined) (rows : List code.SourceRow) (i j at : ℕ) (r s : code.SourceRow) (st : Reading) (h : Head) (a b : Reading) → i < length rows → j < length rows → IsFor rows i at → EndsAt rows (i + 1) j → r ≡ get_or rows i r → s ≡ get_or rows j s → at_line (row_of r).number (head_line ps (row_of r) st) ≡ Ok h → rounds (flat ps (here_from rows (i + 1))) h.counter 1 h.count h.reading ≡ Ok a → a.ended ≡ false → at_line (row_of s).number (rof_line (row_of s) a) ≡ Ok b → flat ps (here_from rows i) st ≡ unless_ended b (flat ps (here_from rows (j + 1)))
 loop-done-at ps rows i j at r s st h a b hi hj is ends ri si e t n w = loop-done ps (row_of r) (here_from rows (i + 1)) (row_of s) st h a b (λ a. unless_ended a (flat ps (here_from rows (j + 1)))) (flat ps (here_from rows i) st) (loop-of ps rows i j at r s st hi hj is ends ri si) e t n w
-
--- ---- a plain row at a place
-
-pub row-fails : (ps : Predefined) (rows : List code.SourceRow) (i : ℕ) (d : code.SourceRow) (st : Reading) (fault : TextFault) → IsPlain rows i → FailsAt fault.problem fault (at_line (row_of (get_or rows i d)).number (plain_line ps (row_of (get_or rows i d)) st))
-    → FailsAt fault.problem fault (flat ps (here_from rows i) st)
-row-fails ps rows i d st fault is h =
-    subst (FailsAt fault.problem fault) (sym (ap (λ items. flat ps items st) (is d))) (then-fails fault (at_line (row_of (get_or rows i d)).number (plain_line ps (row_of (get_or rows i d)) st)) (λ a. unless_ended a (flat ps (here_from rows (i + 1)))) h)

@@ -1,8 +1,7 @@
 -- A name among names that grow.
-use Rattle.std.proofs.Common.{◌≡◌, ◌∙◌, ℕ, zero, suc, ◌+◌, ◌<◌, List, [], ◌∷◌, ◌++◌, length, Bool, true, false, not, ◌||◌, cond, if◌then◌else◌, refl, ap, sym, append-nil, arith}
+use Rattle.std.proofs.Common.{◌≡◌, ℕ, zero, suc, ◌+◌, ◌<◌, List, [], ◌∷◌, ◌++◌, length, Bool, true, false, not, ◌||◌, cond, if◌then◌else◌, refl, ap, sym, append-nil, arith}
 use Rattle.std.proofs.lemmas.List.{length-append}
 use Rattle.std.proofs.lemmas.List.Sums.{prefix_len-le-length}
-use Rattle.std.proofs.lemmas.Slice.Eq.{bytes_eq-Decides}
 use Rattle.std.specs.List.{list_any}
 use Rattle.std.specs.Str.{bytes_eq}
 use Rattle.redcode_text.specs.Lines.{name_at}
@@ -15,15 +14,6 @@ IsFrontOf names grown = (more : List (List ℕ)) × (grown ≡ names ++ more)
 
 abbrev pub IsThere : List (List ℕ) → List ℕ → Type 0
 IsThere names name = name_index names name < length names
-
-pub at-index : (texts : List (List ℕ)) (q : List ℕ) → IsThere texts q → name_at texts (name_index texts q) ≡ q
-at-index [] q h = absurd (omega (arith, h))
-at-index (t ∷ texts) q h = go (bytes_eq q t) refl h (at-index texts q)
-  where
-    go : (b : Bool) → bytes_eq q t ≡ b → cond (not b) (1 + name_index texts q) 0 < length (t ∷ texts) → (IsThere texts q → name_at texts (name_index texts q) ≡ q)
-        → name_at (t ∷ texts) (cond (not b) (1 + name_index texts q) 0) ≡ q
-    go true e h ih = sym ((bytes_eq-Decides q t).0 e)
-    go false e h ih = let on : 1 + name_index texts q ≡ suc (name_index texts q) = omega arith in ap (name_at (t ∷ texts)) on ∙ ih (omega (arith, h))
 
 pub at-append : (texts more : List (List ℕ)) (i : ℕ) → i < length texts → name_at (texts ++ more) i ≡ name_at texts i
 at-append [] more i h = absurd (omega (arith, h))

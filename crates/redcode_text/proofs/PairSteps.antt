@@ -1,5 +1,5 @@
 -- The pairs of FOR and ROF, one row further.
-use Rattle.std.proofs.Common.{◌≡◌, ℕ, suc, ◌+◌, ◌<◌, ◌≤◌, List, [], ◌∷◌, length, length-drop, drop, get_or, refl, ap, sym, ◌∙◌, arith, add-one}
+use Rattle.std.proofs.Common.{◌≡◌, ℕ, suc, ◌+◌, ◌<◌, List, [], ◌∷◌, length, get_or, refl, ap, sym, ◌∙◌, arith, add-one}
 use Rattle.std.proofs.Math.Seq.{drop-cons}
 use Rattle.redcode_text.specs.declared.source.row.SourceRow as code
 use Rattle.redcode_text.specs.Code.Rows.{row_of}
@@ -32,13 +32,6 @@ pub for-at : (rows : List code.SourceRow) (i j at : ℕ) (d : code.SourceRow) �
 for-at rows i j at d hi hj row ends =
     paired-drop rows i d (ForLine at) hi row
     ∙ ap (opened (row_of (get_or rows i d)) (here_from rows (i + 1))) (ends.waiting ∙ rof-at rows j d hj ends.at_end)
-
-nothing : {A : Type 0} (l : List A) → length l ≡ 0 → l ≡ []
-nothing [] e = refl
-nothing (x ∷ l) e = absurd (omega arith)
-
-past : (rows : List code.SourceRow) (i : ℕ) → length rows ≤ i → drop i rows ≡ []
-past rows i h = nothing (drop i rows) (let z : length (drop i rows) ≡ 0 = omega (arith, length-drop i rows) in z)
 
 -- ---- where items end
 

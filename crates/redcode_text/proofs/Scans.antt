@@ -64,10 +64,6 @@ module _ (loops : List OpenLoop) (line room : ℕ) where
   skip (suc k) at [] s = refl
   skip (suc k) at (b ∷ bs) s = let e : at + 1 + k ≡ at + suc k = omega arith in skip k (at + 1) bs s ∙ ap (λ a. scan_from loops line room a 0 (drop k bs) s) e
 
-  pub scan-end : (at : ℕ) (bs : List ℕ) (s : Scanned) → length bs ≡ 0 → scan_from loops line room at 0 bs s ≡ Ok s
-  scan-end at [] s e = refl
-  scan-end at (b ∷ bs) s e = absurd (omega arith)
-
   abbrev from_token : ℕ → List ℕ → List ℕ → Scanned → Result Scanned TextProblem
   from_token at bs rest s = token_at loops s.names bs >>= λ f. with_room room s line at f >>= λ t. scan_from loops line room (at + 1) (f.len - 1) rest t
 
@@ -82,13 +78,6 @@ module _ (loops : List OpenLoop) (line room : ℕ) where
         | true ↦ scan_from loops line room (at + i + 1) 0 (drop (suc i) bs) s
         | false ↦ from_token (at + i) (get_or bs i 0 ∷ drop (suc i) bs) (drop (suc i) bs) s
       ]) e
-
-  pub scan-blank : (at i : ℕ) (bs : List ℕ) (s : Scanned) → i < length bs → is_blank (get_or bs i 0) ≡ true
-      → scan_from loops line room (at + i) 0 (drop i bs) s ≡ scan_from loops line room (at + (i + 1)) 0 (drop (i + 1) bs) s
-  scan-blank at i bs s h e =
-      let a : at + i + 1 ≡ at + (i + 1) = omega arith in
-      let n : suc i ≡ i + 1 = omega arith in
-      at-byte at i bs s true h e ∙ (λ j. scan_from loops line room (a j) 0 (drop (n j) bs) s)
 
   -- a token, and what follows
   at-token : (at i : ℕ) (bs : List ℕ) (s : Scanned) → i < length bs → is_blank (get_or bs i 0) ≡ false

@@ -18,14 +18,6 @@ word_len-drop bs n e =
     let m = word_len-more (drop n bs) e in
     (omega (arith, m.0, length-drop n bs), m.1 ∙ ap (λ l. word_len l + 1) (drop-drop 1 n bs))
 
-pub word_len-within : (bs : List ℕ) → word_len bs ≤ length bs
-word_len-within [] = omega arith
-word_len-within (b ∷ bs) = go (begins_word (b ∷ bs)) (word_len-within bs)
-  where
-    go : (t : Bool) → word_len bs ≤ length bs → elim t as (λ _. ℕ) [ true ↦ word_len bs + 1 | false ↦ 0 ] ≤ length (b ∷ bs)
-    go true h = omega arith
-    go false h = omega arith
-
 pub word_len-some : (bs : List ℕ) → begins_word bs ≡ true → 1 ≤ word_len bs
 word_len-some bs e = omega (arith, (word_len-more bs e).1)
 

@@ -4,4 +4,3 @@ pub mod Expressions
 pub mod Trees
 pub mod Lines
 pub mod Expansion
-pub mod Laws

@@ -8,7 +8,6 @@ pub mod Source
 pub mod Equates
 pub mod Lines
 pub mod Expansion
-pub mod Alike
 pub mod Programs
 pub mod Views
 pub mod Outcomes

@@ -1,5 +1,5 @@
 -- What holds of a result where it is a value.
-use Rattle.std.proofs.Common.{◌≡◌, ◌+◌, ◌-◌, ℕ, false, List, length, drop, subst, Result, Ok, Err}
+use Rattle.std.proofs.Common.{◌+◌, ◌-◌, ℕ, false, List, length, drop, Result, Ok, Err}
 use Rattle.std.specs.Prelude.{⊤}
 use Rattle.redcode_text.specs.Results.{◌>>=◌}
 use Rattle.redcode_text.specs.declared.fault.TextProblem.{TextProblem}
@@ -19,14 +19,6 @@ pub alone-then : {A B E : Type 0} (P : A → Type 0) (Q : B → Type 0) (r : Res
     → ((a : A) → P a → Alone Q (f a)) → Alone Q (r >>= f)
 alone-then P Q (Ok a) f h k = k a h
 alone-then P Q (Err e) f h k = tt
-
-pub alone-made : {A E : Type 0} (P : A → Type 0) (a : A) (r : Result A E) → Alone P r → r ≡ Ok a → P a
-alone-made P a (Ok x) h e = let same : x ≡ a = cc in subst P same h
-alone-made P a (Err f) h e = cc
-
-pub alone-weaker : {A E : Type 0} (P Q : A → Type 0) (r : Result A E) → Alone P r → ((a : A) → P a → Q a) → Alone Q r
-alone-weaker P Q (Ok a) h k = k a h
-alone-weaker P Q (Err e) h k = tt
 
 pub no-matter : {A E : Type 0} (r : Result A E) → Alone (λ (a : A). ⊤) r
 no-matter (Ok a) = tt

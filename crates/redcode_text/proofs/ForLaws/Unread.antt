@@ -1,5 +1,5 @@
 -- What the text of a source means, apart from how it is read.
-use Rattle.std.proofs.Common.{◌≡◌, ◌∙◌, refl, ℕ, suc, zero, ◌+◌, List, [], ◌∷◌, ◌++◌, Bool, true, false, ◌||◌, Option, Result, Ok, Err, IfOk, ap, sym, arith}
+use Rattle.std.proofs.Common.{◌≡◌, ◌∙◌, refl, ℕ, suc, zero, List, [], ◌∷◌, ◌++◌, Bool, true, false, ◌||◌, Option, Result, Ok, Err, IfOk, ap, sym}
 use Rattle.std.specs.List.{list_any}
 use Rattle.redcode_text.specs.Results.{◌>>=◌}
 use Rattle.redcode_text.specs.declared.fault.TextFault.{TextFault}
@@ -7,7 +7,7 @@ use Rattle.redcode_text.specs.declared.fault.TextProblem.{TextProblem}
 use Rattle.redcode_text.specs.Tokens.{at_line}
 use Rattle.redcode_text.specs.Source.{SourceRow, Items, Loop, begins_redcode, from_redcode, read_rows}
 use Rattle.redcode_text.specs.Lines.{Reading, Predefined, unless_ended}
-use Rattle.redcode_text.specs.Expansion.{Head, flat, head_line, rounds, in_round}
+use Rattle.redcode_text.specs.Expansion.{Head, flat, head_line, rounds}
 
 -- ---- before the first `;redcode`
 
@@ -55,34 +55,3 @@ pub in-no-round : (ps : Predefined) (head rof : SourceRow) (body other rest : It
     → IfOk (head_line ps head st) (λ (h : Head). h.count ≡ 0)
     → flat ps (Loop head body rof rest) st ≡ flat ps (Loop head other rof rest) st
 in-no-round ps head rof body other rest st e = in-no-round-by head.number (head_line ps head st) (flat ps body) (flat ps other) _ e
-
--- ---- written out
-
-module _ (body : Reading → Result Reading TextFault) (counter : Option (List ℕ)) where
-  -- what a round read, behind the loop's round
-  abbrev behind : Reading → Reading → Reading
-  behind st read = record read { loops = st.loops }
-
-  split-ended : (ended : Bool) (read : Reading) (left : Result Reading TextFault) (right : Result Reading TextFault) (next : Reading → Result Reading TextFault)
-      → read.ended ≡ ended → (ended ≡ false → left ≡ (right >>= λ a. unless_ended a next))
-      → ◌≡◌ {A = Result Reading TextFault} (elim ended [ true ↦ Ok read | false ↦ left ]) ((elim ended [ true ↦ Ok read | false ↦ right ]) >>= λ a. unless_ended a next)
-  split-ended true read left right next e h = rw e refl
-  split-ended false read left right next e h = h refl
-
-  split-round : (r : Result Reading TextFault) (st : Reading) (f g next : Reading → Result Reading TextFault)
-      → ((read : Reading) → read.ended ≡ false → f read ≡ (g read >>= λ a. unless_ended a next))
-      → (r >>= λ read. unless_ended (behind st read) f) ≡ (r >>= λ read. unless_ended (behind st read) g) >>= λ a. unless_ended a next
-  split-round (Ok read) st f g next h = split-ended read.ended (behind st read) (f (behind st read)) (g (behind st read)) next refl (h (behind st read))
-  split-round (Err fault) st f g next h = refl
-
-  pub rounds-split : (round n m : ℕ) (st : Reading) → st.ended ≡ false
-      → rounds body counter round (n + m) st ≡ (rounds body counter round n st >>= λ read. unless_ended read (rounds body counter (round + n) m))
-  rounds-split round zero m st e =
-      let none : 0 + m ≡ m = omega arith in
-      let here : round + 0 ≡ round = omega arith in
-      rw (none, here, e) refl
-  rounds-split round (suc n) m st e =
-      let one : suc n + m ≡ suc (n + m) = omega arith in
-      let on : round + suc n ≡ round + 1 + n = omega arith in
-      rw (one, on) (split-round (body (in_round counter round st)) st (rounds body counter (round + 1) (n + m)) (rounds body counter (round + 1) n) (rounds body counter (round + 1 + n) m)
-      (λ read going. rounds-split (round + 1) n m read going))

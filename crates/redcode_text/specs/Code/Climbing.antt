@@ -1,5 +1,5 @@
 -- How an expression that has the shape of one is evaluated from the left, with what waits on a stack.
-use Rattle.std.specs.Prelude.{◌≡◌, ℕ, List, [], ◌∷◌, ◌++◌, ◌-◌, ◌<◌, ◌≤◌, map, slice_range, Bool, true, false, ℤ, Option, Result, Ok, Err, if◌then◌else◌, nat_le}
+use Rattle.std.specs.Prelude.{ℕ, List, [], ◌∷◌, ◌++◌, ◌<◌, ◌≤◌, map, slice_range, Bool, true, false, ℤ, Option, Result, Ok, Err, if◌then◌else◌, nat_le}
 use Rattle.redcode_text.specs.Results.{◌>>=◌}
 use Rattle.redcode_text.specs.declared.token.TokenKind.{TokenKind}
 use Rattle.redcode_text.specs.declared.token.TokenKind.TheVariants.{Number, Name}
@@ -11,9 +11,8 @@ use Rattle.redcode_text.specs.declared.fault.ExprFault.TheVariants.{Syntax}
 use Rattle.redcode_text.specs.declared.token.Token.{Token}
 use Rattle.redcode_text.specs.declared.expression.evaluation.Pending.{Pending}
 use Rattle.redcode_text.specs.declared.expression.evaluation.Pending.TheVariants.{Value, Open}
-use Rattle.redcode_text.specs.declared.expression.shape.ShapeState.{ShapeState}
 use Rattle.redcode_text.specs.Code.Progress.{Progress}
-use Rattle.redcode_text.specs.Expression.{most_parens, precedence, unary, binary, known, kinds}
+use Rattle.redcode_text.specs.Expression.{precedence, unary, binary, known, kinds}
 
 -- a value with an operator that waits for its right side, or a parenthesis with the unary signs before it
 pub data Waiting : Type 0 where
@@ -106,29 +105,11 @@ IsNoOpen (Open from to ∷ stack) = ⊥
 abbrev pub seen : List Token → ℕ → Progress → State
 seen ts at r = record { stack = waiting_all ts r.stack; signs = kinds (slice_range ts r.first_sign at); value = r.value; after = r.after_operand }
 
--- what the code returns and leaves before the token at a place is what reading gives
-abbrev pub Gives : List Token → ℕ → Result (Unit {0}) ExprFault → Progress → Result State ExprFault → Type 0
-Gives ts at (Ok x) r read = read ≡ Ok (seen ts at r)
-Gives ts at (Err e) r read = read ≡ Err e
-
 -- what waits is looser below, with this many parentheses open
 abbrev pub IsLooser : ℕ → List Waiting → Type 0
 IsLooser k [] = Unit {0}
 IsLooser k (Left u s ∷ stack) = k < precedence s
 IsLooser k (Opened signs ∷ stack) = Unit {0}
-
-abbrev pub IsOrdered : List Waiting → ℕ → Type 0
-IsOrdered [] n = n ≡ 0
-IsOrdered (Left u s ∷ stack) n = (0 < precedence s) × IsLooser (precedence s) stack × IsOrdered stack n
-IsOrdered (Opened signs ∷ stack) n = (0 < n) × IsOrdered stack (n - 1)
-
--- the reading stands at this state of the shape
-pub record Stands (n : ℕ) (r : Progress) (st : State) (p : ShapeState) : Type 0 where
-  pub ordered : IsOrdered st.stack p.opened
-  pub opened : p.opened ≤ most_parens
-  pub after : st.after ≡ p.after_operand
-  pub inside : AreInside n r.stack
-  pub first : r.first_sign ≤ n
 
 -- what follows applies each operator that waits and is no looser than k
 abbrev pub Follows : ℕ → List TokenKind → Type 0

@@ -67,6 +67,20 @@ pub row_loops : lines (codes "FOR 0" ∷ codes "this is prose" ∷ codes "ROF" �
 unfolding expansion value_of tree_within digits
 row_loops = refl
 
+-- a loop in another: the counter of the outer one has its value before, in and after the inner one
+pub row_nested : lines (codes "i FOR 2" ∷ codes "x&i NOP" ∷ codes "j FOR 2" ∷ codes "DAT i, j" ∷ codes "ROF" ∷ codes "y&i NOP" ∷ codes "ROF" ∷ [])
+    ≡ Ok (line 2 (codes "x01" ∷ []) (codes "NOP") []
+    ∷ line 4 [] (codes "DAT") (N 1 ∷ comma ∷ N 1 ∷ [])
+    ∷ line 4 [] (codes "DAT") (N 1 ∷ comma ∷ N 2 ∷ [])
+    ∷ line 6 (codes "y01" ∷ []) (codes "NOP") []
+    ∷ line 2 (codes "x02" ∷ []) (codes "NOP") []
+    ∷ line 4 [] (codes "DAT") (N 2 ∷ comma ∷ N 1 ∷ [])
+    ∷ line 4 [] (codes "DAT") (N 2 ∷ comma ∷ N 2 ∷ [])
+    ∷ line 6 (codes "y02" ∷ []) (codes "NOP") []
+    ∷ [])
+unfolding expansion value_of tree_within digits
+row_nested = refl
+
 -- a FOR without its ROF is refused where it is read, a ROF without its FOR too
 pub row_unpaired :
     (lines (codes "FOR 0" ∷ codes "this is prose" ∷ codes "ROF" ∷ codes "i FOR 2" ∷ codes "x&i DAT i, 0" ∷ codes "DAT x02, x01" ∷ []) ≡ fault 4 UnclosedFor)

@@ -1,9 +1,10 @@
--- Worked examples: EQU names and their lines, what counts as an instruction, limits of loops and names.
+-- Worked examples: EQU names and their lines, what counts as an instruction or a line, limits of loops and names.
 use Rattle.std.specs.Prelude.{◌≡◌, ℕ, zero, suc, ◌+◌, List, [], ◌∷◌, ◌++◌, map, replicate, Ok, Err, codes, decimal, refl}
 use Rattle.std.specs.Fmt.{digits}
 use Rattle.redcode_text.specs.declared.fault.TextProblem.TheVariants.{BadToken, Duplicate, EquDepth, TooLong}
 use Rattle.redcode_text.specs.Expression.{value_of, tree_within}
-use Rattle.redcode_text.specs.Expansion.{expansion}
+use Rattle.redcode_text.specs.Source.{tree_of}
+use Rattle.redcode_text.specs.Expansion.{expansion, flat, nothing_read}
 use Rattle.redcode_text.specs.Examples.Expansion.{N, ShownLine, fault, line, line_count, lines, predefined, text}
 
 -- a colon behind a name may stand apart from it
@@ -60,6 +61,19 @@ pub instructions_are_counted : instructions_before (codes "ORG 0" ∷ codes "a" 
 unfolding expansion value_of tree_within digits
 instructions_are_counted = refl
 
+-- how many lines and tokens of a source are counted
+abbrev counted : List (List ℕ) → ℕ × ℕ
+counted ls = elim (flat predefined (tree_of (text ls)) nothing_read) [ Ok st ↦ (st.lines_read, st.tokens_read) | Err e ↦ (0, 0) ]
+
+-- EQU, FOR and ROF lines count, lines of a loop in each round, and the lines of an EQU name that is an operation in addition to the line that uses it
+pub lines_and_tokens_are_counted : counted (codes "x EQU NOP 1" ∷ codes " EQU DAT" ∷ codes "FOR 2" ∷ codes "x" ∷ codes "ROF" ∷ []) ≡ (10, 17)
+unfolding value_of tree_within
+lines_and_tokens_are_counted = refl
+
+-- that a line is one too many is reported before what it lacks
+pub lines_are_limited : flat predefined (tree_of (text (codes "FOR 1" ∷ []))) (record nothing_read { lines_read = 65536 }) ≡ Err (record { line = 1; problem = TooLong })
+lines_are_limited = refl
+
 -- the lines that the tokens behind each operation are of
 abbrev pub lines_of_tokens : List (List ℕ) → List (List ℕ)
 unfolding expansion
@@ -86,9 +100,13 @@ names_are_cleaned = (refl, refl)
 abbrev nested : ℕ → List (List ℕ)
 nested n = replicate n (codes "FOR 1") ++ codes "NOP" ∷ replicate n (codes "ROF")
 
-pub open_loops_are_limited : (line_count (nested 32) ≡ 1) × (lines (nested 33) ≡ fault 33 TooLong)
+-- that a loop is one too many is reported before its count
+pub open_loops_are_limited :
+    (line_count (nested 32) ≡ 1)
+    × (lines (nested 33) ≡ fault 33 TooLong)
+    × (lines (replicate 32 (codes "FOR 1") ++ codes "FOR -1" ∷ replicate 33 (codes "ROF")) ≡ fault 33 TooLong)
 unfolding expansion value_of tree_within digits
-open_loops_are_limited = (refl, refl)
+open_loops_are_limited = (refl, refl, refl)
 
 -- c1 is 1, and each further name is the one before it
 abbrev chain : ℕ → List (List ℕ)
