@@ -63,7 +63,9 @@ const known = script(JSON.stringify(data()).replaceAll("<", "\\u003c"), ' id="da
 const page = read(inside("static", "index.html")).replace("<!--style-->", () => `<style>${style()}</style>`);
 const preload = (name, kind) => `<link rel="preload" href="${name}" as="${kind}">`;
 const loads = [preload("mars.wasm", "fetch").replace(">", " crossorigin>"), preload("app.js", "script")];
-const many = page.replace("</title>", ["</title>", ...loads].join("\n"));
+// Only the page in one file has scripts inside.
+const strict = page.replace("script-src 'self' 'unsafe-inline'", "script-src 'self'");
+const many = strict.replace("</title>", ["</title>", ...loads].join("\n"));
 write("index.html", many.replace("<!--parts-->", () => `${known}\n<script src="app.js"></script>`));
 const machine = zlib.gzipSync(fs.readFileSync(wasm), { level: 9 }).toString("base64");
 const worker = plain("worker-code", read(made("worker.js")));

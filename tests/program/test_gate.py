@@ -8,6 +8,7 @@ from counting import TOP
 
 STEPS = [
     "bin/rt",
+    "bin/make",
     "scripts/library",
     *(f"checks/{name}" for name in ("memory", "documents", "tests", "trust", "rules")),
 ]
@@ -33,7 +34,7 @@ def gate(**lines):
         return done.returncode, [line for line in told if line.startswith("FAILED")] + told[-2:]
 
 
-ALL = (0, ["0 skipped", "7 passed, 0 failed"])
+ALL = (0, ["0 skipped", "8 passed, 0 failed"])
 TOLD = "FAILED: skipped: a: it is away, though no package is missing"
 
 
@@ -42,20 +43,22 @@ TOLD = "FAILED: skipped: a: it is away, though no package is missing"
     [
         ({}, ALL),
         ({"library": (0, "build/libmars.so")}, ALL),
-        ({"library": (1, "library: no")}, (1, ["FAILED: scripts/library", "0 skipped", "6 passed, 1 failed"])),
-        ({"memory": (0, "")}, (1, ["FAILED: checks/memory", "0 skipped", "6 passed, 1 failed"])),
-        ({"rules": (1, "3 passed, 0 failed")}, (1, ["FAILED: checks/rules", "0 skipped", "9 passed, 1 failed"])),
+        ({"make": (0, "build/site/app.js: 94 kB gzipped")}, ALL),
+        ({"make": (2, "make: no")}, (1, ["FAILED: make site", "0 skipped", "7 passed, 1 failed"])),
+        ({"library": (1, "library: no")}, (1, ["FAILED: scripts/library", "0 skipped", "7 passed, 1 failed"])),
+        ({"memory": (0, "")}, (1, ["FAILED: checks/memory", "0 skipped", "7 passed, 1 failed"])),
+        ({"rules": (1, "3 passed, 0 failed")}, (1, ["FAILED: checks/rules", "0 skipped", "10 passed, 1 failed"])),
         (
             {"tests": (0, "skipped: a: it is away (package no-such-package)", "4 passed, 0 failed")},
-            (0, ["1 skipped", "10 passed, 0 failed"]),
+            (0, ["1 skipped", "11 passed, 0 failed"]),
         ),
         (
             {"tests": (0, "skipped: a: it is away (package sh)", "4 passed, 0 failed")},
-            (1, [TOLD, "1 skipped", "10 passed, 1 failed"]),
+            (1, [TOLD, "1 skipped", "11 passed, 1 failed"]),
         ),
         (
             {"tests": (0, "skipped: a: it is away", "4 passed, 0 failed")},
-            (1, [TOLD, "1 skipped", "10 passed, 1 failed"]),
+            (1, [TOLD, "1 skipped", "11 passed, 1 failed"]),
         ),
     ],
 )

@@ -1,6 +1,4 @@
-"""A battle in frames of several turns, with the cells that they changed, the warriors that did, and the processes after
-them.
-"""
+"""A battle in frames of several turns, with the warriors that changed cells, and the processes after them."""
 from __future__ import annotations
 
 from collections.abc import Iterator
@@ -9,20 +7,18 @@ from dataclasses import dataclass
 import numpy as np
 from numpy.typing import NDArray
 
-from ..model.cells import Cells
 from .history import BY_HAND, History
 
 
 @dataclass(frozen=True, eq=False)
 class Frame:
-    """The battle after `turn` turns. `addresses` are the cells that changed since the previous frame, in order,
-    `writers` the warrior that changed each last, or BY_HAND, and `cells` the cells now.
+    """The battle after `turn` turns. `addresses` are the cells that changed since the previous frame, in order, and
+    `writers` the warrior that changed each last, or BY_HAND.
     """
 
     turn: int
     addresses: NDArray[np.int64]
     writers: NDArray[np.uint8]
-    cells: Cells
     queues: list[NDArray[np.uint32]]
 
 
@@ -41,20 +37,18 @@ def frames(history: History, ends: list[int]) -> Iterator[Frame]:
 
 def frame(history: History, first: int, last: int) -> Frame:
     """Returns the frame of the turns after `first`, up to `last`."""
-    addresses, writers, cells = [], [], []
+    addresses, writers = [], []
     for block in history.blocks(first, last):
         start, end = block.count(first), block.count(last)
         addresses.append(block.changes.addresses[start:end].astype(np.int64))
         writers.append(block.changes.warriors[start:end].astype(np.uint8))
-        cells.append(block.changes.after[start:end])
         if block.last <= last:
             by_hand = history.changed_by_hand(block.last)
             addresses.append(by_hand)
             writers.append(np.full(len(by_hand), BY_HAND, np.uint8))
-            cells.append(history.block(block.last).start.cells[by_hand])
     queues = [history.block(last).queue(number, last) for number in range(len(history.warriors))]
     if not addresses:
-        return Frame(last, np.empty(0, np.int64), np.empty(0, np.uint8), history.block(0).start.cells[:0], queues)
+        return Frame(last, np.empty(0, np.int64), np.empty(0, np.uint8), queues)
     # The last change of each cell counts, which is the first one in reverse order.
     changed, places = np.unique(np.concatenate(addresses)[::-1], return_index=True)
-    return Frame(last, changed, np.concatenate(writers)[::-1][places], np.concatenate(cells)[::-1][places], queues)
+    return Frame(last, changed, np.concatenate(writers)[::-1][places], queues)

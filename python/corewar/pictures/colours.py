@@ -5,17 +5,13 @@ from __future__ import annotations
 
 from ..battle.history import History
 
-LIGHT = (
+COLOURS = (
     *("#d5480a", "#0a6fb8", "#0b5148", "#c080b8", "#e8960f", "#22a9ee", "#7a0f12", "#5c1896"),
     *("#f08a5d", "#5a8fd8", "#4f9a80", "#8a3f80", "#9a6a10", "#2f7f93", "#b28a6c", "#858b94"),
 )
-DARK = (
-    *("#ff7a33", "#3f9df2", "#2fe0a0", "#a98fb4", "#f7e21f", "#c2f0fb", "#a35f4a", "#bdb4ff"),
-    *("#d0562a", "#2f6fc0", "#179a6c", "#d060b8", "#a8951a", "#4aa3bd", "#d8a58c", "#858d98"),
-)
 
 
-def coloured(colours: tuple[str, ...], history: History) -> list[str]:
+def coloured(history: History) -> list[str]:
     """Returns the colours of a battle's warriors. Each has the same colour in all rounds of a match."""
     count = len(history.warriors)
-    return [colours[(number + history.round) % count] for number in range(count)]
+    return [COLOURS[(number + history.round) % count] for number in range(count)]

@@ -15,7 +15,7 @@ from numpy.typing import NDArray
 from ..analysis.captions import fate, outcome, settings_told, title
 from ..battle.frames import Frame, frames
 from ..battle.history import History
-from .colours import LIGHT, coloured
+from .colours import coloured
 from .saving import save
 
 # The share of a warrior's colour on cells that it owns, that it wrote, and where its processes are.
@@ -47,7 +47,7 @@ def standing(frame: Frame) -> tuple[NDArray[np.int64], NDArray[np.int64]]:
 def points(history: History, view: View) -> NDArray[np.float64]:
     """Returns the colours of the picture, by rows and columns."""
     count, owners = len(history.warriors), history.owners(view.ends[0]).astype(np.int64)
-    shades = np.array([to_rgb(colour) for colour in coloured(LIGHT, history)])
+    shades = np.array([to_rgb(colour) for colour in coloured(history)])
     made = np.ones((len(view.ends) - 1, view.columns, 3))
     moments = frames(history, view.ends)
     next(moments)
@@ -76,7 +76,7 @@ def draw(history: History, view: View, path: str) -> None:
     figure.suptitle(f"{title(history)}. {outcome(history)}, {history.end:,} turns", fontsize=12)
     axes.set_title(", ".join(settings_told(history)), fontsize=8)
     axes.set(xlabel="cell", ylabel="turn")
-    colours = coloured(LIGHT, history)
+    colours = coloured(history)
     for warrior, colour in enumerate(colours):
         death = history.death(warrior)
         if death is not None and first < death <= last:

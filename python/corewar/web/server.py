@@ -133,7 +133,7 @@ class Handler(BaseHTTPRequestHandler):
         self._tell(200, {"seen": self.workbench.folder.save(name, str(given["text"]), str(given["seen"]))})
 
     def _run_league(self, given: dict[str, Any]) -> None:
-        """Sends the results of matches as they end, some in each line."""
+        """Sends the results of matches as they end, some in each line. A later error is the last line."""
         lines = league(self.workbench.assembler, given, self.workbench.results)
         line = next(lines)
         self.close_connection = True
@@ -142,6 +142,8 @@ class Handler(BaseHTTPRequestHandler):
             while True:
                 self.wfile.write(json.dumps(line).encode() + b"\n")
                 line = next(lines)
+        except Refused as fault:
+            self.wfile.write(json.dumps({"fault": str(fault)}).encode() + b"\n")
         except (StopIteration, ConnectionError):
             # The page is closed, or all matches are run.
             pass

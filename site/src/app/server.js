@@ -61,6 +61,18 @@ export class Server {
   }
 
   /**
+   * Returns the text of a source as it is now, or null if it is gone.
+   * @param {string} name
+   */
+  async load(name) {
+    const answer = await fetch(`${this.path}/sources`);
+    const all = /** @type {Kept[]} */ (await answer.json());
+    const found = all.find((one) => one.name === name && one.text !== undefined);
+    if (found) this.#seen.set(name, found.seen);
+    return found?.text ?? null;
+  }
+
+  /**
    * Runs a league on the processors of this machine, with the results that are stored.
    * @param {Source[]} sources
    * @param {MatchTerms} terms
@@ -74,7 +86,11 @@ export class Server {
     for (let part = await reader.read(); !part.done; part = await reader.read()) {
       const lines = (rest + part.value).split("\n");
       rest = lines.pop() ?? "";
-      for (const line of lines) yield JSON.parse(line).map(resultOf);
+      for (const line of lines) {
+        const told = JSON.parse(line);
+        if ("fault" in told) throw new Error(told.fault);
+        yield told.map(resultOf);
+      }
     }
   }
 }

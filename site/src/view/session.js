@@ -54,6 +54,8 @@ export class Session {
   beside = null;
   /** @type {Condition[]} */
   breaks = [];
+  /** The latest turn that was shown of this battle. */
+  furthest = 0;
   /** The turn that is wanted, which is shown as soon as the desk answers. */
   wanted = 0;
   /** Turns a second. */
@@ -131,6 +133,7 @@ export class Session {
     }));
     this.rate = clamp(opened.end / LENGTH, 2, FASTEST);
     this.pinned = pinned;
+    this.furthest = 0;
     this.chosen = -1;
     this.#compare(null);
     this.fight = fight;
@@ -205,6 +208,7 @@ export class Session {
     const origins = isStopped ? await this.desk.origins(future, turn) : null;
     if (opened !== this.opened || wanted !== this.#wantedBeside) return;
     this.view = view;
+    this.furthest = Math.max(this.furthest, view.turn);
     this.move = move;
     this.origins = origins;
     this.beside = beside && { future: other, view: beside };

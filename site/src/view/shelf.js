@@ -14,9 +14,11 @@ import { Editor, newDocument } from "./editor.js";
 /** @typedef {import("./rounds.js").Hits} Hits */
 /** @typedef {{name: string, doc: Document, saved: string, isExample: boolean, fights: boolean}} Held */
 /**
- * Where sources are saved: returns null, or why one was not; `isOther` is whether something else changed the file.
+ * Where sources are saved. `save` returns null, or why one was not; `isOther` is whether something else changed the
+ * file. `load` returns the text of a file as it is now, or null if it is gone.
  * @typedef {object} Folder
  * @property {(name: string, text: string, isForced: boolean) => Promise<{text: string, isOther: boolean} | null>} save
+ * @property {(name: string) => Promise<string | null>} load
  */
 /**
  * @typedef {object} Host
@@ -189,7 +191,8 @@ export class Shelf {
       const fault = await folder.save(name, text, isForced);
       if (fault) {
         const force = make("button", { className: "link", onclick: () => this.save(true) }, "Overwrite it");
-        refill(element("saved"), `${fault.text}. `, fault.isOther ? force : "");
+        const reload = make("button", { className: "link", onclick: () => this.#reload(shown) }, "Load it");
+        refill(element("saved"), `${fault.text}. `, ...(fault.isOther ? [force, " or ", reload] : []));
         return;
       }
     }
@@ -199,6 +202,19 @@ export class Shelf {
     this.sign();
     this.host.changed();
     if (folder) this.#say("saved");
+  }
+
+  /**
+   * Takes a source as it is in the folder now.
+   * @param {Held} held
+   */
+  async #reload(held) {
+    const text = await this.host.folder?.load(held.name);
+    if (typeof text !== "string") return;
+    held.saved = text;
+    held.doc.setValue(text);
+    this.list();
+    this.sign();
   }
 
   /** @param {string} text */
