@@ -163,12 +163,13 @@ def test_lineups() -> None:
     made = corewar.outcomes(warriors, pairs, 4, [3, 4, 5])
     assert np.array_equal(made, corewar.outcomes(warriors, np.array(pairs), 4, [3, 4, 5], "94nop", jobs=3))
     assert np.array_equal(made[1:2], corewar.outcomes(warriors[1:], rounds=4, seeds=4))
-    assert corewar.outcomes(warriors, []).shape == (0, 1, 0) and corewar.outcomes(warriors).shape == (1, 1, 3)
+    assert corewar.outcomes(warriors, [], jobs=2).shape == (0, 1, 0) and corewar.outcomes(warriors).shape == (1, 1, 3)
     placed = corewar.outcomes(warriors, pairs, position=400)
     assert placed["start"].tolist() == [[[0, 400]]] * 3
     for lineups, words, fault in (
         ([[0, 3]], {}, "index 0: lineup 2 Index"),
         ([[0] * 16, [0] * 16, [3] * 16], {}, "index 2: lineup 2 Index"),
+        ([[0, 1]] * 30 + [[0, 3]] * 2, {"jobs": 2}, "index 30: lineup 2 Index"),
         ([[0] * 17], {}, "index 0: lineup 1 Count"),
         ([[]], {}, "index 0: lineup 1 Count"),
         (pairs, {"seeds": 0}, "settings 2 Seed"),

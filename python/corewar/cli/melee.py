@@ -13,6 +13,7 @@ from .layout import Command, Number
 from .league import JOBS, LEFT_OUT, write
 from .options import Asked, battle_options
 from .telling import tell, tell_fault
+from .waiting import awaited
 
 
 @click.command(
@@ -48,7 +49,7 @@ def melee(asked: Asked, size: int, lineups: int, jobs: int) -> int:
         tell(f"{len(warriors)} warriors are left, but a match has {size}")
         return 1
     try:
-        table = run(contest, warriors, size, lineups, jobs)
+        table = awaited(lambda: run(contest, warriors, size, lineups, jobs))
     except KeyboardInterrupt:
         tell("stopped")
         # Matches that are under way aren't waited for.

@@ -1,9 +1,6 @@
 """`fight` and `rounds`: a match, and how each of its rounds ends."""
 from __future__ import annotations
 
-from concurrent.futures import Future
-from threading import Thread
-
 import click
 
 from ..analysis.captions import command
@@ -13,24 +10,13 @@ from ..engine.calls import Match, Row, match
 from ..model.printing import printable
 from .layout import Command
 from .options import Asked, Output, battle_options
+from .waiting import awaited
 
 
 def rows_of(fought: Match, formula: str) -> list[Row]:
-    """The rows of a match. One call of the library runs all rounds, in another thread, so that Ctrl-C doesn't wait for
-    it.
-    """
-    rows: Future[list[Row]] = Future()
-
-    def call() -> None:
-        try:
-            rows.set_result(
-                match(fought.warriors, fought.rounds, fought.seed, fought.settings, fought.position, formula)
-            )
-        except Exception as fault:
-            rows.set_exception(fault)
-
-    Thread(target=call, daemon=True).start()
-    return rows.result()
+    """The rows of a match."""
+    numbers = fought.rounds, fought.seed, fought.settings, fought.position
+    return awaited(lambda: match(fought.warriors, *numbers, formula))
 
 
 @click.command(

@@ -8,6 +8,7 @@ from typing import Any
 import numpy as np
 from numpy.typing import ArrayLike, NDArray
 
+from ..model.faults import LINEUP, Fault
 from ..model.settings import MOST_WARRIORS, Settings, settings_of
 from .binding import array, call, held, number, slice_of
 from .calls import fighters
@@ -54,14 +55,23 @@ def outcomes(
     # The library refuses a seed that is out of its range, but takes 0 in a lineup for that of the settings.
     fixed = held(given, rounds, int(table["seed"].min(initial=1)), position), *fighters(warriors, given.core)
 
-    def run(part: NDArray[Any]) -> NDArray[Any]:
+    size = max(1, -(-len(table) // (jobs * PARTS)) if jobs > 1 else len(table))
+
+    def run(first: int) -> NDArray[Any]:
+        part = table[first : first + size]
         made = array("MarsOutcome", len(part) * rounds * count)
-        call("mars_outcomes", *fixed, *slice_of("MarsLineup", part), *slice_of("MarsOutcome", made))
+        try:
+            call("mars_outcomes", *fixed, *slice_of("MarsLineup", part), *slice_of("MarsOutcome", made))
+        except Fault as fault:
+            # A part counts its lineups from 0.
+            if fault.code == LINEUP:
+                raise Fault(LINEUP, fault.number, warrior=first + fault.warrior) from None
+            raise
         return made
 
     with ThreadPoolExecutor(jobs) as pool:
-        parts = pool.map(run, np.array_split(table, min(len(table), jobs * PARTS) if jobs > 1 else 1))
-    rows = np.concatenate([*parts]).reshape(len(table), rounds, count)
+        parts = [*pool.map(run, range(0, max(1, len(table)), size))]
+    rows = np.concatenate(parts).reshape(len(table), rounds, count)
     found = np.empty(rows.shape, OUTCOME)
     for field in ("survived", "turns", "start"):
         found[field] = rows[field]
