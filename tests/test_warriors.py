@@ -57,6 +57,8 @@ def test_what_a_caller_may_give(tmp_path: Path) -> None:
     ]
     with pytest.raises(ValueError, match="expected settings or one of 94nop, 94x, tiny, nano, not 'micro'"):
         corewar.match([dwarf], settings="micro")
+    with pytest.raises(TypeError, match="expected a warrior, as assemble and read return it, not 'MOV 0, 1'"):
+        corewar.match([dwarf, "MOV 0, 1"])  # type: ignore[list-item]
 
 
 CELL = (1, 6, 1, 1, 0, 1)

@@ -164,6 +164,8 @@ def fighters(warriors: Sequence[Warrior], core: int) -> tuple[Any, ...]:
     """Returns the cells of warriors one after another, and the length and start of each, for a core of a size."""
     cells, places = list[bytes](), list[int]()
     for index, warrior in enumerate(warriors):
+        if not isinstance(warrior, Warrior):
+            raise TypeError(f"expected a warrior, as assemble and read return it, not {warrior!r}")
         try:
             cells.append(warrior.cells_in(core))
         except Fault as fault:
