@@ -69,11 +69,15 @@ class Browser:
         self.send("actions", {"actions": [source]})
 
     def click(self, selector: str) -> None:
-        """Clicks the middle of an element, which is scrolled into view."""
-        code = """const found = document.querySelector(given[0]);
-          found.scrollIntoView({block: "nearest", behavior: "instant"});
-          const box = found.getBoundingClientRect();
-          return [box.left + box.width / 2, box.top + box.height / 2];"""
+        """Clicks the middle of an element, which is scrolled into view, once it stays in its place."""
+        code = """for (let last = "";;) {
+            const found = document.querySelector(given[0]);
+            found.scrollIntoView({block: "nearest", behavior: "instant"});
+            const {left, top, width, height} = found.getBoundingClientRect(), place = `${left} ${top}`;
+            if (place === last) return [left + width / 2, top + height / 2];
+            last = place;
+            await new Promise(done => setTimeout(done, 200));
+          }"""
         x, y = self.run(code, selector)
         self.mouse(x, y, "pointerDown", "pointerUp")
 

@@ -184,7 +184,7 @@ def test_edits_make_futures(page: Browser) -> None:
     page.press("y")
     page.until(f"corewar.session.end === {end} && corewar.session.isSettled")
     assert "turn 7,790: edit 2 JMP.B $0, $0" in page.text("futures")
-    page.click("#futures .link")
+    page.run("document.querySelector('#futures .link').click()")
     page.until("corewar.session.beside?.view && !document.getElementById('other').hidden")
     assert page.text("other-name") == "Future 0 at turn 7,790"
     page.click("#alone")
