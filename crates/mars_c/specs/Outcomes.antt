@@ -89,8 +89,8 @@ abbrev pub RefusesLineup : MarsSettings → List WarriorValue → MarsLineup →
 RefusesLineup s ws lineup refusal =
     RefusesEntry (seeded s lineup.seed) (codes "0") lineup.count [] [] refusal
     ⊎ ((setup : Setup) × (chosen : List WarriorValue) × (fault : MatchFault)
-        × IsSetup (seeded s lineup.seed) (codes "0") setup × AreChosen ws (indices_of lineup) chosen
-        × (fates_of setup.params chosen setup.plan.fixed setup.plan.rounds setup.plan.seed ≡ Err fault) × (refusal ≡ fight_refusal fault))
+    × IsSetup (seeded s lineup.seed) (codes "0") setup × AreChosen ws (indices_of lineup) chosen
+    × (fates_of setup.params chosen setup.plan.fixed setup.plan.rounds setup.plan.seed ≡ Err fault) × (refusal ≡ fight_refusal fault))
 
 -- the match of one of the lineups is not held
 abbrev pub FailsLineup : MarsSettings → List MarsCell → List MarsWarrior → List MarsLineup → CallRefusal → Type 0

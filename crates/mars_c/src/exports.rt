@@ -246,7 +246,13 @@ pub extern "C" fn mars_outcomes(
     ensures done { result ≡ 0 → HoldsOutcomes settings.now cells.now warriors.now lineups.now outcomes.new }
     ensures kept { result ≢ 0 → outcomes.new ≡ outcomes.old }
 {
-    match outcomes_into(alloc, settings, Entrants { cells, warriors }, lineups, outcomes) {
+    match outcomes_into(
+        alloc,
+        settings,
+        Entrants { cells, warriors },
+        lineups,
+        outcomes,
+    ) {
         Ok(()) => answer(fault, given(true)),
         Err(refusal) => answer(fault, told(refusal)),
     }

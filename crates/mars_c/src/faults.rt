@@ -7,8 +7,8 @@ ghost use Rattle.mars_c.specs.declared.faults.CallRefusal.TheVariants as variant
 
 use crate::numbers::{
     assembly_number, battle_number, block_line, block_number, block_problem, block_warrior,
-    edit_number, expression_number, lineup_number, load_line, load_number, parameter_number, placement_number,
-    problem_numbers,
+    edit_number, expression_number, lineup_number, load_line, load_number, parameter_number,
+    placement_number, problem_numbers,
 };
 use crate::outcomes::LineupFault;
 use crate::ranges::SettingsFault;

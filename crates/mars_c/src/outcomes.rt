@@ -102,7 +102,11 @@ fn check_lineups(lineups: &[MarsLineup], count: usize) -> Result<(), CallRefusal
 }
 
 /// Checks that there is a place for each warrior of each lineup in each round.
-fn check_rows(settings: &MarsSettings, lineups: &[MarsLineup], places: usize) -> Result<(), CallRefusal>
+fn check_rows(
+    settings: &MarsSettings,
+    lineups: &[MarsLineup],
+    places: usize,
+) -> Result<(), CallRefusal>
     requires { All (λ lineup. lineup.count ≤ most_warriors) lineups.now }
     ensures wrong { IfErr result (Misses settings_fault.Rows (places ≡ rows_for settings.now lineups.now)) }
 {
