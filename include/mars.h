@@ -281,7 +281,7 @@ typedef struct {
     uint32_t expression; /* of MARS_ASSEMBLY_EXPRESSION and MARS_TEXT_EXPRESSION: MARS_EXPRESSION_.. */
     uint64_t line;       /* line of a source or a load file, from 1; of MARS_BLOCK_CELL: address of the first wrong cell; of
                             MARS_WARRIOR_CELL and MARS_WARRIOR_FIELD: index of the first wrong cell */
-    uint64_t warrior;    /* of MARS_WARRIOR: index of the warrior, from 0; of MARS_BLOCK_QUEUE: first warrior whose queue is wrong */
+    uint64_t warrior;    /* of MARS_WARRIOR and MARS_LINEUP: index, from 0; of MARS_BLOCK_QUEUE: first warrior whose queue is wrong */
 } MarsFault;
 
 /* A battle: a block of 32-bit words that the caller owns. The block has the whole state of the battle, without pointers or padding,

@@ -23,8 +23,8 @@ use Rattle.mars_c.specs.declared.faults.BlockRefusal.{BlockRefusal}
 use Rattle.mars_c.specs.declared.faults.BlockRefusal.TheVariants as refused
 use Rattle.mars_c.specs.declared.faults.CallRefusal.{CallRefusal}
 use Rattle.mars_c.specs.declared.faults.CallRefusal.TheVariants.{OutOfMemory, Settings, Parameters, Formula, Assembly, Load, Placement, Battle, Score, Warrior, Lineup}
-use Rattle.mars_c.specs.declared.outcomes.LineupFault.{LineupFault}
-use Rattle.mars_c.specs.declared.outcomes.LineupFault.TheVariants as lineup
+use Rattle.mars_c.specs.declared.ranges.LineupFault.{LineupFault}
+use Rattle.mars_c.specs.declared.ranges.LineupFault.TheVariants as lineup
 use Rattle.mars_c.specs.declared.ranges.SettingsFault.{SettingsFault}
 use Rattle.mars_c.specs.declared.warriors.EntrantFault.{EntrantFault}
 use Rattle.mars_c.specs.declared.warriors.EntrantFault.TheVariants as entrant

@@ -53,7 +53,7 @@ use Rattle.mars_c.specs.declared.faults.BlockRefusal.TheVariants as blocks
 use Rattle.mars_c.specs.declared.faults.CallRefusal.TheVariants.{Assembly, Battle, Lineup, Load, OutOfMemory, Placement, Score, Warrior}
 use Rattle.mars_c.specs.declared.ranges.SettingsFault.TheVariants.{Lengths, Position, Rounds, Seed}
 use Rattle.mars_c.specs.declared.cells.MarsCell.{MarsCell}
-use Rattle.mars_c.specs.declared.outcomes.LineupFault.TheVariants as lineup
+use Rattle.mars_c.specs.declared.ranges.LineupFault.TheVariants as lineup
 use Rattle.mars_c.specs.declared.outcomes.MarsLineup.{MarsLineup}
 use Rattle.mars_c.specs.declared.settings.MarsSettings.{MarsSettings}
 use Rattle.mars_c.specs.declared.warriors.EntrantFault.TheVariants as entrant

@@ -14,8 +14,8 @@ use Rattle.mars_c.specs.Settings.{IsSetup, parameters_in}
 use Rattle.mars_c.specs.declared.cells.MarsCell.{MarsCell}
 use Rattle.mars_c.specs.declared.faults.CallRefusal.{CallRefusal}
 use Rattle.mars_c.specs.declared.faults.CallRefusal.TheVariants.{Lineup}
-use Rattle.mars_c.specs.declared.outcomes.LineupFault.{LineupFault}
-use Rattle.mars_c.specs.declared.outcomes.LineupFault.TheVariants.{Count, Index}
+use Rattle.mars_c.specs.declared.ranges.LineupFault.{LineupFault}
+use Rattle.mars_c.specs.declared.ranges.LineupFault.TheVariants.{Count, Index}
 use Rattle.mars_c.specs.declared.outcomes.MarsLineup.{MarsLineup}
 use Rattle.mars_c.specs.declared.outcomes.MarsOutcome.{MarsOutcome}
 use Rattle.mars_c.specs.declared.ranges.SettingsFault.TheVariants.{Rows}

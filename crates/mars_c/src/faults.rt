@@ -10,8 +10,7 @@ use crate::numbers::{
     edit_number, expression_number, lineup_number, load_line, load_number, parameter_number,
     placement_number, problem_numbers,
 };
-use crate::outcomes::LineupFault;
-use crate::ranges::SettingsFault;
+use crate::ranges::{LineupFault, SettingsFault};
 use crate::warriors::EntrantFault;
 use mars_cell::{LoadFault, ParamFault};
 use mars_core::{BattleFault, BlockFault, EditFault};

@@ -2,7 +2,7 @@
 ghost use Rattle.std.specs.Prelude.{◌≡◌};
 ghost use Rattle.mars_c.specs.Codes as codes;
 
-use crate::outcomes::LineupFault;
+use crate::ranges::LineupFault;
 use mars_cell::{LoadFault, ParamFault};
 use mars_core::{BattleFault, BlockFault, EditFault};
 use mars_match::PlaceFault;

@@ -9,7 +9,7 @@ ghost use Rattle.mars_core.specs.Limits.{most_warriors};
 
 use crate::entrants::{Entrants, read_all};
 use crate::faults::{CallRefusal, refused_fight};
-use crate::ranges::SettingsFault;
+use crate::ranges::{LineupFault, SettingsFault};
 use crate::settings::{MarsSettings, make_setup, parameters};
 use mars_cell::Warrior;
 use mars_core::MOST_WARRIORS;
@@ -38,15 +38,6 @@ pub struct MarsOutcome {
     pub turns: u32,
     /// Address of its first cell.
     pub start: u32,
-}
-
-/// Why a lineup is wrong.
-#[derive(Clone, Copy)]
-pub enum LineupFault {
-    /// The number of warriors is not from 1 to 16.
-    Count,
-    /// An index is not that of a warrior.
-    Index,
 }
 
 impl MarsOutcome {

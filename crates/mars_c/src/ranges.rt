@@ -23,6 +23,15 @@ pub enum SettingsFault {
     Round,
 }
 
+/// Why a lineup is wrong.
+#[derive(Clone, Copy)]
+pub enum LineupFault {
+    /// The number of warriors is not from 1 to 16.
+    Count,
+    /// An index is not that of a warrior.
+    Index,
+}
+
 impl SettingsFault {
     /// Its number in `include/mars.h`.
     pub fn number(self) -> u32
