@@ -142,8 +142,14 @@ export class Cells {
     const { session, focus } = this;
     const { known, future } = session;
     const asked = (this.#asked = `${future} ${focus} ${view.turn}`);
-    const { changes, next } = await session.desk.cell(future, focus, view.turn);
-    if (asked !== this.#asked) return;
+    const { opened } = session;
+    const told = await session.desk.cell(future, focus, view.turn).catch((error) => {
+      // If another battle has been opened meanwhile, it may not have this turn.
+      if (opened === session.opened) throw error;
+      return null;
+    });
+    if (!told || asked !== this.#asked) return;
+    const { changes, next } = told;
     const link = (/** @type {number} */ turn, /** @type {string} */ text) =>
       make("button", { className: "link", onclick: () => session.jump(turn) }, text);
     const lines = changes.map(({ turn, warrior, before }) => {

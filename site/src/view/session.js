@@ -195,8 +195,27 @@ export class Session {
 
   /** @param {number} turn */
   async #show(turn) {
-    const { opened, future } = this;
+    const { opened } = this;
     const wanted = this.#wantedBeside;
+    const shown = await this.#ask(turn, wanted).catch((error) => {
+      // If another battle has been opened meanwhile, it may not have this turn.
+      if (opened === this.opened) throw error;
+      return null;
+    });
+    if (!shown || opened !== this.opened || wanted !== this.#wantedBeside) return;
+    Object.assign(this, shown);
+    this.furthest = Math.max(this.furthest, shown.view.turn);
+    this.frames++;
+    this.#tell("turn");
+  }
+
+  /**
+   * Asks for a turn, and for the same turn of another future.
+   * @param {number} turn
+   * @param {Future | null} wanted
+   */
+  async #ask(turn, wanted) {
+    const { future } = this;
     const other = wanted ? this.futures.indexOf(wanted) : -1;
     const [view, beside] = await Promise.all([
       this.desk.turn(future, turn),
@@ -206,14 +225,7 @@ export class Session {
     const isStopped = this.way === 0;
     const move = isStopped && turn > 0 ? await this.desk.move(future, turn) : null;
     const origins = isStopped ? await this.desk.origins(future, turn) : null;
-    if (opened !== this.opened || wanted !== this.#wantedBeside) return;
-    this.view = view;
-    this.furthest = Math.max(this.furthest, view.turn);
-    this.move = move;
-    this.origins = origins;
-    this.beside = beside && { future: other, view: beside };
-    this.frames++;
-    this.#tell("turn");
+    return { view, move, origins, beside: beside && { future: other, view: beside } };
   }
 
   /**
