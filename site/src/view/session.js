@@ -210,7 +210,7 @@ export class Session {
   }
 
   /**
-   * Asks for a turn, and for the same turn of another future.
+   * Requests a turn, and the same turn of another future.
    * @param {number} turn
    * @param {Future | null} wanted
    */
