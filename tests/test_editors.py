@@ -369,7 +369,7 @@ EMACS = r"""
 (at 3 5)
 (let ((found (eglot-completion-at-point)))
   (note 'completions (vconcat (mapcar #'substring-no-properties (all-completions "" (nth 2 found))))))
-;; eglot 1.9 itself asks for neither folds nor tokens.
+;; eglot 1.9 itself requests neither folds nor tokens.
 (defun ask (method)
   (jsonrpc-request (eglot-current-server) method (list :textDocument (eglot--TextDocumentIdentifier))))
 (note 'folds (ask :textDocument/foldingRange))

@@ -40,7 +40,7 @@ abbrev pub refusal_at : AsmProblem → AsmFault → CallRefusal
 refusal_at problem.OutOfMemory fault = OutOfMemory
 refusal_at other fault = Assembly fault
 
--- the parameters are refused, or the source is, for this fault
+-- the parameters are refused, or the source is, because of this error
 abbrev pub RefusesSource : MarsSettings → ℕ → List ℕ → CallRefusal → Type 0
 RefusesSource s warriors source OutOfMemory = ⊤
 RefusesSource s warriors source (OfParameters fault) = checked_parameters (parameters_in s) ≡ Err fault
@@ -76,7 +76,7 @@ abbrev pub IsWrong : Parameters → List MarsCell → List MarsWarrior → ℕ �
 IsWrong p cells entrants index fault = (ws : List WarriorValue) × (rest : List MarsCell) × (one : MarsWarrior) × (slice_get entrants index ≡ Some one)
     × Reads p cells (take index entrants) ws rest × (one.length ≤ length rest) × IsNoEntrant p (take one.length rest) one.start fault
 
--- a setting is out of its range, where a position is that of the second of so many warriors; or the lengths together are not the number of cells
+-- a setting is out of its range, or the lengths together are not the number of cells; a position is for battles of `warriors` warriors
 abbrev pub IsOutside : MarsSettings → ℕ → List MarsCell → List MarsWarrior → SettingsFault → Type 0
 IsOutside s warriors cells entrants Rounds = AreRounds s.rounds → ⊥
 IsOutside s warriors cells entrants Seed = IsSeed s.seed → ⊥
@@ -84,7 +84,7 @@ IsOutside s warriors cells entrants Position = (p : Parameters) × (checked_para
 IsOutside s warriors cells entrants Lengths = sum_by (λ (one : MarsWarrior). one.length) entrants ≢ length cells
 IsOutside s warriors cells entrants other = ⊥
 
--- settings, a formula or warriors are refused, where a position is that of the second of so many warriors
+-- settings, a formula or warriors are refused; a position is for battles of `warriors` warriors
 abbrev pub RefusesEntry : MarsSettings → List ℕ → ℕ → List MarsCell → List MarsWarrior → CallRefusal → Type 0
 RefusesEntry s text warriors cells entrants OutOfMemory = ⊤
 RefusesEntry s text warriors cells entrants (Settings fault) = IsOutside s warriors cells entrants fault
@@ -93,7 +93,7 @@ RefusesEntry s text warriors cells entrants (Formula fault) = formula_of text �
 RefusesEntry s text warriors cells entrants (Warrior index fault) = (p : Parameters) × (checked_parameters (parameters_in s) ≡ Ok p) × IsWrong p cells entrants index fault
 RefusesEntry s text warriors cells entrants other = ⊥
 
--- the refusal of a fight with such a fault
+-- the refusal of a fight with this error
 abbrev pub fight_refusal : MatchFault → CallRefusal
 fight_refusal fight.OutOfMemory = OutOfMemory
 fight_refusal (fight.Place place.OutOfMemory) = OutOfMemory
@@ -111,7 +111,7 @@ Fails s text cells entrants fought refusal = (setup : Setup) × (ws : List Warri
 abbrev pub AreWarriors : ℕ → Type 0
 AreWarriors count = (1 ≤ count) × (count ≤ most_warriors)
 
--- a number is out of its range, which is told by such a fault
+-- a number is out of its range, which this error reports
 abbrev pub Misses : SettingsFault → Type 0 → CallRefusal → Type 0
 Misses fault Fits refusal = (refusal ≡ Settings fault) × (Fits → ⊥)
 
@@ -125,11 +125,11 @@ FailsLeague s text cells entrants = Fails s text cells entrants (λ setup ws. le
 abbrev pub FailsRound : MarsSettings → List MarsCell → List MarsWarrior → ℕ → CallRefusal → Type 0
 FailsRound s cells entrants round = Fails s (codes "0") cells entrants (λ setup ws. begun setup ws round)
 
--- a population of so many candidates fails: by its first match that does, or whose row makes a sum that doesn't fit
+-- a population with `rows` candidates fails: by its first match that does, or whose row makes a sum that does not fit
 abbrev pub FailsPopulation : MarsSettings → List ℕ → List MarsCell → List MarsWarrior → ℕ → CallRefusal → Type 0
 FailsPopulation s text cells entrants rows = Fails s text cells entrants (λ setup ws. population setup rows ws)
 
--- a match of these warriors, with so many rows, isn't fought
+-- a match of these warriors, with `rows` rows, is not fought
 abbrev pub RefusesMatch : MarsSettings → List ℕ → List MarsCell → List MarsWarrior → ℕ → CallRefusal → Type 0
 RefusesMatch s text cells entrants rows refusal =
     Misses Warriors (AreWarriors (length entrants)) refusal
@@ -145,7 +145,7 @@ RefusesLeague s text cells entrants rows refusal =
     ⊎ RefusesEntry s text 0 cells entrants refusal
     ⊎ FailsLeague s text cells entrants refusal
 
--- a population of so many candidates isn't fought; its position is that of two warriors
+-- a population with `rows` candidates is not fought; its position is for two warriors
 abbrev pub RefusesPopulation : MarsSettings → List ℕ → List MarsCell → List MarsWarrior → ℕ → CallRefusal → Type 0
 RefusesPopulation s text cells entrants rows refusal =
     Misses Rows (rows ≤ length entrants) refusal
