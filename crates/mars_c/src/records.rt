@@ -45,8 +45,8 @@ fn plain(change: &CellChange) -> MarsChange
 {
     MarsChange {
         address: change.address,
-        before: MarsCell::of(&change.before),
-        after: MarsCell::of(&change.after),
+        before: MarsCell::of(&change.before.cell()),
+        after: MarsCell::of(&change.after.cell()),
     }
 }
 

@@ -6,3 +6,5 @@ pub mod Runs
 pub mod Records
 pub mod Distances
 pub mod Tags
+pub mod Words
+pub mod Frequent

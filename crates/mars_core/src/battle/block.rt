@@ -23,9 +23,10 @@ use crate::battle::block::queues::{count_words, processes_of, read_queues, write
 use crate::battle::block::validity::{are_deaths, is_clock};
 use crate::deaths::{Death, MOST_WARRIORS};
 use crate::machine::clock::Clock;
+use crate::packed::PackedCell;
 use crate::queue::ProcessQueue;
 use arrayvec::ArrayVec;
-use mars_cell::{Cell, ParamFault, Params};
+use mars_cell::{ParamFault, Params};
 use std::alloc::Global;
 use thiserror::Error;
 
@@ -247,7 +248,7 @@ fn battle_of(alloc: Global, parts: &Parts<'_>) -> Result<Battle, BlockFault>
 /// Returns the battle in this state, if the state is valid.
 fn resumed(
     params: Params,
-    core: Vec<Cell>,
+    core: Vec<PackedCell>,
     queues: Vec<ProcessQueue>,
     clock: Clock,
     turns: u32,

@@ -13,6 +13,7 @@ use crate::battle::Battle;
 use crate::deaths::note_death;
 use crate::machine::clock::{Clock, advanced};
 use crate::machine::writes::CellChange;
+use crate::packed::PackedCell;
 use crate::queue::ProcessQueue;
 use crate::record::{Atom, Work, quiet_atom};
 use arrayvec::ArrayVec;
@@ -160,12 +161,13 @@ impl Battle {
         ensures record { result ≡ edit_record self.old (Edit.SetCell address cell) }
     {
         let before = self.core[address as usize];
-        self.core[address as usize] = cell;
+        let after = PackedCell::new(cell);
+        self.core[address as usize] = after;
         let mut cells = ArrayVec::new();
         cells.push(CellChange {
             address,
             before,
-            after: cell,
+            after,
         });
         quiet_atom(Work::SetCell, cells, self.next)
     }

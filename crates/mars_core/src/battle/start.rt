@@ -5,6 +5,7 @@ ghost use Rattle.std.specs.List.{list_all};
 ghost use Rattle.mars_cell.specs.Parameters.{AreInRange};
 ghost use Rattle.std.proofs.Common.{replicate};
 ghost use Rattle.mars_cell.specs.Cells.{empty_cell, FitsCore};
+ghost use Rattle.mars_cell.specs.Limits.{largest_core};
 ghost use Rattle.mars_core.specs.Validity.{IsCore};
 ghost use Rattle.mars_core.specs.Queue.{addresses_of, Queue};
 
@@ -13,6 +14,7 @@ mod overlap;
 use crate::battle::Battle;
 use crate::battle::start::overlap::has_overlap;
 use crate::deaths::MOST_WARRIORS;
+use crate::packed::PackedCell;
 use crate::queue::ProcessQueue;
 use arrayvec::ArrayVec;
 use mars_cell::{Cell, Params, Warrior};
@@ -160,7 +162,7 @@ pub fn lay_all(
     params: &Params,
     warriors: &[Warrior],
     starts: &[u32],
-) -> Result<Vec<Cell>, AllocError>
+) -> Result<Vec<PackedCell>, AllocError>
     requires starts { length starts.now ≡ length warriors.now }
     requires inside { spec_fields_inside params.now.core_size warriors.now ≡ true }
     ensures laid { IfOk result (λ core. core.items
@@ -168,13 +170,13 @@ pub fn lay_all(
     ensures core { IfOk result (λ core. IsCore params.now.core_size core.items) }
 {
     let core_size = params.core_size();
-    let mut core = vec![in alloc; Cell::empty(); core_size as usize]?;
+    let mut core = vec![in alloc; PackedCell::empty(); core_size as usize]?;
     lay_each(core.as_mut_slice(), core_size, warriors, starts);
     Ok(core)
 }
 
 /// Empties a core, and lays each warrior from its start on.
-pub fn lay_anew(core: &mut [Cell], params: &Params, warriors: &[Warrior], starts: &[u32])
+pub fn lay_anew(core: &mut [PackedCell], params: &Params, warriors: &[Warrior], starts: &[u32])
     requires core { length core.old ≡ params.now.core_size }
     requires starts { length starts.now ≡ length warriors.now }
     requires inside { spec_fields_inside params.now.core_size warriors.now ≡ true }
@@ -186,12 +188,12 @@ pub fn lay_anew(core: &mut [Cell], params: &Params, warriors: &[Warrior], starts
 }
 
 /// Empties cells: a first part, and the others as copies of it, since to copy many costs less than to write each.
-fn clear(cells: &mut [Cell])
+fn clear(cells: &mut [PackedCell])
     ensures { cells.new ≡ replicate (length cells.old) empty_cell }
 {
     let copied = cells.len() / 2;
     if copied < 16 {
-        cells.fill(Cell::empty());
+        cells.fill(PackedCell::empty());
         return;
     }
     let (first, others) = cells.split_at_mut(cells.len() - copied);
@@ -201,9 +203,10 @@ fn clear(cells: &mut [Cell])
 
 /// Lays each warrior from its start on.
 #[tactic(auto, using(crate::proofs::StartState::inside_at))]
-fn lay_each(core: &mut [Cell], core_size: u32, warriors: &[Warrior], starts: &[u32])
+fn lay_each(core: &mut [PackedCell], core_size: u32, warriors: &[Warrior], starts: &[u32])
     requires core { IsCore core_size core.old }
     requires positive { 1 ≤ core_size }
+    requires size { core_size ≤ largest_core }
     requires starts { length starts.now ≡ length warriors.now }
     requires inside { spec_fields_inside core_size warriors.now ≡ true }
     ensures laid { core.new ≡ all_laid core_size warriors.now starts.now core.old }
@@ -215,16 +218,18 @@ fn lay_each(core: &mut [Cell], core_size: u32, warriors: &[Warrior], starts: &[u
 }
 
 /// Lays cells from a start on.
-fn lay(core: &mut [Cell], core_size: u32, start: u32, cells: &[Cell])
+#[tactic(auto, using(crate::proofs::Words::Back::fits_largest))]
+fn lay(core: &mut [PackedCell], core_size: u32, start: u32, cells: &[Cell])
     requires core { IsCore core_size core.old }
     requires positive { 1 ≤ core_size }
+    requires size { core_size ≤ largest_core }
     requires cells { All (FitsCore core_size) cells.now }
     ensures laid { core.new ≡ laid core_size start cells.now core.old }
     ensures core { IsCore core_size core.new }
 {
     for (i, cell) in cells.iter().enumerate() {
         let address = (start as usize + i) % core_size as usize;
-        core[address] = *cell;
+        core[address] = PackedCell::new(*cell);
     }
 }
 

@@ -9,13 +9,13 @@ ghost use Rattle.mars_core.specs.declared.machine.writes.CellChange.{CellChange 
 
 use crate::deaths::{Death, MOST_WARRIORS, note_death};
 use crate::machine::writes::CellChange;
+use crate::packed::PackedCell;
 use crate::queue::ProcessQueue;
 use crate::record::{Work, warrior_of};
 use arrayvec::ArrayVec;
-use mars_cell::Cell;
 
 /// Writes what each changed cell became, in the order of the changes.
-pub fn rewrite_cells(core: &mut [Cell], changes: &[CellChange])
+pub fn rewrite_cells(core: &mut [PackedCell], changes: &[CellChange])
     requires { All (λ (c : Change). c.address < length core.old) changes.now }
     ensures { core.new ≡ rewritten changes.now core.old }
 {

@@ -6,13 +6,13 @@ ghost use Rattle.mars_core.specs.Code.Records.{CanRestore, HasQueue};
 ghost use Rattle.mars_core.specs.declared.machine.writes.CellChange.{CellChange as Change};
 
 use crate::machine::writes::CellChange;
+use crate::packed::PackedCell;
 use crate::queue::ProcessQueue;
 use crate::record::{Work, warrior_of};
-use mars_cell::Cell;
 
 /// Writes back what each changed cell was, the last change first.
 #[tactic(auto, using(crate::proofs::Inside::restored_step))]
-pub fn restore_cells(core: &mut [Cell], changes: &[CellChange])
+pub fn restore_cells(core: &mut [PackedCell], changes: &[CellChange])
     requires { All (λ (c : Change). c.address < length core.old) changes.now }
     ensures { core.new ≡ restored changes.now core.old }
 {

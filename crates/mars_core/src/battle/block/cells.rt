@@ -1,11 +1,13 @@
 //! Cells as words, three for each cell.
-ghost use Rattle.std.specs.Prelude.{◌≡◌, ◌≢◌, ◌*◌, ◌∷◌, [], length, IfErr, IfNone, IfOk, IfSome, List};
+ghost use Rattle.std.specs.Prelude.{◌≡◌, ◌≢◌, ◌*◌, ◌≤◌, ◌∷◌, [], length, IfErr, IfNone, IfOk, IfSome, List};
 ghost use Rattle.mars_cell.specs.Cells.{FitsCore, mode_index, modifier_index, op_index};
 ghost use Rattle.mars_cell.specs.declared.instruction.Cell.{Cell as CellValue};
+ghost use Rattle.mars_cell.specs.Limits.{largest_core};
 ghost use Rattle.mars_core.specs.Block.{cell_words, core_words, tags_word};
 ghost use Rattle.mars_core.specs.Validity.{IsCore};
 
 use crate::battle::block::BlockFault;
+use crate::packed::PackedCell;
 use mars_cell::{Cell, Mode, Modifier, Op};
 use std::alloc::Global;
 
@@ -115,20 +117,27 @@ fn cell_of(core_size: u32, tags: u32, a: u32, b: u32) -> Option<Cell>
 }
 
 /// Writes the words of the cells.
-pub fn write_cells(cells: &[Cell], words: &mut [u32])
+pub fn write_cells(cells: &[PackedCell], words: &mut [u32])
     requires { length words.old ≡ 3 * length cells.now }
     ensures { words.new ≡ core_words cells.now }
 {
     for i in 0..cells.len() {
-        words[3 * i] = word_of(&cells[i]);
-        words[3 * i + 1] = cells[i].a;
-        words[3 * i + 2] = cells[i].b;
+        let cell = cells[i].cell();
+        words[3 * i] = word_of(&cell);
+        words[3 * i + 1] = cell.a;
+        words[3 * i + 2] = cell.b;
     }
 }
 
 /// Reads the cells of a core.
-pub fn read_cells(alloc: Global, core_size: u32, words: &[u32]) -> Result<Vec<Cell>, BlockFault>
-    requires { length words.now ≡ 3 * core_size }
+#[tactic(auto, using(crate::proofs::Words::Back::fits_largest))]
+pub fn read_cells(
+    alloc: Global,
+    core_size: u32,
+    words: &[u32],
+) -> Result<Vec<PackedCell>, BlockFault>
+    requires words { length words.now ≡ 3 * core_size }
+    requires size { core_size ≤ largest_core }
     ensures words { IfOk result (λ cells. core_words cells.items ≡ words.now) }
     ensures core { IfOk result (λ cells. IsCore core_size cells.items) }
     ensures none { IfErr result (λ fault. fault ≢ BlockFault.OutOfMemory
@@ -140,7 +149,7 @@ pub fn read_cells(alloc: Global, core_size: u32, words: &[u32]) -> Result<Vec<Ce
     for address in 0..core_size {
         let place = 3 * address as usize;
         match cell_of(core_size, words[place], words[place + 1], words[place + 2]) {
-            Some(cell) => cells.push_reserved(cell),
+            Some(cell) => cells.push_reserved(PackedCell::new(cell)),
             None => return Err(BlockFault::Cell(address)),
         }
     }

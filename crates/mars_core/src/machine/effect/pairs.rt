@@ -6,7 +6,8 @@ ghost use Rattle.mars_core.specs.Effect.{pairs_of, takes_whole_cells as spec_tak
 ghost use Rattle.mars_core.specs.Code.Opcodes.{new_number as spec_new_number, passes_test as spec_passes_test};
 
 use crate::machine::address::{lowered, remainder};
-use mars_cell::{Cell, Field, Modifier, Op};
+use crate::packed::PackedCell;
+use mars_cell::{Field, Modifier, Op};
 
 /// Whether MOV, SEQ and SNE take whole cells.
 #[inline(always)]
@@ -22,10 +23,10 @@ pub fn with_pairs(
     core_size: u32,
     op: Op,
     modifier: Modifier,
-    a: Cell,
-    b: Cell,
-    target: Cell,
-) -> Cell
+    a: PackedCell,
+    b: PackedCell,
+    target: PackedCell,
+) -> PackedCell
     requires core_size { (1 ≤ core_size) × (core_size ≤ largest_core) }
     requires a { FitsCore core_size a }
     requires b { FitsCore core_size b }
@@ -35,32 +36,16 @@ pub fn with_pairs(
     ensures fits { FitsCore core_size result }
 {
     match modifier {
-        Modifier::A => Cell {
-            a: new_number(core_size, op, a.a, b.a),
-            ..target
-        },
-        Modifier::B => Cell {
-            b: new_number(core_size, op, a.b, b.b),
-            ..target
-        },
-        Modifier::Ab => Cell {
-            b: new_number(core_size, op, a.a, b.b),
-            ..target
-        },
-        Modifier::Ba => Cell {
-            a: new_number(core_size, op, a.b, b.a),
-            ..target
-        },
-        Modifier::F | Modifier::I => Cell {
-            a: new_number(core_size, op, a.a, b.a),
-            b: new_number(core_size, op, a.b, b.b),
-            ..target
-        },
-        Modifier::X => Cell {
-            a: new_number(core_size, op, a.b, b.a),
-            b: new_number(core_size, op, a.a, b.b),
-            ..target
-        },
+        Modifier::A => target.with_a(new_number(core_size, op, a.a(), b.a())),
+        Modifier::B => target.with_b(new_number(core_size, op, a.b(), b.b())),
+        Modifier::Ab => target.with_b(new_number(core_size, op, a.a(), b.b())),
+        Modifier::Ba => target.with_a(new_number(core_size, op, a.b(), b.a())),
+        Modifier::F | Modifier::I => target
+            .with_a(new_number(core_size, op, a.a(), b.a()))
+            .with_b(new_number(core_size, op, a.b(), b.b())),
+        Modifier::X => target
+            .with_a(new_number(core_size, op, a.b(), b.a()))
+            .with_b(new_number(core_size, op, a.a(), b.b())),
     }
 }
 
@@ -90,7 +75,7 @@ pub fn new_number(core_size: u32, op: Op, x: u32, y: u32) -> u32
 /// Whether the operands are equal: their pairs, or as whole cells.
 #[inline(always)]
 #[tactic(auto, unfolding(crate::specs::Effect::are_equal))]
-pub fn are_equal(core_size: u32, modifier: Modifier, a: Cell, b: Cell) -> bool
+pub fn are_equal(core_size: u32, modifier: Modifier, a: PackedCell, b: PackedCell) -> bool
     requires core_size { (1 ≤ core_size) × (core_size ≤ largest_core) }
     requires b { FitsCore core_size b }
     ensures { result ≡ spec_are_equal modifier a b }
@@ -102,31 +87,37 @@ pub fn are_equal(core_size: u32, modifier: Modifier, a: Cell, b: Cell) -> bool
     }
 }
 
-/// Whether two cells are equal in all their parts. It isn't inlined into each arm, since it is large and seldom asked.
-#[inline(never)]
-fn are_equal_cells(a: Cell, b: Cell) -> bool
+/// Whether two cells are equal in all their parts.
+#[inline(always)]
+fn are_equal_cells(a: PackedCell, b: PackedCell) -> bool
     ensures { result ≡ spec_are_equal_cells a b }
 {
-    a == b
+    a.equals(b)
 }
 
 /// Whether every pair of the modifier passes the opcode's test.
 #[inline(always)]
-pub fn all_pairs_pass(core_size: u32, op: Op, modifier: Modifier, a: Cell, b: Cell) -> bool
+pub fn all_pairs_pass(
+    core_size: u32,
+    op: Op,
+    modifier: Modifier,
+    a: PackedCell,
+    b: PackedCell,
+) -> bool
     requires core_size { (1 ≤ core_size) × (core_size ≤ largest_core) }
     requires b { FitsCore core_size b }
     ensures { result ≡ spec_all_pairs_pass (spec_passes_test core_size op) a b (pairs_of modifier) }
 {
     match modifier {
-        Modifier::A => passes_test(core_size, op, a.a, b.a),
-        Modifier::B => passes_test(core_size, op, a.b, b.b),
-        Modifier::Ab => passes_test(core_size, op, a.a, b.b),
-        Modifier::Ba => passes_test(core_size, op, a.b, b.a),
+        Modifier::A => passes_test(core_size, op, a.a(), b.a()),
+        Modifier::B => passes_test(core_size, op, a.b(), b.b()),
+        Modifier::Ab => passes_test(core_size, op, a.a(), b.b()),
+        Modifier::Ba => passes_test(core_size, op, a.b(), b.a()),
         Modifier::F | Modifier::I => {
-            passes_test(core_size, op, a.a, b.a) && passes_test(core_size, op, a.b, b.b)
+            passes_test(core_size, op, a.a(), b.a()) && passes_test(core_size, op, a.b(), b.b())
         }
         Modifier::X => {
-            passes_test(core_size, op, a.a, b.b) && passes_test(core_size, op, a.b, b.a)
+            passes_test(core_size, op, a.a(), b.b()) && passes_test(core_size, op, a.b(), b.a())
         }
     }
 }

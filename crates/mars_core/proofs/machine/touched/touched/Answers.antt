@@ -16,7 +16,7 @@ pub restore_cells-requires : goal.restore_cells-requires
 restore_cells-requires c =
     let both = c.evaluate_both-operands.ensures in
     rw (c.as_slice.ensures.value, both.changes refl, both.core.size)
-    (operands_inside c.args.params.now (omega (arith, c.requires.pc)) c.args.core.now c.args.pc c.cell_at-instruction.result)
+    (operands_inside c.args.params.now (omega (arith, c.requires.pc)) c.args.core.now c.args.pc c.cell-instruction.result)
 
 pub returns-clause-addresses : goal.returns-clause-addresses
 unfolding touched
@@ -38,7 +38,8 @@ returns-clause-addresses c =
       c.new-addresses.ensures,
       both.a,
       both.b,
-      c.cell_at-instruction.ensures,
+      c.cell-instruction.ensures,
+      c.cell_at.ensures,
     )
     (in_order (pc ∷ pointed_addresses p pc i.a_mode i.a) (pointed_addresses p pc i.b_mode i.b) (at a.read) (at b.read) (at b.write))
 
@@ -46,4 +47,4 @@ pub returns-clause-core : goal.returns-clause-core
 returns-clause-core c =
     let both = c.evaluate_both-operands.ensures in
     rw (c.restore_cells.ensures, c.as_slice.ensures.value, both.changes refl, both.core_is)
-    (origin-operands c.args.params.now c.args.core.now c.args.pc c.cell_at-instruction.result)
+    (origin-operands c.args.params.now c.args.core.now c.args.pc c.cell-instruction.result)

@@ -7,7 +7,7 @@ use Rattle.mars_core.proofs.battle.block.cells.read_cells.Goals as goal
 
 pub loop-address-preserved : goal.loop-address-preserved
 loop-address-preserved c =
-    let more = c.push_reserved.ensures.items in
+    let more = rw c.new.ensures at c.push_reserved.ensures.items in
     record {
       count = search rules;
       words = ap core_words more ∙ cell_read c.loop-address.cells.items c.in-Some.cell c.args.words.now c.loop-address.address c.loop-address.invariant.words c.in-Some.ensures.some (omega arith);

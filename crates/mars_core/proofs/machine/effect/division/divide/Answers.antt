@@ -12,9 +12,9 @@ loop-from-preserved c =
     let d : Pair = (ANumber, ANumber) in
     elim c.if-divisor-ne0.branch [
       | then-divisor-ne0 w ↦
-          let left = divided_pairs_drop_some c.args.a c.args.pairs.now i d c.loop-from-test.true (λ e. w.if-divisor-ne0.true (c.field-divisor.ensures ∙ e)) in
+          let left = divided_pairs_drop_some c.args.a c.args.pairs.now i d c.loop-from-test.true (λ e. w.if-divisor-ne0.true (c.field-divisor.ensures.value ∙ e)) in
           record { value = grind (arith, left, common_steps); count = grind (arith, left, common_steps); bound = grind arith; fits = rw (w.cell-is, w.with_field-cell.ensures) (FitsCore-with_field _ _ _ _ w.new_number-number.ensures.inside c.loop-from.invariant.fits) }
       | else-divisor-ne0 w ↦
-          let left = divided_pairs_drop_zero c.args.a c.args.pairs.now i d c.loop-from-test.true (sym c.field-divisor.ensures ∙ w.if-divisor-ne0.false) in
+          let left = divided_pairs_drop_zero c.args.a c.args.pairs.now i d c.loop-from-test.true (sym c.field-divisor.ensures.value ∙ w.if-divisor-ne0.false) in
           record { value = cc; count = grind (arith, left); bound = grind arith; fits = grind (arith, common_steps) }
     ]

@@ -1,62 +1,52 @@
-//! The evaluation of operands (`specs/Operand`).
-ghost use Rattle.std.specs.Prelude.{◌≡◌, ◌<◌, ◌≤◌, false, None, ◌+◌, Some};
+//! Where operands lead (`specs/Operand`).
+ghost use Rattle.std.specs.Prelude.{◌≡◌, ◌<◌, ◌≤◌, false, length};
+ghost use Rattle.mars_cell.specs.Cells.{field_of};
 ghost use Rattle.mars_cell.specs.Limits.{largest_core};
 ghost use Rattle.mars_core.specs.State.{cell_at as spec_cell_at};
-ghost use Rattle.mars_core.specs.Addresses.{address_after as spec_address_after};
+ghost use Rattle.mars_core.specs.Addresses.{address_after as spec_address_after, raised as spec_raised, lowered as spec_lowered};
 ghost use Rattle.mars_core.specs.Validity.{IsCore};
+ghost use Rattle.mars_core.specs.Writes.{write_field};
 ghost use Rattle.mars_core.specs.Operand.{direct_operand, indirect_operand, evaluated, pointed_address, predecremented, postincremented};
-ghost use Rattle.mars_core.specs.Code.Operands.{IsUnlimited, IsAddressed, addressed, unwritten, noted};
+ghost use Rattle.mars_core.specs.Code.Operands.{IsUnlimited, IsPlace, placed, unwritten, writes_field};
 
-use crate::machine::address::{address_after, folded, folded_number};
-use crate::machine::writes::{CellChange, cell_at, lower_field, number_at, raise_field};
-use mars_cell::{Cell, Field, Mode, Params};
+use crate::machine::address::{address_after, folded, folded_number, lowered, raised};
+use crate::packed::PackedCell;
+use mars_cell::{Field, Mode, Params};
 
-/// An operand by its addresses: where it reads, relative to the instruction; where it reads and writes; and a copy of the cell
-/// that it reads.
+/// Where an operand leads: the address that it reads, the address that it writes, and a copy of the cell that it reads.
 #[derive(Clone, Copy)]
-pub struct AddressedOperand {
-    pub pointer: u32,
+pub struct Place {
     pub read: u32,
     pub write: u32,
-    pub copy: Cell,
+    pub copy: PackedCell,
 }
 
-/// An operand, and the write that its evaluation made, if it made one.
-#[derive(Clone, Copy)]
-pub struct Evaluation {
-    pub operand: AddressedOperand,
-    pub change: Option<CellChange>,
-}
-
-/// Evaluates the operand of a mode and a number, for the instruction at `pc`.
+/// Evaluates the operand of a mode and a number, for the instruction at `pc`. This may write a cell.
 #[inline(always)]
 #[tactic(auto, unfolding(crate::specs::Operand::evaluated))]
-pub fn evaluate<const LIMITED: bool>(
+pub fn place_of<const LIMITED: bool>(
     params: &Params,
-    core: &mut [Cell],
+    core: &mut [PackedCell],
     pc: u32,
     mode: Mode,
     number: u32,
-) -> Evaluation
+) -> Place
     requires core { IsCore params.now.core_size core.old }
     requires unlimited { LIMITED ≡ false → IsUnlimited params.now }
     requires pc { pc < params.now.core_size }
     requires number { number < params.now.core_size }
-
-    // The evaluated operand, and the one cell that it changes.
-    ensures written { noted core.new result.change ≡ (evaluated params.now (unwritten core.old) pc mode number).written }
-    ensures operand { result.operand ≡ addressed params.now.core_size pc
-        (evaluated params.now (unwritten core.old) pc mode number).operand }
+    ensures core_is { core.new ≡ (evaluated params.now (unwritten core.old) pc mode number).written.core }
+    ensures place { result ≡ placed params.now.core_size pc (evaluated params.now (unwritten core.old) pc mode number).operand }
 
     // What callers need of it.
     ensures core { IsCore params.now.core_size core.new }
-    ensures fits { IsAddressed params.now.core_size result.operand }
+    ensures fits { IsPlace params.now.core_size result }
 {
     match mode {
-        Mode::Immediate => quiet(here(params.core_size(), core, pc)),
-        Mode::Direct => quiet(direct::<LIMITED>(params, core, pc, number)),
-        Mode::AIndirect => quiet(indirect::<LIMITED>(params, core, Field::ANumber, pc, number)),
-        Mode::BIndirect => quiet(indirect::<LIMITED>(params, core, Field::BNumber, pc, number)),
+        Mode::Immediate => here(params.core_size(), core, pc),
+        Mode::Direct => direct::<LIMITED>(params, core, pc, number),
+        Mode::AIndirect => indirect::<LIMITED>(params, core, Field::ANumber, pc, number),
+        Mode::BIndirect => indirect::<LIMITED>(params, core, Field::BNumber, pc, number),
         Mode::APredecrement => predecrement::<LIMITED>(params, core, Field::ANumber, pc, number),
         Mode::BPredecrement => predecrement::<LIMITED>(params, core, Field::BNumber, pc, number),
         Mode::APostincrement => postincrement::<LIMITED>(params, core, Field::ANumber, pc, number),
@@ -64,31 +54,36 @@ pub fn evaluate<const LIMITED: bool>(
     }
 }
 
+/// Whether the evaluation of a mode writes a field.
+#[inline(always)]
+pub fn writes_a_field(mode: Mode) -> bool
+    ensures { result ≡ writes_field mode }
+{
+    match mode {
+        Mode::Immediate | Mode::Direct | Mode::AIndirect | Mode::BIndirect => false,
+        Mode::APredecrement | Mode::BPredecrement | Mode::APostincrement | Mode::BPostincrement =>
+            true,
+    }
+}
+
 /// The folded number leads to the cell.
 #[inline(always)]
 #[tactic(auto, unfolding(crate::specs::Operand::direct_operand))]
-fn direct<const LIMITED: bool>(
-    params: &Params,
-    core: &[Cell],
-    pc: u32,
-    number: u32,
-) -> AddressedOperand
+fn direct<const LIMITED: bool>(params: &Params, core: &[PackedCell], pc: u32, number: u32) -> Place
     requires core { IsCore params.now.core_size core.now }
     requires unlimited { LIMITED ≡ false → IsUnlimited params.now }
     requires pc { pc < params.now.core_size }
     requires number { number < params.now.core_size }
-    ensures value { result ≡ addressed params.now.core_size pc (direct_operand params.now core.now pc number number) }
-    ensures fits { IsAddressed params.now.core_size result }
+    ensures value { result ≡ placed params.now.core_size pc (direct_operand params.now core.now pc number number) }
+    ensures fits { IsPlace params.now.core_size result }
 {
     let core_size = params.core_size();
     let read = folded_number::<LIMITED>(core_size, params.read_limit(), number);
     let write = folded_number::<LIMITED>(core_size, params.write_limit(), number);
-    let address = address_after(core_size, pc, read);
-    operand_at(
+    place_at(
         core_size,
         core,
-        read,
-        address,
+        address_after(core_size, pc, read),
         address_after(core_size, pc, write),
     )
 }
@@ -98,17 +93,17 @@ fn direct<const LIMITED: bool>(
 #[tactic(auto, using(crate::proofs::Folding::through), unfolding(crate::specs::Operand::indirect_operand, crate::specs::Operand::direct_operand))]
 fn indirect<const LIMITED: bool>(
     params: &Params,
-    core: &[Cell],
+    core: &[PackedCell],
     field: Field,
     pc: u32,
     number: u32,
-) -> AddressedOperand
+) -> Place
     requires core { IsCore params.now.core_size core.now }
     requires unlimited { LIMITED ≡ false → IsUnlimited params.now }
     requires pc { pc < params.now.core_size }
     requires number { number < params.now.core_size }
-    ensures value { result ≡ addressed params.now.core_size pc (indirect_operand params.now field core.now pc number) }
-    ensures fits { IsAddressed params.now.core_size result }
+    ensures value { result ≡ placed params.now.core_size pc (indirect_operand params.now field core.now pc number) }
+    ensures fits { IsPlace params.now.core_size result }
 {
     let core_size = params.core_size();
     let rp = folded_number::<LIMITED>(core_size, params.read_limit(), number);
@@ -119,10 +114,9 @@ fn indirect<const LIMITED: bool>(
     let to = number_at(core_size, core, field, write_through);
     let read = folded::<LIMITED>(core_size, params.read_limit(), rp + from);
     let write = folded::<LIMITED>(core_size, params.write_limit(), wp + to);
-    operand_at(
+    place_at(
         core_size,
         core,
-        read,
         address_through::<LIMITED>(core_size, pc, read, read_through, from),
         address_through::<LIMITED>(core_size, pc, write, write_through, to),
     )
@@ -133,27 +127,23 @@ fn indirect<const LIMITED: bool>(
 #[tactic(auto, unfolding(crate::specs::Operand::predecremented))]
 fn predecrement<const LIMITED: bool>(
     params: &Params,
-    core: &mut [Cell],
+    core: &mut [PackedCell],
     field: Field,
     pc: u32,
     number: u32,
-) -> Evaluation
+) -> Place
     requires core { IsCore params.now.core_size core.old }
     requires unlimited { LIMITED ≡ false → IsUnlimited params.now }
     requires pc { pc < params.now.core_size }
     requires number { number < params.now.core_size }
-    ensures written { noted core.new result.change ≡ (predecremented params.now field (unwritten core.old) pc number).written }
-    ensures operand { result.operand ≡ addressed params.now.core_size pc
-        (predecremented params.now field (unwritten core.old) pc number).operand }
+    ensures core_is { core.new ≡ (predecremented params.now field (unwritten core.old) pc number).written.core }
+    ensures place { result ≡ placed params.now.core_size pc (predecremented params.now field (unwritten core.old) pc number).operand }
     ensures core { IsCore params.now.core_size core.new }
-    ensures fits { IsAddressed params.now.core_size result.operand }
+    ensures fits { IsPlace params.now.core_size result }
 {
     let address = pointed::<LIMITED>(params, pc, number);
-    let change = lower_field(params.core_size(), core, field, address);
-    Evaluation {
-        operand: indirect::<LIMITED>(params, core, field, pc, number),
-        change: Some(change),
-    }
+    lower_field(params.core_size(), core, field, address);
+    indirect::<LIMITED>(params, core, field, pc, number)
 }
 
 /// First the operand is evaluated, then the field is raised.
@@ -161,33 +151,29 @@ fn predecrement<const LIMITED: bool>(
 #[tactic(auto, unfolding(crate::specs::Operand::postincremented))]
 fn postincrement<const LIMITED: bool>(
     params: &Params,
-    core: &mut [Cell],
+    core: &mut [PackedCell],
     field: Field,
     pc: u32,
     number: u32,
-) -> Evaluation
+) -> Place
     requires core { IsCore params.now.core_size core.old }
     requires unlimited { LIMITED ≡ false → IsUnlimited params.now }
     requires pc { pc < params.now.core_size }
     requires number { number < params.now.core_size }
-    ensures written { noted core.new result.change ≡ (postincremented params.now field (unwritten core.old) pc number).written }
-    ensures operand { result.operand ≡ addressed params.now.core_size pc
-        (postincremented params.now field (unwritten core.old) pc number).operand }
+    ensures core_is { core.new ≡ (postincremented params.now field (unwritten core.old) pc number).written.core }
+    ensures place { result ≡ placed params.now.core_size pc (postincremented params.now field (unwritten core.old) pc number).operand }
     ensures core { IsCore params.now.core_size core.new }
-    ensures fits { IsAddressed params.now.core_size result.operand }
+    ensures fits { IsPlace params.now.core_size result }
 {
-    let operand = indirect::<LIMITED>(params, core, field, pc, number);
+    let found = indirect::<LIMITED>(params, core, field, pc, number);
     let address = pointed::<LIMITED>(params, pc, number);
-    let change = raise_field(params.core_size(), core, field, address);
-    Evaluation {
-        operand,
-        change: Some(change),
-    }
+    raise_field(params.core_size(), core, field, address);
+    found
 }
 
 /// The address that the number leads to for writing.
 #[inline(always)]
-fn pointed<const LIMITED: bool>(params: &Params, pc: u32, number: u32) -> u32
+pub fn pointed<const LIMITED: bool>(params: &Params, pc: u32, number: u32) -> u32
     requires unlimited { LIMITED ≡ false → IsUnlimited params.now }
     requires pc { pc < params.now.core_size }
     requires number { number < params.now.core_size }
@@ -227,47 +213,78 @@ fn address_through<const LIMITED: bool>(
 /// An immediate operand: the instruction itself.
 #[inline(always)]
 #[tactic(auto, using(crate::proofs::Folding::after_none))]
-fn here(core_size: u32, core: &[Cell], pc: u32) -> AddressedOperand
+fn here(core_size: u32, core: &[PackedCell], pc: u32) -> Place
     requires core { IsCore core_size core.now }
     requires pc { pc < core_size }
-    ensures value { result ≡ addressed core_size pc
+    ensures value { result ≡ placed core_size pc
         (record { read = 0; write = 0; copy = spec_cell_at core.now (spec_address_after core_size pc 0) }) }
-    ensures fits { IsAddressed core_size result }
+    ensures fits { IsPlace core_size result }
 {
-    operand_at(core_size, core, 0, pc, pc)
+    place_at(core_size, core, pc, pc)
 }
 
-/// The evaluation of an operand that writes nothing.
+/// The place of an address to read and an address to write.
 #[inline(always)]
-fn quiet(operand: AddressedOperand) -> Evaluation
-    ensures operand { result.operand ≡ operand }
-    ensures change { result.change ≡ None }
-{
-    Evaluation {
-        operand,
-        change: None,
-    }
-}
-
-/// The operand of a folded pointer, whose address is `read`, and of an address to write at.
-#[inline(always)]
-fn operand_at(
-    core_size: u32,
-    core: &[Cell],
-    pointer: u32,
-    read: u32,
-    write: u32,
-) -> AddressedOperand
+fn place_at(core_size: u32, core: &[PackedCell], read: u32, write: u32) -> Place
     requires core { IsCore core_size core.now }
     requires read { read < core_size }
     requires write { write < core_size }
-    ensures value { result ≡ record { pointer = pointer; read = read; write = write; copy = spec_cell_at core.now read } }
-    ensures fits { IsAddressed core_size result }
+    ensures value { result ≡ record { read = read; write = write; copy = spec_cell_at core.now read } }
+    ensures fits { IsPlace core_size result }
 {
-    AddressedOperand {
-        pointer,
+    Place {
         read,
         write,
         copy: cell_at(core, read),
     }
+}
+
+/// The cell at an address.
+#[inline(always)]
+pub fn cell_at(core: &[PackedCell], address: u32) -> PackedCell
+    requires { address < length core.now }
+    ensures { result ≡ spec_cell_at core.now address }
+{
+    core[address as usize]
+}
+
+/// The number in a field of the cell at an address.
+#[inline(always)]
+fn number_at(core_size: u32, core: &[PackedCell], field: Field, address: u32) -> u32
+    requires core { IsCore core_size core.now }
+    requires inside { address < core_size }
+    ensures value { result ≡ field_of field (spec_cell_at core.now address) }
+    ensures inside { result < core_size }
+{
+    core[address as usize].field(field)
+}
+
+/// Raises a field of the cell at an address by one.
+#[inline(always)]
+#[tactic(auto, unfolding(crate::specs::Writes::write_field, crate::specs::Writes::write_cell))]
+fn raise_field(core_size: u32, core: &mut [PackedCell], field: Field, address: u32)
+    requires core { IsCore core_size core.old }
+    requires size { core_size ≤ largest_core }
+    requires inside { address < core_size }
+    ensures core_is { core.new ≡ (write_field (spec_raised core_size) field (unwritten core.old) address).core }
+    ensures core { IsCore core_size core.new }
+{
+    let cell = cell_at(core, address);
+    let number = raised(core_size, cell.field(field));
+    core[address as usize] = cell.with_field(field, number);
+}
+
+/// Lowers a field of the cell at an address by one.
+#[inline(always)]
+#[tactic(auto, unfolding(crate::specs::Writes::write_field, crate::specs::Writes::write_cell))]
+fn lower_field(core_size: u32, core: &mut [PackedCell], field: Field, address: u32)
+    requires core { IsCore core_size core.old }
+    requires size { core_size ≤ largest_core }
+    requires inside { address < core_size }
+    ensures core_is { core.new ≡ (write_field (spec_lowered core_size) field (unwritten core.old) address).core }
+    ensures core { IsCore core_size core.new }
+{
+    let cell = cell_at(core, address);
+    let number = lowered(core_size, cell.field(field));
+    core[address as usize] = cell.with_field(field, number);
 }
