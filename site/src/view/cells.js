@@ -116,9 +116,9 @@ export class Cells {
     const sentence = instructionWords(cell, { core: known.core });
     const line = side.lineOf(address);
     const origin = line ? `${line.name}, line ${line.line}: ${line.text}` : "";
-    const button = make("button", { className: "text", title: `${sentence} A click edits it.` }, text);
+    const button = make("button", { className: "bare text", title: `${sentence} A click edits it.` }, text);
     button.onclick = () => this.#edit(address, text, button);
-    const look = { className: "address", title: "Look at it", onclick: () => session.pin(address) };
+    const look = { className: "bare address", title: "Look at it", onclick: () => session.pin(address) };
     const names = standing.map(({ who, many }) => known.names[who] + (many > 1 ? ` ×${many}` : "")).join(", ");
     const chips = standing.flatMap(({ who, many }) => [
       make("i", { className: "chip", style: colour(who) }),

@@ -232,7 +232,7 @@ export class Shelf {
         this.host.changed();
       };
       const isShown = held === this.shown;
-      const show = { onclick: () => this.show(held), "aria-current": isShown ? "true" : "false" };
+      const show = { className: "bare", onclick: () => this.show(held), "aria-current": String(isShown) };
       const button = make("button", show, titleOf(held));
       const label = make("label", { title: "Fights" }, box);
       const kind = make("small", {}, isExample ? "example" : "");
