@@ -1,16 +1,13 @@
 """Tests of the site in a browser, which each browser's module imports."""
 from __future__ import annotations
 
-import functools
-import http.server
 import re
 import subprocess
-import threading
 from collections.abc import Iterator
 from pathlib import Path
 
 import pytest
-from browsers import Browser
+from browsers import Browser, served
 from conftest import EXAMPLES, TOP
 from costly import slow
 from counting import PROGRAM, skip
@@ -19,25 +16,13 @@ OPCODES = "DAT MOV ADD SUB MUL DIV MOD JMP JMZ JMN DJN SEQ SNE SLT SPL NOP".spli
 MODIFIERS, MODES = "A B AB BA F X I".split(), "#$*@{<}>"
 
 
-class Files(http.server.SimpleHTTPRequestHandler):
-    """Any web server: it knows only the types of files."""
-
-    extensions_map = {".html": "text/html", ".js": "text/javascript", ".wasm": "application/wasm"}
-
-    def log_message(self, *_: object) -> None:
-        ...
-
-
 @pytest.fixture(scope="module")
 def site() -> Iterator[str]:
     """The address of the built site, served as files."""
     if not (TOP / "build" / "site").is_dir():
         skip("the site", "it is not built; `make site` builds it", "esbuild")
-    handler = functools.partial(Files, directory=str(TOP / "build" / "site"))
-    with http.server.ThreadingHTTPServer(("127.0.0.1", 0), handler) as server:
-        threading.Thread(target=server.serve_forever, daemon=True).start()
-        yield f"http://127.0.0.1:{server.server_address[1]}/index.html"
-        server.shutdown()
+    with served(TOP / "build" / "site") as address:
+        yield f"{address}/index.html"
 
 
 @pytest.fixture
