@@ -33,10 +33,11 @@ function style() {
   return execFileSync("esbuild", ["--loader=css", "--minify"], { input, encoding: "utf8" });
 }
 
-/** What errors of sources mean, those of expressions by their last words. */
+/** The sentences on errors of sources: what they mean, those of expressions by their last words, and their causes. */
 function meanings() {
-  const { expressions, errors } = JSON.parse(read(inside("..", "python", "corewar", "explain", "meanings.json")));
-  return { ...expressions, ...errors };
+  const file = inside("..", "python", "corewar", "explain", "meanings.json");
+  const { expressions, errors, causes } = JSON.parse(read(file));
+  return { ...expressions, ...errors, ...causes };
 }
 
 /** What the page knows: examples, lessons, and what errors mean. */

@@ -241,7 +241,7 @@ def test_the_editor_shows_faults_and_fights(page: Browser, site: str) -> None:
         "x MVO 0, 1\n MOV 0, bom\n JMP x\nbomb DAT 0\n",
     )
     page.until("document.getElementById('fault').classList.contains('bad')")
-    assert "did you mean MOV?" in page.text("fault") and "did you mean bomb?" in page.text("fault")
+    assert "did you mean MOV?" in page.text("fault") and "did you mean bomb (line 4)?" in page.text("fault")
     assert page.value("[...document.querySelectorAll('.CodeMirror .fault')].map(one => one.textContent)") == [
         "MVO",
         "bom",
