@@ -202,6 +202,30 @@ def test_the_debugger_has_a_line(page: Browser) -> None:
     assert ask("goto start").startswith("next: Dwarf")
 
 
+def test_the_line_is_completed(page: Browser) -> None:
+    """By Tab, which leaves the line once there is nothing more to complete."""
+    page.press(" ", ":")
+    line = "document.getElementById('line').value"
+    page.type("conti")
+    page.press("Tab")
+    page.type("ch")
+    page.press("Tab")
+    page.type("BO")
+    page.press("Tab")
+    assert page.value(line) == "continue changes bomb "
+    page.press("Tab")
+    listed = page.value("document.querySelector('#answers').lastChild.textContent").split()
+    assert {"bomb", "Dwarf", "Imp"} <= {*listed} and page.value("document.activeElement.id") == "line"
+    page.press("Tab")
+    assert page.value("document.activeElement.id") != "line"
+    # Lines that are pasted together are executed.
+    code = """const pasted = new Event("paste", {cancelable: true});
+      pasted.clipboardData = {getData: () => "goto 5\\nstep\\n\\nstep\\n"};
+      document.getElementById("line").dispatchEvent(pasted);"""
+    page.run(code)
+    page.until("corewar.session.turn === 7 && document.querySelectorAll('#answers .asked').length === 4")
+
+
 def test_a_link_carries_the_fight(page: Browser, site: str) -> None:
     stand(page, 7795)
     page.run("corewar.session.pin(2); await corewar.console.run('edit 2 jmp 0')")
