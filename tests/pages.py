@@ -322,7 +322,7 @@ def test_rounds_are_those_of_the_program(page: Browser) -> None:
     assert [[*map(int, one)] for one in found] == [row[1:] for row in rows]
     assert re.search(r"\d+× Lookout died on its line \d+, on what Hail wrote by line \d+", page.text("why"))
     page.click("#strip button:nth-child(8)")
-    page.until("corewar.session.fight.round === 7 && document.querySelectorAll('#strip .here').length === 1")
+    page.until("corewar.session.fight.round === 7 && document.querySelectorAll('#strip [aria-current]').length === 1")
 
 
 def test_the_bench_is_the_program(page: Browser) -> None:
@@ -390,7 +390,7 @@ def test_a_lesson_is_judged(page: Browser) -> None:
         "corewar.shelf.editor.mirror.setValue('MOV 0, 1\\n');"
         "document.querySelectorAll('#lessons .lesson')[3].querySelector('.main').click()"
     )
-    page.until(verdict % (3, "1 cells; 0 won, 100 tied, 0 lost of 100. Well done."))
+    page.until(verdict % (3, "1 cell; 0 won, 100 tied, 0 lost of 100. Well done."))
 
 
 @pytest.mark.parametrize("view", ["battle", "bench", "league", "learn"])
@@ -439,6 +439,35 @@ def test_texts_have_contrast_and_controls_have_names(page: Browser, theme: str) 
         page.run("corewar.show(given[0]); await new Promise(done => setTimeout(done, 200))", view)
         assert page.run(CONTRAST) == [], view
     assert page.run(UNNAMED) == []
+
+
+HEADINGS = """return [...document.querySelectorAll("h1, h2, h3")].filter(one => one.checkVisibility())
+  .map(one => Number(one.tagName[1]))"""
+
+
+def test_a_screen_reader_follows(page: Browser) -> None:
+    """No view leaves out a level of headings, and a step announces the turn that it shows."""
+    page.press(" ")
+    for view in ("battle", "bench", "league", "learn"):
+        page.run("corewar.show(given[0])", view)
+        levels = page.run(HEADINGS)
+        assert levels[0] == 1 and all(after <= before + 1 for before, after in zip(levels, levels[1:])), view
+    page.run("document.querySelectorAll('#lessons .lesson')[1].querySelector('button').click()")
+    page.until("document.activeElement.id === 'lesson-box' && corewar.session.way === 1")
+    assert page.run(HEADINGS)[:2] == [1, 2]
+    stand(page, 7796)
+    page.press("Right")
+    told = "[...document.querySelectorAll('#side [aria-live=polite]')].map(one => one.textContent).join('')"
+    page.until(f"{told}.startsWith('Dwarf executed MOV.I $2, @2 at 1.')")
+    page.press("Right")
+    page.until("document.querySelector('#caption[aria-live=polite]')?.textContent === 'Dwarf wins after 7,798 turns.'")
+
+
+def test_the_keyboard_leaves_the_editor(page: Browser) -> None:
+    page.press("e")
+    page.until("document.activeElement.closest('#editor')")
+    page.press("Tab", "Escape", "Tab")
+    assert page.value("!document.activeElement.closest('#desk')")
 
 
 def test_memory_stays(page: Browser) -> None:

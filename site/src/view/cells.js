@@ -76,6 +76,8 @@ export class Cells {
       return this.#line(view, address, standing.get(address) ?? []);
     });
     refill(element("listing"), ...lines);
+    // The turn is announced already; so is a cell that is kept in view.
+    element("cell-words").setAttribute("aria-live", pinned === null ? "off" : "polite");
     element("cell-words").textContent = instructionWords(readCell(view.cells, focus), { core: known.core });
     if (!way) this.#tellChanges(view);
   }

@@ -52,7 +52,8 @@ export class Shelf {
     this.editor = new Editor({
       save: () => this.save(false),
       fight: () => host.fight(),
-      leave: () => element("new").focus(),
+      // What follows the editor; otherwise the Tab key would lead into it again.
+      leave: () => element("load-head").focus(),
       changed: () => {
         this.sign();
         lint();

@@ -99,7 +99,8 @@ export class Side {
     const lines = futures.map(({ edits, end }, index) => {
       const made = edits.map(({ turn, edit }) => `turn ${number(turn)}: ${editText(edit, known.core)}`);
       const text = `${index}: ${made.join("; ") || "as it was fought"} (${counted(end, "turn")})`;
-      const here = { className: `bare ${index === future ? "here" : ""}`, onclick: () => session.showFuture(index) };
+      const current = index === future ? "true" : null;
+      const here = { className: "bare", "aria-current": current, onclick: () => session.showFuture(index) };
       const compare = { className: "link", title: "Show it beside this one", onclick: () => session.compare(index) };
       return make("li", {}, make("button", here, text), index === future ? null : make("button", compare, "compare"));
     });
@@ -142,6 +143,7 @@ export class Side {
     const { opened, known, chosen } = this.session;
     if (!opened) return;
     row.className = `${view.processes[who] ? "" : "dead"} ${chosen < 0 || chosen === who ? "" : "dim"}`;
+    row.querySelector("button")?.setAttribute("aria-pressed", String(chosen === who));
     processes.textContent = number(view.processes[who]);
     cells.textContent = number(view.owned[who]);
     bar.style.width = `${(100 * view.owned[who]) / known.core}%`;
