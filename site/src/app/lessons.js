@@ -122,6 +122,7 @@ export class Lessons {
     this.#open(lesson);
     const fought = this.host.fight(sources);
     element("lesson-box").focus({ preventScroll: true });
+    element("side").scrollTo(0, 0);
     return fought;
   }
 

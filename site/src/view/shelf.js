@@ -312,7 +312,8 @@ export class Shelf {
     this.isBroken = faults.length > 0;
     this.editor.showErrors(faults);
     element("fault").classList.toggle("bad", this.isBroken);
-    const told = faults.flatMap((one) => [make("b", {}, `Line ${one.line}: `), withCode(one.text), make("br")]);
+    const sorted = [...faults].sort((one, other) => one.line - other.line);
+    const told = sorted.flatMap((one) => [make("b", {}, `Line ${one.line}: `), withCode(one.text), make("br")]);
     if (this.isBroken) refill(element("fault"), ...told);
     host.checked();
   }
