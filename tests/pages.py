@@ -479,7 +479,9 @@ def test_memory_stays(page: Browser) -> None:
         await corewar.session.open(fight, {plays: false});
       }
       return corewar.session.desk.memory();"""
-    first, last = page.run(code, 10), page.run(code, 500)
+    first = page.run(code, 10)
+    for _ in range(5):
+        last = page.run(code, 100)
     # Some of the 500 battles have more processes than the first ten.
     assert last["marks"] <= 2 * first["marks"] and last["machine"] <= first["machine"] + 1_000_000
 
