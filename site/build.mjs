@@ -11,7 +11,7 @@ import zlib from "node:zlib";
 
 import { readLesson } from "./tools/lesson.mjs";
 
-const [wasm, folder, codemirror = "/usr/share/javascript/codemirror"] = process.argv.slice(2);
+const [wasm, folder, codemirror = "/usr/share/nodejs/codemirror"] = process.argv.slice(2);
 const here = path.dirname(fileURLToPath(import.meta.url));
 const inside = (...parts) => path.join(here, ...parts);
 const made = (name) => path.join(folder, name);
@@ -22,7 +22,7 @@ const filesOf = (place, ending) => fs.readdirSync(place).filter((name) => name.e
 /** Bundles a module with everything that it imports. */
 function bundle(from, name, banner) {
   const words = [inside("src", from), "--bundle", "--minify", "--format=iife", "--target=es2022", "--charset=utf8"];
-  const editor = fs.realpathSync(path.join(codemirror, "lib", "codemirror.js"));
+  const editor = path.join(codemirror, "src", "codemirror.js");
   words.push("--log-level=warning", `--alias:codemirror=${editor}`, `--banner:js=${banner}`, `--outfile=${made(name)}`);
   execFileSync("esbuild", words);
 }
@@ -33,10 +33,11 @@ function style() {
   return execFileSync("esbuild", ["--loader=css", "--minify"], { input, encoding: "utf8" });
 }
 
-/** What errors of sources mean, those of expressions by their last words. */
+/** The sentences on errors of sources: what they mean, those of expressions by their last words, and their causes. */
 function meanings() {
-  const { expressions, errors } = JSON.parse(read(inside("..", "python", "corewar", "explain", "meanings.json")));
-  return { ...expressions, ...errors };
+  const file = inside("..", "python", "corewar", "explain", "meanings.json");
+  const { expressions, errors, causes } = JSON.parse(read(file));
+  return { ...expressions, ...errors, ...causes };
 }
 
 /** What the page knows: examples, lessons, and what errors mean. */

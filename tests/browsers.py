@@ -1,13 +1,18 @@
 """Chromium and Firefox without windows, by the same calls: scripts, keys and a mouse, as WebDriver has them."""
 from __future__ import annotations
 
+import functools
+import http.server
 import json
 import shutil
 import socket
 import subprocess
 import tempfile
+import threading
 import time
-from collections.abc import Callable
+from collections.abc import Callable, Iterator
+from contextlib import contextmanager
+from pathlib import Path
 from typing import Any
 
 from counting import skip
@@ -18,6 +23,25 @@ KEYS |= {"Shift": "\ue008", "Control": "\ue009", "Tab": "\ue004", "Backspace": "
 PATIENCE = 30
 ASYNC = """const done = arguments[arguments.length - 1], given = [...arguments].slice(0, -1);
 (async () => {%s})().then(done, error => done({error: `${error}\\n${error.stack}`}));"""
+
+
+class Files(http.server.SimpleHTTPRequestHandler):
+    """Any web server: it knows only the types of files."""
+
+    extensions_map = {".html": "text/html", ".js": "text/javascript", ".wasm": "application/wasm"}
+
+    def log_message(self, *_: object) -> None:
+        ...
+
+
+@contextmanager
+def served(folder: Path) -> Iterator[str]:
+    """Yields the address of a folder that is served as files."""
+    handler = functools.partial(Files, directory=str(folder))
+    with http.server.ThreadingHTTPServer(("127.0.0.1", 0), handler) as server:
+        threading.Thread(target=server.serve_forever, daemon=True).start()
+        yield f"http://127.0.0.1:{server.server_address[1]}"
+        server.shutdown()
 
 
 class Browser:
@@ -119,6 +143,7 @@ def chromium() -> Browser:
         "script": lambda script, args: driver.execute_async_script(script, *args),
         "actions": lambda actions: driver.execute(Command.W3C_ACTIONS, {"actions": actions}),
         "resize": resize,
+        "picture": driver.get_screenshot_as_png,
         "errors": lambda: [entry["message"] for entry in driver.get_log("browser") if entry["level"] == "SEVERE"],
         "end": driver.quit,
     }

@@ -1,16 +1,13 @@
 """Tests of the site in a browser, which each browser's module imports."""
 from __future__ import annotations
 
-import functools
-import http.server
 import re
 import subprocess
-import threading
 from collections.abc import Iterator
 from pathlib import Path
 
 import pytest
-from browsers import Browser
+from browsers import Browser, served
 from conftest import EXAMPLES, TOP
 from costly import slow
 from counting import PROGRAM, skip
@@ -19,25 +16,13 @@ OPCODES = "DAT MOV ADD SUB MUL DIV MOD JMP JMZ JMN DJN SEQ SNE SLT SPL NOP".spli
 MODIFIERS, MODES = "A B AB BA F X I".split(), "#$*@{<}>"
 
 
-class Files(http.server.SimpleHTTPRequestHandler):
-    """Any web server: it knows only the types of files."""
-
-    extensions_map = {".html": "text/html", ".js": "text/javascript", ".wasm": "application/wasm"}
-
-    def log_message(self, *_: object) -> None:
-        ...
-
-
 @pytest.fixture(scope="module")
 def site() -> Iterator[str]:
     """The address of the built site, served as files."""
     if not (TOP / "build" / "site").is_dir():
         skip("the site", "it is not built; `make site` builds it", "esbuild")
-    handler = functools.partial(Files, directory=str(TOP / "build" / "site"))
-    with http.server.ThreadingHTTPServer(("127.0.0.1", 0), handler) as server:
-        threading.Thread(target=server.serve_forever, daemon=True).start()
-        yield f"http://127.0.0.1:{server.server_address[1]}/index.html"
-        server.shutdown()
+    with served(TOP / "build" / "site") as address:
+        yield f"{address}/index.html"
 
 
 @pytest.fixture
@@ -217,6 +202,30 @@ def test_the_debugger_has_a_line(page: Browser) -> None:
     assert ask("goto start").startswith("next: Dwarf")
 
 
+def test_the_line_is_completed(page: Browser) -> None:
+    """By Tab, which leaves the line once there is nothing more to complete."""
+    page.press(" ", ":")
+    line = "document.getElementById('line').value"
+    page.type("conti")
+    page.press("Tab")
+    page.type("ch")
+    page.press("Tab")
+    page.type("BO")
+    page.press("Tab")
+    assert page.value(line) == "continue changes bomb "
+    page.press("Tab")
+    listed = page.value("document.querySelector('#answers').lastChild.textContent").split()
+    assert {"bomb", "Dwarf", "Imp"} <= {*listed} and page.value("document.activeElement.id") == "line"
+    page.press("Tab")
+    assert page.value("document.activeElement.id") != "line"
+    # Lines that are pasted together are executed.
+    code = """const pasted = new Event("paste", {cancelable: true});
+      pasted.clipboardData = {getData: () => "goto 5\\nstep\\n\\nstep\\n"};
+      document.getElementById("line").dispatchEvent(pasted);"""
+    page.run(code)
+    page.until("corewar.session.turn === 7 && document.querySelectorAll('#answers .asked').length === 4")
+
+
 def test_a_link_carries_the_fight(page: Browser, site: str) -> None:
     stand(page, 7795)
     page.run("corewar.session.pin(2); await corewar.console.run('edit 2 jmp 0')")
@@ -256,7 +265,7 @@ def test_the_editor_shows_faults_and_fights(page: Browser, site: str) -> None:
         "x MVO 0, 1\n MOV 0, bom\n JMP x\nbomb DAT 0\n",
     )
     page.until("document.getElementById('fault').classList.contains('bad')")
-    assert "did you mean MOV?" in page.text("fault") and "did you mean bomb?" in page.text("fault")
+    assert "did you mean MOV?" in page.text("fault") and "did you mean bomb (line 4)?" in page.text("fault")
     assert page.value("[...document.querySelectorAll('.CodeMirror .fault')].map(one => one.textContent)") == [
         "MVO",
         "bom",
@@ -313,7 +322,7 @@ def test_rounds_are_those_of_the_program(page: Browser) -> None:
     assert [[*map(int, one)] for one in found] == [row[1:] for row in rows]
     assert re.search(r"\d+× Lookout died on its line \d+, on what Hail wrote by line \d+", page.text("why"))
     page.click("#strip button:nth-child(8)")
-    page.until("corewar.session.fight.round === 7 && document.querySelectorAll('#strip .here').length === 1")
+    page.until("corewar.session.fight.round === 7 && document.querySelectorAll('#strip [aria-current]').length === 1")
 
 
 def test_the_bench_is_the_program(page: Browser) -> None:
@@ -381,7 +390,7 @@ def test_a_lesson_is_judged(page: Browser) -> None:
         "corewar.shelf.editor.mirror.setValue('MOV 0, 1\\n');"
         "document.querySelectorAll('#lessons .lesson')[3].querySelector('.main').click()"
     )
-    page.until(verdict % (3, "1 cells; 0 won, 100 tied, 0 lost of 100. Well done."))
+    page.until(verdict % (3, "1 cell; 0 won, 100 tied, 0 lost of 100. Well done."))
 
 
 @pytest.mark.parametrize("view", ["battle", "bench", "league", "learn"])
@@ -432,6 +441,35 @@ def test_texts_have_contrast_and_controls_have_names(page: Browser, theme: str) 
     assert page.run(UNNAMED) == []
 
 
+HEADINGS = """return [...document.querySelectorAll("h1, h2, h3")].filter(one => one.checkVisibility())
+  .map(one => Number(one.tagName[1]))"""
+
+
+def test_a_screen_reader_follows(page: Browser) -> None:
+    """No view leaves out a level of headings, and a step announces the turn that it shows."""
+    page.press(" ")
+    for view in ("battle", "bench", "league", "learn"):
+        page.run("corewar.show(given[0])", view)
+        levels = page.run(HEADINGS)
+        assert levels[0] == 1 and all(after <= before + 1 for before, after in zip(levels, levels[1:])), view
+    page.run("document.querySelectorAll('#lessons .lesson')[1].querySelector('button').click()")
+    page.until("document.activeElement.id === 'lesson-box' && corewar.session.way === 1")
+    assert page.run(HEADINGS)[:2] == [1, 2]
+    stand(page, 7796)
+    page.press("Right")
+    told = "[...document.querySelectorAll('#side [aria-live=polite]')].map(one => one.textContent).join('')"
+    page.until(f"{told}.startsWith('Dwarf executed MOV.I $2, @2 at 1.')")
+    page.press("Right")
+    page.until("document.querySelector('#caption[aria-live=polite]')?.textContent === 'Dwarf wins after 7,798 turns.'")
+
+
+def test_the_keyboard_leaves_the_editor(page: Browser) -> None:
+    page.press("e")
+    page.until("document.activeElement.closest('#editor')")
+    page.press("Tab", "Escape", "Tab")
+    assert page.value("!document.activeElement.closest('#desk')")
+
+
 def test_memory_stays(page: Browser) -> None:
     """Over 500 fights neither the machine nor what is kept of battles grows."""
     code = """const [one, other] = [corewar.examples[0], corewar.examples[3]];
@@ -441,7 +479,9 @@ def test_memory_stays(page: Browser) -> None:
         await corewar.session.open(fight, {plays: false});
       }
       return corewar.session.desk.memory();"""
-    first, last = page.run(code, 10), page.run(code, 500)
+    first = page.run(code, 10)
+    for _ in range(5):
+        last = page.run(code, 100)
     # Some of the 500 battles have more processes than the first ten.
     assert last["marks"] <= 2 * first["marks"] and last["machine"] <= first["machine"] + 1_000_000
 

@@ -92,7 +92,7 @@ def test_it_runs(prefix: Path, run: Run) -> None:
 
 def test_it_calls_what_is_installed(prefix: Path) -> None:
     """The library, the header and the examples are those of the prefix."""
-    code = "from corewar.cli.workbench import *; from corewar.engine.binding import *; library(); "
+    code = "from corewar.cli.web import *; from corewar.engine.binding import *; library(); "
     code += "print(open('/proc/self/maps').read(), next(path for path in EXAMPLES if path.is_dir()))"
     environment = {"PYTHONPATH": str(prefix / "lib/python3/dist-packages")}
     told = started(prefix, "/usr/bin/python3", "-P", "-c", code, env=environment).stdout

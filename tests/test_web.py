@@ -1,4 +1,4 @@
-"""The workbench: who it answers to, what it saves, leagues with stored results, and the page over a folder."""
+"""`corewar web`: who it answers to, what it saves, leagues with stored results, and the page over a folder."""
 from __future__ import annotations
 
 import json
@@ -22,12 +22,12 @@ from corewar.pages.site import site as built_site
 
 WAIT = 20
 if not (TOP / "build" / "site").is_dir():
-    skip("the workbench", "the site is not built; `make site` builds it", "esbuild")
+    skip("the site", "the site is not built; `make site` builds it", "esbuild")
 
 
 @dataclass
 class Site:
-    """A workbench that is served, and the folder of its sources."""
+    """The site as it is served, and the folder of its sources."""
 
     address: str
     folder: Path

@@ -13,11 +13,13 @@ import pytest
 from battles import edit_of
 from conftest import TOP
 from counting import PROGRAM, skip
+from test_explain import SOURCES, line_to_correct, mutated
 
 from corewar.battle.conditions import OF_WARRIORS, Condition, search
 from corewar.battle.history import History
 from corewar.battle.labels import Sources
 from corewar.engine.calls import Match, assemble
+from corewar.explain import errors_of
 from corewar.model.cells import MODES, MODIFIERS, OPCODES
 from corewar.model.faults import Fault
 from corewar.web.contests import settings_of
@@ -161,3 +163,23 @@ def test_its_layout_is_that_of_the_header(tmp_path: Path) -> None:
     source.write_text(assertions)
     done = run("gcc", "-c", "-I", header.parent, source, "-o", tmp_path / "layout.o")
     assert (done.stderr, done.returncode) == ("", 0)
+
+
+def test_its_errors_are_those_of_explain() -> None:
+    """The lines and the sentences, also of several errors in a source. It has no names of characters."""
+    if not WASM.is_file():
+        skip("mars.wasm", "scripts/library could not build it", "binaryen")
+    texts = [text for text, fault, _ in SOURCES if "NotAscii" not in fault] + [text for text, _ in mutated(150)]
+    meanings = TOP / "python" / "corewar" / "explain" / "meanings.json"
+    words = ["node", SITE / "tests" / "errors.mjs", WASM, meanings]
+    done = subprocess.run(words, input=json.dumps(texts), capture_output=True, text=True)
+    assert done.returncode == 0, done.stderr
+    for text, answer in zip(texts, json.loads(done.stdout), strict=True):
+        found = list(errors_of(text.encode(), assemble))
+        expected = [[line_to_correct(*error), " ".join(error[1])] for error in found]
+        # The site has no options.
+        expected = [
+            [line, told.replace("; increase `-l`, and `-d` with it, which must be at least as large", "")]
+            for line, told in expected
+        ]
+        assert answer == expected, text

@@ -16,7 +16,7 @@ from .telling import tell, tell_fault
 
 # The commands by groups, each with its module in this folder, which is imported only when the command is used.
 GROUPS = {
-    "Play": {"fight": "rounds", "debug": "debugging", "web": "workbench"},
+    "Play": {"fight": "rounds", "debug": "debugging", "web": "web"},
     "Look": {
         "why": "looking",
         "trace": "looking",

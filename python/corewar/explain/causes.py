@@ -5,6 +5,7 @@ import re
 from collections.abc import Callable, Iterator
 from unicodedata import name as character_name
 
+from .sentences import said
 from .source import (
     ELSEWHERE,
     MODIFIERS,
@@ -21,7 +22,7 @@ from .source import (
 )
 
 Cause = Callable[[Source, Line], Iterator[str]]
-COMMENT, BEGINS = re.compile(r"//|/\*"), "A comment begins with `;`."
+COMMENT = re.compile(r"//|/\*")
 DASHED = re.compile(r"\s*([A-Za-z_]\w*(?:-\w+)+):?(?=\s)")
 # A character that no token has.
 FOREIGN = re.compile(r"[^\w\0- #$@*{}<>,.+\-/%()&|=!:]", re.ASCII)
@@ -31,36 +32,36 @@ OPENING = ("#", "$", "@", "{", "}", "(")
 def not_ascii(source: Source, line: Line) -> Iterator[str]:
     raw = source.data.split(b"\n")[line.number - 1].split(b";")[0]
     if line.number == 1 and raw.startswith((b"\xff\xfe", b"\xfe\xff")):
-        yield "The file is UTF-16, as some Windows editors save it; save it as plain text."
+        yield said("utf16")
     elif line.number == 1 and raw.startswith(b"\xef\xbb\xbf"):
-        yield "The file begins with a byte order mark, three invisible bytes; save it as UTF-8 without it."
+        yield said("mark")
     else:
         found = re.search(r"[^\x00-\x7f]", raw.decode("utf-8", "replace"))
         if found:
             named = character_name(found[0], "without a name").lower()
-            yield f"Column {found.start() + 1} has `{found[0]}`, {named}; use plain ASCII characters."
+            yield said("not ascii", column=found.start() + 1, word=found[0], named=named)
 
 
 def bad_token(source: Source, line: Line) -> Iterator[str]:
     found = FOREIGN.search(line.code)
     if found and found[0] == "\\":
-        yield "A line cannot continue after `\\`; `corewar explain --fix` joins it with the next one."
+        yield said("backslash")
     elif found:
-        yield f"`{found[0]}` is not a character of the language."
+        yield said("foreign", word=found[0])
 
 
 def operation(source: Source, line: Line) -> Iterator[str]:
     dashed, word = DASHED.match(line.code), misspelt(source, line)
     if COMMENT.search(line.code):
-        yield BEGINS
+        yield said("comment")
     elif dashed:
         name = dashed[1].replace("-", "_")
-        yield Advice(f"A name cannot contain `-`; write `{name}`.", dashed[1], name)
+        yield Advice(said("dashed", new=name), dashed[1], name)
     elif word:
         yield word
     elif line.operation in source.equates:
         first = source.equates[line.operation].number
-        yield f"`{line.operation}` is the EQU name of line {first}, so its text is read here."
+        yield said("equate", word=line.operation, line=first)
     elif line.rest[:1] == ["."]:
         yield from modifier(source, line, "".join(line.rest[1:2]))
 
@@ -68,12 +69,9 @@ def operation(source: Source, line: Line) -> Iterator[str]:
 def modifier(source: Source, line: Line, named: str) -> Iterator[str]:
     for loop in source.loops_around(line.number):
         if loop.counter == named:
-            yield (
-                f"`{named}` is the counter of the loop in line {loop.head.number}, so its number is read after the "
-                f"dot; write `.{named.swapcase()}`, or rename the counter with `corewar explain --fix`."
-            )
+            yield said("counter modifier", word=named, line=loop.head.number, new=named.swapcase())
     if named.upper() not in MODIFIERS:
-        yield f"`.{named}` is not a modifier; the modifiers are {', '.join(MODIFIERS)}."
+        yield said("modifier", word=named, all=", ".join(MODIFIERS))
 
 
 def duplicate(source: Source, line: Line) -> Iterator[str]:
@@ -83,11 +81,11 @@ def duplicate(source: Source, line: Line) -> Iterator[str]:
     for name in dict.fromkeys(line.labels):
         other = min((found.get(name, line) for found in (labels, source.equates)), key=lambda one: one.number)
         if name in PREDEFINED:
-            yield f"`{name}` is predefined; use another name."
+            yield said("predefined", word=name)
         elif other.number < line.number:
             yield taken(source, line, name, other)
         elif line.labels.count(name) > 1:
-            yield f"`{name}` is in this line twice, without an operation in between."
+            yield said("twice", word=name)
         elif loops:
             yield joined(name, loops)
 
@@ -95,39 +93,38 @@ def duplicate(source: Source, line: Line) -> Iterator[str]:
 def joined(name: str, loops: list[Loop]) -> str:
     """Returns how a name in loops is made distinct: by the counters of all loops around it, from the outermost one."""
     head = next((loop.head for loop in loops if not loop.counter), None)
-    where = f"`{name}` is in a loop with several iterations"
     if head is not None:
-        return f"{where}; give the FOR in line {head.number} a counter, and join the counter to the name with `&`."
+        return said("no counter", word=name, line=head.number)
     missing = [loop.counter for loop in loops if loop.counter not in name.split("&")[1:]]
     new = "&".join([name, *missing])
-    return Advice(f"{where}; write `{new}`.", name, new)
+    return Advice(said("joined", word=name, new=new), name, new)
 
 
 def taken(source: Source, line: Line, name: str, other: Line) -> str:
     """Returns why a name is in an earlier line."""
     word = misspelt(source, other)
     if word:
-        return Misspelt(f"In line {other.number}, {word}", word.old, word.new, other.number)
+        return Misspelt(said("earlier", line=other.number, inner=word), word.old, word.new, other.number)
     if line.word == "EQU" and not other.operation:
-        return f"Line {other.number} uses `{name}` before this EQU, so it is read as a label there; move the EQU up."
-    return f"`{name}` is already defined in line {other.number}."
+        return said("before equ", word=name, line=other.number)
+    return said("duplicate", word=name, line=other.number)
 
 
 def syntax(source: Source, line: Line) -> Iterator[str]:
     tokens = line.operands
     if COMMENT.search(line.code):
-        yield BEGINS
+        yield said("comment")
         return
     if line.word in OPCODES and tokens and tokens[0].upper() in OPCODES:
-        yield f"`{line.operation}` is an opcode and cannot be a label; use another name."
+        yield said("opcode label", word=line.operation)
         return
     for before, after in zip(tokens, tokens[1:]):
         if (before == ")" or re.match(r"\w", before)) and (after in OPENING or re.match(r"\w", after)):
             found = re.search(rf"{re.escape(before)}\s*{re.escape(after)}", line.code)
             old = found[0] if found else ""
-            yield Advice(f"A comma may be missing between `{before}` and `{after}`.", old, f"{before}, {after}")
+            yield Advice(said("comma", before=before, after=after), old, f"{before}, {after}")
     if tokens.count("(") != tokens.count(")"):
-        yield f"Parentheses: {tokens.count('(')} opened, {tokens.count(')')} closed."
+        yield said("parentheses", opened=tokens.count("("), closed=tokens.count(")"))
 
 
 def unknown(source: Source, line: Line) -> Iterator[str]:
@@ -142,27 +139,27 @@ def unknown(source: Source, line: Line) -> Iterator[str]:
         elif name not in labels:
             yield undefined(source, name, {**labels, **source.equates})
         elif line.text.lstrip().startswith(";"):
-            yield f"`{name}` is a label; an assert can use only numbers, predefined names and EQU names."
+            yield said("assert", word=name)
 
 
 def undefined(source: Source, name: str, known: dict[str, Line]) -> str:
     """Returns why a name is undefined."""
     for loop in source.loops:
         if name in loop.head.labels:
-            return f"`{name}` is the counter of the FOR in line {loop.head.number}; put the label on a line of its own."
+            return said("counter", word=name, line=loop.head.number)
     for line in source.lines:
         if line.unread and name in line.labels:
-            return f"`{name}` is in line {line.number}, but {line.unread}."
+            return said("unread", word=name, line=line.number, inner=line.unread)
     if name.upper() in OPCODES + ELSEWHERE:
-        return f"`{name}` is an opcode; are there two instructions on one line, or a label of that name?"
+        return said("opcode name", word=name)
     near = like(name, [*known, *PREDEFINED])
     if name == "PSPACESIZE":
-        return "`PSPACESIZE`: P-space is not supported."
+        return said("p-space", word=name)
     if near is None:
-        return f"`{name}` is not defined: no line has it as a label or as an EQU name."
-    where = f" (line {known[near].number})" if near in known else ""
-    case = " (names are case-sensitive)" if near.lower() == name.lower() else ""
-    return Advice(f"`{name}` is not defined{case}; did you mean `{near}`{where}?", name, near)
+        return said("undefined", word=name)
+    where = said("where", line=known[near].number) if near in known else ""
+    case = said("case") if near.lower() == name.lower() else ""
+    return Advice(said("near", word=name, new=near, case=case, where=where), name, near)
 
 
 # The functions that look for the causes of an error, by its text.

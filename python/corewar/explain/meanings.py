@@ -1,22 +1,19 @@
 """What each error means, and what to do."""
 from __future__ import annotations
 
-import json
 import re
 from collections.abc import Iterable, Iterator
-from importlib.resources import files
 from itertools import islice
 
 from ..model.faults import Fault
 from .causes import CAUSES
+from .sentences import SENTENCES
 from .source import read_source
 
 # The maximum number of causes that are reported for an error.
 MOST = 2
 GREATER = "increase `-l`, and `-d` with it, which must be at least as large"
-# What the errors of sources mean, and those of expressions. The site shows the same sentences.
-OF_SOURCES = json.loads((files("corewar.explain") / "meanings.json").read_text(encoding="ascii"))
-EXPRESSION: dict[str, str] = OF_SOURCES["expressions"]
+EXPRESSION = SENTENCES["expressions"]
 MEANINGS = {
     "bad words": "An argument of the program is wrong; `corewar explain mars ARGUMENTS` finds out which.",
     "out of memory": "A memory allocation failed.",
@@ -43,7 +40,7 @@ MEANINGS = {
     "warrior 5 Name": "A name has more than 60 bytes, or one that is not a printable character of ASCII.",
     "lineup 1 Count": "A lineup has 1 to 16 warriors.",
     "lineup 2 Index": "A lineup has an index for which there is no warrior.",
-    **OF_SOURCES["errors"],
+    **SENTENCES["errors"],
     "8 TooLong": f"This is the first instruction beyond the maximum length; {GREATER}.",
 }
 

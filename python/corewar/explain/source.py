@@ -9,6 +9,7 @@ from operator import itemgetter
 from typing import Self
 
 from . import words
+from .sentences import said
 
 OPCODES, MODIFIERS, PREDEFINED = [*words.OPCODES], [*words.MODIFIERS], [*words.PREDEFINED]
 OPERATIONS = [*words.OPCODES, *words.DIRECTIVES]
@@ -135,9 +136,9 @@ def read_source(data: bytes) -> Source:
         source.lines.append(line)
         line.skipped = zeros > 0
         if number < first:
-            line.unread = f"everything before the `;redcode` in line {first} is ignored"
+            line.unread = said("before redcode", line=first)
         elif end:
-            line.unread = f"reading stops at the END in line {end}"
+            line.unread = said("after end", line=end)
         elif line.word == "END":
             end = number
         elif line.skipped and (line.word not in ("FOR", "ROF") or len(line.labels) > 1):
@@ -177,13 +178,12 @@ def misspelt(source: Source, line: Line) -> Misspelt | None:
     labels = [word for word in line.labels[:FIRST_WORDS] if not source.is_operand(word)]
     for word in labels:
         if word.upper() in ELSEWHERE:
-            told = f"`{word}` is not an opcode of this language; P-space and other extensions are not supported."
-            return Misspelt(told, word)
+            return Misspelt(said("elsewhere", word=word), word)
     found = [(likeness(word, meant), word, meant) for word in labels if (meant := like(word, OPERATIONS))]
     if not found:
         return None
     _, word, meant = max(found, key=itemgetter(0))
-    return Misspelt(f"`{word}` is read as a label; did you mean `{meant}`?", word, meant)
+    return Misspelt(said("misspelt", word=word, new=meant), word, meant)
 
 
 def excerpt(data: bytes, number: int) -> list[str]:

@@ -1,1 +1,1 @@
-"""The workbench: the site, served to this machine with the sources of a folder."""
+"""The site, served to this machine with the sources of a folder."""

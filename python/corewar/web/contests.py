@@ -1,4 +1,4 @@
-"""Leagues of the workbench: run on the processors of this machine, with results that are stored."""
+"""Leagues of the site: run on the processors of this machine, with results that are stored."""
 from __future__ import annotations
 
 import os

@@ -1,4 +1,4 @@
-"""The sources of the workbench, in files and folders, and examples, which are not changed."""
+"""The sources of the site, in files and folders, and examples, which are not changed."""
 from __future__ import annotations
 
 import hashlib

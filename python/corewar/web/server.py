@@ -1,4 +1,4 @@
-"""The server of the workbench. It answers only this machine, and only requests that have its token."""
+"""The server of the site. It answers only this machine, and only requests that have its token."""
 from __future__ import annotations
 
 import json
@@ -34,7 +34,7 @@ META = '<meta name="corewar-server" content="api" data-key="{}">\n<title>'
 
 
 @dataclass
-class Workbench:
+class Served:
     """What is served: the folder of the built site, the sources, and the file of stored results."""
 
     site: Path
@@ -47,7 +47,7 @@ class Workbench:
 class Handler(BaseHTTPRequestHandler):
     """Answers requests below `/TOKEN/`: the files of the site, and `api`, the sources and leagues."""
 
-    workbench: Workbench
+    served: Served
     server: ThreadingHTTPServer
 
     def log_message(self, *_: object) -> None:
@@ -56,7 +56,7 @@ class Handler(BaseHTTPRequestHandler):
     def do_GET(self) -> None:
         path = self._path()
         if path == "api/sources":
-            self._tell(200, self.workbench.folder.all())
+            self._tell(200, self.served.folder.all())
         elif path is not None:
             self._send_file(path or "index.html")
 
@@ -79,9 +79,9 @@ class Handler(BaseHTTPRequestHandler):
         """Returns the path below the token; None if the request was refused."""
         host, port = self.headers.get("Host", ""), self.server.server_address[1]
         is_own = host in (f"{HOST}:{port}", f"localhost:{port}")
-        path, below = urlsplit(self.path).path, f"/{self.workbench.token}/"
+        path, below = urlsplit(self.path).path, f"/{self.served.token}/"
         if not is_own or self.headers.get("Origin", f"http://{host}") != f"http://{host}":
-            self._refuse(403, "this workbench answers only its own page")
+            self._refuse(403, "this server answers only its own page")
         elif not secrets.compare_digest(path[: len(below)].encode(), below.encode()):
             self._refuse(404, "not found")
         else:
@@ -107,12 +107,12 @@ class Handler(BaseHTTPRequestHandler):
         self.end_headers()
 
     def _send_file(self, name: str) -> None:
-        path = self.workbench.site / name
-        if path.parent != self.workbench.site or path.suffix not in TYPES or not path.is_file():
+        path = self.served.site / name
+        if path.parent != self.served.site or path.suffix not in TYPES or not path.is_file():
             return self._refuse(404, "not found")
         body = path.read_bytes()
         if name == "index.html":
-            body = body.replace(b"<title>", META.format(self.workbench.folder.key).encode(), 1)
+            body = body.replace(b"<title>", META.format(self.served.folder.key).encode(), 1)
         self._send(200, body, TYPES[path.suffix])
 
     def _act(self, act: Callable[[dict[str, Any]], None]) -> None:
@@ -130,11 +130,11 @@ class Handler(BaseHTTPRequestHandler):
             self._tell(400, {"fault": "this message is not one of the page's"})
 
     def _save(self, name: str, given: dict[str, Any]) -> None:
-        self._tell(200, {"seen": self.workbench.folder.save(name, str(given["text"]), str(given["seen"]))})
+        self._tell(200, {"seen": self.served.folder.save(name, str(given["text"]), str(given["seen"]))})
 
     def _run_league(self, given: dict[str, Any]) -> None:
         """Sends the results of matches as they end, some in each line. A later error is the last line."""
-        lines = league(self.workbench.assembler, given, self.workbench.results)
+        lines = league(self.served.assembler, given, self.served.results)
         line = next(lines)
         self.close_connection = True
         self._begin(200, {"Content-Type": "application/x-ndjson", "Connection": "close"})
@@ -156,8 +156,8 @@ class Server(ThreadingHTTPServer):
 
     daemon_threads = True
 
-    def __init__(self, workbench: Workbench, port: int) -> None:
-        handler = type("Handler", (Handler,), {"workbench": workbench, "protocol_version": "HTTP/1.1"})
+    def __init__(self, served: Served, port: int) -> None:
+        handler = type("Handler", (Handler,), {"served": served, "protocol_version": "HTTP/1.1"})
         try:
             super().__init__((HOST, port), handler)
         except OSError:
@@ -167,15 +167,15 @@ class Server(ThreadingHTTPServer):
         """Says nothing: a browser may end a connection at any time."""
 
 
-def serve(workbench: Workbench, port: int, opens: bool, say: Callable[[str], object]) -> None:
+def serve(served: Served, port: int, opens: bool, say: Callable[[str], object]) -> None:
     """Serves until it is stopped."""
-    with Server(workbench, port) as server:
+    with Server(served, port) as server:
         taken = server.server_address[1]
         if port not in (0, taken):
             say(f"Port {port} is taken. A browser keeps unsaved texts by the port, so this one has none of that one.")
-        address = f"http://{HOST}:{taken}/{workbench.token}/"
-        say(f"The workbench is at {address} (press Ctrl-C to stop)")
-        with opened(address) if opens else nullcontext(), workbench.assembler:
+        address = f"http://{HOST}:{taken}/{served.token}/"
+        say(f"The site is at {address} (press Ctrl-C to stop)")
+        with opened(address) if opens else nullcontext(), served.assembler:
             server.serve_forever()
 
 

@@ -2,7 +2,7 @@
 import { element, make, refill, withCode } from "../view/dom.js";
 import { errorWords } from "../view/host.js";
 import { FORMULA, HILLS } from "../model/settings.js";
-import { number } from "../words/battle.js";
+import { counted, number } from "../words/battle.js";
 
 /** @typedef {import("../model/fight.js").Source} Source */
 /** @typedef {import("../view/host.js").Host} Host */
@@ -56,11 +56,14 @@ export class Lessons {
     element("lesson-box").hidden = lesson === null;
     if (!lesson) return;
     const close = make("button", { className: "link", onclick: () => this.#open(null) }, "close this lesson");
-    refill(element("lesson-box"), this.#card(lesson), close);
+    refill(element("lesson-box"), this.#card(lesson, "h2"), close);
   }
 
-  /** @param {Lesson} lesson */
-  #card(lesson) {
+  /**
+   * @param {Lesson} lesson
+   * @param {"h2" | "h3"} heading
+   */
+  #card(lesson, heading = "h3") {
     const isDone = this.done.has(lesson.id);
     const verdict = make("p", { className: "verdict", role: "status" }, isDone ? "Done." : "");
     const card = make("article", { className: `lesson${isDone ? " done" : ""}` });
@@ -76,7 +79,7 @@ export class Lessons {
     const paragraphs = lesson.text.map((text) => make("p", {}, withCode(text)));
     const parts = lesson.hint ? [...paragraphs, hint] : paragraphs;
     const row = make("p", { className: "row" }, begin, judge);
-    card.append(make("h3", {}, `${this.lessons.indexOf(lesson) + 1}. ${lesson.title}`), ...parts, verdict, row);
+    card.append(make(heading, {}, `${this.lessons.indexOf(lesson) + 1}. ${lesson.title}`), ...parts, verdict, row);
     return card;
   }
 
@@ -90,7 +93,9 @@ export class Lessons {
     if (element("lessons").contains(card)) return;
     this.#list();
     const next = this.lessons[this.lessons.indexOf(lesson) + 1];
-    if (next) refill(card, ...card.childNodes, make("button", { onclick: () => this.begin(next) }, "Next lesson"));
+    const row = card.querySelector(".row");
+    if (!next || !row || row.childElementCount > 2) return;
+    row.append(make("button", { onclick: () => this.begin(next) }, "Next lesson"));
   }
 
   /** @param {Lesson} lesson */
@@ -115,7 +120,10 @@ export class Lessons {
     if (held) shelf.show(held);
     if (held) this.host.edit();
     this.#open(lesson);
-    return this.host.fight(sources);
+    const fought = this.host.fight(sources);
+    element("lesson-box").focus({ preventScroll: true });
+    element("side").scrollTo(0, 0);
+    return fought;
   }
 
   /**
@@ -169,7 +177,7 @@ export class Lessons {
     const sources = [own, ...this.#opponents(lesson)];
     const entered = await pool.ask("warriors", [sources, TERMS], "lesson", 1);
     const [row] = await pool.ask("match", [entered.map(({ warrior }) => warrior), TERMS], "lesson", 1);
-    const told = `${made.length} cells; ${row.wins} won, ${row.ties} tied, ${row.losses} lost of ${ROUNDS}.`;
+    const told = `${counted(made.length, "cell")}; ${row.wins} won, ${row.ties} tied, ${row.losses} lost of ${ROUNDS}.`;
     if (made.length > cells) return { isDone: false, text: `${told} Use at most ${cells} cells.` };
     const isDone = row.wins >= wins && row.wins + row.ties >= survives;
     return { isDone, text: `${told} ${isDone ? "Well done." : "Not yet."}` };

@@ -76,6 +76,8 @@ export class Cells {
       return this.#line(view, address, standing.get(address) ?? []);
     });
     refill(element("listing"), ...lines);
+    // The turn is announced already; so is a cell that is kept in view.
+    element("cell-words").setAttribute("aria-live", pinned === null ? "off" : "polite");
     element("cell-words").textContent = instructionWords(readCell(view.cells, focus), { core: known.core });
     if (!way) this.#tellChanges(view);
   }
@@ -116,9 +118,9 @@ export class Cells {
     const sentence = instructionWords(cell, { core: known.core });
     const line = side.lineOf(address);
     const origin = line ? `${line.name}, line ${line.line}: ${line.text}` : "";
-    const button = make("button", { className: "text", title: `${sentence} A click edits it.` }, text);
+    const button = make("button", { className: "bare text", title: `${sentence} A click edits it.` }, text);
     button.onclick = () => this.#edit(address, text, button);
-    const look = { className: "address", title: "Look at it", onclick: () => session.pin(address) };
+    const look = { className: "bare address", title: "Look at it", onclick: () => session.pin(address) };
     const names = standing.map(({ who, many }) => known.names[who] + (many > 1 ? ` ×${many}` : "")).join(", ");
     const chips = standing.flatMap(({ who, many }) => [
       make("i", { className: "chip", style: colour(who) }),

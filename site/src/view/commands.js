@@ -12,6 +12,7 @@ import { instructionWords } from "../words/instruction.js";
 
 /** The number of cells that `list` shows. */
 const CELLS = 11;
+const WORDS = ["at", "changes", "reads", "splits", "ends", "dies"];
 const CONDITIONS = "expected a condition: at, changes or reads A[..B] [by W], or splits, ends or dies W";
 
 /** Why a command was not done. */
@@ -330,6 +331,7 @@ async function changed(session, rest) {
 /** @type {Act} */
 const help = () => [...COMMANDS.map(({ usage, meaning }) => `${usage.padEnd(24)} ${meaning}`), "", ...HELP];
 const HELP = [
+  "Tab completes commands, labels and names. Several lines that are pasted are executed one after another.",
   "A CONDITION: at, changes or reads A[..B] [by W], or splits, ends or dies W.",
   "An address A is a number, a label, or `.` (the cell to execute next), with or without +N or -N.",
   "A warrior W is a number or a name. Commands can be abbreviated.",
@@ -379,6 +381,18 @@ export const COMMANDS = [
   command("help", "list all commands", help, "h", "?"),
 ];
 
+/** @param {Command} command */
+const nameOf = ({ usage }) => usage.split(" ")[0];
+
+/**
+ * Returns the commands that a word can mean.
+ * @param {string} word
+ */
+function commandsOf(word) {
+  const exact = COMMANDS.filter((one) => nameOf(one) === word || one.short.includes(word));
+  return exact.length ? exact : COMMANDS.filter((one) => nameOf(one).startsWith(word));
+}
+
 /**
  * Executes a line and returns what to show. Throws Refused.
  * @param {Session} session
@@ -386,10 +400,22 @@ export const COMMANDS = [
  */
 export async function execute(session, line) {
   const [word, ...rest] = line.trim().split(/\s+/);
-  const name = (/** @type {Command} */ { usage }) => usage.split(" ")[0];
-  const exact = COMMANDS.filter((one) => name(one) === word || one.short.includes(word));
-  const found = exact.length ? exact : COMMANDS.filter((one) => name(one).startsWith(word));
-  if (found.length > 1) throw new Refused(`\`${word}\` can mean ${found.map(name).join(", ")}`);
+  const found = commandsOf(word);
+  if (found.length > 1) throw new Refused(`\`${word}\` can mean ${found.map(nameOf).join(", ")}`);
   if (!found.length) throw new Refused(`unknown command \`${word}\`; \`help\` lists all commands`);
   return found[0].act(session, rest.join(" "));
+}
+
+/**
+ * Returns what the last word of a line can be completed to: commands, conditions, labels and names of warriors.
+ * @param {Session} session
+ * @param {string} line
+ */
+export function completions({ known, opened }, line) {
+  const [command, ...rest] = line.trimStart().split(/\s+/);
+  const last = (rest.at(-1) ?? command).toLowerCase();
+  const takesCondition = rest.length === 1 && commandsOf(command).some(({ usage }) => usage.includes("CONDITION"));
+  const words = [...(takesCondition ? WORDS : []), ...labels(opened?.labels ?? []).keys(), ...known.names];
+  const all = rest.length ? words : COMMANDS.map(nameOf);
+  return [...new Set(all)].filter((one) => one.toLowerCase().startsWith(last));
 }

@@ -1,6 +1,6 @@
 /** The debugger's line below the story: its answers, and the lines before. */
 import { element, make, typed, withCode } from "./dom.js";
-import { execute } from "./commands.js";
+import { completions, execute } from "./commands.js";
 
 /** @typedef {import("./session.js").Session} Session */
 
@@ -10,6 +10,8 @@ export class Console {
   /** @type {string[]} */
   #past = [];
   #at = 0;
+  /** The text whose completions were listed last. */
+  #listed = "";
 
   /** @param {Session} session */
   constructor(session) {
@@ -20,12 +22,45 @@ export class Console {
       this.run(field.value);
       field.value = "";
     });
+    field.addEventListener("paste", (event) => this.#runAll(event));
     field.addEventListener("keydown", (event) => {
+      if (event.key === "Tab" && !event.shiftKey && this.#complete(field)) event.preventDefault();
       if (event.key !== "ArrowUp" && event.key !== "ArrowDown") return;
       event.preventDefault();
       this.#at = Math.max(0, Math.min(this.#past.length, this.#at + (event.key === "ArrowUp" ? -1 : 1)));
       field.value = this.#past[this.#at] ?? "";
     });
+  }
+
+  /**
+   * Executes several lines that are pasted; a single one goes into the field.
+   * @param {ClipboardEvent} event
+   */
+  async #runAll(event) {
+    const lines = (event.clipboardData?.getData("text") ?? "").split("\n").filter((line) => line.trim());
+    if (lines.length < 2) return;
+    event.preventDefault();
+    for (const line of lines) await this.run(line);
+  }
+
+  /**
+   * Completes the word before the caret as far as it is certain, or else lists what it can be. Returns false if there
+   * is nothing more to say: then Tab leaves the field.
+   * @param {HTMLInputElement} field
+   */
+  #complete(field) {
+    const end = field.selectionStart ?? 0;
+    const before = field.value.slice(0, end);
+    const found = before.trim() && before !== this.#listed ? completions(this.session, before) : [];
+    if (!found.length) return false;
+    const word = before.split(/\s/).at(-1) ?? "";
+    const certain = found.length === 1 ? `${found[0]} ` : sharedStart(found);
+    if (certain.length > word.length) field.setRangeText(certain, end - word.length, end, "end");
+    else {
+      this.#listed = before;
+      this.#say(found.join("  "), "asked");
+    }
+    return true;
   }
 
   /** @param {string} line an empty one repeats the last */
@@ -52,4 +87,15 @@ export class Console {
     while (answers.children.length > MOST_LINES) answers.firstChild?.remove();
     answers.scrollTop = answers.scrollHeight;
   }
+}
+
+/**
+ * Returns the beginning that some words share, whatever the case of their letters.
+ * @param {string[]} words
+ */
+function sharedStart([first, ...others]) {
+  let length = first.length;
+  const isShared = (/** @type {string} */ word) => word.toLowerCase().startsWith(first.slice(0, length).toLowerCase());
+  while (!others.every(isShared)) length--;
+  return first.slice(0, length);
 }

@@ -67,7 +67,10 @@ export class Editor {
     });
     const field = this.mirror.getInputField();
     field.setAttribute("aria-label", "Source. Escape leaves the editor, Control and Enter fights.");
-    this.mirror.on("changes", changed);
+    this.mirror.on("changes", () => {
+      this.#hideTip();
+      changed();
+    });
     const wrapper = this.mirror.getWrapperElement();
     wrapper.addEventListener("mousemove", (event) => this.#hover(event));
     wrapper.addEventListener("mouseleave", () => this.#hideTip());

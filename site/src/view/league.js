@@ -196,7 +196,7 @@ export class League {
     const [red, green, blue, share] = shade(row);
     const counts = `${counted(row.wins, "win")}, ${counted(row.ties, "tie")}, ${counted(row.losses, "loss")}`;
     const title = `${this.#names[who]} against ${this.#names[other]}: ${counts}. A click shows the first round.`;
-    const button = make("button", { title, onclick: () => this.#show(who, other) }, row.wins);
+    const button = make("button", { className: "bare", title, onclick: () => this.#show(who, other) }, row.wins);
     const style = `background:rgba(${red},${green},${blue},${share.toFixed(2)})`;
     return make("td", { className: "match", style }, button);
   }

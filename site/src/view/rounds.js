@@ -97,10 +97,11 @@ export class Rounds {
     const told = `Round ${index}: ${how} after ${counted(round.end, "turn")}`;
     const rounds = Math.max(fight.rounds, this.#rounds.length);
     return make("button", {
-      className: `${winner < 0 ? "tie" : ""} ${index === fight.round ? "here" : ""}`,
+      className: `bare ${winner < 0 ? "tie" : ""}`,
       style: winner < 0 ? "" : swatch(winner),
       title: told,
       "aria-label": told,
+      "aria-current": index === fight.round ? "true" : null,
       onclick: () => session.open({ ...fight, rounds, round: index, edits: [] }),
     });
   }

@@ -52,7 +52,8 @@ export class Shelf {
     this.editor = new Editor({
       save: () => this.save(false),
       fight: () => host.fight(),
-      leave: () => element("new").focus(),
+      // What follows the editor; otherwise the Tab key would lead into it again.
+      leave: () => element("load-head").focus(),
       changed: () => {
         this.sign();
         lint();
@@ -232,7 +233,7 @@ export class Shelf {
         this.host.changed();
       };
       const isShown = held === this.shown;
-      const show = { onclick: () => this.show(held), "aria-current": isShown ? "true" : "false" };
+      const show = { className: "bare", onclick: () => this.show(held), "aria-current": String(isShown) };
       const button = make("button", show, titleOf(held));
       const label = make("label", { title: "Fights" }, box);
       const kind = make("small", {}, isExample ? "example" : "");
@@ -311,7 +312,8 @@ export class Shelf {
     this.isBroken = faults.length > 0;
     this.editor.showErrors(faults);
     element("fault").classList.toggle("bad", this.isBroken);
-    const told = faults.flatMap((one) => [make("b", {}, `Line ${one.line}: `), withCode(one.text), make("br")]);
+    const sorted = [...faults].sort((one, other) => one.line - other.line);
+    const told = sorted.flatMap((one) => [make("b", {}, `Line ${one.line}: `), withCode(one.text), make("br")]);
     if (this.isBroken) refill(element("fault"), ...told);
     host.checked();
   }

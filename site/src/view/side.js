@@ -69,7 +69,7 @@ export class Side {
     const [processes, cells, fate] = [make("td"), make("td"), make("small")];
     const bar = make("i", { className: "bar" });
     const name = make("span", {}, make("strong", {}, session.known.names[who]), fate);
-    const choose = { className: "name", title: "Show only this warrior", onclick: () => session.choose(who) };
+    const choose = { className: "bare name", title: "Show only this warrior", onclick: () => session.choose(who) };
     const button = make("button", choose, make("i", { className: "chip" }), name);
     const style = swatch(session.opened?.order[who] ?? 0);
     return { row: make("tr", { style }, make("td", {}, button, bar), processes, cells), processes, cells, bar, fate };
@@ -84,7 +84,7 @@ export class Side {
     };
     const words = make("span", {}, eventWords(event, session.known));
     const when = make("span", { className: "when" }, number(event.turn));
-    const line = make("li", {}, make("button", { onclick: show }, when, words));
+    const line = make("li", {}, make("button", { className: "bare", onclick: show }, when, words));
     line.dataset.turn = String(event.turn);
     return line;
   }
@@ -99,7 +99,8 @@ export class Side {
     const lines = futures.map(({ edits, end }, index) => {
       const made = edits.map(({ turn, edit }) => `turn ${number(turn)}: ${editText(edit, known.core)}`);
       const text = `${index}: ${made.join("; ") || "as it was fought"} (${counted(end, "turn")})`;
-      const here = { className: index === future ? "here" : "", onclick: () => session.showFuture(index) };
+      const current = index === future ? "true" : null;
+      const here = { className: "bare", "aria-current": current, onclick: () => session.showFuture(index) };
       const compare = { className: "link", title: "Show it beside this one", onclick: () => session.compare(index) };
       return make("li", {}, make("button", here, text), index === future ? null : make("button", compare, "compare"));
     });
@@ -142,6 +143,7 @@ export class Side {
     const { opened, known, chosen } = this.session;
     if (!opened) return;
     row.className = `${view.processes[who] ? "" : "dead"} ${chosen < 0 || chosen === who ? "" : "dim"}`;
+    row.querySelector("button")?.setAttribute("aria-pressed", String(chosen === who));
     processes.textContent = number(view.processes[who]);
     cells.textContent = number(view.owned[who]);
     bar.style.width = `${(100 * view.owned[who]) / known.core}%`;

@@ -1,20 +1,32 @@
-/** What an error of a source means, where it is, and what to do. */
+/** What an error of a source means, where it is, and what to do: the sentences of `corewar explain`. */
 import { ASSEMBLY, ERROR_NAMES, OUT_OF_MEMORY } from "../engine/layout.js";
+import { CAUSES } from "./causes.js";
+import { NAME, codeOf, labelsOf, readSource, wordOf } from "./source.js";
 
+/** @typedef {import("./causes.js").Cause} Cause */
+/** @typedef {import("./source.js").Line} Line */
+/** @typedef {import("./source.js").Source} Source */
 /**
  * The fields of a MarsError.
  * @typedef {{code: number, number: number, problem: number, expression: number, line: number}} Numbers
  */
 /**
- * An error at some columns of a line. Lines are numbered from 1, columns from 0.
- * @typedef {{line: number, from: number, to: number, text: string}} Explained
+ * An error at some columns of a line, and the word that is in place of an operation, or "". Lines are numbered from 1,
+ * columns from 0.
+ * @typedef {{line: number, from: number, to: number, text: string, misspelt?: string}} Explained
+ */
+/**
+ * The sentences: what errors mean by their texts, those of expressions by their last words, and causes by their names.
+ * @typedef {Record<string, string>} Meanings
  */
 
 /** @type {Record<string, Record<number, string>>} */
 const { ASSEMBLY: ERRORS, TEXT: PROBLEMS, EXPRESSION: EXPRESSIONS } = ERROR_NAMES;
-const OPERATIONS = "DAT MOV ADD SUB MUL DIV MOD JMP JMZ JMN DJN SEQ SNE SLT SPL NOP CMP ORG END EQU FOR ROF".split(" ");
-const PREDEFINED = /^(CORESIZE|MAX\w+|WARRIORS|ROUNDS|CURLINE|VERSION|MINDISTANCE)$/;
-const NAMES = /[A-Za-z_]\w*/g;
+/** The maximum number of causes that are reported for an error, and of errors of a source that are looked for. */
+const MOST_CAUSES = 2;
+const MOST = 10;
+/** After these errors the rest of a source cannot be read. */
+const LAST = ["1 Text 3 UnclosedFor", "1 Text 9 TooLong", "7 Empty", "8 TooLong"];
 
 /**
  * Returns the text of an error as `mars` prints it, without its line.
@@ -31,106 +43,65 @@ export function errorName({ code, number, problem, expression }) {
 }
 
 /**
- * Explains an error of a source, by a misspelt word if there is one.
+ * @param {Cause} given
+ * @param {Meanings} meanings
+ * @returns {string}
+ */
+function sentence({ inner, ...cause }, meanings) {
+  /** @type {Record<string, unknown>} */
+  const values = { ...cause, inner: inner && sentence(inner, meanings) };
+  if (cause.cause === "near") {
+    values.case = cause.isCase ? meanings.case : "";
+    values.where = cause.line ? sentence({ cause: "where", line: cause.line }, meanings) : "";
+  }
+  return meanings[cause.cause].replace(/\{(\w+)\}/g, (_, name) => String(values[name]));
+}
+
+/**
+ * Explains an error of a source: by the causes that its text shows, or in general.
  * @param {Numbers} error
- * @param {string} source
- * @param {Record<string, string>} meanings what errors mean, by their texts; those of expressions by their last words
+ * @param {string} text
+ * @param {Meanings} meanings
  * @returns {Explained}
  */
-export function explain(error, source, meanings) {
-  const name = errorName(error);
-  const found = misspelt(source.split("\n"), error.line, name);
-  if (found) return found;
-  const text = source.split("\n")[error.line - 1] ?? "";
-  const [from, to] = [text.length - text.trimStart().length, text.split(";")[0].trimEnd().length || text.length];
+export function explain(error, text, meanings) {
+  const source = readSource(text);
+  const [name, line] = [errorName(error), source.lines[error.line - 1]];
+  const causes = line ? (CAUSES[name]?.(source, line) ?? []).slice(0, MOST_CAUSES) : [];
   const meaning = meanings[name] ?? meanings[name.split(" ").slice(-2).join(" ")] ?? name;
-  return { line: error.line, from, to, text: meaning };
-}
-
-/** @param {string} line */
-const codeOf = (line) => line.split(";")[0];
-
-/**
- * Returns the word that is probably misspelt: an opcode in the line of an error or in an earlier one, where it was read
- * as a label, or a name.
- * @param {string[]} lines
- * @param {number} number
- * @param {string} name of the error
- */
-function misspelt(lines, number, name) {
-  const isUnknown = name.endsWith("2 Unknown");
-  const isWide = isUnknown || name.endsWith("7 Duplicate") || name === "2 Operation";
-  for (const line of isWide ? [number, ...lines.map((_, index) => index + 1)] : [number]) {
-    const found = misspeltOpcode(codeOf(lines[line - 1] ?? ""));
-    if (found) return { line, ...found };
-  }
-  const found = isUnknown ? undefinedName(lines, codeOf(lines[number - 1] ?? "")) : null;
-  return found && { line: number, ...found };
+  const told = causes.map((cause) => sentence(cause, meanings)).join(" ") || meaning;
+  // The word may be in an earlier line.
+  const isEarlier = causes[0]?.cause === "earlier";
+  const first = isEarlier ? causes[0].inner : causes[0];
+  const number = isEarlier ? Number(causes[0].line) : error.line;
+  const misspelt = ["misspelt", "elsewhere"].includes(first?.cause ?? "") ? first?.word : "";
+  return { line: number, ...columns(source.lines[number - 1]?.text ?? "", first?.word), text: told, misspelt };
 }
 
 /**
- * @param {string} code a line without its comment
+ * Returns where a word is in a line; without one, where its code is.
+ * @param {string} text
+ * @param {string | undefined} word
  */
-function misspeltOpcode(code) {
-  const words = [...code.matchAll(NAMES)].slice(0, 2);
-  if (words.some(([word]) => OPERATIONS.includes(word.toUpperCase()))) return null;
-  for (const { 0: word, index: from = 0 } of words) {
-    const to = from + word.length;
-    const meant = OPERATIONS.find((operation) => isNear(word.toUpperCase(), operation));
-    const text = `\`${word}\` is not an opcode; did you mean \`${meant}\`?`;
-    if (meant && code.slice(to).trim()) return { from, to, text };
-  }
-  return null;
+function columns(text, word) {
+  const code = codeOf(text);
+  const letters = word && NAME.test(word) ? `(?<![\\w&])${word}(?![\\w&])` : word?.replace(/\W/g, "\\$&");
+  const found = letters ? new RegExp(letters).exec(code) : null;
+  if (word && found) return { from: found.index, to: found.index + word.length };
+  return { from: text.length - text.trimStart().length, to: code.trimEnd().length || text.length };
 }
-
-/**
- * @param {string[]} lines
- * @param {string} code the line with the error, without its comment
- */
-function undefinedName(lines, code) {
-  const labels = lines.flatMap((line) => [...codeOf(line).matchAll(NAMES)].slice(0, 1).map(([word]) => word));
-  const known = new Set(labels.filter((word) => !OPERATIONS.includes(word.toUpperCase())));
-  for (const { 0: word, index: from = 0 } of code.matchAll(NAMES)) {
-    const isOther = OPERATIONS.includes(word.toUpperCase()) || PREDEFINED.test(word) || code[from - 1] === ".";
-    if (isOther || known.has(word)) continue;
-    const near = [...known].find((name) => isNear(word.toLowerCase(), name.toLowerCase()));
-    const rest = near ? `; did you mean \`${near}\`?` : ": no line has it as a label or as an EQU name.";
-    return { from, to: from + word.length, text: `\`${word}\` is not defined${rest}` };
-  }
-  return null;
-}
-
-/**
- * Returns whether one word is another except for one letter, or for two neighbours that changed places.
- * @param {string} one
- * @param {string} other
- */
-function isNear(one, other) {
-  if (one === other) return true;
-  const [short, long] = one.length < other.length ? [one, other] : [other, one];
-  if (short.length < 2 || long.length - short.length > 1) return false;
-  if (short.length < long.length) return [...long].some((_, at) => long.slice(0, at) + long.slice(at + 1) === short);
-  const apart = [...one].flatMap((letter, at) => (letter === other[at] ? [] : [at]));
-  const [first, second] = apart;
-  const isTurned = second === first + 1 && one[first] === other[second] && one[second] === other[first];
-  return (apart.length === 1 && one.length > 2) || (apart.length === 2 && isTurned);
-}
-
-/** After these errors the rest of a source cannot be read. */
-const LAST = ["1 Text 3 UnclosedFor", "1 Text 9 TooLong", "7 Empty", "8 TooLong"];
-/** The maximum number of errors of a source that are looked for. */
-const MOST = 10;
 
 /**
  * Finds the errors of a source. The assembler reports the first one, so it is asked again with that line replaced.
- * @param {string} source
- * @param {Record<string, string>} meanings
+ * @param {string} text
+ * @param {Meanings} meanings
  * @param {(source: string) => Promise<Numbers | null>} assemble returns the first error
  */
-export async function errorsOf(source, meanings, assemble) {
+export async function errorsOf(text, meanings, assemble) {
   /** @type {Explained[]} */
   const found = [];
-  const lines = source.split("\n");
+  const source = readSource(text);
+  const lines = text.split("\n");
   while (found.length < MOST) {
     const error = await assemble(lines.join("\n"));
     if (!error) break;
@@ -138,21 +109,29 @@ export async function errorsOf(source, meanings, assemble) {
     const isNew = found.every(({ line }) => line !== explained.line);
     // A line that is still wrong after it was replaced uses names that are wrong elsewhere.
     if (isNew) found.push(explained);
-    if (!isNew || explained.line < 1 || LAST.includes(errorName(error))) break;
-    lines[explained.line - 1] = replaced(lines[explained.line - 1]);
+    const line = source.lines[explained.line - 1];
+    if (!isNew || !line || LAST.includes(errorName(error))) break;
+    lines[line.number - 1] = replaced(line, source, explained.misspelt ?? "");
   }
   return found;
 }
 
 /**
- * Returns a valid line with the labels of a faulty one.
- * @param {string} line
+ * Returns a valid line to read in place of a faulty one, such that the lines after it are read as before. Neither a
+ * misspelt opcode nor the words after it are labels.
+ * @param {Line} line
+ * @param {Source} source
+ * @param {string} misspelt
  */
-function replaced(line) {
-  const words = [...codeOf(line).matchAll(NAMES)].map(([word]) => word);
-  const at = words.findIndex((word) => OPERATIONS.includes(word.toUpperCase()) || misspeltOpcode(`${word} 0`));
-  const [operation, labels] = [(words[at] ?? "").toUpperCase(), at < 0 ? [] : words.slice(0, at)];
-  if (operation === "FOR" || operation === "EQU") return [...labels.slice(-1), operation, "1"].join(" ");
-  if (["ROF", "ORG", "END"].includes(operation) || !codeOf(line).trim()) return operation === "END" ? "END" : "";
-  return [...labels, "DAT 0, 0"].join(" ");
+function replaced(line, source, misspelt) {
+  const known = new Map([...source.equates, ...labelsOf(source)]);
+  const at = line.labels.indexOf(misspelt);
+  // A word in the place of an operation is not a label.
+  const end = line.operation || misspelt ? line.labels.length : -1;
+  const labels = line.labels.slice(0, at >= 0 ? at : end);
+  const own = labels.filter((name) => (known.get(name) ?? line) === line);
+  const word = wordOf(line);
+  if (word === "FOR" || word === "EQU") return [...line.labels.slice(-1), word, "1"].join(" ");
+  if (word === "ROF" || word === "ORG" || !codeOf(line.text).trim()) return "";
+  return word === "END" ? "END" : [...own, "DAT 0, 0"].join(" ");
 }

@@ -1,4 +1,4 @@
-"""`web`: the workbench in a browser."""
+"""`web`: the site in a browser, with the sources of a folder."""
 from __future__ import annotations
 
 from pathlib import Path
@@ -33,18 +33,18 @@ PORT = 8094
 )
 @click.argument("files", nargs=-1, metavar="[FILE]...")
 def web(port: int, browser: bool, results: str | None, files: tuple[str, ...]) -> None:
-    """Open the workbench in a browser.
+    """Open the site in a browser, with the sources of a folder.
 
-    The workbench has an editor, a view of the core, the debugger, a bench and leagues. FILE is a source or a folder of
-    sources; without any, the current folder is used. Only this machine can connect to the workbench.
+    The site has an editor, a view of the core, the debugger, a bench and leagues. FILE is a source or a folder of
+    sources; without any, the current folder is used. Only this machine can connect.
     """
     from ..pages.site import site
     from ..web.folder import Folder, sources_of
-    from ..web.server import Workbench, serve
+    from ..web.server import Served, serve
 
     for name in files:
         if not Path(name).exists():
             raise FileFault(name, "No such file or directory")
     examples = sources_of([path for path in EXAMPLES if path.is_dir()][:1])
     folder = Folder([Path(name) for name in files or (".",)], examples)
-    serve(Workbench(site(), folder, results), port, browser, click.echo)
+    serve(Served(site(), folder, results), port, browser, click.echo)

@@ -1,0 +1,203 @@
+/** The likely causes of an error in the text of a source, the likeliest first, as `corewar explain` finds them. */
+import { MODIFIERS } from "../model/cells.js";
+import { like, likeness } from "./likeness.js";
+import { NAME, OPCODES, OPERATIONS, codeOf, labelsOf, loopsAround, operandsOf, wordOf } from "./source.js";
+
+/** @typedef {import("./source.js").Line} Line */
+/** @typedef {import("./source.js").Loop} Loop */
+/** @typedef {import("./source.js").Source} Source */
+/**
+ * A sentence by its name in the table of sentences, with what it names: `word` is what is wrong in the line, `line`
+ * another line, and `inner` a sentence inside it.
+ * @typedef {{cause: string, word?: string, line?: number, inner?: Cause, [name: string]: unknown}} Cause
+ */
+/** @typedef {(source: Source, line: Line) => Cause[]} Find */
+
+const PREDEFINED = "CORESIZE MAXPROCESSES MAXCYCLES MAXLENGTH MINDISTANCE ROUNDS WARRIORS CURLINE VERSION".split(" ");
+/** Opcodes of other dialects. */
+const ELSEWHERE = "LDP STP PIN XCH PCT STS".split(" ");
+/** A character that no token has. */
+const FOREIGN = /[^\w\0- #$@*{}<>,.+\-/%()&|=!:]/u;
+const OPENING = ["#", "$", "@", "{", "}", "("];
+/** How many words of a line are compared with the names of operations. */
+const FIRST_WORDS = 20;
+
+/** @param {string} text */
+const isComment = (text) => /\/\/|\/\*/.test(codeOf(text));
+
+/**
+ * Finds a word in place of an operation that is similar to one, or is one of another dialect.
+ * @param {Source} source
+ * @param {Line} line
+ * @returns {Cause | null}
+ */
+export function misspelt({ lines }, line) {
+  if (OPERATIONS.includes(wordOf(line))) return null;
+  if (!line.rest.length && !line.operation && line.labels.length < 2) return null;
+  // The name of an operand is not a misspelt opcode.
+  const isOperand = (/** @type {string} */ name) => lines.some(({ rest }) => rest.includes(name));
+  const labels = line.labels.slice(0, FIRST_WORDS).filter((word) => !isOperand(word));
+  const other = labels.find((word) => ELSEWHERE.includes(word.toUpperCase()));
+  if (other) return { cause: "elsewhere", word: other };
+  const meant = labels.flatMap((word) => {
+    const found = like(word, OPERATIONS);
+    return found ? { cause: "misspelt", word, new: found, alike: likeness(word, found) } : [];
+  });
+  return meant.sort((one, other) => other.alike - one.alike)[0] ?? null;
+}
+
+/** @type {Find} */
+function notAscii(_, { number, text }) {
+  if (number === 1 && /^(\xff\xfe|\xfe\xff)/.test(text)) return [{ cause: "utf16" }];
+  if (number === 1 && text.startsWith("\ufeff")) return [{ cause: "mark" }];
+  const found = /[^\0-\x7f]/u.exec(codeOf(text));
+  if (!found) return [];
+  const code = /** @type {number} */ (found[0].codePointAt(0)).toString(16).toUpperCase().padStart(4, "0");
+  return [{ cause: "not ascii", column: found.index + 1, word: found[0], named: `U+${code}` }];
+}
+
+/** @type {Find} */
+function badToken(_, { text }) {
+  const [word] = FOREIGN.exec(codeOf(text)) ?? [];
+  if (!word) return [];
+  return [word === "\\" ? { cause: "backslash", word } : { cause: "foreign", word }];
+}
+
+/** @type {Find} */
+function operation(source, line) {
+  const [, dashed] = /^\s*([A-Za-z_]\w*(?:-\w+)+):?(?=\s)/.exec(codeOf(line.text)) ?? [];
+  const word = misspelt(source, line);
+  const equate = source.equates.get(line.operation);
+  if (isComment(line.text)) return [{ cause: "comment" }];
+  if (dashed) return [{ cause: "dashed", word: dashed, new: dashed.replaceAll("-", "_") }];
+  if (word) return [word];
+  if (equate) return [{ cause: "equate", word: line.operation, line: equate.number }];
+  return line.rest[0] === "." ? modifier(source, line, line.rest[1] ?? "") : [];
+}
+
+/**
+ * @param {Source} source
+ * @param {Line} line
+ * @param {string} word
+ * @returns {Cause[]}
+ */
+function modifier(source, { number }, word) {
+  const swapped = word.replace(/[a-z]/gi, (one) => (one < "a" ? one.toLowerCase() : one.toUpperCase()));
+  const loops = loopsAround(source, number).filter(({ counter }) => counter === word);
+  const found = loops.map(({ head }) => ({ cause: "counter modifier", word, line: head.number, new: swapped }));
+  const isUnknown = !MODIFIERS.includes(word.toUpperCase());
+  return isUnknown ? [...found, { cause: "modifier", word, all: MODIFIERS.join(", ") }] : found;
+}
+
+/** @type {Find} */
+function duplicate(source, line) {
+  const [word, labels, loops] = [misspelt(source, line), labelsOf(source), loopsAround(source, line.number)];
+  const names = [...new Set(line.labels)].flatMap((name) => {
+    const first = [labels, source.equates].map((found) => found.get(name) ?? line);
+    const other = first[0].number <= first[1].number ? first[0] : first[1];
+    if (PREDEFINED.includes(name)) return [{ cause: "predefined", word: name }];
+    if (other.number < line.number) return [taken(source, line, name, other)];
+    if (line.labels.filter((one) => one === name).length > 1) return [{ cause: "twice", word: name }];
+    return loops.length ? [joined(name, loops)] : [];
+  });
+  return word ? [word, ...names] : names;
+}
+
+/**
+ * Returns how a name in loops is made distinct: by the counters of all loops around it.
+ * @param {string} name
+ * @param {Loop[]} loops
+ * @returns {Cause}
+ */
+function joined(name, loops) {
+  const plain = loops.find(({ counter }) => !counter);
+  if (plain) return { cause: "no counter", word: name, line: plain.head.number };
+  const missing = loops.map(({ counter }) => counter).filter((one) => !name.split("&").slice(1).includes(one));
+  return { cause: "joined", word: name, new: [name, ...missing].join("&") };
+}
+
+/**
+ * Returns why a name is in an earlier line.
+ * @param {Source} source
+ * @param {Line} line
+ * @param {string} name
+ * @param {Line} other
+ * @returns {Cause}
+ */
+function taken(source, line, name, other) {
+  const inner = misspelt(source, other);
+  if (inner) return { cause: "earlier", line: other.number, inner };
+  const isBefore = wordOf(line) === "EQU" && !other.operation;
+  return { cause: isBefore ? "before equ" : "duplicate", word: name, line: other.number };
+}
+
+/** @type {Find} */
+function syntax(_, line) {
+  const tokens = operandsOf(line);
+  if (isComment(line.text)) return [{ cause: "comment" }];
+  if (OPCODES.includes(wordOf(line)) && OPCODES.includes(tokens[0]?.toUpperCase())) {
+    return [{ cause: "opcode label", word: line.operation }];
+  }
+  const isWord = (/** @type {string} */ token) => /^\w/.test(token);
+  /** @type {Cause[]} */
+  const found = tokens.slice(1).flatMap((after, index) => {
+    const before = tokens[index];
+    const isMissing = (before === ")" || isWord(before)) && (OPENING.includes(after) || isWord(after));
+    return isMissing ? { cause: "comma", word: after, before, after } : [];
+  });
+  const [opened, closed] = ["(", ")"].map((one) => tokens.filter((token) => token === one).length);
+  return opened === closed ? found : [...found, { cause: "parentheses", opened, closed }];
+}
+
+/** @type {Find} */
+function unknown(source, line) {
+  const { equates } = source;
+  const labels = labelsOf(source);
+  const names = operandsOf(line).filter((token) => NAME.test(token));
+  const seen = new Set([...PREDEFINED, ...loopsAround(source, line.number).map(({ counter }) => counter)]);
+  /** @type {Cause[]} */
+  const found = [];
+  for (const name of names) {
+    if (seen.has(name) || name.includes("&")) continue;
+    seen.add(name);
+    const equate = equates.get(name);
+    // The names of an EQU are looked at, too.
+    if (equate) names.push(...operandsOf(equate).filter((token) => NAME.test(token)));
+    else if (!labels.has(name)) found.push(undefinedName(source, name, new Map([...labels, ...equates])));
+    else if (line.text.trimStart().startsWith(";")) found.push({ cause: "assert", word: name });
+  }
+  return found;
+}
+
+/**
+ * Returns why a name is undefined.
+ * @param {Source} source
+ * @param {string} word
+ * @param {Map<string, Line>} known
+ * @returns {Cause}
+ */
+function undefinedName({ loops, lines }, word, known) {
+  const loop = loops.find(({ head }) => head.labels.includes(word));
+  if (loop) return { cause: "counter", word, line: loop.head.number };
+  const unread = lines.find((line) => line.unread && line.labels.includes(word));
+  if (unread?.unread) return { cause: "unread", word, line: unread.number, inner: unread.unread };
+  if ([...OPCODES, ...ELSEWHERE].includes(word.toUpperCase())) return { cause: "opcode name", word };
+  if (word === "PSPACESIZE") return { cause: "p-space", word };
+  const near = like(word, [...known.keys(), ...PREDEFINED]);
+  if (near === undefined) return { cause: "undefined", word };
+  const isCase = near.toLowerCase() === word.toLowerCase();
+  return { cause: "near", word, new: near, isCase, line: known.get(near)?.number };
+}
+
+/**
+ * The functions that look for the causes of an error, by its text.
+ * @type {Record<string, Find>}
+ */
+export const CAUSES = {
+  "1 Text 1 NotAscii": notAscii,
+  "1 Text 2 BadToken": badToken,
+  "1 Text 7 Duplicate": duplicate,
+  "2 Operation": operation,
+  "4 Expression 1 Syntax": syntax,
+  "4 Expression 2 Unknown": unknown,
+};

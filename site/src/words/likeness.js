@@ -1,0 +1,59 @@
+/** How similar words are, by the measure of Python's difflib, so that the advice is that of `corewar explain`. */
+
+/** The least likeness of a word that is meant. */
+const LEAST = 0.6;
+/** The maximum number of names that a word is compared with. */
+const MOST_CHOICES = 1000;
+
+/** @param {string} word */
+const sorted = (word) => [...word.toUpperCase()].sort().join("");
+
+/**
+ * Returns the number of letters in the blocks that two words have in common: the longest one, and those beside it.
+ * @param {string} one
+ * @param {string} other
+ * @returns {number}
+ */
+function common(one, other) {
+  let [size, at, to] = [0, 0, 0];
+  let lengths = new Array(other.length + 1).fill(0);
+  for (let i = 0; i < one.length; i++) {
+    const next = new Array(other.length + 1).fill(0);
+    for (let j = 0; j < other.length; j++) {
+      if (one[i] === other[j]) next[j + 1] = lengths[j] + 1;
+      if (next[j + 1] > size) [size, at, to] = [next[j + 1], i + 1, j + 1];
+    }
+    lengths = next;
+  }
+  if (!size) return 0;
+  return size + common(one.slice(0, at - size), other.slice(0, to - size)) + common(one.slice(at), other.slice(to));
+}
+
+/**
+ * @param {string} one
+ * @param {string} other
+ */
+const ratio = (one, other) => (2 * common(one, other)) / (one.length + other.length);
+
+/**
+ * Returns how similar two words are: 1 if they have the same letters, otherwise less.
+ * @param {string} word
+ * @param {string} choice
+ */
+export const likeness = (word, choice) => (sorted(word) === sorted(choice) ? 1 : ratio(word.toUpperCase(), choice));
+
+/**
+ * Returns the choice that is most similar to a word, or undefined; the same letters in another order come first.
+ * @param {string} word
+ * @param {string[]} choices
+ */
+export function like(word, choices) {
+  const upper = new Map(choices.slice(0, MOST_CHOICES).map((choice) => [choice.toUpperCase(), choice]));
+  const same = [...upper.keys()].find((choice) => sorted(choice) === sorted(word));
+  let [best, most] = [same, LEAST];
+  for (const choice of same ? [] : upper.keys()) {
+    const found = ratio(choice, word.toUpperCase());
+    if (found > most || (found === most && choice > (best ?? ""))) [best, most] = [choice, found];
+  }
+  return upper.get(best ?? "");
+}
