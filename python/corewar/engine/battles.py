@@ -35,7 +35,7 @@ class Battle:
     """
 
     def __init__(self, fight: Match, round: int = 0) -> None:
-        check_count(fight.warriors)
+        check_count(len(fight.warriors))
         settings = held(fight.settings, number(round) + 1, fight.seed, fight.position)
         self._words: Words = array("uint32_t", library()[1].mars_words(settings, len(fight.warriors)))
         call("mars_start", settings, *fighters(fight.warriors, fight.settings.core), round, *self._slice())

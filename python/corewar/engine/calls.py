@@ -119,7 +119,7 @@ def match(
     small for the warriors, if the formula has no value for a round or a sum of points does not fit in 64 bits, or if
     memory runs out.
     """
-    check_count(warriors)
+    check_count(len(warriors))
     return rows("mars_match", settings, (rounds, seed, position), formula, warriors, len(warriors))
 
 
@@ -154,10 +154,10 @@ def population(
     return rows("mars_population", settings, (rounds, seed, position), formula, fighters, len(candidates))
 
 
-def check_count(warriors: Sequence[Warrior]) -> None:
+def check_count(warriors: int) -> None:
     """Raises Refused for more warriors than a match can have."""
-    if len(warriors) > MOST_WARRIORS:
-        raise Refused(f"a match has at most {MOST_WARRIORS} warriors, not {len(warriors)}")
+    if warriors > MOST_WARRIORS:
+        raise Refused(f"a match has at most {MOST_WARRIORS} warriors, not {warriors}")
 
 
 def fighters(warriors: Sequence[Warrior], core: int) -> tuple[Any, ...]:
