@@ -168,7 +168,7 @@ def test_the_error_is_how_seeds_differ() -> None:
     warriors = [corewar.read(EXAMPLES / f"{name}.red", settings="tiny") for name in ("dwarf", "imp", "clear", "gate")]
     scores, errors = [], []
     for seed in range(100):
-        contest = Contest(HILLS["tiny"], rounds=30, seed=1 + 7919 * seed, formula="4*W/S-3")
+        contest = Contest(settings=HILLS["tiny"], rounds=30, seed=1 + 7919 * seed, formula="4*W/S-3")
         matches = Matches(contest, warriors, all_pairs(4))
         with threads(matches, 2) as place:
             assert sum(map(len, place.fight(matches))) == 6
@@ -357,7 +357,7 @@ def test_a_kept_match_is_of_its_contest(folder: Path) -> None:
         Contest(rounds=5),
         Contest(rounds=4, seed=2),
         Contest(rounds=4, formula="S"),
-        Contest(Settings(cycles=9), 4),
+        Contest(settings=Settings(cycles=9), rounds=4),
     ]
     for other in others:
         assert not filled(other)[0].is_fought.any()
@@ -468,8 +468,8 @@ def test_names_that_a_terminal_obeys(run: Run, folder: Path) -> None:
 
 def test_a_large_league() -> None:
     """Bundles cover all pairs once, whatever their size, and the sums are those of the pairs."""
-    contest = Contest(HILLS["nano"], formula="S")
-    warriors = [assemble(f"jmp {number % 5}", contest.settings) for number in range(60)]
+    contest = Contest(settings=HILLS["nano"], formula="S")
+    warriors = [assemble(f"jmp {number % 5}", settings=contest.settings) for number in range(60)]
     matches = Matches(contest, warriors, all_pairs(60))
     assert sorted(np.concatenate([*matches.bundles(contest.settings.cycles * 7)]).tolist()) == [*range(1770)]
     with threads(matches, 3) as place:

@@ -35,7 +35,9 @@ def test_it_is_the_sum_of_its_matches(formula: str) -> None:
     dice, sums = random.Random(9), {name: [0] * 5 for name in NAMES}
     lineups = lineups_of(len(NAMES), 3, 20, dice)
     for lineup in lineups:
-        rows = corewar.match([warriors()[one] for one in lineup], 3, dice.randint(1, 2_147_483_646), formula=formula)
+        rows = corewar.match(
+            [warriors()[one] for one in lineup], rounds=3, seed=dice.randint(1, 2_147_483_646), formula=formula
+        )
         for one, row in zip(lineup, rows):
             added = [row.points, 3, row.wins, row.ties, row.losses]
             sums[NAMES[one]] = [before + number for before, number in zip(sums[NAMES[one]], added)]
@@ -62,10 +64,10 @@ def test_scores_are_those_of_the_formula() -> None:
 
 
 def test_equal_scores_share_a_rank() -> None:
-    imp = corewar.assemble("JMP 0", "nano")
-    table = melee(Contest(HILLS["nano"]), [imp] * 3, 3, 2, 1)
+    imp = corewar.assemble("JMP 0", settings="nano")
+    table = melee(Contest(settings=HILLS["nano"]), [imp] * 3, 3, 2, 1)
     assert table == [Standing(1, 200.0, 0.0, 4, 0, 2, 0, imp)] * 3
-    assert [one.error for one in melee(Contest(HILLS["nano"]), [imp] * 3, 3, 1, 1)] == [None] * 3
+    assert [one.error for one in melee(Contest(settings=HILLS["nano"]), [imp] * 3, 3, 1, 1)] == [None] * 3
 
 
 def test_the_error_is_how_seeds_differ() -> None:
@@ -73,7 +75,7 @@ def test_the_error_is_how_seeds_differ() -> None:
     dice, limits = random.Random(1), (16, 7, 8, 8, 80, 80)
     cells = [[tuple(map(dice.randrange, limits)) for _ in range(5)] for _ in range(12)]
     warriors = [corewar.Warrior.from_cells(one, settings="nano") for one in cells]
-    contests = [Contest(HILLS["nano"], rounds=3, seed=1 + 7919 * seed) for seed in range(60)]
+    contests = [Contest(settings=HILLS["nano"], rounds=3, seed=1 + 7919 * seed) for seed in range(60)]
     tables = [melee(contest, warriors, 3, 60, 2) for contest in contests]
     spreads, errors = [], []
     for warrior in warriors:

@@ -128,9 +128,19 @@ def contest_options(command: Callable[..., Any]) -> Callable[..., Any]:
     return with_options(*PLACE)(asking)
 
 
+def contest_of(asked: Asked) -> Contest:
+    return Contest(
+        settings=asked.settings,
+        rounds=asked.rounds,
+        seed=asked.seed,
+        position=asked.position,
+        formula=asked.formula,
+    )
+
+
 def entered(asked: Asked) -> tuple[Contest, list[Warrior], list[FileFault]]:
     """The contest, the warriors of the files, and the errors of the files without one, which are reported."""
-    contest = Contest(asked.settings, asked.rounds, asked.seed, asked.position, asked.formula)
+    contest = contest_of(asked)
     warriors, faults = enter(contest, asked.files, asked.limit)
     for fault in faults:
         tell_fault(fault)

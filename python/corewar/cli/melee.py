@@ -5,13 +5,13 @@ import os
 
 import click
 
-from ..contests.contest import Contest, enter
+from ..contests.contest import enter
 from ..contests.melee import melee as run
 from ..contests.melee import records_of, table_of
 from ..contests.scores import HEAD, NAMES, RATES, csv_text, json_text
 from ..model.settings import MOST_WARRIORS
 from .layout import Command, Number
-from .league import JOBS, LEFT_OUT, format_option, write_results
+from .league import JOBS, LEFT_OUT, contest_of, format_option, write_results
 from .options import Asked, battle_options
 from .telling import tell, tell_fault
 from .waiting import awaited
@@ -43,7 +43,7 @@ def melee(asked: Asked, size: int, lineups: int, form: str, jobs: int) -> int:
     """
     if len(asked.files) < size:
         raise click.UsageError(f"expected at least {size} files for matches of {size}, not {len(asked.files)}")
-    contest = Contest(asked.settings, asked.rounds, asked.seed, asked.position, asked.formula)
+    contest = contest_of(asked)
     warriors, faults = enter(contest, asked.files, asked.limit, size)
     for fault in faults:
         tell_fault(fault)

@@ -23,7 +23,7 @@ Pairs = NDArray[np.intp]
 Rows = NDArray[np.intp]
 
 
-@dataclass(frozen=True)
+@dataclass(frozen=True, kw_only=True)
 class Contest:
     """The settings of all matches. They determine the result of a match of two warriors in a given order."""
 
@@ -37,7 +37,7 @@ class Contest:
     def words(self) -> list[str]:
         """The settings as options of `mars`."""
         numbers = {**vars(self.settings), "rounds": self.rounds, "seed": self.seed, "position": self.position}
-        given = [f"{NUMBERS[name].word}={number}" for name, number in numbers.items() if number]
+        given = [f"{NUMBERS[name].word}={number}" for name, number in numbers.items() if number is not None]
         return [*given, f"--score={self.formula}"]
 
 
@@ -45,10 +45,7 @@ def fight(contest: Contest, warriors: Mapping[int, Warrior], pairs: Pairs) -> Co
     """Runs the matches of some pairs and returns their counts, a row for each. Raises `Fault`."""
     counts = np.zeros((len(pairs), 5), np.int64)
     for row, pair in enumerate(pairs.tolist()):
-        fighters = [warriors[number] for number in pair]
-        first, second = match(
-            fighters, contest.rounds, contest.seed, contest.settings, contest.position, contest.formula
-        )
+        first, second = match([warriors[number] for number in pair], **vars(contest))
         counts[row] = first.points, first.wins, first.ties, first.losses, second.points
     return counts
 

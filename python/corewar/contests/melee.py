@@ -58,7 +58,8 @@ def melee(contest: Contest, warriors: Sequence[Warrior], size: int, count: int, 
     dice = random.Random(contest.seed)
     lineups = lineups_of(len(warriors), size, count, dice)
     seeds = [dice.randint(1, NUMBERS["seed"].greatest) for _ in lineups]
-    made = outcomes(warriors, lineups, contest.rounds, seeds, contest.settings, contest.position, jobs)
+    numbers: dict[str, Any] = {"settings": contest.settings, "rounds": contest.rounds, "position": contest.position}
+    made = outcomes(warriors, lineups, seeds=seeds, jobs=jobs, **numbers)
     places = np.broadcast_to(np.array(lineups)[:, None, :], made.shape)
     # In how many rounds each warrior was one of 0, 1, 2 .. survivors.
     lives = np.zeros((len(warriors), size + 1), np.int64)

@@ -28,8 +28,8 @@ TINY = Settings(core=100, cycles=2, longest=1, distance=1)
 @lru_cache(maxsize=None)
 def score_of(formula: str, warriors: int, survivors: int) -> int:
     """Returns the value of a formula as the library computes it, in a round that ends in this way. Raises `Fault`."""
-    lives, dies = assemble("JMP 0", TINY), assemble("DAT 0", TINY)
-    return match([lives] * survivors + [dies] * (warriors - survivors), 1, 1, TINY, None, formula)[0].points
+    lives, dies = assemble("JMP 0", settings=TINY), assemble("DAT 0", settings=TINY)
+    return match([lives] * survivors + [dies] * (warriors - survivors), settings=TINY, formula=formula)[0].points
 
 
 def names_of(warrior: Warrior) -> dict[str, Any]:
