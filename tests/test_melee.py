@@ -14,9 +14,8 @@ import pytest
 from conftest import EXAMPLES, Run, begin
 
 import corewar
-from corewar.contests.contest import Contest
+from corewar.contests.contest import Contest, score_of
 from corewar.contests.melee import Standing, lineups_of, melee
-from corewar.contests.scores import score_of
 from corewar.model.settings import HILLS
 
 NAMES = "dwarf imp silk paper vampire bomber".split()

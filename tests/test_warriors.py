@@ -182,7 +182,7 @@ def test_lineups() -> None:
         (pairs, {"seeds": 0}, "settings 2 Seed"),
         (pairs, {"seeds": [1, 0, 1]}, "settings 2 Seed"),
         (pairs, {"seeds": 2**31 - 1}, "settings 2 Seed"),
-        (pairs, {"rounds": 0}, "settings 1 Rounds"),
+        *((pairs, {"rounds": rounds}, "settings 1 Rounds") for rounds in (0, -1, 100_001, 10**9, 2**40)),
         ([[0, 1, 2]], {"position": 400}, "settings 3 Position"),
         ([[-1, 0]], {}, "index 0: lineup 2 Index"),
         (pairs, {"seeds": [1, -1, 2**40]}, "settings 2 Seed"),

@@ -12,8 +12,8 @@ from numpy.typing import NDArray
 from ..engine.outcomes import outcomes
 from ..engine.warriors import Warrior
 from ..model.settings import NUMBERS
-from .contest import Contest
-from .scores import HEAD, names_of, ranks_of, rates_of, score_of
+from .contest import Contest, score_of
+from .scores import HEAD, names_of, ranks_of, rates_of
 
 
 @dataclass(frozen=True)

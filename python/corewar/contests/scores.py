@@ -5,31 +5,19 @@ import csv
 import io
 import json
 from collections.abc import Iterable, Mapping, Sequence
-from functools import lru_cache
 from typing import Any
 
 import numpy as np
 from numpy.typing import NDArray
 
-from ..engine.calls import assemble, match
 from ..engine.warriors import Warrior
-from ..model.settings import Settings
-from .contest import Contest
+from .contest import Contest, score_of
 
 HEAD = ("points", "wins", "ties", "losses")
 RATES = ("rounds", "win_percent", "tie_percent", "loss_percent", "score", "error")
 NAMES = ("file", "name", "author")
 # The number of digits after the point of a rate.
 DIGITS = 4
-# A core in which the rounds end at once.
-TINY = Settings(core=100, cycles=2, longest=1, distance=1)
-
-
-@lru_cache(maxsize=None)
-def score_of(formula: str, warriors: int, survivors: int) -> int:
-    """Returns the value of a formula as the library computes it, in a round that ends in this way. Raises `Fault`."""
-    lives, dies = assemble("JMP 0", settings=TINY), assemble("DAT 0", settings=TINY)
-    return match([lives] * survivors + [dies] * (warriors - survivors), settings=TINY, formula=formula)[0].points
 
 
 def names_of(warrior: Warrior) -> dict[str, Any]:

@@ -9,7 +9,7 @@ import numpy as np
 from numpy.typing import NDArray
 
 from ..model.faults import SCORE, Fault
-from .contest import Matches
+from .contest import Matches, fits
 from .scores import HEAD, NAMES, RATES, csv_text, error_of, json_text, names_of, ranks_of, rates_of
 
 
@@ -27,7 +27,7 @@ class League:
         self.against[first, second] = matches.counts[:, :4]
         self.against[second, first] = matches.counts[:, [4, 3, 2, 1]]
         points: list[int] = [sum(line) for line in self.against[..., 0].tolist()]
-        if any(not -(2**63) <= number < 2**63 for number in points):
+        if not all(map(fits, points)):
             raise Fault(SCORE, 4)
         best = sorted(range(len(points)), key=points.__getitem__, reverse=True)
         self.ranks = {number: rank for rank, number in enumerate(best, 1)}

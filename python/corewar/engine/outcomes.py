@@ -9,7 +9,7 @@ import numpy as np
 from numpy.typing import ArrayLike, NDArray
 
 from ..model.faults import LINEUP, Fault, Refused
-from ..model.settings import Settings, settings_of
+from ..model.settings import NUMBERS, Settings, settings_of
 from .binding import GREATEST, array, call, held, slice_of
 from .calls import check_count, fighters
 from .warriors import Warrior
@@ -55,10 +55,28 @@ def outcomes(
         raise Refused(f"expected 1 or more jobs, not {jobs}")
     given = settings_of(settings)
     table = table_of([range(len(warriors))] if lineups is None else lineups, seeds)
+    rows = played(warriors, table, given, rounds, position, jobs)
+    found = np.empty(rows.shape, OUTCOME)
+    for field in ("survived", "turns", "start"):
+        found[field] = rows[field]
+    found["cycles"] = cycles_of(found["turns"], found["survived"], given.cycles)
+    return found
+
+
+def played(
+    warriors: Sequence[Warrior],
+    table: NDArray[Any],
+    given: Settings,
+    rounds: int,
+    position: int | None,
+    jobs: int = 1,
+) -> NDArray[Any]:
+    """Runs the matches of a table of lineups. Returns an array as `outcomes` does, with the fields of the library."""
     count = int(table["count"].max(initial=0))
+    # The library refuses 0 by the same name as any number out of the range, and 0 rounds need no memory.
+    rounds = rounds if 0 < rounds <= NUMBERS["rounds"].greatest else 0
     # The library refuses a seed that is out of its range, but takes 0 in a lineup for that of the settings.
     fixed = held(given, rounds, int(table["seed"].min(initial=1)), position), *fighters(warriors, given.core)
-
     size = max(1, -(-len(table) // (jobs * PARTS)) if jobs > 1 else len(table))
 
     def run(first: int) -> NDArray[Any]:
@@ -75,12 +93,8 @@ def outcomes(
 
     with ThreadPoolExecutor(jobs) as pool:
         parts = [*pool.map(run, range(0, max(1, len(table)), size))]
-    rows = np.concatenate(parts).reshape(len(table), rounds, count)
-    found = np.empty(rows.shape, OUTCOME)
-    for field in ("survived", "turns", "start"):
-        found[field] = rows[field]
-    found["cycles"] = cycles_of(found["turns"], found["survived"], given.cycles)
-    return found
+    rows: NDArray[Any] = np.concatenate(parts).reshape(len(table), rounds, count)
+    return rows
 
 
 def table_of(lineups: ArrayLike, seeds: int | Sequence[int]) -> NDArray[Any]:
