@@ -81,3 +81,18 @@ def test_what_is_no_hill(tmp_path: Path) -> None:
         (tmp_path / "hill.json").write_text(text)
         done = run("hill.py", "hill.json", FILES[0], cwd=tmp_path)
         assert done.returncode == 1 and done.stderr.startswith(told) and (tmp_path / "hill.json").read_text() == text
+
+
+def test_elites(tmp_path: Path) -> None:
+    """The table has the rewards, the same in each run, and later generations replace them only by greater ones."""
+    told = run("elites.py", 1, cwd=tmp_path).stdout
+    assert told == run("elites.py", 1, cwd=tmp_path).stdout
+    head, *rows = told.splitlines()
+    assert head.split() == ["started", "touched", *(str(10 * tens) for tens in range(9))]
+    assert [row.split()[0] for row in rows] == [str(1 << power >> 1) for power in range(len(rows))]
+    rewards = [float(text) for row in rows for text in row.split()[1:] if text != "-"]
+    assert all(len(row.split()) == 10 for row in rows) and all(0 <= reward <= 4 for reward in rewards)
+    more = [row.split()[1:] for row in run("elites.py", 5, cwd=tmp_path).stdout.splitlines()[1:]]
+    for row, better in zip(rows, more):
+        for one, other in zip(row.split()[1:], better):
+            assert one == "-" or float(other) >= float(one)
