@@ -122,7 +122,7 @@ class History:
         matplotlib.
         """
         try:
-            # Pictures are drawn from histories, so a history can only ask for one when it is wanted.
+            # Pictures are drawn from histories, so the module can only be imported when the picture is requested.
             timeline = import_module("corewar.pictures.timeline")
         except ImportError as missing:
             raise ImportError(f"a figure requires matplotlib, Debian's python3-matplotlib: {missing}") from None
