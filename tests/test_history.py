@@ -250,8 +250,21 @@ def test_what_is_no_turn_is_rejected() -> None:
         for call in (history.state, history.owners, lambda turn: history.edited(turn, edit)):
             with pytest.raises(Refused, match=f"the battle has turns 0 to {history.end}"):
                 call(turn)
+    for turn in (0, -1, history.end + 1):
+        for ask in (history.record, history.executed):
+            with pytest.raises(Refused, match=f"the battle has turns 0 to {history.end}"):
+                ask(turn)
     with pytest.raises(Refused, match="the battle has warriors 0 to 1"):
         history.death(-1)
+    for cell in (
+        (16, 0, 0, 0, 0, 0),
+        (-1, 0, 0, 0, 0, 0),
+        (0, 7, 0, 0, 0, 0),
+        (0, 0, 0, 8, 0, 0),
+        (0, 0, 0, 0, 0, 8000),
+    ):
+        with pytest.raises(Refused, match="expected the numbers of a cell"):
+            cell_text(cell, 8000)
     with pytest.raises(Fault, match="4 Warriors"):
         History(Match(()))
     with pytest.raises(TypeError):

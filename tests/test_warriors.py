@@ -210,6 +210,8 @@ def test_shares() -> None:
     # Three share 2 cycles, two of them 3 more, and the last one has the other 5.
     shared = [2 / 3, 2 / 3 + 3 / 2, 2 / 3 + 3 / 2 + 5]
     assert np.allclose(corewar.shares(made, 10), [[share * 3 / 10 for share in shared]])
+    with pytest.raises(Refused, match="expected 1 or more cycles, not 0"):
+        corewar.shares(made, 0)
     dice = random.Random(3)
     for _ in range(20):
         made = corewar.outcomes(random_warriors(dice, 5), rounds=10, settings=SMALL)

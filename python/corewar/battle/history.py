@@ -118,8 +118,8 @@ class History:
         return f"<table>{''.join(lines)}</table>"
 
     def figure(self) -> Any:
-        """Returns the picture that `corewar picture` writes, as a figure of matplotlib. Raises `ImportError` without
-        matplotlib.
+        """Returns the picture that `corewar picture` writes, as a figure of matplotlib with `savefig`. Raises
+        `ImportError` without matplotlib.
         """
         try:
             # Pictures are drawn from histories, so the module can only be imported when the picture is requested.
@@ -165,7 +165,8 @@ class History:
         return self._blocks(segment.run, first, min(BLOCK, segment.last - first))
 
     def block_of(self, turn: int) -> Block:
-        """Returns the block with the record of a turn, from 1."""
+        """Returns the block with the record of a turn, from 1. Raises Refused."""
+        self._segment(turn)
         return self.block(turn - 1)
 
     def blocks(self, first: int = 0, last: int | None = None) -> Iterator[Block]:
@@ -186,7 +187,9 @@ class History:
             turn = block.first
 
     def record(self, turn: int) -> np.void:
-        """Returns the record of a turn, from 1, without its writes, with the fields of `MarsRecord`."""
+        """Returns the record of a turn, from 1, without its writes, with the fields of `MarsRecord`. Raises `Refused`
+        if the battle has no such turn.
+        """
         block = self.block_of(turn)
         made: np.void = block.records[turn - block.first - 1]
         return made

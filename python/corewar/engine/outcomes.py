@@ -149,7 +149,11 @@ def shares(made: NDArray[Any], cycles: int) -> NDArray[np.float64]:
 
     - `made`: what `outcomes` returned
     - `cycles`: the cycle limit of its settings
+
+    Raises `Refused` if there are no cycles.
     """
+    if cycles < 1:
+        raise Refused(f"expected 1 or more cycles, not {cycles}")
     # A warrior also lives in the cycle in which it dies.
     lived = np.minimum(made["cycles"].astype(np.int64) + 1, cycles).astype(float)
     order = np.argsort(lived, axis=-1, kind="stable")
