@@ -91,10 +91,12 @@ def played(
             raise
         return made
 
-    with ThreadPoolExecutor(jobs) as pool:
-        parts = [*pool.map(run, range(0, max(1, len(table)), size))]
-    rows: NDArray[Any] = np.concatenate(parts).reshape(len(table), rounds, count)
-    return rows
+    if jobs == 1:
+        rows = run(0)
+    else:
+        with ThreadPoolExecutor(jobs) as pool:
+            rows = np.concatenate([*pool.map(run, range(0, max(1, len(table)), size))])
+    return rows.reshape(len(table), rounds, count)
 
 
 def table_of(lineups: ArrayLike, seeds: int | Sequence[int]) -> NDArray[Any]:
