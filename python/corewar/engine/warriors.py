@@ -119,7 +119,12 @@ def packed(cells: Sequence[Cell | np.void] | Cells) -> bytes:
     if isinstance(cells, np.ndarray) and cells.dtype == kind("MarsCell"):
         return cells.tobytes()
     try:
-        return b"".join(CELL.pack(*fitted(cell.tolist() if isinstance(cell, np.void) else cell)) for cell in cells)
+        rows = [cell.tolist() if isinstance(cell, np.void) else cell for cell in cells]
+        try:
+            return b"".join([CELL.pack(*row) for row in rows])
+        except struct.error:
+            # Numbers that do not fit are looked for only then, since evolvers make many cells.
+            return b"".join([CELL.pack(*fitted(row)) for row in rows])
     except (struct.error, TypeError, ValueError) as fault:
         raise ValueError(f"expected the six numbers of each cell: {fault}") from None
 
