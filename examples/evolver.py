@@ -89,7 +89,7 @@ def given():
 def main():
     seconds, seed = given()
     dice, end = random.Random(seed), time.monotonic() + seconds
-    opponents = [corewar.assemble(text, NANO) for text in OPPONENTS]
+    opponents = [corewar.assemble(text, settings=NANO) for text in OPPONENTS]
     candidates, count = [Candidate([cell(dice) for _ in range(5)], []) for _ in range(SIZE)], 0
     while time.monotonic() < end:
         count += 1

@@ -50,10 +50,10 @@ def matches(draw: st.DrawFn) -> Match:
         cycles=draw(st.sampled_from([5, 40])),
         longest=8,
         distance=8,
-        read_limit=draw(st.sampled_from([0, 0, 7])),
-        write_limit=draw(st.sampled_from([0, 0, 5])),
+        read_limit=draw(st.sampled_from([None, None, 7])),
+        write_limit=draw(st.sampled_from([None, None, 5])),
     )
-    return Match(tuple(draw(warriors()) for _ in range(count)), 1, draw(st.integers(1, 9999)), settings)
+    return Match(tuple(draw(warriors()) for _ in range(count)), seed=draw(st.integers(1, 9999)), settings=settings)
 
 
 @st.composite

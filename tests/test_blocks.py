@@ -133,7 +133,7 @@ SMALL = Settings(core=8, processes=3, cycles=10, longest=1, distance=1)
 
 def three() -> Words:
     """Three warriors of one process each, after four turns."""
-    words = started(Match((assemble("JMP 0", SMALL),) * 3, settings=SMALL))
+    words = started(Match((assemble("JMP 0", settings=SMALL),) * 3, settings=SMALL))
     play(words, 4)
     return words
 
@@ -270,8 +270,8 @@ def test_corrupted_blocks() -> None:
     dice, accepted = random.Random(7), 0
     settings = Settings(core=20, processes=4, cycles=30, longest=2, distance=2)
     for _ in range(2000):
-        warriors = tuple(assemble(dice.choice(SOURCES), settings) for _ in range(dice.randint(1, 3)))
-        words = started(Match(warriors, 1, dice.randint(1, 999), settings))
+        warriors = tuple(assemble(dice.choice(SOURCES), settings=settings) for _ in range(dice.randint(1, 3)))
+        words = started(Match(warriors, seed=dice.randint(1, 999), settings=settings))
         play(words, dice.randint(0, 80))
         words = words[: header(words)["words"] + dice.choice([0, 0, 5])]
         for _ in range(dice.randint(1, 3)):

@@ -1,6 +1,9 @@
 """challenge: its rows against values that were calculated manually, and its errors."""
 from __future__ import annotations
 
+import csv
+import io
+import json
 from pathlib import Path
 
 import pytest
@@ -42,6 +45,39 @@ def test_by_hand(run: Run) -> None:
     words = "-s 400 -c 10 -p 5 -l 10 -d 20 -F 100 --seed 5 --read-limit 200 --write-limit 200".split()
     told = run("challenge", "--sum", "--jobs", 3, "-r", 4, *words, "made.red", "dead.red")
     assert told.stdout == "      12      4      0      0        0  sum of 1\n"
+
+
+HEADS = (
+    "file name author points wins ties losses theirs rounds win_percent tie_percent loss_percent score error".split()
+)
+CANDIDATE = ["stay.red", "Stay", "Anonymous", "16", "4", "4", "0", "4", "8", "50.0", "50.0", "0.0", "200.0", "0.0"]
+ROWS = [
+    ["dead.red", "Dead", "Anonymous", "12", "4", "0", "0", "0", "4", "100.0", "0.0", "0.0", "300.0", "0.0"],
+    ["stay.red", "Stay", "Anonymous", "4", "0", "4", "0", "4", "4", "0.0", "100.0", "0.0", "100.0", "0.0"],
+]
+
+
+def test_formats_for_programs(run: Run) -> None:
+    """A row for each match, with the names of the opponent and the results of the candidate, and its sums."""
+    words, files = ["challenge", "-r", 4], ["stay.red", "stay.red", "dead.red"]
+    told = [*csv.reader(io.StringIO(run(*words, "--format", "csv", *files).stdout))]
+    assert told == [HEADS, *ROWS]
+    told = [*csv.reader(io.StringIO(run(*words, "--format", "csv", "--sum", *files).stdout))]
+    assert told == [HEADS, CANDIDATE]
+    made = json.loads(run(*words, "--format", "json", *files).stdout)
+    assert made["seed"] == 1 and made["rounds"] == 4 and "-r=4" in made["words"]
+    assert [[str(one[head]) for head in HEADS] for one in [made["warrior"], *made["matches"]]] == [CANDIDATE, *ROWS]
+    only = json.loads(run(*words, "--format", "json", "--sum", *files).stdout)
+    assert only["warrior"] == made["warrior"] and "matches" not in only
+    done = run(*words, "--format", "csv", "stay.red", "none.red")
+    assert (done.returncode, done.stdout) == (1, ",".join(HEADS) + "\n")
+
+
+def test_error(run: Run) -> None:
+    """Of 4 rounds 2 give 3 points, so their sum has the variance 4 * 3, and the score the error 100 / 4 * 12 ** 0.5."""
+    for words in ([], ["--sum"]):
+        told = run("challenge", "--format", "csv", *words, "-r", 4, "dead.red", "dead.red").stdout.splitlines()[1]
+        assert told == "dead.red,Dead,Anonymous,6,2,0,2,6,4,50.0,0.0,50.0,150.0,86.6025"
 
 
 def test_faults(run: Run) -> None:

@@ -231,12 +231,40 @@ def test_an_edit_is_refused_where_the_debugger_refuses_it(fight: Match, part: fl
         assert same(made.state(turn), led(fight, 0, [*run_lines(turn), line]))
 
 
+def test_a_notebook_shows_its_end() -> None:
+    """The table of the warriors, with their names escaped: what became of each, its processes and its cells."""
+    evil = assemble(";name <b>&Imp\nMOV 0, 1", settings="nano")
+    history = History(Match((evil, assemble("DAT 0", settings="nano")), settings="nano"))
+    owned = np.bincount(history.owners(history.end), minlength=2)
+    assert history._repr_html_() == (
+        "<table><tr><th>warrior</th><th>after 2 turns</th><th>processes</th><th>cells</th></tr>"
+        f"<tr><td>&lt;b&gt;&amp;Imp</td><td>alive</td><td>1</td><td>{owned[0]}</td></tr>"
+        f"<tr><td>Unknown</td><td>died in turn 2</td><td>0</td><td>{owned[1]}</td></tr></table>"
+    )
+    assert history.end == 2 and owned.tolist() == [2, 1] + [0] * 253 + [77]
+
+
 def test_what_is_no_turn_is_rejected() -> None:
     history, edit = dwarf_and_imp(), Edit.kill(0, 0)
     for turn in (-1, history.end + 1):
         for call in (history.state, history.owners, lambda turn: history.edited(turn, edit)):
-            with pytest.raises(IndexError):
+            with pytest.raises(Refused, match=f"the battle has turns 0 to {history.end}"):
                 call(turn)
+    for turn in (0, -1, history.end + 1):
+        for ask in (history.record, history.executed):
+            with pytest.raises(Refused, match=f"the battle has turns 0 to {history.end}"):
+                ask(turn)
+    with pytest.raises(Refused, match="the battle has warriors 0 to 1"):
+        history.death(-1)
+    for cell in (
+        (16, 0, 0, 0, 0, 0),
+        (-1, 0, 0, 0, 0, 0),
+        (0, 7, 0, 0, 0, 0),
+        (0, 0, 0, 8, 0, 0),
+        (0, 0, 0, 0, 0, 8000),
+    ):
+        with pytest.raises(Refused, match="expected the numbers of a cell"):
+            cell_text(cell, 8000)
     with pytest.raises(Fault, match="4 Warriors"):
         History(Match(()))
     with pytest.raises(TypeError):
@@ -293,5 +321,5 @@ def test_a_battle_is_checked() -> None:
     battle.play()
     assert (battle.turns, battle.deaths.size) == (160000, 0)
     for turns in (-1, 1 << 32):
-        with pytest.raises(ValueError):
+        with pytest.raises(Refused, match="expected a number from 0 to 4294967295"):
             battle.play(turns)

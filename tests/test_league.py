@@ -114,12 +114,21 @@ LAST_FIRST = ["-r", 4, "dead.red", "late.red", "stay.red", "same.red"]
 
 def test_csv(run: Run, folder: Path) -> None:
     """Dead gets nothing. Late outlives only Dead, and the two others outlive both and tie."""
+    head = "rank file name author points wins ties losses rounds win_percent tie_percent loss_percent score error"
+    won, late = ["12", "66.6667", "33.3333", "0.0", "233.3333", "0.0"], [
+        "12",
+        "33.3333",
+        "0.0",
+        "66.6667",
+        "100.0",
+        "0.0",
+    ]
     table = [
-        ["rank", "file", "name", "author", "points", "wins", "ties", "losses"],
-        ["1", "stay.red", "Stay", "Anonymous", "28", "8", "4", "0"],
-        ["2", "same.red", "Stay", "Anonymous", "28", "8", "4", "0"],
-        ["3", "late.red", "Late, later", "Me & you", "12", "4", "0", "8"],
-        ["4", "dead.red", "Dead", "Anonymous", "0", "0", "0", "12"],
+        head.split(),
+        ["1", "stay.red", "Stay", "Anonymous", "28", "8", "4", "0", *won],
+        ["1", "same.red", "Stay", "Anonymous", "28", "8", "4", "0", *won],
+        ["3", "late.red", "Late, later", "Me & you", "12", "4", "0", "8", *late],
+        ["4", "dead.red", "Dead", "Anonymous", "0", "0", "0", "12", "12", "0.0", "0.0", "100.0", "0.0", "0.0"],
     ]
     assert [*csv.reader(io.StringIO(run("league", "--format", "csv", *LAST_FIRST).stdout))] == table
     run("league", "--format", "csv", "--order", "files", "-o", "out.csv", *LAST_FIRST)
@@ -132,12 +141,42 @@ def test_json(run: Run, folder: Path) -> None:
     assert [warrior["file"] for warrior in told["warriors"]] == ORDER
     assert told["warriors"][0] == {
         **{"rank": 1, "file": "stay.red", "name": "Stay", "author": "Anonymous"},
-        **{"points": 28, "wins": 8, "ties": 4, "losses": 0},
+        **{"points": 28, "wins": 8, "ties": 4, "losses": 0, "rounds": 12},
+        **{"win_percent": 66.6667, "tie_percent": 33.3333, "loss_percent": 0.0, "score": 233.3333, "error": 0.0},
     }
+    assert [warrior["rank"] for warrior in told["warriors"]] == [1, 1, 3, 4]
     first = {"first": 3, "second": 2, "points": 0, "wins": 0, "ties": 0, "losses": 4, "theirs": 12}
     assert len(told["matches"]) == 6 and told["matches"][0] == first
     done = subprocess.run([PROGRAM, "-b", *told["words"], "dead.red", "late.red"], cwd=folder, capture_output=True)
     assert done.stdout.splitlines()[1].split()[:4] == [b"0", b"0", b"0", b"4"]
+
+
+def test_nothing_tells_an_error(run: Run, folder: Path) -> None:
+    """One round can be compared with no other, and with a given position nothing is drawn."""
+    for words in (["-r", 1], ["-r", 4, "-F", 300]):
+        told = json.loads(run("league", "--format", "json", *words, "stay.red", "dead.red").stdout)
+        assert [(one["score"], one["error"]) for one in told["warriors"]] == [(300.0, None), (0.0, None)]
+        table = run("league", "--format", "csv", *words, "stay.red", "dead.red").stdout.splitlines()
+        assert [line.split(",")[-1] for line in table] == ["error", "", ""]
+    told = json.loads(run("league", "--format", "json", "-r", 4, "stay.red", "none.red").stdout)
+    alone = told["warriors"][0]
+    assert (alone["rounds"], alone["win_percent"], alone["score"], alone["error"]) == (0, 0.0, 0.0, None)
+
+
+def test_the_error_is_how_seeds_differ() -> None:
+    """The scores of 100 seeds lie as far from each other as the error of each says."""
+    warriors = [corewar.read(EXAMPLES / f"{name}.red", settings="tiny") for name in ("dwarf", "imp", "clear", "gate")]
+    scores, errors = [], []
+    for seed in range(100):
+        contest = Contest(settings=HILLS["tiny"], rounds=30, seed=1 + 7919 * seed, formula="4*W/S-3")
+        matches = Matches(contest, warriors, all_pairs(4))
+        with threads(matches, 2) as place:
+            assert sum(map(len, place.fight(matches))) == 6
+        records = League(matches, by_points=False).records()
+        scores.append([one["score"] for one in records])
+        errors.append([one["error"] for one in records])
+    ratio = np.std(scores, axis=0, ddof=1) / np.mean(errors, axis=0)
+    assert (abs(ratio - 1) < 0.3).all()
 
 
 def test_matrix(run: Run, folder: Path) -> None:
@@ -318,7 +357,7 @@ def test_a_kept_match_is_of_its_contest(folder: Path) -> None:
         Contest(rounds=5),
         Contest(rounds=4, seed=2),
         Contest(rounds=4, formula="S"),
-        Contest(Settings(cycles=9), 4),
+        Contest(settings=Settings(cycles=9), rounds=4),
     ]
     for other in others:
         assert not filled(other)[0].is_fought.any()
@@ -429,8 +468,8 @@ def test_names_that_a_terminal_obeys(run: Run, folder: Path) -> None:
 
 def test_a_large_league() -> None:
     """Bundles cover all pairs once, whatever their size, and the sums are those of the pairs."""
-    contest = Contest(HILLS["nano"], formula="S")
-    warriors = [assemble(f"jmp {number % 5}", contest.settings) for number in range(60)]
+    contest = Contest(settings=HILLS["nano"], formula="S")
+    warriors = [assemble(f"jmp {number % 5}", settings=contest.settings) for number in range(60)]
     matches = Matches(contest, warriors, all_pairs(60))
     assert sorted(np.concatenate([*matches.bundles(contest.settings.cycles * 7)]).tolist()) == [*range(1770)]
     with threads(matches, 3) as place:

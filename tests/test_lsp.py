@@ -287,7 +287,9 @@ def test_hover() -> None:
 def test_values(source: str, expected: dict[str, list[int]]) -> None:
     line = next(number for number, one in enumerate(source.split("\n"), 1) if re.search(r"\b(DAT|MOV|m$)", one))
     for core in (8000, 8001, 80, 3, 1):
-        text = Text(source, assemble, Settings(core, core, 80000, min(core, 100), min(core, 100)))
+        text = Text(
+            source, assemble, Settings(core=core, processes=core, longest=min(core, 100), distance=min(core, 100))
+        )
         for expression, values in expected.items():
             wanted = [core if expression == "CORESIZE" else value for value in values]
             assert text.values(line, expression) in ([wanted] if core > 80 else [wanted, []])
@@ -349,7 +351,7 @@ def outcomes(source: str) -> list[bytes | str]:
     found: list[bytes | str] = []
     for settings in HILLS.values():
         try:
-            found.append(assemble(source.encode("utf-8", "replace"), settings).load)
+            found.append(assemble(source.encode("utf-8", "replace"), settings=settings).load)
         except Fault as fault:
             found.append(str(fault))
     return found

@@ -1,17 +1,21 @@
 """melee: random lineups, and the table of all warriors."""
 from __future__ import annotations
 
+import csv
+import io
+import json
 import random
 import signal
 import time
 from pathlib import Path
 
+import numpy as np
 import pytest
 from conftest import EXAMPLES, Run, begin
 
 import corewar
-from corewar.contests.contest import Contest
-from corewar.contests.melee import Standing, lineups_of, melee, score_of
+from corewar.contests.contest import Contest, score_of
+from corewar.contests.melee import Standing, lineups_of, melee
 from corewar.model.settings import HILLS
 
 NAMES = "dwarf imp silk paper vampire bomber".split()
@@ -30,13 +34,16 @@ def test_it_is_the_sum_of_its_matches(formula: str) -> None:
     dice, sums = random.Random(9), {name: [0] * 5 for name in NAMES}
     lineups = lineups_of(len(NAMES), 3, 20, dice)
     for lineup in lineups:
-        rows = corewar.match([warriors()[one] for one in lineup], 3, dice.randint(1, 2_147_483_646), formula=formula)
+        rows = corewar.match(
+            [warriors()[one] for one in lineup], rounds=3, seed=dice.randint(1, 2_147_483_646), formula=formula
+        )
         for one, row in zip(lineup, rows):
             added = [row.points, 3, row.wins, row.ties, row.losses]
             sums[NAMES[one]] = [before + number for before, number in zip(sums[NAMES[one]], added)]
     for one in table:
         points, *rest = sums[Path(one.warrior.file).stem]
-        assert (one.score, [one.rounds, one.wins, one.ties, one.losses]) == (100 * points / one.rounds, rest)
+        assert [one.points, one.rounds, one.wins, one.ties, one.losses] == [points, *rest]
+        assert one.score == 100 * points / one.rounds
     assert [one.rank for one in table] == [1 + sum(other.score > one.score for other in table) for one in table]
 
 
@@ -56,9 +63,39 @@ def test_scores_are_those_of_the_formula() -> None:
 
 
 def test_equal_scores_share_a_rank() -> None:
-    imp = corewar.assemble("JMP 0", "nano")
-    table = melee(Contest(HILLS["nano"]), [imp] * 3, 3, 2, 1)
-    assert table == [Standing(1, 200.0, 2, 0, 2, 0, imp)] * 3
+    imp = corewar.assemble("JMP 0", settings="nano")
+    table = melee(Contest(settings=HILLS["nano"]), [imp] * 3, 3, 2, 1)
+    assert table == [Standing(1, 200.0, 0.0, 4, 0, 2, 0, imp)] * 3
+    assert [one.error for one in melee(Contest(settings=HILLS["nano"]), [imp] * 3, 3, 1, 1)] == [None] * 3
+
+
+def test_the_error_is_how_seeds_differ() -> None:
+    """The scores of 60 seeds lie as far from each other as the error of each says."""
+    dice, limits = random.Random(1), (16, 7, 8, 8, 80, 80)
+    cells = [[tuple(map(dice.randrange, limits)) for _ in range(5)] for _ in range(12)]
+    warriors = [corewar.Warrior.from_cells(one, settings="nano") for one in cells]
+    contests = [Contest(settings=HILLS["nano"], rounds=3, seed=1 + 7919 * seed) for seed in range(60)]
+    tables = [melee(contest, warriors, 3, 60, 2) for contest in contests]
+    spreads, errors = [], []
+    for warrior in warriors:
+        own = [one for table in tables for one in table if one.warrior is warrior]
+        spreads.append(np.std([one.score for one in own], ddof=1))
+        errors.append(np.mean([one.error for one in own]))
+    assert abs(sum(spreads) / sum(errors) - 1) < 0.2
+
+
+def test_formats_for_programs(run: Run) -> None:
+    words = ["melee", "--size", 3, "--lineups", 14, "-r", 2, *(f"@{name}" for name in NAMES)]
+    head, *rows = run(*words).stdout.splitlines()
+    told = json.loads(run(*words, "--format", "json").stdout)
+    assert (told["size"], told["lineups"], told["rounds"], told["seed"]) == (3, 14, 2, 1) and "-r=2" in told["words"]
+    for row, one in zip(rows, told["warriors"], strict=True):
+        counts = [f"{one['score']:.1f}", *(str(one[name]) for name in ("rounds", "wins", "ties", "losses"))]
+        assert row.split()[:6] == [str(one["rank"]), *counts] and row.split("  ")[-1].startswith(one["name"])
+        assert one["rounds"] == 14 and one["error"] >= 0 and one["win_percent"] == round(100 * one["wins"] / 14, 4)
+    table = [*csv.DictReader(io.StringIO(run(*words, "--format", "csv").stdout))]
+    assert table == [{name: str(value) for name, value in one.items()} for one in told["warriors"]]
+    assert [*table[0]][:2] == ["rank", "file"] and [*table[0]][-2:] == ["score", "error"]
 
 
 def test_the_command(run: Run, tmp_path: Path) -> None:

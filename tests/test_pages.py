@@ -5,6 +5,7 @@ import base64
 import json
 import re
 import resource
+import sys
 import zlib
 from pathlib import Path
 from typing import Any
@@ -15,6 +16,8 @@ from counting import skip
 
 from corewar.battle.history import History
 from corewar.engine.calls import Match
+from corewar.engine.sources import read
+from corewar.model.settings import Settings
 
 if not (TOP / "build" / "site").is_dir():
     skip("pages", "the site is not built; `make site` builds it", "esbuild")
@@ -111,10 +114,7 @@ def test_the_points_of_a_picture() -> None:
     """An imp in a core of 8: in row K its process is in column K + 1 of 8, on white or on its own cells."""
     from corewar.pictures.timeline import View, points
 
-    from corewar.engine.sources import read
-    from corewar.model.settings import Settings
-
-    imp = read(str(EXAMPLES / "imp.red"), warriors=1)
+    imp = read(EXAMPLES / "imp.red", warriors=1)
     history = History(Match((imp,), settings=Settings(core=8, cycles=7, longest=1, distance=1)))
     made = points(history, View(list(range(8)), range(8), 8))
     owned, standing = made[0, 0], made[0, 1]
@@ -122,6 +122,18 @@ def test_the_points_of_a_picture() -> None:
         assert (made[row, row + 1] == standing).all()
         assert all((made[row, column] == owned).all() for column in range(row + 1))
         assert (made[row, row + 2 :] == 1).all()
+
+
+def test_a_figure_is_the_picture(run: Run, tmp_path: Path, monkeypatch: pytest.MonkeyPatch) -> None:
+    """`History.figure` is what `corewar picture` writes; without matplotlib it says so."""
+    history = History(Match([read(EXAMPLES / f"{name}.red") for name in ("dwarf", "imp")]))
+    run("picture", "-o", "fight.png", "@dwarf", "@imp")
+    history.figure().savefig(tmp_path / "figure.png")
+    assert (tmp_path / "figure.png").read_bytes() == (tmp_path / "fight.png").read_bytes()
+    monkeypatch.delitem(sys.modules, "corewar.pictures.timeline")
+    monkeypatch.setitem(sys.modules, "matplotlib", None)
+    with pytest.raises(ImportError, match="a figure requires matplotlib, Debian's python3-matplotlib: "):
+        history.figure()
 
 
 def test_rounds(run: Run, tmp_path: Path) -> None:

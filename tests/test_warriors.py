@@ -13,7 +13,7 @@ from conftest import EXAMPLES
 from hypothesis import given
 
 import corewar
-from corewar import Fault, Match, Settings, Warrior
+from corewar import Fault, Match, Refused, Settings, Warrior
 from corewar.battle.history import History
 from corewar.engine.outcomes import OUTCOME
 from corewar.engine.warriors import read_load
@@ -41,11 +41,13 @@ def test_another_core_reads_numbers_by_value(fight: Match) -> None:
 
 def test_what_a_caller_may_give(tmp_path: Path) -> None:
     """Paths, hills by name, and short texts of values."""
-    dwarf, imp = corewar.read(EXAMPLES / "dwarf.red"), corewar.assemble("MOV 0, 1", "nano", file=tmp_path / "imp.red")
+    dwarf, imp = corewar.read(EXAMPLES / "dwarf.red"), corewar.assemble(
+        "MOV 0, 1", settings="nano", file=tmp_path / "imp.red"
+    )
     assert (dwarf.name, dwarf.author, dwarf.start, dwarf.core) == ("Dwarf", "A. K. Dewdney", 0, 8000)
     assert (imp.name, imp.author, imp.called, imp.core) == ("Unknown", "Anonymous", str(tmp_path / "imp.red"), 80)
     nano = corewar.HILLS["nano"]
-    assert corewar.match([dwarf, imp], 5, 7, "nano") == corewar.match([dwarf, imp], 5, 7, nano)
+    assert corewar.match([dwarf, imp], settings="nano", seed=7) == corewar.match([dwarf, imp], settings=nano, seed=7)
     fight = Match([dwarf, corewar.assemble("MOV 0, 1")], settings="nano")
     assert fight == Match(fight.warriors, settings=nano) and fight.position is None
     texts = [repr(dwarf), repr(fight), repr(corewar.Battle(fight)), repr(History(fight))]
@@ -70,7 +72,10 @@ CELL = (1, 6, 1, 1, 0, 1)
         ({"cells": []}, "Length"),
         ({"cells": [CELL] * 101}, "Length"),
         ({"start": 1}, "Start"),
+        ({"start": -1}, "Start"),
         ({"cells": [CELL, (16, 0, 0, 0, 0, 0)]}, "Cell"),
+        ({"cells": [CELL, (256, 0, 0, 0, 0, 0)]}, "Cell"),
+        ({"cells": [CELL, (0, 0, 0, 0, -1, 0)]}, "Field"),
         ({"cells": [CELL, (0, 0, 0, 0, 0, 8000)]}, "Field"),
         ({"name": "x" * 61}, "Name"),
         ({"author": "ü" * 100}, "Name"),
@@ -99,7 +104,7 @@ def test_errors_of_warriors(given: dict[str, Any], name: str) -> None:
         assert (found.value.kind, found.value.name, found.value.line) == ("warrior", name, line)
 
 
-@pytest.mark.parametrize("cell", [(1, 2, 3), (1, 6, 1, 1, 0, -1), (256, 6, 1, 1, 0, 1), 5, "MOV 0, 1"], ids=str)
+@pytest.mark.parametrize("cell", [(1, 2, 3), (1, 6, 1, 1, 0, 1, 2), (1, 6, 1, 1, 0, 0.5), 5, "MOV 0, 1"], ids=str)
 def test_what_is_no_cell(cell: Any) -> None:
     with pytest.raises(ValueError, match="expected the six numbers of each cell"):
         Warrior.from_cells([cell])
@@ -126,18 +131,19 @@ def test_outcomes_are_those_of_matches_and_battles() -> None:
         warriors, count, rounds = random_warriors(dice, 10), dice.randint(2, 8), dice.randint(1, 3)
         lineups = [dice.sample(range(10), count) for _ in range(2)]
         seeds = [dice.randint(1, 2_147_483_646) for _ in lineups]
-        made = corewar.outcomes(warriors, lineups, rounds, seeds, SMALL, jobs=2)
+        made = corewar.outcomes(warriors, lineups, settings=SMALL, rounds=rounds, seeds=seeds, jobs=2)
         assert made.shape == (2, rounds, count) and made.dtype == OUTCOME
         for lineup, seed, rows in zip(lineups, seeds, made):
             fighters = [warriors[index] for index in lineup]
+            given: Any = {"settings": SMALL, "rounds": rounds, "seed": seed}
             survivors = rows["survived"].sum(axis=1)
             wins = (rows["survived"] & (survivors == 1)[:, None]).sum(axis=0).tolist()
-            lives, match = rows["survived"].sum(axis=0).tolist(), corewar.match(fighters, rounds, seed, SMALL)
+            lives, match = rows["survived"].sum(axis=0).tolist(), corewar.match(fighters, **given)
             assert [(row.wins, row.wins + row.ties, row.losses) for row in match] == [
                 (won, lived, rounds - lived) for won, lived in zip(wins, lives)
             ]
             round = dice.randrange(rounds)
-            died += check_round(Match(fighters, rounds, seed, SMALL), round, rows[round])
+            died += check_round(Match(fighters, **given), round, rows[round])
     assert died > 2000
 
 
@@ -162,8 +168,8 @@ def test_lineups() -> None:
     """One lineup of all by default, threads, seeds of each, and what is refused."""
     warriors = [corewar.read(EXAMPLES / f"{name}.red") for name in ("dwarf", "imp", "silk")]
     pairs = [[0, 1], [1, 2], [2, 0]]
-    made = corewar.outcomes(warriors, pairs, 4, [3, 4, 5])
-    assert np.array_equal(made, corewar.outcomes(warriors, np.array(pairs), 4, [3, 4, 5], "94nop", jobs=3))
+    made = corewar.outcomes(warriors, pairs, rounds=4, seeds=[3, 4, 5])
+    assert np.array_equal(made, corewar.outcomes(warriors, np.array(pairs), rounds=4, seeds=[3, 4, 5], jobs=3))
     assert np.array_equal(made[1:2], corewar.outcomes(warriors[1:], rounds=4, seeds=4))
     assert corewar.outcomes(warriors, [], jobs=2).shape == (0, 1, 0) and corewar.outcomes(warriors).shape == (1, 1, 3)
     placed = corewar.outcomes(warriors, pairs, position=400)
@@ -172,13 +178,14 @@ def test_lineups() -> None:
         ([[0, 3]], {}, "index 0: lineup 2 Index"),
         ([[0] * 16, [0] * 16, [3] * 16], {}, "index 2: lineup 2 Index"),
         ([[0, 1]] * 30 + [[0, 3]] * 2, {"jobs": 2}, "index 30: lineup 2 Index"),
-        ([[0] * 17], {}, "index 0: lineup 1 Count"),
         ([[]], {}, "index 0: lineup 1 Count"),
         (pairs, {"seeds": 0}, "settings 2 Seed"),
         (pairs, {"seeds": [1, 0, 1]}, "settings 2 Seed"),
         (pairs, {"seeds": 2**31 - 1}, "settings 2 Seed"),
-        (pairs, {"rounds": 0}, "settings 1 Rounds"),
+        *((pairs, {"rounds": rounds}, "settings 1 Rounds") for rounds in (0, -1, 100_001, 10**9, 2**40)),
         ([[0, 1, 2]], {"position": 400}, "settings 3 Position"),
+        ([[-1, 0]], {}, "index 0: lineup 2 Index"),
+        (pairs, {"seeds": [1, -1, 2**40]}, "settings 2 Seed"),
     ):
         with pytest.raises(Fault) as found:
             corewar.outcomes(warriors, lineups, **words)
@@ -186,12 +193,14 @@ def test_lineups() -> None:
     for lineups, words in (
         ([[0, 1], [2]], {}),
         ([0, 1], {}),
-        ([[-1, 0]], {}),
         (pairs, {"seeds": [1, 2]}),
-        (pairs, {"jobs": 0}),
     ):
         with pytest.raises(ValueError):
             corewar.outcomes(warriors, lineups, **words)
+    with pytest.raises(Refused, match="a match has at most 16 warriors, not 17"):
+        corewar.outcomes(warriors, [[0] * 17])
+    with pytest.raises(Refused, match="expected 1 or more jobs, not 0"):
+        corewar.outcomes(warriors, jobs=0)
 
 
 def test_shares() -> None:
@@ -201,6 +210,8 @@ def test_shares() -> None:
     # Three share 2 cycles, two of them 3 more, and the last one has the other 5.
     shared = [2 / 3, 2 / 3 + 3 / 2, 2 / 3 + 3 / 2 + 5]
     assert np.allclose(corewar.shares(made, 10), [[share * 3 / 10 for share in shared]])
+    with pytest.raises(Refused, match="expected 1 or more cycles, not 0"):
+        corewar.shares(made, 0)
     dice = random.Random(3)
     for _ in range(20):
         made = corewar.outcomes(random_warriors(dice, 5), rounds=10, settings=SMALL)

@@ -99,7 +99,7 @@ def history_of(fight: dict[str, Any]) -> History:
     settings = settings_of(fight["settings"])
     rounds, texts = fight["round"] + 1, [one["text"] for one in fight["warriors"]]
     warriors = [assemble(text, settings=settings, rounds=rounds, warriors=len(texts)) for text in texts]
-    history = History(Match(tuple(warriors), rounds, fight["seed"], settings), fight["round"])
+    history = History(Match(tuple(warriors), rounds=rounds, seed=fight["seed"], settings=settings), fight["round"])
     for edit in fight["edits"]:
         try:
             history = history.edited(min(edit["turn"], history.end), edit_of(edit["text"], history.core))

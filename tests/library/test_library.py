@@ -69,6 +69,10 @@ OUT_OF_RANGE = [
     ({"processes": 0}, "parameters 2 Processes"),
     ({"cycles": 10000001}, "parameters 3 Cycles"),
     ({"longest": 0}, "parameters 5 Length"),
+    ({"core": -1}, "parameters 1 CoreSize"),
+    ({"cycles": 1 << 32}, "parameters 3 Cycles"),
+    ({"read_limit": 0}, "parameters 4 Limit"),
+    ({"write_limit": -1}, "parameters 4 Limit"),
 ]
 dice = random.Random(1)
 
@@ -152,7 +156,9 @@ def settings():
     limit = dice.choice([0, 0, 0, core, core // 2, 7 if dice.randrange(10) else core + 1])
     distance = longest if dice.randrange(8) else longest + dice.randrange(-1, 9)
     processes, cycles = dice.choice([1, 8, 80]), dice.choice([10, 200, 800])
-    return corewar.Settings(core, processes, cycles, longest, distance, limit, dice.choice([0, limit]))
+    limits = {"read_limit": limit or None, "write_limit": dice.choice([0, limit]) or None}
+    numbers = {"core": core, "processes": processes, "cycles": cycles, "longest": longest, "distance": distance}
+    return corewar.Settings(**numbers, **limits)
 
 
 def test_assemblies(tmp_path):
@@ -162,7 +168,7 @@ def test_assemblies(tmp_path):
         held = settings() if len(text) < 200 else corewar.Settings()
         expected = started("--load", *words_of(held), file_of(tmp_path, "source.red", text))
         count += isinstance(expected, str)
-        made = called(corewar.assemble, text, held, warriors=1)
+        made = called(corewar.assemble, text, settings=held, warriors=1)
         assert getattr(made, "load", made) == expected, text
     assert 50 < count < 250, "so many of the random sources are faulty"
 
@@ -183,9 +189,11 @@ def test_faults_of_settings():
     imp = corewar.assemble("MOV 0, 1")
     for words, fault in OUT_OF_RANGE:
         assert called(corewar.match, [imp], settings=corewar.Settings(**words)) == fault
-    for call, *words in ((corewar.match, 1, 0), (corewar.match, 100001, 1), (corewar.league, 1, 2147483647)):
-        assert called(call, [imp] * 2, *words).startswith("settings")
-    for count, position, fault in ((3, 400, 3), (2, 99, 3), (2, 7901, 3), (0, None, 4)):
+    for rounds, seed, fault in ((1, 0, 2), (100001, 1, 1), (1, 2147483647, 2), (-1, 1, 1), (1, -1, 2), (1, 1 << 40, 2)):
+        for call in (corewar.match, corewar.league):
+            expected = f"settings {fault} {names('SETTINGS')[fault]}"
+            assert called(call, [imp] * 2, rounds=rounds, seed=seed) == expected
+    for count, position, fault in ((3, 400, 3), (2, 99, 3), (2, 7901, 3), (2, 0, 3), (2, -1, 3), (0, None, 4)):
         expected = f"settings {fault} {names('SETTINGS')[fault]}"
         assert called(corewar.match, [imp] * count, position=position) == expected
     for call in (corewar.match, lambda warriors: corewar.Battle(corewar.Match(warriors))):
@@ -196,7 +204,7 @@ def test_faults_of_settings():
     for history in (0, 1000001):
         assert called(battle.debug, [], history) == "settings 6 History"
     for words in ({"turns": -1}, {"turns": 1 << 32}, {"turns": 1, "records": -1}, {"turns": 1, "touched": 1 << 32}):
-        with pytest.raises(ValueError):
+        with pytest.raises(corewar.Refused, match="expected a number from 0 to 4294967295"):
             battle.play(**words)
 
 
@@ -214,7 +222,7 @@ def test_contests(tmp_path):
 
         def run():
             warriors = [read_load(load, held) for load in files]
-            return call(warriors, rounds, seed, held, formula=formula)
+            return call(warriors, settings=held, rounds=rounds, seed=seed, formula=formula)
 
         told = called(run)
         # The program reads the formula before the files.
@@ -228,9 +236,9 @@ def test_populations():
     for position in (None, 400):
         sums = []
         for one in warriors[:3]:
-            rows = [corewar.match([one, other], 5, 7, position=position)[0] for other in warriors[3:7]]
+            rows = [corewar.match([one, other], rounds=5, seed=7, position=position)[0] for other in warriors[3:7]]
             sums.append(corewar.Row(*map(sum, zip(*(vars(row).values() for row in rows)))))
-        assert corewar.population(warriors[:3], warriors[3:7], 5, 7, position=position) == sums
+        assert corewar.population(warriors[:3], warriors[3:7], rounds=5, seed=7, position=position) == sums
     assert corewar.population(warriors[:2], []) == [corewar.Row(0, 0, 0, 0)] * 2
 
 
@@ -266,7 +274,7 @@ def test_threads():
     warriors = [corewar.read(path) for path in EXAMPLES[:3]]
 
     def work(seed):
-        return corewar.match(warriors, 3, seed + 1)
+        return corewar.match(warriors, rounds=3, seed=seed + 1)
 
     with ThreadPoolExecutor(2) as pool:
         assert [*pool.map(work, range(60))] == [*map(work, range(60))]

@@ -9,7 +9,10 @@ from __future__ import annotations
 from collections.abc import Iterator
 from dataclasses import dataclass
 from functools import lru_cache
+from html import escape
+from importlib import import_module
 from itertools import count
+from typing import Any
 
 import numpy as np
 from numpy.typing import NDArray
@@ -103,6 +106,28 @@ class History:
     def __repr__(self) -> str:
         return f"<History of {', '.join(self.names)}, round {self.round}, {self.end} turns>"
 
+    def _repr_html_(self) -> str:
+        """Returns the table of its end, which notebooks show."""
+        battle, cells = self.ending, np.bincount(self.owners(self.end), minlength=NOBODY + 1).tolist()
+        lines = [f"<tr><th>warrior</th><th>after {self.end:,} turns</th><th>processes</th><th>cells</th></tr>"]
+        for number, name in enumerate(self.names):
+            death = self.death(number)
+            fate = "alive" if death is None else f"died in turn {death:,}"
+            row = (escape(name), fate, f"{len(battle.queues[number]):,}", f"{cells[number]:,}")
+            lines.append(f"<tr>{''.join(f'<td>{text}</td>' for text in row)}</tr>")
+        return f"<table>{''.join(lines)}</table>"
+
+    def figure(self) -> Any:
+        """Returns the picture that `corewar picture` writes, as a figure of matplotlib with `savefig`. Raises
+        `ImportError` without matplotlib.
+        """
+        try:
+            # Pictures are drawn from histories, so the module can only be imported when the picture is requested.
+            timeline = import_module("corewar.pictures.timeline")
+        except ImportError as missing:
+            raise ImportError(f"a figure requires matplotlib, Debian's python3-matplotlib: {missing}") from None
+        return timeline.figure_of(self, timeline.whole(self))
+
     def warrior(self, named: str) -> int:
         """Returns the number of the warrior with this number, name or file. Raises `Refused` if there is none."""
         number = whole(named)
@@ -128,19 +153,20 @@ class History:
         return tuple((one.first, one.run.edit) for one in self.segments if one.run.edit)
 
     def _segment(self, turn: int) -> Segment:
-        """Returns the segment of the state after a turn and after the edits made there. Raises IndexError."""
+        """Returns the segment of the state after a turn and after the edits made there. Raises Refused."""
         if not 0 <= turn <= self.end:
-            raise IndexError(f"the battle has turns 0 to {self.end}")
+            raise Refused(f"the battle has turns 0 to {self.end}")
         return next(segment for segment in reversed(self.segments) if segment.first <= turn)
 
     def block(self, turn: int) -> Block:
-        """Returns the block of the state after a turn and after the edits made there. Raises IndexError."""
+        """Returns the block of the state after a turn and after the edits made there. Raises Refused."""
         segment = self._segment(turn)
         first = turn - (turn - segment.first) % BLOCK
         return self._blocks(segment.run, first, min(BLOCK, segment.last - first))
 
     def block_of(self, turn: int) -> Block:
-        """Returns the block with the record of a turn, from 1."""
+        """Returns the block with the record of a turn, from 1. Raises Refused."""
+        self._segment(turn)
         return self.block(turn - 1)
 
     def blocks(self, first: int = 0, last: int | None = None) -> Iterator[Block]:
@@ -161,13 +187,15 @@ class History:
             turn = block.first
 
     def record(self, turn: int) -> np.void:
-        """Returns the record of a turn, from 1, without its writes, with the fields of `MarsRecord`."""
+        """Returns the record of a turn, from 1, without its writes, with the fields of `MarsRecord`. Raises `Refused`
+        if the battle has no such turn.
+        """
         block = self.block_of(turn)
         made: np.void = block.records[turn - block.first - 1]
         return made
 
     def state(self, turn: int) -> Battle:
-        """Returns the battle after a turn. Raises `IndexError` if the battle has no such turn."""
+        """Returns the battle after a turn. Raises `Refused` if the battle has no such turn."""
         return self._segment(turn).run.at(turn)
 
     def executed(self, turn: int) -> np.void:
@@ -194,9 +222,9 @@ class History:
         return self._deaths[self._deaths["turns"] <= turn]
 
     def death(self, warrior: int) -> int | None:
-        """Returns the turn in which a warrior dies, or None if it survives. Raises `IndexError` if there is none."""
+        """Returns the turn in which a warrior dies, or None if it survives. Raises `Refused` if there is none."""
         if not 0 <= warrior < len(self.names):
-            raise IndexError(f"the battle has warriors 0 to {len(self.names) - 1}")
+            raise Refused(f"the battle has warriors 0 to {len(self.names) - 1}")
         return next((int(turns) for number, turns in self._deaths.tolist() if number == warrior), None)
 
     def is_killed(self, warrior: int) -> bool:
@@ -261,7 +289,7 @@ class History:
         """Returns the history in which an edit changes the battle after a turn.
 
         Raises `Fault` if the edit is impossible there, such as `refused 2 Address` if the address is outside the core,
-        and `IndexError` if the battle has no such turn.
+        and `Refused` if the battle has no such turn.
         """
         before = self.state(turn)
         after = before.copy()

@@ -107,7 +107,7 @@ def loader(asked: Asked, path: str, assembler: Assembler) -> Callable[[bytes], W
 
     def load(text: bytes) -> Warrior:
         try:
-            return assembler.assemble(text, asked.settings, asked.rounds)
+            return assembler.assemble(text, settings=asked.settings, rounds=asked.rounds)
         except Overrun as overrun:
             raise FileFault(path, str(overrun), text) from None
 

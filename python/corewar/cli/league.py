@@ -18,13 +18,15 @@ from rich.progress import BarColumn, MofNCompleteColumn, Progress, TimeRemaining
 from ..engine.files import replace_file
 from ..engine.warriors import Warrior
 from ..contests.contest import Contest, Matches, Rows, all_pairs, enter
+from ..contests.challenge import FORMATS as CHALLENGE_FORMATS
+from ..contests.challenge import Challenge
 from ..contests.places import cluster, threads
 from ..contests.results import Results
 from ..contests.table import FORMATS, League
 from ..model.faults import FileFault
 from ..model.printing import printable
 from .layout import EXECUTION, STATUSES, Command, Number, Option
-from .options import Asked, Output, Picture, battle_options, with_options
+from .options import Asked, Decorator, Output, Picture, battle_options, with_options
 from .telling import tell, tell_fault
 
 ADDRESS = re.compile(r"(tcp://)?(\[[0-9a-fA-F:]+\]|[^\s/:\[\]]+):\d+")
@@ -126,18 +128,42 @@ def contest_options(command: Callable[..., Any]) -> Callable[..., Any]:
     return with_options(*PLACE)(asking)
 
 
+def contest_of(asked: Asked) -> Contest:
+    return Contest(
+        settings=asked.settings,
+        rounds=asked.rounds,
+        seed=asked.seed,
+        position=asked.position,
+        formula=asked.formula,
+    )
+
+
 def entered(asked: Asked) -> tuple[Contest, list[Warrior], list[FileFault]]:
     """The contest, the warriors of the files, and the errors of the files without one, which are reported."""
-    contest = Contest(asked.settings, asked.rounds, asked.seed, asked.position, asked.formula)
+    contest = contest_of(asked)
     warriors, faults = enter(contest, asked.files, asked.limit)
     for fault in faults:
         tell_fault(fault)
     return contest, warriors, faults
 
 
-def write(text: str, output: str | None) -> None:
-    """Writes text with its end of line to a file, or to standard output, with names of files as they were given."""
-    told = f"{text}\n".encode("utf-8", "surrogateescape")
+def format_option(formats: Sequence[str]) -> Decorator:
+    return click.option(
+        "--format",
+        "form",
+        type=click.Choice(formats),
+        default=formats[0],
+        show_default=True,
+        help="Format of the results",
+    )
+
+
+def write_results(text: str, form: str, output: str | None = None) -> None:
+    """Writes results with their end of line to a file, or to standard output. Names of files are as they were given in
+    formats for programs, and printable in the others.
+    """
+    shown = text if form in ("csv", "json") else "\n".join(map(printable, text.split("\n")))
+    told = f"{shown}\n".encode("utf-8", "surrogateescape")
     if output:
         replace_file(output, told)
     else:
@@ -160,14 +186,7 @@ def write(text: str, output: str | None) -> None:
     show_default=True,
     help="Order of the rows: most points first, or as the files are given",
 )
-@click.option(
-    "--format",
-    "form",
-    type=click.Choice(list(FORMATS)),
-    default="table",
-    show_default=True,
-    help="Format of the results",
-)
+@format_option(list(FORMATS))
 @click.option("-o", "--output", type=FILE, help="Write the results to this file")
 @click.option(
     "--picture",
@@ -191,8 +210,7 @@ def league(asked: Asked, hall: Hall, order: str, form: str, **files: Any) -> int
     matches = Matches(contest, warriors, all_pairs(len(warriors)))
     hall.fight(matches)
     result = League(matches, order == "points")
-    text = FORMATS[form](result)
-    write(text if form in ("csv", "json") else "\n".join(map(printable, text.split("\n"))), files["output"])
+    write_results(FORMATS[form](result), form, files["output"])
     if files["picture"]:
         from ..pictures.matrix import draw
 
@@ -212,7 +230,8 @@ def league(asked: Asked, hall: Hall, order: str, form: str, **files: Any) -> int
 )
 @contest_options
 @click.option("--sum", "only_sum", is_flag=True, help="Print only the sums")
-def challenge(asked: Asked, hall: Hall, only_sum: bool) -> int:
+@format_option(list(CHALLENGE_FORMATS))
+def challenge(asked: Asked, hall: Hall, only_sum: bool, form: str) -> int:
     """Run a match of the first file against each of the others.
 
     Each row shows the points, wins, ties and losses of the first file, the points of its opponent, and the opponent.
@@ -225,21 +244,5 @@ def challenge(asked: Asked, hall: Hall, only_sum: bool) -> int:
     opponents = np.arange(1, len(warriors))
     matches = Matches(contest, warriors, np.column_stack([np.zeros_like(opponents), opponents]))
     hall.fight(matches)
-    lines = [] if only_sum else lines_of(matches)
-    sums = [sum(column) for column in matches.counts.T.tolist()]
-    write("\n".join([*lines, f"{row_of(sums)}  sum of {len(matches)}"]), None)
+    write_results(CHALLENGE_FORMATS[form](Challenge(matches, only_sum)), form)
     return 1 if faults else 0
-
-
-def row_of(counts: Sequence[int]) -> str:
-    points, wins, ties, losses, theirs = counts
-    return f"{points:8} {wins:6} {ties:6} {losses:6} {theirs:8}"
-
-
-def lines_of(matches: Matches) -> list[str]:
-    """The head, and a line for each match, the most points first."""
-    opponents = [matches.warriors[number] for number in matches.pairs[:, 1].tolist()]
-    width = max((len(one.file) for one in opponents), default=0)
-    lines = sorted(zip(matches.counts.tolist(), opponents), key=lambda line: -int(line[0][0]))
-    told = [f"{row_of(counts)}  {printable(one.file):{width}}  {printable(one.title)}" for counts, one in lines]
-    return ["  points   wins   ties losses   theirs  opponent", *told]

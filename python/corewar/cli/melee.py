@@ -5,12 +5,13 @@ import os
 
 import click
 
-from ..contests.contest import Contest, enter
+from ..contests.contest import enter
 from ..contests.melee import melee as run
-from ..model.printing import printable
+from ..contests.melee import records_of, table_of
+from ..contests.scores import HEAD, NAMES, RATES, csv_text, json_text
 from ..model.settings import MOST_WARRIORS
 from .layout import Command, Number
-from .league import JOBS, LEFT_OUT, write
+from .league import JOBS, LEFT_OUT, contest_of, format_option, write_results
 from .options import Asked, battle_options
 from .telling import tell, tell_fault
 from .waiting import awaited
@@ -32,8 +33,9 @@ from .waiting import awaited
 @click.option(
     "--lineups", type=Number(1, 1_000_000), default=100, show_default=True, help="Number of matches, 1 to 1000000"
 )
+@format_option(("table", "csv", "json"))
 @JOBS
-def melee(asked: Asked, size: int, lineups: int, jobs: int) -> int:
+def melee(asked: Asked, size: int, lineups: int, form: str, jobs: int) -> int:
     """Run matches of several warriors in random lineups, and rank all warriors.
 
     All warriors are in the same number of matches, or in one more. The score is the points for 100 rounds; equal scores
@@ -41,7 +43,7 @@ def melee(asked: Asked, size: int, lineups: int, jobs: int) -> int:
     """
     if len(asked.files) < size:
         raise click.UsageError(f"expected at least {size} files for matches of {size}, not {len(asked.files)}")
-    contest = Contest(asked.settings, asked.rounds, asked.seed, asked.position, asked.formula)
+    contest = contest_of(asked)
     warriors, faults = enter(contest, asked.files, asked.limit, size)
     for fault in faults:
         tell_fault(fault)
@@ -54,9 +56,11 @@ def melee(asked: Asked, size: int, lineups: int, jobs: int) -> int:
         tell("stopped")
         # Matches that are under way aren't waited for.
         os._exit(130)
-    lines = ["  rank    score rounds   wins   ties losses  warrior"]
-    for one in table:
-        numbers = f"{one.rank:6} {one.score:8.1f} {one.rounds:6} {one.wins:6} {one.ties:6} {one.losses:6}"
-        lines.append(f"{numbers}  {printable(one.warrior.title)}")
-    write("\n".join(lines), None)
+    if form == "table":
+        text = table_of(table)
+    elif form == "csv":
+        text = csv_text(("rank", *NAMES, *HEAD, *RATES), records_of(table))
+    else:
+        text = json_text(contest, size=size, lineups=lineups, warriors=records_of(table))
+    write_results(text, form)
     return 1 if faults else 0

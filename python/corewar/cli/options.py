@@ -39,7 +39,7 @@ class Asked:
         if len(self.files) > MOST_WARRIORS:
             raise click.UsageError(f"a match has at most {MOST_WARRIORS} warriors, not {len(self.files)}")
         warriors = read_warriors(self.files, self.settings, self.rounds, self.limit)
-        return Match(warriors, self.rounds, self.seed, self.settings, self.position)
+        return Match(warriors, settings=self.settings, rounds=self.rounds, seed=self.seed, position=self.position)
 
 
 class Output(click.Path):

@@ -161,7 +161,7 @@ def edit_of(text: str, asked: Asked) -> tuple[int, Edit]:
 def cell_of_line(line: str, asked: Asked) -> Cell:
     """The cell that a line of source makes."""
     try:
-        warrior = assemble(f"{line}\n", asked.settings, asked.rounds, len(asked.files))
+        warrior = assemble(f"{line}\n", settings=asked.settings, rounds=asked.rounds, warriors=len(asked.files))
     except Fault as fault:
         raise click.BadParameter(f"`{line}` is not an instruction: {fault}", param_hint="--edit") from None
     cell: Cell = warrior.cells[-1].tolist()

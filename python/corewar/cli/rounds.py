@@ -15,8 +15,7 @@ from .waiting import awaited
 
 def rows_of(fought: Match, formula: str) -> list[Row]:
     """The rows of a match."""
-    numbers = fought.rounds, fought.seed, fought.settings, fought.position
-    return awaited(lambda: match(fought.warriors, *numbers, formula))
+    return awaited(lambda: match(formula=formula, **vars(fought)))
 
 
 @click.command(

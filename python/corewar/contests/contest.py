@@ -4,15 +4,17 @@ from __future__ import annotations
 import hashlib
 from collections.abc import Iterator, Mapping, Sequence
 from dataclasses import dataclass
+from functools import lru_cache
 from typing import Any
 
 import numpy as np
 from numpy.typing import NDArray
 
-from ..engine.calls import match
+from ..engine.calls import assemble, match
+from ..engine.outcomes import played, table_of
 from ..engine.sources import Assembler, Limit, read_warrior
 from ..engine.warriors import Warrior
-from ..model.faults import FileFault, Refused
+from ..model.faults import SCORE, Fault, FileFault, Refused
 from ..model.settings import FORMULA, NUMBERS, Settings
 
 # Rows of five numbers: points, wins, ties and losses of the first warrior, and points of the second one.
@@ -21,9 +23,11 @@ Counts = NDArray[np.int64]
 Pairs = NDArray[np.intp]
 # Indices of pairs, from 0.
 Rows = NDArray[np.intp]
+# A core in which the rounds end at once.
+TINY = Settings(core=100, cycles=2, longest=1, distance=1)
 
 
-@dataclass(frozen=True)
+@dataclass(frozen=True, kw_only=True)
 class Contest:
     """The settings of all matches. They determine the result of a match of two warriors in a given order."""
 
@@ -37,20 +41,38 @@ class Contest:
     def words(self) -> list[str]:
         """The settings as options of `mars`."""
         numbers = {**vars(self.settings), "rounds": self.rounds, "seed": self.seed, "position": self.position}
-        given = [f"{NUMBERS[name].word}={number}" for name, number in numbers.items() if number]
+        given = [f"{NUMBERS[name].word}={number}" for name, number in numbers.items() if number is not None]
         return [*given, f"--score={self.formula}"]
 
 
 def fight(contest: Contest, warriors: Mapping[int, Warrior], pairs: Pairs) -> Counts:
     """Runs the matches of some pairs and returns their counts, a row for each. Raises `Fault`."""
-    counts = np.zeros((len(pairs), 5), np.int64)
-    for row, pair in enumerate(pairs.tolist()):
-        fighters = [warriors[number] for number in pair]
-        first, second = match(
-            fighters, contest.rounds, contest.seed, contest.settings, contest.position, contest.formula
-        )
-        counts[row] = first.points, first.wins, first.ties, first.losses, second.points
-    return counts
+    numbers, places = np.unique(pairs, return_inverse=True)
+    table = table_of(places.reshape(pairs.shape), contest.seed)
+    fighters = [warriors[number] for number in numbers.tolist()]
+    survived = played(fighters, table, contest.settings, contest.rounds, contest.position)["survived"].astype(bool)
+    ties = survived.all(axis=2).sum(axis=1)
+    wins = survived.sum(axis=1) - ties[:, None]
+    # A formula is refused even if no warrior survives, but has a value only if one does.
+    score_of(contest.formula, 2, 0)
+    values = [score_of(contest.formula, 2, left) if many.any() else 0 for left, many in ((1, wins), (2, ties))]
+    points = wins.astype(object) * values[0] + ties[:, None].astype(object) * values[1]
+    if any(not fits(one) for one in points.ravel()):
+        raise Fault(SCORE, 4)
+    losses = contest.rounds - wins[:, 0] - ties
+    return np.column_stack([points[:, 0], wins[:, 0], ties, losses, points[:, 1]]).astype(np.int64)
+
+
+@lru_cache(maxsize=None)
+def score_of(formula: str, warriors: int, survivors: int) -> int:
+    """Returns the value of a formula as the library computes it, in a round that ends in this way. Raises `Fault`."""
+    lives, dies = assemble("JMP 0", settings=TINY), assemble("DAT 0", settings=TINY)
+    return match([lives] * survivors + [dies] * (warriors - survivors), settings=TINY, formula=formula)[0].points
+
+
+def fits(points: int) -> bool:
+    """Returns whether a sum of points fits in 64 bits."""
+    return -(2**63) <= points < 2**63
 
 
 def checked(counts: object, matches: int, rounds: int) -> Counts:

@@ -4,31 +4,37 @@ from __future__ import annotations
 import random
 from collections.abc import Sequence
 from dataclasses import dataclass
-from functools import lru_cache
+from typing import Any
 
 import numpy as np
+from numpy.typing import NDArray
 
-from ..engine.calls import assemble, match
 from ..engine.outcomes import outcomes
 from ..engine.warriors import Warrior
-from ..model.settings import NUMBERS, Settings
-from .contest import Contest
-
-# A core in which the rounds end at once.
-TINY = Settings(core=100, cycles=2, longest=1, distance=1)
+from ..model.settings import NUMBERS
+from .contest import Contest, score_of
+from .scores import HEAD, names_of, ranks_of, rates_of
 
 
 @dataclass(frozen=True)
 class Standing:
-    """The results of a warrior in all its rounds: `score` is its points for 100 rounds."""
+    """The results of a warrior in all its rounds: `score` is its points for 100 rounds, and `error` the standard error
+    of the score, or None if the warrior was in fewer than two matches.
+    """
 
     rank: int
     score: float
-    rounds: int
+    error: float | None
+    points: int
     wins: int
     ties: int
     losses: int
     warrior: Warrior
+
+    @property
+    def rounds(self) -> int:
+        """The number of its rounds."""
+        return self.wins + self.ties + self.losses
 
 
 def lineups_of(warriors: int, size: int, count: int, dice: random.Random) -> list[list[int]]:
@@ -44,13 +50,6 @@ def lineups_of(warriors: int, size: int, count: int, dice: random.Random) -> lis
     return made
 
 
-@lru_cache(maxsize=None)
-def score_of(formula: str, warriors: int, survivors: int) -> int:
-    """Returns the value of a formula as the library computes it, in a round that ends in this way. Raises `Fault`."""
-    lives, dies = assemble("JMP 0", TINY), assemble("DAT 0", TINY)
-    return match([lives] * survivors + [dies] * (warriors - survivors), 1, 1, TINY, None, formula)[0].points
-
-
 def melee(contest: Contest, warriors: Sequence[Warrior], size: int, count: int, jobs: int) -> list[Standing]:
     """Runs the matches of `count` random lineups of `size` warriors, and returns the results, the best first.
 
@@ -59,29 +58,67 @@ def melee(contest: Contest, warriors: Sequence[Warrior], size: int, count: int, 
     dice = random.Random(contest.seed)
     lineups = lineups_of(len(warriors), size, count, dice)
     seeds = [dice.randint(1, NUMBERS["seed"].greatest) for _ in lineups]
-    made = outcomes(warriors, lineups, contest.rounds, seeds, contest.settings, contest.position, jobs)
-    places = np.array(lineups)[:, None, :]
+    numbers: dict[str, Any] = {"settings": contest.settings, "rounds": contest.rounds, "position": contest.position}
+    made = outcomes(warriors, lineups, seeds=seeds, jobs=jobs, **numbers)
+    places = np.broadcast_to(np.array(lineups)[:, None, :], made.shape)
     # In how many rounds each warrior was one of 0, 1, 2 .. survivors.
     lives = np.zeros((len(warriors), size + 1), np.int64)
     survivors = np.broadcast_to(made["survived"].sum(axis=-1, keepdims=True), made.shape)
-    np.add.at(lives, (np.broadcast_to(places, made.shape), survivors), made["survived"])
-    rounds = np.bincount(places.ravel(), minlength=len(warriors)) * contest.rounds
-    return ranked(warriors, rounds.tolist(), lives.tolist(), contest.formula)
+    np.add.at(lives, (places, survivors), made["survived"])
+    values = [score_of(contest.formula, size, left) if lives[:, left].any() else 0 for left in range(size + 1)]
+    matches = (made["survived"] * np.array(values, float)[survivors]).sum(axis=1)
+    errors = errors_of(np.array(lineups).ravel(), matches.ravel(), len(warriors))
+    rounds = np.bincount(places[:, 0].ravel(), minlength=len(warriors)) * contest.rounds
+    return ranked(warriors, rounds.tolist(), lives.tolist(), values, errors / contest.rounds)
+
+
+def errors_of(places: NDArray[np.int64], points: NDArray[np.float64], count: int) -> NDArray[np.float64]:
+    """Returns the standard error of 100 times the mean points of each warrior, or NaN for fewer than two matches.
+
+    `places` and `points` have the warrior and its points in each match.
+    """
+    matches, sums = np.bincount(places, minlength=count), np.bincount(places, points, count)
+    with np.errstate(divide="ignore", invalid="ignore"):
+        # The matches of a warrior have other opponents, drawn as well as the rounds, so whole matches are compared.
+        spread = np.bincount(places, (points - (sums / matches)[places]) ** 2, count) / (matches - 1)
+        return np.where(matches > 1, 100 * np.sqrt(spread / matches), np.nan)
 
 
 def ranked(
-    warriors: Sequence[Warrior], rounds: Sequence[int], lives: Sequence[Sequence[int]], formula: str
+    warriors: Sequence[Warrior],
+    rounds: Sequence[int],
+    lives: Sequence[Sequence[int]],
+    values: Sequence[int],
+    errors: NDArray[np.float64],
 ) -> list[Standing]:
     """Returns the table, the best score first; equal scores share a rank. A warrior that was in no lineup has 0.
 
-    `lives` is for each warrior in how many rounds it was one of 0, 1, 2 .. survivors.
+    `lives` is for each warrior in how many rounds it was one of 0, 1, 2 .. survivors, `values` what each then gets.
     """
-    size = len(lives[0]) - 1
-    points = [sum(score_of(formula, size, left) * count for left, count in enumerate(own) if count) for own in lives]
+    points = [sum(value * count for value, count in zip(values, own)) for own in lives]
     scores = [100 * points[one] / rounds[one] if rounds[one] else 0.0 for one in range(len(warriors))]
-    standings = []
+    ranks, standings = ranks_of(scores), []
     for one in sorted(range(len(warriors)), key=scores.__getitem__, reverse=True):
-        rank, (_, wins, *ties) = 1 + sum(score > scores[one] for score in scores), lives[one]
-        losses = rounds[one] - wins - sum(ties)
-        standings.append(Standing(rank, scores[one], rounds[one], wins, sum(ties), losses, warriors[one]))
+        error = None if np.isnan(errors[one]) else float(errors[one])
+        (_, wins, *ties), score = lives[one], scores[one]
+        counts = points[one], wins, sum(ties), rounds[one] - wins - sum(ties)
+        standings.append(Standing(ranks[one], score, error, *counts, warriors[one]))
     return standings
+
+
+def table_of(standings: Sequence[Standing]) -> str:
+    lines = ["  rank    score rounds   wins   ties losses  warrior"]
+    for one in standings:
+        numbers = f"{one.rank:6} {one.score:8.1f} {one.rounds:6} {one.wins:6} {one.ties:6} {one.losses:6}"
+        lines.append(f"{numbers}  {one.warrior.title}")
+    return "\n".join(lines)
+
+
+def records_of(standings: Sequence[Standing]) -> list[dict[str, Any]]:
+    """Returns a row for each warrior, with the columns of a league."""
+    records = []
+    for one in standings:
+        counts = [one.points, one.wins, one.ties, one.losses]
+        names = {"rank": one.rank, **names_of(one.warrior)}
+        records.append({**names, **dict(zip(HEAD, counts)), **rates_of(counts, one.error)})
+    return records

@@ -1,9 +1,6 @@
 """The results of a league: points, and wins of each pair, as text for people and programs."""
 from __future__ import annotations
 
-import csv
-import io
-import json
 from collections.abc import Iterator
 from functools import cached_property
 from typing import Any
@@ -12,9 +9,8 @@ import numpy as np
 from numpy.typing import NDArray
 
 from ..model.faults import SCORE, Fault
-from .contest import Matches
-
-HEAD = ("points", "wins", "ties", "losses")
+from .contest import Matches, fits
+from .scores import HEAD, NAMES, RATES, csv_text, error_of, json_text, names_of, ranks_of, rates_of
 
 
 class League:
@@ -31,7 +27,7 @@ class League:
         self.against[first, second] = matches.counts[:, :4]
         self.against[second, first] = matches.counts[:, [4, 3, 2, 1]]
         points: list[int] = [sum(line) for line in self.against[..., 0].tolist()]
-        if any(not -(2**63) <= number < 2**63 for number in points):
+        if not all(map(fits, points)):
             raise Fault(SCORE, 4)
         best = sorted(range(len(points)), key=points.__getitem__, reverse=True)
         self.ranks = {number: rank for rank, number in enumerate(best, 1)}
@@ -42,10 +38,18 @@ class League:
         """A row for each warrior in the shown order: rank, file, name, author, points, wins, ties and losses."""
         sums, rows = self.against.sum(axis=1).tolist(), []
         for number in self.order:
-            one = self.warriors[number]
-            names = {"rank": self.ranks[number], "file": one.file, "name": one.name, "author": one.author}
+            names = {"rank": self.ranks[number], **names_of(self.warriors[number])}
             rows.append({**names, **dict(zip(HEAD, sums[number]))})
         return rows
+
+    def records(self) -> list[dict[str, Any]]:
+        """Returns the rows for programs, with the columns RATES. Equal points share a rank."""
+        ranks, records = ranks_of([row["points"] for row in self.rows]), []
+        for number, row, rank in zip(self.order, self.rows, ranks):
+            others = np.delete(self.against[number], number, axis=0)
+            rates = rates_of([row[name] for name in HEAD], error_of(self.matches.contest, others))
+            records.append({**row, "rank": rank, **rates})
+        return records
 
     def titles(self) -> list[str]:
         """Returns the name or file, and the author, of each warrior in the shown order."""
@@ -75,18 +79,12 @@ def matrix_of(league: League) -> str:
 
 
 def csv_of(league: League) -> str:
-    text = io.StringIO()
-    writer = csv.DictWriter(text, ("rank", "file", "name", "author", *HEAD), lineterminator="\n")
-    writer.writeheader()
-    writer.writerows(league.rows)
-    return text.getvalue().rstrip("\n")
+    return csv_text(("rank", *NAMES, *HEAD, *RATES), league.records())
 
 
 def json_of(league: League) -> str:
     """Returns the options, the seed, the warriors in the shown order, and each match with their indices in it."""
-    contest = league.matches.contest
-    head = {"words": contest.words, "seed": contest.seed, "rounds": contest.rounds}
-    return json.dumps({**head, "warriors": league.rows, "matches": [*matches_of(league)]})
+    return json_text(league.matches.contest, warriors=league.records(), matches=[*matches_of(league)])
 
 
 def matches_of(league: League) -> Iterator[dict[str, int]]:

@@ -141,7 +141,7 @@ class Session:
         given = [f"{name} EQU ({self.sources.addresses[name] - address})" for name in labels]
         fight, source = self.history.fight, "\n".join([*given, line, ""])
         try:
-            warrior = assemble(source, fight.settings, fight.rounds, len(self.names))
+            warrior = assemble(source, settings=fight.settings, rounds=fight.rounds, warriors=len(self.names))
         except Fault as fault:
             kind, cause = str(fault).partition(": ")[2], told(fault, source.encode())[0]
             raise Refused(f"`{line}` is not an instruction: {kind}: {cause}") from None

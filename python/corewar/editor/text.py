@@ -49,7 +49,7 @@ class Text:
     Lines count from 1 and columns from 0, in characters. Positions of the protocol count both from 0, in UTF-16 units.
     """
 
-    def __init__(self, text: str, assemble: Callable[[bytes, Settings], Warrior], settings: Settings) -> None:
+    def __init__(self, text: str, assemble: Callable[..., Warrior], settings: Settings) -> None:
         hill = HILL.search(text)
         self.settings = HILLS.get(hill[1].lower(), settings) if hill else settings
         self.data = text.encode("utf-8", "replace")
@@ -91,7 +91,7 @@ class Text:
 
     def load(self, data: bytes) -> Warrior:
         """Returns the warrior of a source with the settings of this one. Raises Refused."""
-        return self._assemble(data, self.settings)
+        return self._assemble(data, settings=self.settings)
 
     def cells_of(self, data: bytes) -> Cells:
         """Returns the cells of a source with the settings of this one, or nothing if it has an error."""

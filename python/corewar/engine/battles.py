@@ -10,12 +10,13 @@ from numpy.typing import NDArray
 from ..model.cells import Cells, Records
 from ..model.edits import SET, Edit
 from ..model.faults import EDIT, Fault
-from .binding import array, call, held, kind, library, number, slice_of, text
+from .binding import GREATEST, array, call, counted, held, kind, library, number, slice_of, text
 from .calls import Match, check_count, fighters
+from .warriors import fitted
 
 Words = NDArray[np.uint32]
-# The number of words before the cells, and a number of turns that no battle exceeds.
-HEADER, ALL = 64, (1 << 32) - 1
+# The number of words before the cells.
+HEADER = 64
 # The size of the debugger's history in places, if none is given.
 HISTORY = 200_000
 # The number of an edit's error if an address is outside the core or the first one is above the last.
@@ -35,10 +36,10 @@ class Battle:
     """
 
     def __init__(self, fight: Match, round: int = 0) -> None:
-        check_count(fight.warriors)
-        settings = held(fight.settings, number(round) + 1, fight.seed, fight.position)
+        check_count(len(fight.warriors))
+        settings = held(fight.settings, round + 1, fight.seed, fight.position)
         self._words: Words = array("uint32_t", library()[1].mars_words(settings, len(fight.warriors)))
-        call("mars_start", settings, *fighters(fight.warriors, fight.settings.core), round, *self._slice())
+        call("mars_start", settings, *fighters(fight.warriors, fight.settings.core), number(round), *self._slice())
 
     @staticmethod
     def of_bytes(data: bytes) -> Battle:
@@ -112,19 +113,21 @@ class Battle:
         """Raises `Fault` if something that was written to the battle is invalid."""
         call("mars_check", *self._slice())
 
-    def play(self, turns: int = ALL, records: int = 0, touched: int = 0) -> tuple[Records, Records]:
-        """Executes a number of turns, by default all that are left.
+    def play(self, turns: int | None = None, *, records: int = 0, touched: int = 0) -> tuple[Records, Records]:
+        """Executes turns, as many as are left at most.
 
+        - `turns`: the number of turns, or None for all that are left
         - `records`: the maximum number of records to return, those of the first turns; a record has 120 bytes
         - `touched`: the maximum number of rows with touched cells to return
 
         Returns an array with the fields of `MarsRecord` and one with those of `MarsTouched` in the API for C. Raises
-        `Fault` if something that was written to the battle is invalid.
+        `Refused` for a negative number, and `Fault` if something that was written to the battle is invalid.
         """
         before = self.turns
         made, seen = array("MarsRecord", records), array("MarsTouched", touched)
         rows = *slice_of("MarsRecord", made), *slice_of("MarsTouched", seen)
-        call("mars_play", *self._slice(), number(turns), *rows)
+        # No battle has the greatest number of turns.
+        call("mars_play", *self._slice(), GREATEST if turns is None else counted(turns), *rows)
         count = self.turns - before
         return made[:count], seen[:count]
 
@@ -139,7 +142,7 @@ class Battle:
         if is_fill and not edit.address <= edit.last < self._head["core"]:
             raise Fault(EDIT, ADDRESS)
         places = [number(edit.what), number(edit.warrior), number(edit.place), number(edit.address)]
-        call("mars_edit", *self._slice(), library()[0].new("MarsEdit *", [*places, list(map(number, edit.cell))]))
+        call("mars_edit", *self._slice(), library()[0].new("MarsEdit *", [*places, fitted(edit.cell)]))
         if is_fill:
             # The library has checked the new cell.
             self.cells[edit.address : edit.last + 1] = self.cells[edit.address]

@@ -24,6 +24,10 @@ from ..model.settings import Settings
 
 # The result of a call whose buffer is too short, which is not an error.
 ROOM = 10
+# The greatest number of 32 bits. No argument of the library has it in its range, except for a number of turns.
+GREATEST = (1 << 32) - 1
+# The numbers that are None if they are not given.
+OPTIONAL = ("read_limit", "write_limit", "position")
 OPENING = Lock()
 # The types of the header that setup.py puts into a wheel.
 READY = ENGINE / "declared.py"
@@ -89,8 +93,8 @@ def kind_of(declared: Any) -> np.dtype[Any]:
 
 
 def array(name: str, count: int) -> NDArray[Any]:
-    """Returns an array of `count` values of a type of the header, all 0."""
-    return np.zeros(number(count), kind(name))
+    """Returns an array of `count` values of a type of the header, all 0. Raises Refused for a negative number."""
+    return np.zeros(counted(count), kind(name))
 
 
 def slice_of(name: str, values: bytes | bytearray | NDArray[Any]) -> tuple[Any, int]:
@@ -101,17 +105,26 @@ def slice_of(name: str, values: bytes | bytearray | NDArray[Any]) -> tuple[Any, 
     return held, len(held)
 
 
-def number(value: int) -> int:
-    """Returns a number if it is valid in a call. Raises ValueError."""
-    if not 0 <= value < 1 << 32:
-        raise ValueError(f"expected a number from 0 to 4294967295, not {value}")
+def number(value: int, greatest: int = GREATEST) -> int:
+    """Returns a number as an argument of the library. In place of one that does not fit it is the greatest that does,
+    which the library refuses by the name of the argument.
+    """
+    return value if 0 <= value <= greatest else greatest
+
+
+def counted(value: int) -> int:
+    """Returns a number of turns, records or bytes. Raises Refused if no argument of the library can be that."""
+    if not 0 <= value <= GREATEST:
+        raise Refused(f"expected a number from 0 to {GREATEST}, not {value}")
     return value
 
 
 def held(settings: Settings, rounds: int = 1, seed: int = 1, position: int | None = None) -> Any:
-    """Returns the settings in the form that a call expects."""
-    numbers = {**vars(settings), "rounds": rounds, "seed": seed, "position": position or 0}
-    return library()[0].new("MarsSettings *", {name: number(value) for name, value in numbers.items()})
+    """Returns the settings in the form that a call expects. There, 0 says of some that they are not given."""
+    numbers = {**vars(settings), "rounds": rounds, "seed": seed, "position": position}
+    given = {name: 0 if value is None else number(value) for name, value in numbers.items()}
+    given |= {name: GREATEST for name in OPTIONAL if numbers[name] == 0}
+    return library()[0].new("MarsSettings *", given)
 
 
 def call(name: str, *given: Any) -> int:

@@ -19,9 +19,9 @@ class Match:
     """The warriors of a match in the order of their files, and how they are placed in the core.
 
     - `warriors`: 1 to 16 warriors
+    - `settings`: the parameters of the core, or the name of a hill
     - `rounds`: the number of rounds, 1 to 100,000
     - `seed`: the seed for the starting positions, 1 to 2,147,483,646
-    - `settings`: the parameters of the core, or the name of a hill
     - `position`: the address of the second of two warriors, from the minimum distance to the core size minus it; None
       draws the positions from the seed
 
@@ -29,20 +29,21 @@ class Match:
     """
 
     warriors: tuple[Warrior, ...]
+    settings: Settings
     rounds: int
     seed: int
-    settings: Settings
     position: int | None
 
     def __init__(
         self,
         warriors: Sequence[Warrior],
+        *,
+        settings: Settings | str = "94nop",
         rounds: int = 1,
         seed: int = 1,
-        settings: Settings | str = "94nop",
         position: int | None = None,
     ) -> None:
-        given = {"rounds": rounds, "seed": seed, "settings": settings_of(settings), "position": position}
+        given = {"settings": settings_of(settings), "rounds": rounds, "seed": seed, "position": position}
         vars(self).update(given, warriors=tuple(warriors))
 
     def __repr__(self) -> str:
@@ -67,6 +68,7 @@ class Row:
 
 def assemble(
     source: str | bytes,
+    *,
     settings: Settings | str = "94nop",
     rounds: int = 1,
     warriors: int = 2,
@@ -99,17 +101,18 @@ def source_lines(
 
 def match(
     warriors: Sequence[Warrior],
+    *,
+    settings: Settings | str = "94nop",
     rounds: int = 1,
     seed: int = 1,
-    settings: Settings | str = "94nop",
     position: int | None = None,
     formula: str = FORMULA,
 ) -> list[Row]:
     """Runs a match of 1 to 16 warriors and returns the row of each, in their order.
 
+    - `settings`: the parameters of the core, or the name of a hill
     - `rounds`: the number of rounds, 1 to 100,000
     - `seed`: the seed for the starting positions, 1 to 2,147,483,646
-    - `settings`: the parameters of the core, or the name of a hill
     - `position`: the address of the second of two warriors in each round, from the minimum distance to the core size
       minus it; None draws the positions from the seed
     - `formula`: the score of each survivor of a round, an expression in W (warriors) and S (survivors) of at most 256
@@ -119,15 +122,16 @@ def match(
     small for the warriors, if the formula has no value for a round or a sum of points does not fit in 64 bits, or if
     memory runs out.
     """
-    check_count(warriors)
+    check_count(len(warriors))
     return rows("mars_match", settings, (rounds, seed, position), formula, warriors, len(warriors))
 
 
 def league(
     warriors: Sequence[Warrior],
+    *,
+    settings: Settings | str = "94nop",
     rounds: int = 1,
     seed: int = 1,
-    settings: Settings | str = "94nop",
     formula: str = FORMULA,
 ) -> list[Row]:
     """Runs a league of up to 65,536 warriors, a match of every two, and returns the row of each, in their order.
@@ -140,9 +144,10 @@ def league(
 def population(
     candidates: Sequence[Warrior],
     opponents: Sequence[Warrior],
+    *,
+    settings: Settings | str = "94nop",
     rounds: int = 1,
     seed: int = 1,
-    settings: Settings | str = "94nop",
     position: int | None = None,
     formula: str = FORMULA,
 ) -> list[Row]:
@@ -154,10 +159,10 @@ def population(
     return rows("mars_population", settings, (rounds, seed, position), formula, fighters, len(candidates))
 
 
-def check_count(warriors: Sequence[Warrior]) -> None:
+def check_count(warriors: int) -> None:
     """Raises Refused for more warriors than a match can have."""
-    if len(warriors) > MOST_WARRIORS:
-        raise Refused(f"a match has at most {MOST_WARRIORS} warriors, not {len(warriors)}")
+    if warriors > MOST_WARRIORS:
+        raise Refused(f"a match has at most {MOST_WARRIORS} warriors, not {warriors}")
 
 
 def fighters(warriors: Sequence[Warrior], core: int) -> tuple[Any, ...]:

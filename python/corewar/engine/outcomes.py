@@ -8,10 +8,10 @@ from typing import Any
 import numpy as np
 from numpy.typing import ArrayLike, NDArray
 
-from ..model.faults import LINEUP, Fault
-from ..model.settings import MOST_WARRIORS, Settings, settings_of
-from .binding import array, call, held, number, slice_of
-from .calls import fighters
+from ..model.faults import LINEUP, Fault, Refused
+from ..model.settings import NUMBERS, Settings, settings_of
+from .binding import GREATEST, array, call, held, slice_of
+from .calls import check_count, fighters
 from .warriors import Warrior
 
 # What is known of a warrior in a round.
@@ -23,9 +23,10 @@ PARTS = 4
 def outcomes(
     warriors: Sequence[Warrior],
     lineups: ArrayLike | None = None,
+    *,
+    settings: Settings | str = "94nop",
     rounds: int = 1,
     seeds: int | Sequence[int] = 1,
-    settings: Settings | str = "94nop",
     position: int | None = None,
     jobs: int = 1,
 ) -> NDArray[Any]:
@@ -33,10 +34,10 @@ def outcomes(
 
     - `lineups`: the indices of the warriors of each match, in their order: 1 to 16 for each, and as many for each; None
       for one match of all warriors
+    - `settings`, `position`: as for `match`; a position is only for lineups of two
     - `rounds`: the number of rounds of each match, 1 to 100,000
     - `seeds`: the seed of all matches, or one for each, 1 to 2,147,483,646
-    - `settings`, `position`: as for `match`; a position is only for lineups of two
-    - `jobs`: the number of threads
+    - `jobs`: the number of threads, 1 or more
 
     Returns an array of the shape (lineups, rounds, warriors of a lineup) with these fields:
 
@@ -46,15 +47,36 @@ def outcomes(
     - `cycles`: the number of complete cycles when it died; the cycle limit if it survived
     - `start`: the address of its first cell
 
-    The sums over the rounds are the rows of `match`. Raises ValueError for lineups of different lengths, and `Fault` if
-    a number, a lineup or a warrior is invalid, if the core is too small, or if memory runs out.
+    The sums over the rounds are the rows of `match`. Raises ValueError for lineups of different lengths and for
+    more or fewer seeds than lineups, `Refused` for more than 16 warriors in a match or no thread, and `Fault` if a
+    number, a lineup or a warrior is invalid, if the core is too small, or if memory runs out.
     """
+    if jobs < 1:
+        raise Refused(f"expected 1 or more jobs, not {jobs}")
     given = settings_of(settings)
     table = table_of([range(len(warriors))] if lineups is None else lineups, seeds)
+    rows = played(warriors, table, given, rounds, position, jobs)
+    found = np.empty(rows.shape, OUTCOME)
+    for field in ("survived", "turns", "start"):
+        found[field] = rows[field]
+    found["cycles"] = cycles_of(found["turns"], found["survived"], given.cycles)
+    return found
+
+
+def played(
+    warriors: Sequence[Warrior],
+    table: NDArray[Any],
+    given: Settings,
+    rounds: int,
+    position: int | None,
+    jobs: int = 1,
+) -> NDArray[Any]:
+    """Runs the matches of a table of lineups. Returns an array as `outcomes` does, with the fields of the library."""
     count = int(table["count"].max(initial=0))
+    # The library refuses 0 by the same name as any number out of the range, and 0 rounds need no memory.
+    rounds = rounds if 0 < rounds <= NUMBERS["rounds"].greatest else 0
     # The library refuses a seed that is out of its range, but takes 0 in a lineup for that of the settings.
     fixed = held(given, rounds, int(table["seed"].min(initial=1)), position), *fighters(warriors, given.core)
-
     size = max(1, -(-len(table) // (jobs * PARTS)) if jobs > 1 else len(table))
 
     def run(first: int) -> NDArray[Any]:
@@ -69,14 +91,12 @@ def outcomes(
             raise
         return made
 
-    with ThreadPoolExecutor(jobs) as pool:
-        parts = [*pool.map(run, range(0, max(1, len(table)), size))]
-    rows = np.concatenate(parts).reshape(len(table), rounds, count)
-    found = np.empty(rows.shape, OUTCOME)
-    for field in ("survived", "turns", "start"):
-        found[field] = rows[field]
-    found["cycles"] = cycles_of(found["turns"], found["survived"], given.cycles)
-    return found
+    if jobs == 1:
+        rows = run(0)
+    else:
+        with ThreadPoolExecutor(jobs) as pool:
+            rows = np.concatenate([*pool.map(run, range(0, max(1, len(table)), size))])
+    return rows.reshape(len(table), rounds, count)
 
 
 def table_of(lineups: ArrayLike, seeds: int | Sequence[int]) -> NDArray[Any]:
@@ -89,13 +109,17 @@ def table_of(lineups: ArrayLike, seeds: int | Sequence[int]) -> NDArray[Any]:
         indices = indices.reshape(0, 0)
     if indices.ndim != 2:
         raise ValueError(f"expected an array of lineups, with 2 dimensions and not {indices.ndim}")
-    for value in (indices.min(initial=0), indices.max(initial=0), *np.atleast_1d(seeds)):
-        number(int(value))
+    check_count(indices.shape[1])
     table = array("MarsLineup", len(indices))
-    # The library refuses a lineup that is too long by its count.
-    table["count"], table["warrior"][:, : indices.shape[1]] = indices.shape[1], indices[:, :MOST_WARRIORS]
-    table["seed"] = seeds
+    table["count"], table["warrior"][:, : indices.shape[1]] = indices.shape[1], fitting(indices)
+    table["seed"] = fitting(np.asarray(seeds))
     return table
+
+
+def fitting(numbers: NDArray[Any]) -> NDArray[np.int64]:
+    """Returns numbers as the library takes them; it refuses those that do not fit."""
+    fits = (numbers >= 0) & (numbers <= GREATEST)
+    return np.where(fits, numbers, GREATEST).astype(np.int64)
 
 
 def cycles_of(turns: NDArray[np.uint32], survived: NDArray[np.bool_], limit: int) -> NDArray[np.int64]:
@@ -127,7 +151,11 @@ def shares(made: NDArray[Any], cycles: int) -> NDArray[np.float64]:
 
     - `made`: what `outcomes` returned
     - `cycles`: the cycle limit of its settings
+
+    Raises `Refused` if there are no cycles.
     """
+    if cycles < 1:
+        raise Refused(f"expected 1 or more cycles, not {cycles}")
     # A warrior also lives in the cycle in which it dies.
     lived = np.minimum(made["cycles"].astype(np.int64) + 1, cycles).astype(float)
     order = np.argsort(lived, axis=-1, kind="stable")

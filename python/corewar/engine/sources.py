@@ -58,7 +58,9 @@ class Assembler:
             self._process.join()
             self._process = None
 
-    def assemble(self, source: bytes, settings: Settings = Settings(), rounds: int = 1, warriors: int = 2) -> Warrior:
+    def assemble(
+        self, source: bytes, *, settings: Settings = Settings(), rounds: int = 1, warriors: int = 2
+    ) -> Warrior:
         """Returns the warrior of a source, without file and source. Raises `Fault`, and Overrun if it takes more than a
         limit.
         """
@@ -67,7 +69,7 @@ class Assembler:
                 self._begin()
             assert self._pipe is not None
             try:
-                self._pipe.send((source, settings, rounds, warriors))
+                self._pipe.send((source, {"settings": settings, "rounds": rounds, "warriors": warriors}))
                 made: Warrior | Fault = self._pipe.recv()
             except (EOFError, OSError):
                 raise self._overrun() from None
@@ -125,10 +127,10 @@ def serve(pipe: Connection, limit: Limit, other: Connection | None) -> None:
             return
 
 
-def answer(source: bytes, *given: Any) -> Warrior | Fault:
+def answer(source: bytes, given: dict[str, Any]) -> Warrior | Fault:
     """Returns the warrior of a source, without it, or its error."""
     try:
-        return replace(assemble(source, *given), source=None)
+        return replace(assemble(source, **given), source=None)
     except Fault as fault:
         return fault
     except MemoryError:
@@ -163,7 +165,8 @@ def read_warrior(
     try:
         if path.endswith(".load"):
             return read_load(text, settings, path)
-        return replace(assemble(text, settings, rounds, warriors), file=path, source=text)
+        made = assemble(text, settings=settings, rounds=rounds, warriors=warriors)
+        return replace(made, file=path, source=text)
     except Overrun as overrun:
         raise FileFault(path, str(overrun), text) from None
     except Fault as fault:
@@ -188,7 +191,7 @@ def read_warriors(
 
 
 def read(
-    path: str | os.PathLike[str], settings: Settings | str = "94nop", rounds: int = 1, warriors: int = 2
+    path: str | os.PathLike[str], *, settings: Settings | str = "94nop", rounds: int = 1, warriors: int = 2
 ) -> Warrior:
     """Reads a warrior from a file: a load file if the name ends in .load, otherwise a source.
 

@@ -12,10 +12,10 @@ import numpy as np
 from ..model.cells import Cell, Cells
 from ..model.printing import printable
 from ..model.settings import Settings, settings_of
-from .binding import ROOM, array, call, held, kind, library, number, slice_of, text
+from .binding import GREATEST, ROOM, array, call, held, kind, library, number, slice_of, text
 
-# A cell as the library has it: opcode, modifier, modes and numbers.
-CELL = struct.Struct("=4B2I")
+# A cell as the library has it: opcode, modifier, modes and numbers. No cell has the greatest of them.
+CELL, LARGEST = struct.Struct("=4B2I"), (255, 255, 255, 255, GREATEST, GREATEST)
 # The number of cells for which a buffer is made first.
 CELLS = 128
 
@@ -47,9 +47,10 @@ class Warrior:
     def from_cells(
         cells: Sequence[Cell | np.void] | Cells,
         start: int = 0,
+        *,
+        settings: Settings | str = "94nop",
         name: str = "Unknown",
         author: str = "Anonymous",
-        settings: Settings | str = "94nop",
     ) -> Warrior:
         """Returns the warrior with these cells.
 
@@ -118,9 +119,19 @@ def packed(cells: Sequence[Cell | np.void] | Cells) -> bytes:
     if isinstance(cells, np.ndarray) and cells.dtype == kind("MarsCell"):
         return cells.tobytes()
     try:
-        return b"".join(CELL.pack(*(cell.tolist() if isinstance(cell, np.void) else cell)) for cell in cells)
-    except (struct.error, TypeError) as fault:
+        rows = [cell.tolist() if isinstance(cell, np.void) else cell for cell in cells]
+        try:
+            return b"".join([CELL.pack(*row) for row in rows])
+        except struct.error:
+            # Numbers that do not fit are looked for only then, since evolvers make many cells.
+            return b"".join([CELL.pack(*fitted(row)) for row in rows])
+    except (struct.error, TypeError, ValueError) as fault:
         raise ValueError(f"expected the six numbers of each cell: {fault}") from None
+
+
+def fitted(cell: Cell) -> list[int]:
+    """Returns the numbers of a cell as the library takes them; it refuses those that do not fit. Raises ValueError."""
+    return [number(one, greatest) for one, greatest in zip(cell, LARGEST, strict=True)]
 
 
 def read_load(load: bytes, settings: Settings | str = "94nop", file: str = "") -> Warrior:

@@ -31,9 +31,14 @@ def signed(number: int, core: int) -> int:
 def cell_text(cell: Cell | np.void, core: int) -> str:
     """Returns a cell as text, as `mars` lists it: `cell_text(history.state(0).cells[0], 8000)` is `"MOV.I $0, $1"`.
 
-    `core` is the core size; numbers above half of it are printed as negative ones.
+    `core` is the core size; numbers above half of it are printed as negative ones. Raises `Refused` if a number is out
+    of its range.
     """
-    op, modifier, a_mode, b_mode, a, b = cell.tolist() if isinstance(cell, np.void) else cell
+    numbers = cell.tolist() if isinstance(cell, np.void) else cell
+    op, modifier, a_mode, b_mode, a, b = numbers
+    limits = len(OPCODES), len(MODIFIERS), len(MODES), len(MODES), core, core
+    if not all(0 <= number < limit for number, limit in zip(numbers, limits)):
+        raise Refused(f"expected the numbers of a cell, below {limits}, not {numbers}")
     return f"{OPCODES[op]}.{MODIFIERS[modifier]} {MODES[a_mode]}{signed(a, core)}, {MODES[b_mode]}{signed(b, core)}"
 
 

@@ -37,9 +37,8 @@ MEMORY, SETTINGS, PARAMETERS, FORMULA, ASSEMBLY, LOAD, SCORE, BLOCK, EDIT, WARRI
 
 
 class Refused(Exception):
-    """The base class of the errors of the library and of files. Its text is one line.
-
-    A number that no call can take, such as a negative one, raises `ValueError` instead.
+    """The base class of the errors of the library and of files, and the error for a number that is out of its range: a
+    `Fault` if it is an argument of the library. Its text is one line.
     """
 
 

@@ -17,7 +17,7 @@ def whole(text: str) -> int | None:
     return int(text) if text.isdecimal() and len(text) <= MOST_DIGITS else None
 
 
-@dataclass(frozen=True)
+@dataclass(frozen=True, kw_only=True)
 class Settings:
     """The parameters of a core, with the defaults of `mars`.
 
@@ -26,7 +26,7 @@ class Settings:
     - `cycles`: the maximum number of cycles of a round, 1 to 10,000,000
     - `longest`: the maximum length of a warrior in cells, 1 to the core size
     - `distance`: the minimum distance between warriors in cells, from `longest` to the core size
-    - `read_limit`, `write_limit`: how far instructions read and write, 1 to the core size; 0 is the core size
+    - `read_limit`, `write_limit`: how far instructions read and write, 1 to the core size; None is the core size
 
     The ranges are checked by the calls that use the settings.
     """
@@ -36,8 +36,8 @@ class Settings:
     cycles: int = 80000
     longest: int = 100
     distance: int = 100
-    read_limit: int = 0
-    write_limit: int = 0
+    read_limit: int | None = None
+    write_limit: int | None = None
 
 
 # The first one has the default settings.

@@ -23,9 +23,10 @@ def write_pages(folder: Path, league: League) -> None:
     """
     contest, warriors = league.matches.contest, tuple(league.warriors)
     has_matrix = len(warriors) <= LARGEST_MATRIX
-    match = Match(warriors, contest.rounds, contest.seed, contest.settings, contest.position)
+    given: dict[str, Any] = {"rounds": contest.rounds, "seed": contest.seed, "position": contest.position}
+    match = Match(warriors, settings=contest.settings, **given)
     battles = page_of(match, contest.formula) if has_matrix else ""
-    numbers = {**vars(contest.settings), "rounds": contest.rounds, "seed": contest.seed, "position": contest.position}
+    numbers = {**vars(contest.settings), **given}
     told = [f"{label(name)} {value:,}" for name, value in numbers.items() if value]
     page = render(
         "league.html.j2",

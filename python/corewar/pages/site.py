@@ -43,8 +43,8 @@ def source_of(warrior: Warrior) -> tuple[str, str]:
 
 
 def settings_of(settings: Settings) -> dict[str, int]:
-    """Returns settings with the names that they have in JavaScript."""
-    return {NAMES.get(name, name): number for name, number in vars(settings).items()}
+    """Returns settings with the names that they have in JavaScript, where a limit of 0 is the core size."""
+    return {NAMES.get(name, name): number or 0 for name, number in vars(settings).items()}
 
 
 def packed(fight: dict[str, Any]) -> str:

@@ -13,11 +13,13 @@ from matplotlib.patches import Patch
 from numpy.typing import NDArray
 
 from ..analysis.captions import fate, outcome, settings_told, title
-from ..battle.frames import Frame, frames
+from ..battle.frames import Frame, frames, parts
 from ..battle.history import History
 from .colours import coloured
 from .saving import save
 
+# The maximum number of columns and of rows of a picture, if none is given.
+COLUMNS, ROWS = 400, 300
 # The share of a warrior's colour on cells that it owns, that it wrote, and where its processes are.
 OWNED, WRITTEN, STANDING = 0.3, 0.6, 1.0
 
@@ -64,10 +66,15 @@ def points(history: History, view: View) -> NDArray[np.float64]:
     return made
 
 
+def whole(history: History) -> View:
+    """Returns the view of a whole battle."""
+    return View(parts(0, history.end, ROWS), range(history.core), min(COLUMNS, history.core))
+
+
 # `$` in a name does not begin a formula.
 @rc_context({"text.parse_math": False})  # type: ignore[misc]
-def draw(history: History, view: View, path: str) -> None:
-    """Writes the picture of a battle to a file."""
+def figure_of(history: History, view: View) -> Figure:
+    """Returns the picture of a battle."""
     figure = Figure(figsize=(10, 7.5), layout="constrained")
     axes = figure.subplots()
     first, last = view.ends[0], view.ends[-1]
@@ -87,4 +94,9 @@ def draw(history: History, view: View, path: str) -> None:
     axes.legend(
         handles=handles, loc="upper center", bbox_to_anchor=(0.5, -0.08), ncols=min(4, len(handles)), fontsize=8
     )
-    save(figure, path)
+    return figure
+
+
+def draw(history: History, view: View, path: str) -> None:
+    """Writes the picture of a battle to a file."""
+    save(figure_of(history, view), path)

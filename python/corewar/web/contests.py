@@ -20,26 +20,33 @@ from ..engine.warriors import Warrior
 from .folder import coded
 
 JOBS = len(os.sched_getaffinity(0))
-# The names of settings in the messages of the page.
+# The names of settings in the messages of the page, in which 0 is the core size for a limit, and no position.
 NAMES = {"readLimit": "read_limit", "writeLimit": "write_limit"}
 
 
 def settings_of(given: dict[str, int]) -> Settings:
     """Returns the settings of a message."""
-    return Settings(**{NAMES.get(name, name): int(value) for name, value in given.items()})
+    numbers: dict[str, Any] = {NAMES.get(name, name): int(value) for name, value in given.items()}
+    return Settings(**{**numbers, **{name: numbers.get(name) or None for name in NAMES.values()}})
 
 
 def contest_of(given: dict[str, Any]) -> Contest:
     """Returns the contest of a message. Raises TypeError, ValueError or KeyError if it is none."""
     rounds, seed, position = [int(given[name]) for name in ("rounds", "seed", "position")]
-    return Contest(settings_of(given["settings"]), rounds, seed, position, str(given["formula"]))
+    return Contest(
+        settings=settings_of(given["settings"]),
+        rounds=rounds,
+        seed=seed,
+        position=position or None,
+        formula=str(given["formula"]),
+    )
 
 
 def warrior_of(assembler: Assembler, source: dict[str, str], contest: Contest) -> Warrior:
     """Returns the warrior of a source. Raises Refused."""
     text = coded(source["text"])
     try:
-        warrior = assembler.assemble(text, contest.settings, contest.rounds, 2)
+        warrior = assembler.assemble(text, settings=contest.settings, rounds=contest.rounds)
         return replace(warrior, file=source["name"], source=text)
     except (Fault, Overrun) as fault:
         raise Refused(f"{source['name']}: {fault}") from None

@@ -1,0 +1,60 @@
+#!/usr/bin/python3
+"""Evolves warriors for the nano settings by MAP-Elites, which keeps the best warrior of each behaviour.
+
+usage: examples/elites.py [GENERATIONS]      [default: 100]
+
+A behaviour is how often a warrior starts another process, in powers of two, and how many cells it executes, reads or writes, in tens; both
+in one round against three opponents. Those who live in a cycle share its reward, 4 in a whole round. The table has the greatest mean reward
+of each behaviour. It requires the package `corewar` with its library.
+"""
+import os
+import random
+import sys
+
+sys.path.insert(0, os.path.join(os.path.dirname(os.path.realpath(__file__)), "..", "python"))
+import corewar  # noqa: E402
+import numpy as np  # noqa: E402
+
+NANO, SIZE, ROUNDS = corewar.HILLS["nano"], 100, 20
+OPPONENTS = [corewar.assemble(text, settings=NANO) for text in ("MOV 0, 1", "SPL 0, <-9\nMOV 3, <2\nJMP -1", "JMP 0, <-3")]
+
+
+def cell(dice):
+    return tuple(dice.randrange(limit) for limit in (16, 7, 8, 8, 80, 80))
+
+
+def child(dice, parent):
+    """A copy of a warrior with a random cell in place of one of its own."""
+    cells = parent.cells.copy()
+    cells[dice.randrange(len(cells))] = cell(dice)
+    return corewar.Warrior.from_cells(cells, settings=NANO)
+
+
+def behaviour(warrior, seed):
+    """The row and the column of a warrior in the table, by the records of a battle."""
+    battle = corewar.Battle(corewar.Match([warrior, *OPPONENTS], settings=NANO, seed=seed))
+    records, touched = battle.play(records=4 * NANO.cycles, touched=4 * NANO.cycles)
+    own = records["warrior"] == 0
+    used = np.arange(touched["address"].shape[1]) < touched["count"][own, None]
+    return np.count_nonzero(records["queued"][own] == 2).bit_length(), len(np.unique(touched["address"][own][used])) // 10
+
+
+def main(generations):
+    dice, elites = random.Random(1), {}
+    warriors = [corewar.Warrior.from_cells([cell(dice) for _ in range(5)], settings=NANO) for _ in range(SIZE)]
+    lineups = [[place, SIZE, SIZE + 1, SIZE + 2] for place in range(SIZE)]
+    for _ in range(generations):
+        seed = dice.randrange(1, 1 << 30)
+        made = corewar.outcomes([*warriors, *OPPONENTS], lineups, settings=NANO, rounds=ROUNDS, seeds=seed)
+        for one, reward in zip(warriors, corewar.shares(made, NANO.cycles)[:, :, 0].mean(axis=1)):
+            place = behaviour(one, seed)
+            if place not in elites or reward > elites[place][0]:
+                elites[place] = reward, one
+        warriors = [child(dice, dice.choice([*elites.values()])[1]) for _ in range(SIZE)]
+    print("started  touched" + "".join(f"{10 * tens:>6}" for tens in range(9)))
+    for power in range(1 + max(row for row, _ in elites)):
+        best = [elites.get((power, tens)) for tens in range(9)]
+        print(f"{1 << power >> 1:>7}" + f"{'':9}" + "".join(f"{one[0]:6.2f}" if one else "     -" for one in best))
+
+
+main(int(sys.argv[1]) if len(sys.argv) > 1 else 100)

@@ -1,0 +1,104 @@
+#!/usr/bin/python3
+"""Runs a hill: a table of the best warriors so far, which newcomers challenge.
+
+usage: examples/hill.py [--size N] [--rounds N] [--settings NAME] STATE [FILE]...
+
+Each FILE, a source or a load file, plays a match against every warrior on the hill. If there are then more than N warriors, the last of the
+table is pushed off, which may be the newcomer; the age of the others is the number of challenges that they have survived. The first
+challenge makes STATE, a JSON file, with the options [default: 20 warriors, 100 rounds, settings of 94nop], and each one replaces it as a
+whole. Without FILE the hill is only printed. It requires the package `corewar` with its library.
+"""
+import argparse
+import json
+import os
+import random
+import sys
+
+sys.path.insert(0, os.path.join(os.path.dirname(os.path.realpath(__file__)), "..", "python"))
+try:
+    import corewar  # noqa: E402
+except ImportError as fault:
+    sys.exit(f"hill: {fault}; install the dependencies of corewar with scripts/setup")
+
+
+def rates(one, rounds):
+    """The score of a warrior, its points for 100 rounds with 3 for a win and 1 for a tie; and its percents of wins and ties."""
+    matches = one["against"].values()
+    wins, ties = (100 * sum(column) / (rounds * len(matches)) for column in zip(*matches)) if matches else (0, 0)
+    return 3 * wins + ties, wins, ties
+
+
+def fight(hill, newcomer):
+    """Returns the survivors of all rounds of a match of a newcomer against each warrior of the hill."""
+    others = [corewar.assemble(one["load"], settings=hill["settings"]) for one in hill["warriors"]]
+    lineups = [[0, place] for place in range(1, len(others) + 1)]
+    # Each match has a seed of its own. A hill that is made again has the same ones.
+    dice = random.Random(hill["challenges"])
+    seeds = [dice.randrange(1, 1 << 30) for _ in lineups]
+    made = corewar.outcomes([newcomer, *others], lineups, settings=hill["settings"], rounds=hill["rounds"], seeds=seeds)
+    return made["survived"]
+
+
+def challenge(hill, newcomer):
+    """Lets a newcomer challenge the hill. Returns the warriors that are pushed off."""
+    hill["challenges"] += 1
+    new = {"number": str(hill["challenges"]), "title": newcomer.title, "load": str(newcomer), "age": 0, "against": {}}
+    for other, survived in zip(hill["warriors"], fight(hill, newcomer)):
+        ties = int(survived.all(axis=1).sum())
+        wins, losses = (int(lives) - ties for lives in survived.sum(axis=0))
+        new["against"][other["number"]], other["against"][new["number"]] = [wins, ties], [losses, ties]
+        other["age"] += 1
+    # Of equal scores the older one stays above.
+    table = sorted([*hill["warriors"], new], key=lambda one: rates(one, hill["rounds"])[0], reverse=True)
+    hill["warriors"], gone = table[: hill["size"]], table[hill["size"] :]
+    for one in hill["warriors"]:
+        for left in gone:
+            del one["against"][left["number"]]
+    return gone
+
+
+def replace(path, hill):
+    """Replaces the file of a hill as a whole, so that it is complete at any time."""
+    with open(f"{path}.new", "w") as file:
+        json.dump(hill, file, indent=1)
+    os.replace(f"{path}.new", path)
+
+
+def given():
+    """Returns the arguments."""
+    parser = argparse.ArgumentParser(description=__doc__, formatter_class=argparse.RawDescriptionHelpFormatter, usage=argparse.SUPPRESS)
+    parser.add_argument("--size", type=int, default=20, help=argparse.SUPPRESS)
+    parser.add_argument("--rounds", type=int, default=100, help=argparse.SUPPRESS)
+    parser.add_argument("--settings", default="94nop", choices=corewar.HILLS, help=argparse.SUPPRESS)
+    parser.add_argument("state", help=argparse.SUPPRESS)
+    parser.add_argument("files", nargs="*", help=argparse.SUPPRESS)
+    words = parser.parse_args()
+    if words.size < 1 or not 1 <= words.rounds <= 100_000:
+        parser.error("expected a size of 1 or more, and 1 to 100000 rounds")
+    return words
+
+
+def main():
+    words = given()
+    hill = {"settings": words.settings, "rounds": words.rounds, "size": words.size, "challenges": 0, "warriors": []}
+    if os.path.exists(words.state):
+        with open(words.state) as file:
+            hill = json.load(file)
+        if not isinstance(hill, dict) or "challenges" not in hill:
+            sys.exit(f"hill: {words.state} is not a hill")
+    for file in words.files:
+        gone = challenge(hill, corewar.read(file, settings=hill["settings"], rounds=hill["rounds"]))
+        replace(words.state, hill)
+        for one in gone:
+            print(f"{one['title']} is pushed off at age {one['age']}")
+    print("  rank   score   won  tied  lost    age  warrior")
+    for rank, one in enumerate(hill["warriors"], 1):
+        score, wins, ties = rates(one, hill["rounds"])
+        lost = 100 - wins - ties if one["against"] else 0
+        print(f"{rank:6} {score:7.1f} {wins:4.0f}% {ties:4.0f}% {lost:4.0f}% {one['age']:6}  {one['title']}")
+
+
+try:
+    main()
+except (OSError, ValueError, corewar.Refused) as fault:
+    sys.exit(f"hill: {fault}")
