@@ -11,6 +11,7 @@ from .source import (
     NAME,
     OPCODES,
     PREDEFINED,
+    TOKEN,
     Advice,
     Line,
     Loop,
@@ -25,6 +26,8 @@ COMMENT, BEGINS = re.compile(r"//|/\*"), "A comment begins with `;`."
 DASHED = re.compile(r"\s*([A-Za-z_]\w*(?:-\w+)+):?(?=\s)")
 # A character that no token has.
 FOREIGN = re.compile(r"[^\w\0- #$@*{}<>,.+\-/%()&|=!:]", re.ASCII)
+# The greatest number that is a token.
+GREATEST = 2**63 - 1
 OPENING = ("#", "$", "@", "{", "}", "(")
 
 
@@ -47,6 +50,32 @@ def bad_token(source: Source, line: Line) -> Iterator[str]:
         yield "A line cannot continue after `\\`; `corewar explain --fix` joins it with the next one."
     elif found:
         yield f"`{found[0]}` is not a character of the language."
+    else:
+        counters = {loop.counter for loop in source.loops_around(line.number)}
+        for token in TOKEN.findall(line.code):
+            yield from wrong_token(source, line, token, counters)
+
+
+def wrong_token(source: Source, line: Line, token: str, counters: set[str]) -> Iterator[str]:
+    """Says why a token is none, or is not allowed in a line."""
+    joined_names = [name for name in token.split("&")[1:] if name not in counters]
+    if token.isdecimal() and int(token) > GREATEST:
+        yield f"`{token}` is too large: a number is at most {GREATEST}."
+    elif token[0].isdecimal() and not token.isdecimal():
+        yield f"`{token}` is neither a number, which is decimal, nor a name, which begins with a letter."
+    elif NAME.match(token) and joined_names:
+        yield f"`{token}`: `{joined_names[0]}` is not the counter of a loop around this line."
+    elif token in source.equates and token != line.operation and source.equates[token] is not line:
+        first = source.equates[token].number
+        if first < len(source.lines) and source.lines[first].word == "EQU" and not source.lines[first].labels:
+            yield f"`{token}` is the EQU of several lines in line {first}, which can be used only as an operation."
+
+
+def bad_count(source: Source, line: Line) -> Iterator[str]:
+    if line.word == "FOR":
+        known = "; `CURLINE` is the number of instructions before this line" if "CURLINE" in line.rest else ""
+        count = "".join(line.rest)
+        yield f"The value of `{count}` is not from 0 to 10,000, the iterations that a loop can have{known}."
 
 
 def operation(source: Source, line: Line) -> Iterator[str]:
@@ -106,6 +135,10 @@ def joined(name: str, loops: list[Loop]) -> str:
 def taken(source: Source, line: Line, name: str, other: Line) -> str:
     """Returns why a name is in an earlier line."""
     word = misspelt(source, other)
+    equ = next((one for one in other.labels[1:] if like(one, ["EQU"])), "")
+    if not word and equ:
+        # The text that it should name has an opcode, so the line is an instruction.
+        word = Misspelt(f"`{equ}` is read as a label; did you mean `EQU`?", equ, "EQU")
     if word:
         return Misspelt(f"In line {other.number}, {word}", word.old, word.new, other.number)
     if line.word == "EQU" and not other.operation:
@@ -169,6 +202,7 @@ def undefined(source: Source, name: str, known: dict[str, Line]) -> str:
 CAUSES: dict[str, Cause] = {
     "1 Text 1 NotAscii": not_ascii,
     "1 Text 2 BadToken": bad_token,
+    "1 Text 5 BadCount": bad_count,
     "1 Text 7 Duplicate": duplicate,
     "2 Operation": operation,
     "4 Expression 1 Syntax": syntax,
