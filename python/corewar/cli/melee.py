@@ -13,7 +13,7 @@ from .layout import Command, Number
 from .league import JOBS, LEFT_OUT, write
 from .options import Asked, battle_options
 from .telling import tell, tell_fault
-from .waiting import awaited
+from .waiting import awaited, progress
 
 
 @click.command(
@@ -49,7 +49,8 @@ def melee(asked: Asked, size: int, lineups: int, jobs: int) -> int:
         tell(f"{len(warriors)} warriors are left, but a match has {size}")
         return 1
     try:
-        table = awaited(lambda: run(contest, warriors, size, lineups, jobs))
+        with progress(lineups, "matches") as advance:
+            table = awaited(lambda: run(contest, warriors, size, lineups, jobs, advance))
     except KeyboardInterrupt:
         tell("stopped")
         # Matches that are under way aren't waited for.

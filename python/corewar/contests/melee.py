@@ -2,11 +2,13 @@
 from __future__ import annotations
 
 import random
-from collections.abc import Sequence
+from collections.abc import Callable, Sequence
 from dataclasses import dataclass
 from functools import lru_cache
+from typing import Any
 
 import numpy as np
+from numpy.typing import NDArray
 
 from ..engine.calls import assemble, match
 from ..engine.outcomes import outcomes
@@ -14,6 +16,8 @@ from ..engine.warriors import Warrior
 from ..model.settings import NUMBERS, Settings
 from .contest import Contest
 
+# The maximum cycles of a thread between two reports of progress, two or three seconds of four warriors.
+CYCLES = 40_000_000
 # A core in which the rounds end at once.
 TINY = Settings(core=100, cycles=2, longest=1, distance=1)
 
@@ -51,15 +55,28 @@ def score_of(formula: str, warriors: int, survivors: int) -> int:
     return match([lives] * survivors + [dies] * (warriors - survivors), 1, 1, TINY, None, formula)[0].points
 
 
-def melee(contest: Contest, warriors: Sequence[Warrior], size: int, count: int, jobs: int) -> list[Standing]:
+def melee(
+    contest: Contest,
+    warriors: Sequence[Warrior],
+    size: int,
+    count: int,
+    jobs: int,
+    advance: Callable[[int], None] = lambda matches: None,
+) -> list[Standing]:
     """Runs the matches of `count` random lineups of `size` warriors, and returns the results, the best first.
 
-    The seed of the contest draws the lineups and the seed of each match. Raises `Fault`.
+    The seed of the contest draws the lineups and the seed of each match. `advance` gets the number of matches each time
+    some have been run. Raises `Fault`.
     """
     dice = random.Random(contest.seed)
     lineups = lineups_of(len(warriors), size, count, dice)
     seeds = [dice.randint(1, NUMBERS["seed"].greatest) for _ in lineups]
-    made = outcomes(warriors, lineups, contest.rounds, seeds, contest.settings, contest.position, jobs)
+    numbers, parts = (contest.settings, contest.position, jobs), list[NDArray[Any]]()
+    step = jobs * max(1, CYCLES // (contest.rounds * contest.settings.cycles))
+    for at in range(0, count, step):
+        parts.append(outcomes(warriors, lineups[at : at + step], contest.rounds, seeds[at : at + step], *numbers))
+        advance(len(parts[-1]))
+    made = np.concatenate(parts)
     places = np.array(lineups)[:, None, :]
     # In how many rounds each warrior was one of 0, 1, 2 .. survivors.
     lives = np.zeros((len(warriors), size + 1), np.int64)
