@@ -176,6 +176,24 @@ def test_edits_make_futures(page: Browser) -> None:
     page.until("document.getElementById('other').hidden")
 
 
+def test_an_edit_while_it_plays(page: Browser) -> None:
+    """It is made at the turn that is shown as the line is entered, although the assembler takes a moment."""
+    made = page.run(
+        """const session = corewar.session, found = [];
+        for (let k = 0; k < 8; k++) {
+            await session.showFuture(0);
+            await session.jump(100 + 13 * k);
+            session.play(1);
+            await new Promise((done) => setTimeout(done, 40 + 17 * k));
+            const shown = session.turn;
+            await corewar.console.run(`edit 3000 dat 1, ${k + 1}`);
+            found.push([shown, session.futures.at(-1).edits.at(-1).turn]);
+        }
+        return found;"""
+    )
+    assert [shown for shown, _ in made] == [turn for _, turn in made] and len(made) == 8
+
+
 def test_the_debugger_has_a_line(page: Browser) -> None:
     page.run("corewar.session.stop()")
 

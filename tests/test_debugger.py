@@ -264,3 +264,31 @@ def test_an_edit_knows_the_settings_of_the_match() -> None:
     fight = Match((assemble("MOV 0, 1"),), seed=3, rounds=10)
     session = Session(History(fight), Sources(History(fight)))
     assert execute(session, "edit 5 DAT MAXLENGTH, ROUNDS") == ["5: DAT.F $0, $0 -> DAT.F $100, $10"]
+
+
+def test_instructions_in_words() -> None:
+    """The next instruction, or that of a cell, with labels as names."""
+    session = session_of("dwarf", "imp")
+    assert execute(session, "explain") == ["0 (loop): ADD.AB #4, $3", "Add 4 to the B-number of bomb."]
+    copy = "Copy bomb to the cell pointed to by the B-number of bomb."
+    assert execute(session, "explain loop+1") == ["1: MOV.I $2, @2", copy]
+    assert execute(session, "explain 1305") == ["1305: MOV.I $0, $1", "Copy this instruction to the next cell."]
+    execute(session, "goto end")
+    assert refused(session, "explain").startswith("`.` is the cell to execute next, but the battle is over")
+
+
+def test_undo_of_an_edit_is_told() -> None:
+    """The turn is the same, but the future is another one."""
+    session = session_of("dwarf", "imp")
+    execute(session, "edit 5 dat 1, 1")
+    here = execute(session, "step")[1:]
+    assert not execute(session, "undo")[0].startswith("now in")
+    assert execute(session, "undo")[0] == "now in future 0: no edits"
+    assert execute(session, "redo")[0] == "now in future 1: after turn 0: edit 5 DAT.F $1, $1"
+    assert execute(session, "redo")[1:] == here
+
+
+def test_labels_of_several_warriors() -> None:
+    session = session_of("dwarf", "bomber")
+    assert refused(session, "list bomb") == "`bomb` is a label of several warriors; use 0.bomb or 1.bomb"
+    assert execute(session, "list 1.bomb 1")[0].split()[1] == "1.bomb"

@@ -294,7 +294,7 @@ def checked(told: dict[str, Any]) -> None:
     """Checks what both editors have shown."""
     assert told["errors"] == [[1, 10, MESSAGES[0]], [2, 1, MESSAGES[1]], [3, 5, MESSAGES[2]]]
     assert told["corrected"] == GOOD and told["renamed"] == RENAMED
-    assert "ADD.AB #4, $3" in told["hover"] and "B becomes B + A" in told["hover"]
+    assert "ADD.AB #4, $3" in told["hover"] and "Add 4 to the B-number of the cell 3 ahead." in told["hover"]
     assert "`step`: 4 here" in told["value"] and "already used in line 2" in told["refused"]
     assert {"shell", "step", "loop", "CORESIZE"} <= {*told["completions"]}
     assert told["folds"] == [{"startLine": 5, "endLine": 7}] and told["tokens"] == 30

@@ -13,6 +13,7 @@ from conftest import TOP, Run
 
 from corewar.engine.calls import assemble
 from corewar.explain import LOOKED_FOR, errors_of, fix, read_faults, read_otherwise, told, told_of
+from corewar.explain.instructions import instruction_told
 from corewar.explain.meanings import EXPRESSION, KINDS
 from corewar.explain.source import MODIFIERS, OPERATIONS, PREDEFINED
 from corewar.model.faults import ASSEMBLY, FORMULA, LINEUP, WARRIOR, Fault
@@ -81,7 +82,7 @@ SOURCES = [
     ("dat 0\n" * 101, "line 101: 8 TooLong", "increase `-l`"),
     # Errors without a cause in the text: what they mean.
     ("mov 0, 1.5\n", "line 1: 4 Expression 1 Syntax", "The expression is incomplete"),
-    ("i FOR 2\nx&j dat 0\nROF\n", "line 2: 1 Text 2 BadToken", "`&` joins the counter of an open loop"),
+    ("i FOR 2\nx&j dat 0\nROF\n", "line 2: 1 Text 2 BadToken", "`x&j`: `j` is not the counter of a loop"),
     ("FOR 1/0\ndat 0\nROF\n", "line 1: 1 Text 10 Expression 3 DivideByZero", "A division or remainder by zero."),
     ("; nothing\n", "line 0: 7 Empty", "No line that is read has an opcode"),
 ]
@@ -452,3 +453,105 @@ def test_words_of_mars(run: Run) -> None:
         explained = run("explain", "mars", *words)
         assert explained.returncode == (2 if wrong else 0) and wrong in explained.stderr, text
         assert wrong or explained.stdout.startswith("Each argument is valid by itself.")
+
+
+@pytest.mark.parametrize(
+    "cell, names, expected",
+    [
+        ("DAT.F $0, $0", ("", ""), "End the process that executes this."),
+        ("MOV.I $0, $1", ("", ""), "Copy this instruction to the next cell."),
+        ("MOV.AB #4, $3", ("`step`", ""), "Copy `step` to the B-number of the cell 3 ahead."),
+        ("ADD.F #1, $-2000", ("", ""), "Add both numbers of this cell to those of the cell 2,000 back."),
+        ("JMZ.I $-3, $1", ("", ""), "Jump to the cell 3 back if each number of the next cell is 0."),
+        ("SNE.I $1, $-1", ("", ""), "Skip the next cell if the next cell and the cell before differ."),
+        (
+            "SNE.X $1, $2",
+            ("", ""),
+            "Skip the next cell if both numbers, crosswise, of the next cell and those of the cell 2 " "ahead differ.",
+        ),
+        (
+            "SPL.B $2, {1",
+            ("", ""),
+            "Start another process at the cell 2 ahead; this one continues with the next cell "
+            "(first the A-number of the next cell is lowered by 1).",
+        ),
+        (
+            "DJN.B @5, $5",
+            ("", ""),
+            "Lower the B-number of the cell 5 ahead by 1, then jump to the cell pointed to by the "
+            "B-number of the cell 5 ahead unless it is 0.",
+        ),
+        ("MOV.Q 0, 1", ("", ""), ""),
+    ],
+)
+def test_cells_in_words(cell: str, names: tuple[str, str], expected: str) -> None:
+    assert instruction_told(cell, names) == expected
+
+
+@pytest.mark.parametrize(
+    "words, expected",
+    [
+        (
+            ["MOV }bomb, >ptr"],
+            "MOV.I }bomb, >ptr\n"
+            "Copy the cell pointed to by the A-number of `bomb` to the cell pointed to by the B-number of `ptr` "
+            "(then the A-number of `bomb` is raised by 1, then the B-number of `ptr` is raised by 1).\n",
+        ),
+        (["mov 0, 1"], "MOV.I $0, $1\nCopy this instruction to the next cell.\n"),
+        (
+            ["ADD", "#step,", "*-1"],
+            "ADD.AB #step, *-1\nAdd `step` to the B-number of the cell pointed to by the A-number "
+            "of the cell before.\n",
+        ),
+        (["loop jmp.b loop - 1 ; again"], "JMP.B $loop - 1, $0\nJump to `loop - 1`.\n"),
+        (
+            ["dat <ptr"],
+            "DAT.F $0, <ptr\nEnd the process that executes this (first the B-number of `ptr` is lowered by 1).\n",
+        ),
+        (["cmp MAXCYCLES, 3"], "SEQ.I $0, $3\nSkip the next cell if this cell and the cell 3 ahead are equal.\n"),
+    ],
+)
+def test_an_instruction(run: Run, words: list[str], expected: str) -> None:
+    done = run("explain", *words)
+    assert (done.stdout, done.stderr, done.returncode) == (expected, "", 0)
+
+
+def test_what_is_no_instruction(run: Run, tmp_path: Path) -> None:
+    """A file comes first; what no opcode begins is a file that is not there; errors are explained."""
+    (tmp_path / "mov 0, 1").write_text("dat 0\n")
+    assert run("explain", "mov 0, 1").stdout == "mov 0, 1: no error\n"
+    for name in ("move.red", "add.red", "bomb", "mvo 1, 2"):
+        assert run("explain", name).stderr.startswith(f"corewar: {name}: ")
+    wrong = run("explain", "ADD 1 2")
+    assert wrong.returncode == 1 and wrong.stdout.startswith("ADD 1 2: 4 Expression 1 Syntax\nA comma may be missing")
+    assert run("explain", "--fix", "add 0, 1").returncode == 1
+
+
+NEWCOMERS = [
+    (
+        "step EQV 4\nloop ADD #step, x\nJMP loop\n",
+        {1: "`EQV` is read as a label; did you mean `EQU`?", 2: "`x` is not"},
+    ),
+    ("copy EQV MOV 0, 1\nstart copy\nJMP start\n", {2: "In line 1, `EQV` is read as a label; did you mean `EQU`?"}),
+    ("i FOR 2\nADD #4, bmb\nJMP x\nbomb DAT 0, i\nEND bomb\n", {1: "The FOR", 2: "`bmb` is not", 3: "`x` is not"}),
+    ("i FOR 2\nMOV 0, 1\nJMP x\n", {1: "The FOR in this line has no ROF", 3: "`x` is not defined"}),
+    (
+        "MOV 99999999999999999999, 1\n",
+        {1: "`99999999999999999999` is too large: a number is at most 9223372036854775807"},
+    ),
+    (f"MOV {'9' * 5000}, 1\n", {1: "`9999"}),
+    ("MOV 0x1F, 1\n", {1: "`0x1F` is neither a number, which is decimal, nor a name"}),
+    ("i FOR 2\nNOP\nROF\nJMP x&i\n", {4: "`x&i`: `i` is not the counter of a loop around this line."}),
+    (
+        "c EQU NOP\n EQU NOP\nc\nJMP c\n",
+        {4: "`c` is the EQU of several lines in line 1, which can be used only as an operation"},
+    ),
+    ("NOP\nNOP\nNOP\nFOR 2-CURLINE\nNOP\nROF\n", {4: "The value of `2-CURLINE` is not from 0 to 10,000"}),
+]
+
+
+@pytest.mark.parametrize("source, lines", NEWCOMERS)
+def test_what_a_newcomer_met(source: str, lines: dict[int, str]) -> None:
+    """Each error is reported by its word, and none hides another one or brings a false one with it."""
+    found = {fault.line: sentences[0] for fault, sentences in errors_of(source.encode(), assemble)}
+    assert found.keys() == lines.keys() and all(found[line].startswith(told) for line, told in lines.items()), found

@@ -2,6 +2,7 @@
 from __future__ import annotations
 
 import os
+import re
 import signal
 import subprocess
 import sys
@@ -9,6 +10,8 @@ import time
 from pathlib import Path
 
 from conftest import ENVIRONMENT, EXAMPLES, Run, begin
+
+from corewar.engine.sources import read
 
 DEATH = """Imp died in turn 7798:
 turn 7798: Imp at 5203: DAT.F #0, #-2800
@@ -185,4 +188,102 @@ def test_folders_are_files_of_warriors(run: Run, tmp_path: Path) -> None:
     for name in ("b", "a"):
         (tmp_path / "hill" / f"{name}.red").write_text(f";name {name}\njmp 0\n")
     assert run("league", "hill").stdout == run("league", "hill/a.red", "hill/b.red").stdout
-    assert run("challenge", "hill/a.red", "hill").stdout.endswith("sum of 2\n")
+    # A file that is given by its name is not in its folder again.
+    assert run("challenge", "hill/a.red", "hill").stdout.endswith("sum of 1\n")
+    assert run("league", "hill", "hill/a.red").stdout == run("league", "hill/b.red", "hill/a.red").stdout
+    (tmp_path / "hill" / "b.red").unlink()
+    alone = run("challenge", "hill/a.red", "hill")
+    assert alone.stderr == "corewar: hill: no other file in this folder ends in .red\n"
+
+
+def test_why_over_a_match(run: Run) -> None:
+    """Losses are counted by the line that was hit and the line that hit it; `--round` selects a round."""
+    told = run("why", "-r", 20, "@dwarf", "@imp").stdout
+    assert told == (
+        "Imp lost 7 of 20 rounds:\nlosses round  died on                 hit by\n"
+        "     7     0  its line 5: MOV.I 0, 1  Dwarf, by line 10: MOV bomb, @bomb\n"
+    )
+    assert run("why", "-r", 20, "--of", "dwarf", "@dwarf", "@imp").stdout == "Dwarf lost none of 20 rounds.\n"
+    assert run("why", "-r", 2, "@gate", "@imp").stdout == "No warrior died in 2 rounds.\n"
+    assert run("why", "--turns", 1, "-r", 20, "--round", 0, "@dwarf", "@imp").stdout == DEATH
+    assert "no warrior `nobody`" in run("why", "-r", 2, "--of", "nobody", "@dwarf", "@imp").stderr
+
+
+def test_the_ways_to_die(run: Run, tmp_path: Path) -> None:
+    """On a cell of its own that it hit itself, on one that has not changed, in empty core, and in load files."""
+    sources = {
+        "suicide": ";name Suicide\nMOV 2, 1\nNOP\nDAT 0\n",
+        "dat": ";name Dat\nDAT 0\n",
+        "far": ";name Far\nJMP 50\n",
+        "wait": ";name Wait\nJMP 0\n",
+    }
+    for name, text in sources.items():
+        (tmp_path / f"{name}.red").write_text(text)
+    expected = {
+        "suicide": "its line 3: NOP  itself, by line 2: MOV 2, 1",
+        "dat": "its line 2: DAT 0  nothing: the cell has not changed",
+        "far": "empty core  nothing: the cell has not changed",
+    }
+    for name, row in expected.items():
+        lines = run("why", "-r", 3, f"{name}.red", "wait.red").stdout.splitlines()
+        assert lines[0].endswith(" lost 3 of 3 rounds:") and lines[2].split(None, 2) == ["3", "0", row], lines
+    (tmp_path / "dwarf.load").write_bytes(read(EXAMPLES / "dwarf.red").load)
+    told = run("why", "-r", 20, "dwarf.load", "@imp").stdout
+    assert told.endswith("     7     0  its line 5: MOV.I 0, 1  Dwarf, by an unknown line\n")
+
+
+def test_losses_are_those_of_the_match(run: Run) -> None:
+    """The sums are the losses of the table, whatever the order, also in matches of three."""
+    for files in (["@silk", "@paper"], ["@vampire", "@dwarf", "@scanner"], ["@dwarf", "@dwarf"]):
+        rows = run("fight", "-r", 9, *files).stdout.splitlines()[1:]
+        told = run("why", "-r", 9, *files).stdout
+        found = re.findall(r"^(.*) lost (\d+) of 9 rounds:$", told, re.M)
+        assert [int(count) for _, count in found] == [int(row.split()[3]) for row in rows if int(row.split()[3])]
+        assert sum(map(int, re.findall(r"^ +(\d+) ", told, re.M))) == sum(int(count) for _, count in found)
+
+
+def test_why_of_several_processes(run: Run) -> None:
+    """The first hit on the loaded code of a warrior with several processes is added."""
+    told = run("why", "@paper", "@bomber").stdout
+    assert "The first hit of another warrior on its loaded code was:\nturn " in told
+    assert "The first hit" not in run("why", "@dwarf", "@imp").stdout
+
+
+def test_a_round_that_a_match_does_not_have(run: Run) -> None:
+    for command in ("why", "trace", "debug", "page"):
+        done = run(command, "-r", 3, "--round", 3, "@imp")
+        assert done.returncode == 2 and "--round: a match of 3 has rounds 0 to 2" in done.stderr
+    assert (
+        run("why", "-r", 3, "--round", 2, "@imp").returncode == 0 and run("why", "--round", 7, "@imp").returncode == 0
+    )
+
+
+def test_study(run: Run, tmp_path: Path) -> None:
+    assert run("study", "@dwarf").stdout == (
+        "Dwarf without an opponent: 4 cells, at most 1 process; lives after 80000 turns.\n"
+        "It never writes another opcode over its own code.\n"
+        "It writes to 2000 of 8000 cells:\n"
+        "  writes  cells by turn  stride               line\n"
+        "   26667   2000    5999  4                    10: MOV bomb, @bomb\n"
+        "   26667      1       1  0                    9: loop ADD #step, bomb\n"
+        "It scans nothing outside its code.\n"
+    )
+    scanner = run("study", "@scanner").stdout
+    assert "\n   53232   7990   12002  14                   11: look SEQ scan + hop, scan + hop + gap\n" in scanner
+    hit = run("study", "@vampire").stdout
+    assert "\nIt first hits itself in turn 2935: line 24 at 14 writes over line 16 at 5.\n" in hit
+    assert run("study", "--hill", "nano", "@imp").stdout.startswith(
+        "Imp without an opponent: 1 cell, at most 1 process; lives after "
+    )
+    (tmp_path / "dwarf.load").write_bytes(read(EXAMPLES / "dwarf.red").load)
+    assert "4                    cell 1: MOV.I $2, @2\n" in run("study", "dwarf.load").stdout
+    (tmp_path / "dat.red").write_text("DAT 0\n")
+    assert run("study", "dat.red").stdout == (
+        "dat.red without an opponent: 1 cell, at most 1 process; dies after 1 turn.\n"
+        "It never writes another opcode over its own code.\nIt writes nothing.\nIt scans nothing outside its code.\n"
+    )
+    none = run("study", "none.red")
+    assert (none.returncode, none.stderr) == (1, "corewar: none.red: No such file or directory\n")
+    # No more turns are run than those in which lines are known.
+    assert "lives after 1000000 turns." in run("study", "-c", 5_000_000, "@gate").stdout
+    assert all(len(run("study", file).stdout.splitlines()) < 24 for file in sorted(EXAMPLES.glob("*.red")))

@@ -23,7 +23,7 @@ from corewar.editor.text import Text
 from corewar.editor.wire import Wire
 from corewar.engine.calls import assemble
 from corewar.explain import words
-from corewar.model.cells import MODES, MODIFIERS, OPCODES
+from corewar.model.cells import MODIFIERS, OPCODES
 from corewar.model.faults import Fault, Refused
 from corewar.model.settings import HILLS, Settings
 
@@ -252,9 +252,7 @@ def test_hover() -> None:
     told = asked(text, "hover", 1, 6)["contents"]["value"]
     assert told.split("\n") == [
         "0  ADD.AB #4, $3",
-        "B becomes B + A; from the A-field to the B-field",
-        "A `#4`: the number itself",
-        "B `$3`: the cell 3 ahead",
+        "Add 4 to the B-number of the cell 3 ahead.",
     ]
     assert asked(text, "hover", 1, 11)["contents"]["value"] == "`step`: 4 here; line 1: `step EQU 4`"
     assert asked(text, "hover", 3, 6)["contents"]["value"].startswith("`loop`: -2 here; line 2: `loop ADD ")
@@ -428,27 +426,11 @@ def test_hills(name: str) -> None:
 
 
 def test_words_are_those_of_the_document() -> None:
-    """The tables of opcodes, modifiers, modes and predefined names say what hover says."""
+    """The tables of opcodes, modifiers and predefined names say what hover says."""
     page = (TOP / "docs" / "user" / "LANGUAGE.md").read_text()
-    tables = {**words.OPCODES, **words.MODIFIERS, **words.MODES, **words.PREDEFINED}
+    tables = {**words.OPCODES, **words.MODIFIERS, **words.PREDEFINED}
     for name, meaning in tables.items():
         row = next(row for row in page.split("\n") if re.match(rf"\|[^|]*`{re.escape(name)}`[^|]*\| ", row))
         assert row.split(" | ", 1)[1].startswith(meaning), name
     assert [name for name in words.OPCODES if name != "CMP"] == OPCODES and [*words.MODIFIERS] == MODIFIERS
-    assert {*words.MODES} == {*MODES}
     assert all(name in page for name in words.DIRECTIVES)
-
-
-@pytest.mark.parametrize(
-    "cell, expected",
-    [
-        ("DAT.F $0, $0", ["the process that executes it dies", "A `$0`: this cell"]),
-        ("JMZ.AB $-3, <2", ["jumps to A if B is zero; the B-field of B", "A `$-3`: the cell 3 back"]),
-        ("ADD.I #1, $2", ["B becomes B + A; both fields", "A `#1`: the number itself"]),
-        ("SNE.I $1, $2", ["skips the next instruction if A and B are not equal; the whole cell"]),
-        ("SPL.B $0, $0", ["continues at the next instruction, and starts another process at A", "A `$0`: this cell"]),
-        ("MOV.Q 0, 1", []),
-    ],
-)
-def test_cells_in_words(cell: str, expected: list[str]) -> None:
-    assert words.cell_told(cell)[: len(expected)] == expected

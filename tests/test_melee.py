@@ -14,8 +14,10 @@ import pytest
 from conftest import EXAMPLES, Run, begin
 
 import corewar
+from corewar.contests import melee as module
 from corewar.contests.contest import Contest, score_of
 from corewar.contests.melee import Standing, lineups_of, melee
+from corewar.engine.calls import assemble
 from corewar.model.settings import HILLS
 
 NAMES = "dwarf imp silk paper vampire bomber".split()
@@ -130,3 +132,12 @@ def test_it_can_be_stopped() -> None:
     started.send_signal(signal.SIGINT)
     _, told = started.communicate(timeout=20)
     assert (started.returncode, told) == (130, "corewar: stopped\n")
+
+
+def test_it_reports_its_progress(monkeypatch: pytest.MonkeyPatch) -> None:
+    """The table does not depend on how many matches are run between two reports."""
+    warriors = [assemble(f"jmp {number}, <5", settings="nano") for number in range(5)]
+    contest = Contest(settings=HILLS["nano"])
+    whole, counts = melee(contest, warriors, 3, 40, 2), list[int]()
+    monkeypatch.setattr(module, "CYCLES", 7 * contest.settings.cycles)
+    assert melee(contest, warriors, 3, 40, 2, counts.append) == whole and counts == [14, 14, 12]

@@ -2,6 +2,7 @@
 from __future__ import annotations
 
 import json
+import os
 import re
 import signal
 import socket
@@ -80,6 +81,7 @@ def test_who_it_answers_to(site: Site) -> None:
     for path in ("../server.py", "%2e%2e/server.py", "none.js", "api", "api/none", "sub/app.js"):
         assert site.ask(path)[0] == 404
     with urllib.request.urlopen(site.address, timeout=WAIT) as page:
+        assert "frame-ancestors 'none'" in page.headers["Content-Security-Policy"]
         assert page.headers["X-Frame-Options"] == "DENY" and page.headers["Referrer-Policy"] == "no-referrer"
         assert b"default-src 'none'" in page.read()
 
@@ -97,6 +99,16 @@ def test_the_browser_is_led_by_a_file(tmp_path: Path) -> None:
         assert found and f"url={found[1]}" in page and found[1] not in word and mode == "600\n"
         process.send_signal(signal.SIGINT)
         assert process.wait(WAIT) == 130 and not Path(word.strip().removeprefix("file://")).exists()
+
+
+def test_a_killed_one_leaves_no_file(tmp_path: Path) -> None:
+    """The page with the token is removed on SIGTERM, too."""
+    (tmp_path / "pages").mkdir()
+    environment = {**ENVIRONMENT, "BROWSER": "true %s", "TMPDIR": str(tmp_path / "pages")}
+    with begin("web", "--port", 0, tmp_path, env=environment) as process:
+        assert process.stdout and process.stdout.readline() and len([*(tmp_path / "pages").iterdir()]) == 1
+        process.send_signal(signal.SIGTERM)
+        assert process.wait(WAIT) == 130 and not [*(tmp_path / "pages").iterdir()]
 
 
 def test_its_port_is_the_same_each_time(tmp_path: Path) -> None:
@@ -128,6 +140,9 @@ def test_requests_that_are_none(site: Site) -> None:
     ):
         assert site.ask(path, body, method) == (400, b'{"fault": "this message is not one of the page\'s"}'), path
     assert site.ask("api/sources/x.red", None, "PUT")[0] == 400
+    deep = urllib.request.Request(f"{site.address}api/league", b"[" * 100_000, method="POST")
+    with pytest.raises(urllib.error.HTTPError, match="400"):
+        urllib.request.urlopen(deep, timeout=WAIT)
     assert site.ask("api/league", None, "POST", **{"Content-Length": str(1 << 40)})[0] == 413
     assert site.ask("api/other", {}, "POST")[0] == site.ask("other", {}, "PUT")[0] == 404
 
@@ -254,3 +269,12 @@ def test_the_page_runs_leagues_by_the_server(page: Browser, site: Site) -> None:
     assert page.value("corewar.league.done") == total and (site.folder / "kept").stat().st_size > 0
     page.run("await corewar.league.hold()")
     assert page.value("corewar.league.done") == total
+
+
+def test_pipes_and_devices_are_not_read(site: Site) -> None:
+    """One could be read without end."""
+    os.mkfifo(site.folder / "pipe.red")
+    (site.folder / "zero.red").symlink_to("/dev/zero")
+    for name in ("pipe.red", "zero.red"):
+        assert name not in site.sources()
+        assert site.save(name, "NOP\n", "") == (400, {"fault": f"{name} is not a regular file; not saved"})

@@ -1,6 +1,7 @@
 """Tests mars.wasm, the proved library compiled to WebAssembly, and what JavaScript calls it by."""
 from __future__ import annotations
 
+import itertools
 import json
 import os
 import random
@@ -13,13 +14,14 @@ import pytest
 from battles import edit_of
 from conftest import TOP
 from counting import PROGRAM, skip
-from test_explain import SOURCES, line_to_correct, mutated
+from test_explain import NEWCOMERS, SOURCES, line_to_correct, mutated
 
 from corewar.battle.conditions import OF_WARRIORS, Condition, search
 from corewar.battle.history import History
 from corewar.battle.labels import Sources
 from corewar.engine.calls import Match, assemble
 from corewar.explain import errors_of
+from corewar.explain.instructions import instruction_told
 from corewar.model.cells import MODES, MODIFIERS, OPCODES
 from corewar.model.faults import Fault
 from corewar.web.contests import settings_of
@@ -144,6 +146,23 @@ def test_its_history_is_that_of_python() -> None:
                 assert answer["processes"][row * count : (row + 1) * count] == [len(queue) for queue in queues]
 
 
+def test_its_sentences_are_those_of_python(tmp_path: Path) -> None:
+    """What instructions do, with every opcode, modifier and mode."""
+    if not shutil.which("esbuild"):
+        skip("JavaScript's sentences", "there is no esbuild", "esbuild")
+    script = tmp_path / "sentences.js"
+    bundled = run("esbuild", SITE / "tests" / "sentences.mjs", "--bundle", "--platform=node", f"--outfile={script}")
+    assert bundled.returncode == 0, bundled.stderr
+    numbers = itertools.cycle([0, 1, -1, 5, -2000])
+    cells = [
+        f"{opcode}.{modifier} {first}{next(numbers)}, {second}{next(numbers)}"
+        for opcode, modifier, first, second in itertools.product(OPCODES, MODIFIERS, MODES, MODES)
+    ]
+    given = "".join(f"{cell}\n" for cell in cells)
+    done = subprocess.run(["node", script, "8000"], input=given, capture_output=True, text=True)
+    assert done.stdout.splitlines() == [instruction_told(cell) for cell in cells], done.stderr
+
+
 def test_its_types_are_sound() -> None:
     if not shutil.which("tsc"):
         skip("the types of JavaScript", "there is no tsc", "node-typescript")
@@ -169,7 +188,8 @@ def test_its_errors_are_those_of_explain() -> None:
     """The lines and the sentences, also of several errors in a source. It has no names of characters."""
     if not WASM.is_file():
         skip("mars.wasm", "scripts/library could not build it", "binaryen")
-    texts = [text for text, fault, _ in SOURCES if "NotAscii" not in fault] + [text for text, _ in mutated(150)]
+    texts = [text for text, fault, _ in SOURCES if "NotAscii" not in fault]
+    texts += [text for text, _ in [*NEWCOMERS, *mutated(150)]]
     meanings = TOP / "python" / "corewar" / "explain" / "meanings.json"
     words = ["node", SITE / "tests" / "errors.mjs", WASM, meanings]
     done = subprocess.run(words, input=json.dumps(texts), capture_output=True, text=True)

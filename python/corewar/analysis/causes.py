@@ -5,7 +5,7 @@ from collections.abc import Iterator
 
 import numpy as np
 
-from ..battle.conditions import last_change
+from ..battle.conditions import Condition, last_change, search
 from ..battle.history import History
 from ..model.cells import OPCODES
 from .telling import Teller
@@ -67,7 +67,8 @@ def executed_told(teller: Teller, turn: int, told: set[tuple[int, int]]) -> Iter
 
 def death_told(teller: Teller, warrior: int, count: int) -> Iterator[str]:
     """Explains why a warrior died, with `count` of its turns before that. If it executed no cell of another warrior in
-    them, the last earlier turn in which it did is added. Only the end of its last process is explained.
+    them, the last earlier turn in which it did is added. Only the end of its last process is explained; if it had
+    several processes over time, the first hit on its loaded code is added.
     """
     history, name = teller.history, teller.names[warrior]
     death = history.death(warrior)
@@ -94,3 +95,17 @@ def death_told(teller: Teller, warrior: int, count: int) -> Iterator[str]:
         if strayed is not None:
             yield "Earlier it executed a cell that another warrior wrote:"
             yield from executed_told(teller, strayed, told)
+    if search(history, [Condition("splits", warrior, warrior)], 0):
+        yield from hit_told(teller, warrior)
+
+
+def hit_told(teller: Teller, warrior: int) -> Iterator[str]:
+    """Describes the first turn in which another warrior changed a cell where one was loaded, if there is one."""
+    history, own = teller.history, teller.history.warriors[warrior]
+    first = (int(history.state(0).queues[warrior][0]) - own.start) % history.core
+    last = (first + len(own) - 1) % history.core
+    others = [number for number in range(len(history.warriors)) if number != warrior]
+    found = search(history, [Condition("changes", first, last, other) for other in others], 0) if others else None
+    if found:
+        yield "The first hit of another warrior on its loaded code was:"
+        yield from teller.lines(found[0])

@@ -92,6 +92,15 @@ class Block:
         rows = np.nonzero(used)[0]
         return Touches(self.first + 1 + rows, address[used], self.records["warrior"][rows])
 
+    @property
+    def last_writes(self) -> Touches:
+        """The cell that each turn wrote last, also if that changed nothing: the one that its instruction writes, after
+        those that the modes of its operands change.
+        """
+        rows = np.flatnonzero(self.records["changes"])
+        addresses = self._writes[rows, self.records["changes"][rows] - 1]
+        return Touches(self.first + 1 + rows, addresses, self.records["warrior"][rows])
+
     def rewritten(self, turn: int) -> list[int]:
         """Returns the cells that a turn wrote and left as they were."""
         row = turn - self.first - 1

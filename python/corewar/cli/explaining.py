@@ -10,6 +10,9 @@ import click
 from ..engine.sources import Assembler, Overrun, read_file, read_warriors
 from ..engine.warriors import Warrior
 from ..explain import LOOKED_FOR, errors_of, excerpt, fix, read_faults, read_otherwise, told, told_of
+from ..explain.errors import kind_of
+from ..explain.instructions import find_instruction, line_told
+from ..explain.source import Line
 from ..model.faults import ASSEMBLY, Fault, FileFault, Refused
 from ..model.printing import printable
 from .layout import Command
@@ -18,6 +21,7 @@ from .telling import tell, tell_fault
 
 EXAMPLES = [
     "corewar explain dwarf.red",
+    "corewar explain 'MOV }bomb, >ptr'",
     "mars -b dwarf.red 2>&1 | corewar explain",
     "corewar explain mars -r 0 dwarf.red",
     "corewar explain --pmars dwarf.red",
@@ -41,7 +45,9 @@ class Explain(Command):
 @click.option("--pmars", is_flag=True, help="Report what pMARS reads differently")
 @click.option("--fix", "is_fixed", is_flag=True, help="Print the source, with known differences from pMARS replaced")
 def explain(asked: Asked, pmars: bool, is_fixed: bool) -> int:
-    """Explain the errors in files, or those read from standard input.
+    """Explain the errors in files, or those read from standard input, or an instruction.
+
+    An argument that is no file but an instruction, such as 'MOV }bomb, >ptr', is put in plain words.
 
     Without files, error messages of any program of this kit are read from standard input, such as `mars: first.red:
     line 7: 2 Operation`. If the first argument is `mars`, the others are checked as the arguments of that program, and
@@ -56,11 +62,26 @@ def explain(asked: Asked, pmars: bool, is_fixed: bool) -> int:
     if pmars:
         for path in asked.files:
             compare_file(asked, path)
+    elif line := find_instruction(" ".join(asked.files)) if not any(map(os.path.exists, asked.files)) else None:
+        return explain_instruction(asked, line)
     elif asked.files:
         # Each file is looked at, also after one with an error.
         return max([explain_file(asked, path) for path in asked.files])
     else:
         explain_lines()
+    return 0
+
+
+def explain_instruction(asked: Asked, line: Line) -> int:
+    """Prints what an instruction does, or its error. Returns the exit status."""
+    with Assembler(asked.limit) as assembler:
+        try:
+            write(line_told(line, loader(asked, line.text, assembler), asked.settings.core))
+        except Fault as fault:
+            if fault.code != ASSEMBLY:
+                raise
+            write([f"{line.text}: {kind_of(fault)}", *told_of(kind_of(fault), 1, line.text.encode())])
+            return 1
     return 0
 
 

@@ -3,8 +3,7 @@ from __future__ import annotations
 
 import os
 import re
-from collections.abc import Callable, Iterator, Sequence
-from contextlib import contextmanager
+from collections.abc import Callable, Sequence
 from dataclasses import dataclass
 from functools import wraps
 from pathlib import Path
@@ -12,8 +11,6 @@ from typing import Any
 
 import click
 import numpy as np
-from rich.console import Console
-from rich.progress import BarColumn, MofNCompleteColumn, Progress, TimeRemainingColumn
 
 from ..engine.files import replace_file
 from ..engine.warriors import Warrior
@@ -28,6 +25,7 @@ from ..model.printing import printable
 from .layout import EXECUTION, STATUSES, Command, Number, Option
 from .options import Asked, Decorator, Output, Picture, battle_options, with_options
 from .telling import tell, tell_fault
+from .waiting import progress
 
 ADDRESS = re.compile(r"(tcp://)?(\[[0-9a-fA-F:]+\]|[^\s/:\[\]]+):\d+")
 TURNED = "{} of {} matches are stored only with the warriors in the other order; those are different matches"
@@ -96,23 +94,10 @@ class Hall:
 
     def _fight(self, matches: Matches, keep: Callable[[Rows], None]) -> None:
         place = cluster(matches, self.scheduler) if self.scheduler else threads(matches, self.jobs)
-        with progress(matches) as advance, place as here:
+        with progress(len(matches), "matches", int(matches.is_fought.sum())) as advance, place as here:
             for rows in here.fight(matches):
                 keep(rows)
                 advance(len(rows))
-
-
-@contextmanager
-def progress(matches: Matches) -> Iterator[Callable[[int], None]]:
-    """Yields what reports a number of matches as run: with a bar on a terminal, otherwise not at all."""
-    console = Console(stderr=True)
-    if not console.is_terminal:
-        yield lambda count: None
-        return
-    columns = (MofNCompleteColumn(), "matches", BarColumn(), TimeRemainingColumn())
-    with Progress(*columns, console=console, transient=True) as bar:
-        task = bar.add_task("", total=len(matches), completed=int(matches.is_fought.sum()))
-        yield lambda count: bar.advance(task, count)
 
 
 def contest_options(command: Callable[..., Any]) -> Callable[..., Any]:

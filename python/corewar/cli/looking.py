@@ -1,16 +1,25 @@
-"""`why`, `trace` and `changed`: what happened in a battle."""
+"""`why`, `trace`, `changed` and `study`: what happened in a battle."""
 from __future__ import annotations
+
+from dataclasses import replace
 
 import click
 
 from ..analysis.causes import change_told, death_told
+from ..analysis.losses import Death, deaths_of, losses_told
+from ..analysis.study import Study
 from ..analysis.telling import Teller
 from ..battle.history import History
-from ..battle.labels import Sources
+from ..battle.labels import MOST_TRACED, Sources
+from ..battle.rounds import rounds_of
+from ..engine.calls import Match
+from ..engine.sources import Limit, read_warriors
 from ..model.faults import Refused
-from ..model.settings import whole
+from ..model.printing import printable
+from ..model.settings import Settings, whole
 from .layout import Command, Number
-from .options import Asked, battle_options
+from .options import LIMIT, Asked, battle_options, core_options, is_given
+from .waiting import progress
 
 
 def teller_of(asked: Asked) -> Teller:
@@ -26,7 +35,12 @@ def warrior_of(history: History, named: str) -> int:
 
 
 @click.command(
-    cls=Command, examples=["corewar why dwarf.red imp.red", "corewar why --of imp -r 10 --round 3 dwarf.red imp.red"]
+    cls=Command,
+    examples=[
+        "corewar why dwarf.red imp.red",
+        "corewar why -r 100 dwarf.red imp.red",
+        "corewar why --of imp -r 10 --round 3 dwarf.red imp.red",
+    ],
 )
 @battle_options(one_round=True)
 @click.option("--of", "named", metavar="WARRIOR", help="Name, file or number of the warrior  [default: all that died]")
@@ -41,13 +55,35 @@ def why(asked: Asked, named: str | None, turns: int) -> None:
     """Explain why a warrior died.
 
     Prints its last turn, the cell that it executed, the turn that changed this cell last, and its turns before that.
+    For a match of several rounds without `--round`, it counts by which lines each warrior died.
     """
+    if asked.rounds > 1 and not is_given("round_"):
+        tell_losses(asked, named)
+        return
     teller = teller_of(asked)
     died = [int(number) for number in teller.history.ending.deaths["warrior"]]
     for number in died if named is None else [warrior_of(teller.history, named)]:
         click.echo("\n".join(death_told(teller, number, turns)))
     if named is None and not died:
         click.echo(f"No warrior died; {teller.ending()}.")
+
+
+def tell_losses(asked: Asked, named: str | None) -> None:
+    """Prints how warriors died in all rounds: the one selected by its name, or all that died."""
+    fight = asked.fight()
+    first = History(fight)
+    warriors = range(len(first.names)) if named is None else [warrior_of(first, named)]
+    deaths = list[Death]()
+    with progress(asked.rounds, "rounds") as advance:
+        for one in rounds_of(fight, asked.rounds):
+            deaths += deaths_of(one.history, first.names)
+            advance(1)
+    for number in warriors:
+        own = [death for death in deaths if death.warrior == number]
+        if own or named is not None:
+            click.echo("\n".join(losses_told(first.names[number], asked.rounds, own)))
+    if named is None and not deaths:
+        click.echo(f"No warrior died in {asked.rounds} rounds.")
 
 
 @click.command(
@@ -89,3 +125,19 @@ def changed(asked: Asked, named: str, before: int | None) -> None:
         )
     turn = min(teller.history.end, (before or teller.history.end + 1) - 1)
     click.echo("\n".join(change_told(teller, address, turn)))
+
+
+@click.command(cls=Command, examples=["corewar study dwarf.red"])
+@core_options
+@LIMIT
+@click.argument("file")
+def study(file: str, settings: Settings, limit: Limit) -> None:
+    """Run a warrior without an opponent, and show where it writes and scans.
+
+    For each line that writes or compares cells, prints how often it does so, how many cells it reaches and by which
+    turn, and the stride from one to the next. It also finds the first turn in which the warrior hits its own code.
+    """
+    warriors = read_warriors([file], settings, limit=limit, warriors=2)
+    # Lines are known up to this turn.
+    settings = replace(settings, cycles=min(settings.cycles, MOST_TRACED))
+    click.echo("\n".join(map(printable, Study(History(Match(warriors, settings=settings))).told())))

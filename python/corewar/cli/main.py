@@ -21,6 +21,7 @@ GROUPS = {
         "why": "looking",
         "trace": "looking",
         "changed": "looking",
+        "study": "looking",
         "rounds": "rounds",
         "picture": "pictures",
         "page": "pictures",

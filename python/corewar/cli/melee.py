@@ -14,7 +14,7 @@ from .layout import Command, Number
 from .league import JOBS, LEFT_OUT, contest_of, format_option, write_results
 from .options import Asked, battle_options
 from .telling import tell, tell_fault
-from .waiting import awaited
+from .waiting import awaited, progress
 
 
 @click.command(
@@ -51,7 +51,8 @@ def melee(asked: Asked, size: int, lineups: int, form: str, jobs: int) -> int:
         tell(f"{len(warriors)} warriors are left, but a match has {size}")
         return 1
     try:
-        table = awaited(lambda: run(contest, warriors, size, lineups, jobs))
+        with progress(lineups, "matches") as advance:
+            table = awaited(lambda: run(contest, warriors, size, lineups, jobs, advance))
     except KeyboardInterrupt:
         tell("stopped")
         # Matches that are under way aren't waited for.

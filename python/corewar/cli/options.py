@@ -9,6 +9,7 @@ from pathlib import Path
 from typing import Any
 
 import click
+from click.core import ParameterSource
 
 from ..engine.calls import Match
 from ..engine.sources import Limit, read_warriors
@@ -63,7 +64,11 @@ class Picture(Output):
 
 
 def with_folders(files: Sequence[str]) -> Iterator[str]:
-    """Yields files, and in place of each folder the sources in it, by name. Raises FileFault."""
+    """Yields files, and in place of each folder the sources in it, by name, without those that are given as files.
+
+    Raises FileFault.
+    """
+    given = {os.path.realpath(name) for name in files if not os.path.isdir(name)}
     for name in files:
         found = [name]
         if os.path.isdir(name):
@@ -71,9 +76,11 @@ def with_folders(files: Sequence[str]) -> Iterator[str]:
                 paths = [Path(name, one) for one in sorted(os.listdir(name)) if one.endswith(".red")]
             except OSError as fault:
                 raise FileFault(name, fault.strerror or "cannot read") from None
-            found = [str(path) for path in paths if path.is_file()]
+            found = [str(path) for path in paths if path.is_file() and os.path.realpath(path) not in given]
         if not found:
-            raise FileFault(name, "no file in this folder ends in .red")
+            raise FileFault(
+                name, "no other file in this folder ends in .red" if given else "no file in this folder ends in .red"
+            )
         yield from found
 
 
@@ -119,6 +126,13 @@ SETTINGS = [number_option(name, CORE) for name in vars(Settings())]
 HILL = match_option(
     "--hill", type=click.Choice(list(HILLS)), default="94nop", show_default=True, help="Settings of a known hill"
 )
+LIMIT = match_option(
+    "--source-limit",
+    "limit",
+    type=LimitType(),
+    default=Limit(),
+    help="Limits for assembling a source: CPU seconds and megabytes  [default: 10,1000]",
+)
 CONTEST = [
     HILL,
     number_option("rounds", MATCH, default=1, show_default=True),
@@ -132,13 +146,7 @@ CONTEST = [
         show_default=True,
         help="Score of each survivor, with W warriors and S survivors",
     ),
-    match_option(
-        "--source-limit",
-        "limit",
-        type=LimitType(),
-        default=Limit(),
-        help="Limits for assembling a source: CPU seconds and megabytes  [default: 10,1000]",
-    ),
+    LIMIT,
 ]
 LAST_ROUND = NUMBERS["rounds"].greatest - 1
 ROUND = match_option(
@@ -149,6 +157,11 @@ ROUND = match_option(
     show_default=True,
     help=f"Round of the match to show, 0 to {LAST_ROUND}",
 )
+
+
+def is_given(parameter: str) -> bool:
+    """Returns whether the option with this name of its argument is on the command line."""
+    return click.get_current_context().get_parameter_source(parameter) is ParameterSource.COMMANDLINE
 
 
 def with_settings(command: Callable[..., Any]) -> Callable[..., Any]:
@@ -175,6 +188,9 @@ def battle_options(*, one_round: bool = False, needs_files: bool = True) -> Deco
         @functools.wraps(command)
         def asking(*, files: tuple[str, ...], settings: Settings, limit: Limit, round_: int = 0, **given: Any) -> Any:
             contest: dict[str, Any] = {name: given.pop(name) for name in ("rounds", "seed", "position", "formula")}
+            if one_round and round_ >= contest["rounds"] and is_given("rounds"):
+                message = f"a match of {contest['rounds']} has rounds 0 to {contest['rounds'] - 1}"
+                raise click.BadParameter(message, param_hint="--round")
             return command(Asked(tuple(with_folders(files)), settings, round=round_, limit=limit, **contest), **given)
 
         files = click.argument(

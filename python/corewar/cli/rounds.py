@@ -1,21 +1,39 @@
 """`fight` and `rounds`: a match, and how each of its rounds ends."""
 from __future__ import annotations
 
+from dataclasses import astuple
+
 import click
+import numpy as np
 
 from ..analysis.captions import command
 from ..analysis.telling import counted
-from ..battle.rounds import rounds_of, sums
+from ..battle.rounds import portions, rounds_of, sums
 from ..engine.calls import Match, Row, match
 from ..model.printing import printable
 from .layout import Command
 from .options import Asked, Output, battle_options
-from .waiting import awaited
+from .waiting import awaited, progress
+
+# The number of cycles after which the bar moves, at most a quarter of a second of two warriors.
+CYCLES = 6_000_000
+# Points are 64 bits with a sign.
+LARGEST = 2**63 - 1
 
 
 def rows_of(fought: Match, formula: str) -> list[Row]:
-    """The rows of a match."""
-    return awaited(lambda: match(formula=formula, **vars(fought)))
+    """The rows of a match, with a bar on a terminal."""
+
+    def run(part: Match) -> list[Row]:
+        return awaited(lambda: match(formula=formula, **vars(part)))
+
+    counts = np.zeros((len(fought.warriors), 4), object)
+    with progress(fought.rounds, "rounds") as advance:
+        for part in portions(fought, max(1, CYCLES // fought.settings.cycles)):
+            counts += [astuple(row) for row in run(part)]
+            advance(part.rounds)
+    # The library refuses points that do not fit, also if those of each part do.
+    return [Row(*row) for row in counts.tolist()] if abs(counts).max() <= LARGEST else run(fought)
 
 
 @click.command(

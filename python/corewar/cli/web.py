@@ -1,6 +1,7 @@
 """`web`: the site in a browser, with the sources of a folder."""
 from __future__ import annotations
 
+import signal
 from pathlib import Path
 
 import click
@@ -19,7 +20,7 @@ PORT = 8094
 @click.command(
     cls=Command,
     examples=["corewar web", "corewar web --port 8080 --no-browser warriors/"],
-    statuses="1 error in input or files, 2 usage error, 130 stopped with Ctrl-C",
+    statuses="1 error in input or files, 2 usage error, 130 stopped with Ctrl-C or by SIGTERM",
 )
 @click.option(
     "--port",
@@ -42,6 +43,8 @@ def web(port: int, browser: bool, results: str | None, files: tuple[str, ...]) -
     from ..web.folder import Folder, sources_of
     from ..web.server import Served, serve
 
+    # A page with the token, through which the browser is led there, is removed at the end.
+    signal.signal(signal.SIGTERM, signal.default_int_handler)
     for name in files:
         if not Path(name).exists():
             raise FileFault(name, "No such file or directory")

@@ -2,7 +2,7 @@
 from __future__ import annotations
 
 import random
-from collections.abc import Sequence
+from collections.abc import Callable, Sequence
 from dataclasses import dataclass
 from typing import Any
 
@@ -14,6 +14,9 @@ from ..engine.warriors import Warrior
 from ..model.settings import NUMBERS
 from .contest import Contest, score_of
 from .scores import HEAD, names_of, ranks_of, rates_of
+
+# The maximum cycles of a thread between two reports of progress, two or three seconds of four warriors.
+CYCLES = 40_000_000
 
 
 @dataclass(frozen=True)
@@ -50,16 +53,29 @@ def lineups_of(warriors: int, size: int, count: int, dice: random.Random) -> lis
     return made
 
 
-def melee(contest: Contest, warriors: Sequence[Warrior], size: int, count: int, jobs: int) -> list[Standing]:
+def melee(
+    contest: Contest,
+    warriors: Sequence[Warrior],
+    size: int,
+    count: int,
+    jobs: int,
+    advance: Callable[[int], None] = lambda matches: None,
+) -> list[Standing]:
     """Runs the matches of `count` random lineups of `size` warriors, and returns the results, the best first.
 
-    The seed of the contest draws the lineups and the seed of each match. Raises `Fault`.
+    The seed of the contest draws the lineups and the seed of each match. `advance` gets the number of matches each time
+    some have been run. Raises `Fault`.
     """
     dice = random.Random(contest.seed)
     lineups = lineups_of(len(warriors), size, count, dice)
     seeds = [dice.randint(1, NUMBERS["seed"].greatest) for _ in lineups]
     numbers: dict[str, Any] = {"settings": contest.settings, "rounds": contest.rounds, "position": contest.position}
-    made = outcomes(warriors, lineups, seeds=seeds, jobs=jobs, **numbers)
+    step, parts = jobs * max(1, CYCLES // (contest.rounds * contest.settings.cycles)), list[NDArray[Any]]()
+    for at in range(0, count, step):
+        part = slice(at, at + step)
+        parts.append(outcomes(warriors, lineups[part], seeds=seeds[part], jobs=jobs, **numbers))
+        advance(len(parts[-1]))
+    made = np.concatenate(parts)
     places = np.broadcast_to(np.array(lineups)[:, None, :], made.shape)
     # In how many rounds each warrior was one of 0, 1, 2 .. survivors.
     lives = np.zeros((len(warriors), size + 1), np.int64)

@@ -10,6 +10,8 @@ import numpy as np
 from ..analysis.causes import cause_told, change_told, death_told
 from ..analysis.telling import counted
 from ..battle.conditions import Condition, search
+from ..explain.instructions import instruction_told
+from ..model.cells import MODES
 from ..model.edits import Edit
 from ..model.faults import Refused
 from ..model.settings import whole
@@ -168,13 +170,21 @@ def delete(session: Session, rest: str) -> Iterator[str]:
 
 @command("undo", "undo the last move or edit", "u", repeats=True)
 def undo(session: Session, _: str) -> Iterator[str]:
-    session.undo()
-    yield from here(session)
+    yield from moved(session, session.undo)
 
 
 @command("redo", "redo the last move or edit that was undone", repeats=True)
 def redo(session: Session, _: str) -> Iterator[str]:
-    session.redo()
+    yield from moved(session, session.redo)
+
+
+def moved(session: Session, act: Callable[[], None]) -> Iterator[str]:
+    """Undoes or redoes, and says which future this leads to if it is another one: the turn may be the same."""
+    before = session.history
+    act()
+    if session.history is not before:
+        number = session.futures.index(session.history)
+        yield f"now in future {number}: {'; '.join(session.edits(session.history)) or 'no edits'}"
     yield from here(session)
 
 
@@ -295,6 +305,19 @@ def changed(session: Session, rest: str) -> Iterator[str]:
     yield from change_told(session.teller, session.address(rest), session.turn)
 
 
+@command("explain [A]", "say in words what the instruction at A does, or the next one to execute")
+def explain(session: Session, rest: str) -> Iterator[str]:
+    address, core, labels = session.address(rest or "."), session.history.core, session.sources.labels
+    cell = session.history.block(session.turn).cell(address, session.turn)
+    # A number has no name, and the instruction's own cell is `this cell`.
+    names = [
+        labels.get((address + int(cell[number])) % core, "") if MODES[cell[mode]] != "#" and cell[number] else ""
+        for number, mode in (("a", "a_mode"), ("b", "b_mode"))
+    ]
+    yield f"{session.teller.where(address)}: {session.teller.cell(cell)}"
+    yield instruction_told(session.teller.cell(cell), (names[0], names[1]))
+
+
 CONDITIONS = """A CONDITION, for continue, reverse-continue and break:
   at A[..B]       a cell from A to B is executed next
   changes A[..B]  the turn changed a cell from A to B
@@ -303,7 +326,8 @@ CONDITIONS = """A CONDITION, for continue, reverse-continue and break:
   splits W        warrior W gained a process
   ends W          warrior W lost a process
   dies W          warrior W died
-An address A is a number, a label, `.` (the cell to execute next), or one of these with +N or -N.
+An address A is a number, a label, `.` (the cell to execute next), or one of these with +N or -N. If B is below A, the
+range from A to B goes past the end of the core.
 A warrior W is a number or a name. Commands can be abbreviated. An empty line repeats the last command that
 moves or lists."""
 

@@ -102,6 +102,9 @@ class Session:
         at = self.history.head(self.turn) if base == "." else self.sources.addresses.get(base, whole(base))
         if base == "." and at is None:
             raise Refused("`.` is the cell to execute next, but the battle is over; use a number or a label")
+        several = [name for name in self.sources.addresses if base and name.partition(".")[2] == base]
+        if at is None and several:
+            raise Refused(f"`{base}` is a label of several warriors; use {' or '.join(several)}")
         if found is None or at is None or at >= self.history.core:
             raise Refused(
                 f"`{text}` is not an address: a number below {self.history.core}, a label or `.`, "

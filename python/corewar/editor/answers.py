@@ -9,6 +9,7 @@ from collections.abc import Callable
 from typing import Any
 
 from ..explain import fix, words
+from ..explain.instructions import instruction_told
 from ..explain.source import ELSEWHERE, NAME, OPERATIONS, parse_line
 from ..model.faults import Refused
 from .names import ASSERT, Token
@@ -99,7 +100,7 @@ def cells_told(text: Text, number: int) -> list[str]:
     """Returns the cells of a line with their indices, and what the first one does."""
     cells = text.cells[number]
     more = [f"and {len(cells) - MOST} more"] if len(cells) > MOST else []
-    return [*(f"{index}  {cell}" for index, cell in cells[:MOST]), *more, *words.cell_told(cells[0][1])]
+    return [*(f"{index}  {cell}" for index, cell in cells[:MOST]), *more, instruction_told(cells[0][1])]
 
 
 def name_told(text: Text, token: Token) -> list[str]:

@@ -3,6 +3,7 @@ from __future__ import annotations
 
 import re
 from collections.abc import Callable, Iterator
+from decimal import Decimal
 from unicodedata import name as character_name
 
 from .sentences import said
@@ -12,6 +13,7 @@ from .source import (
     NAME,
     OPCODES,
     PREDEFINED,
+    TOKEN,
     Advice,
     Line,
     Loop,
@@ -26,6 +28,8 @@ COMMENT = re.compile(r"//|/\*")
 DASHED = re.compile(r"\s*([A-Za-z_]\w*(?:-\w+)+):?(?=\s)")
 # A character that no token has.
 FOREIGN = re.compile(r"[^\w\0- #$@*{}<>,.+\-/%()&|=!:]", re.ASCII)
+# The greatest number that is a token.
+GREATEST = 2**63 - 1
 OPENING = ("#", "$", "@", "{", "}", "(")
 
 
@@ -48,6 +52,31 @@ def bad_token(source: Source, line: Line) -> Iterator[str]:
         yield said("backslash")
     elif found:
         yield said("foreign", word=found[0])
+    else:
+        counters = {loop.counter for loop in source.loops_around(line.number)}
+        for token in TOKEN.findall(line.code):
+            yield from wrong_token(source, line, token, counters)
+
+
+def wrong_token(source: Source, line: Line, token: str, counters: set[str]) -> Iterator[str]:
+    """Says why a token is none, or is not allowed in a line."""
+    joined_names = [name for name in token.split("&")[1:] if name not in counters]
+    if token.isdecimal() and Decimal(token) > GREATEST:
+        yield said("large", word=token)
+    elif token[0].isdecimal() and not token.isdecimal():
+        yield said("half number", word=token)
+    elif NAME.match(token) and joined_names:
+        yield said("not counter", word=token, name=joined_names[0])
+    elif token in source.equates and token != line.operation and source.equates[token] is not line:
+        first = source.equates[token].number
+        if first < len(source.lines) and source.lines[first].word == "EQU" and not source.lines[first].labels:
+            yield said("equ lines", word=token, line=first)
+
+
+def bad_count(source: Source, line: Line) -> Iterator[str]:
+    if line.word == "FOR":
+        known = said("curline") if "CURLINE" in line.rest else ""
+        yield said("count", word="".join(line.rest), known=known)
 
 
 def operation(source: Source, line: Line) -> Iterator[str]:
@@ -103,6 +132,10 @@ def joined(name: str, loops: list[Loop]) -> str:
 def taken(source: Source, line: Line, name: str, other: Line) -> str:
     """Returns why a name is in an earlier line."""
     word = misspelt(source, other)
+    equ = next((one for one in other.labels[1:] if like(one, ["EQU"])), "")
+    if not word and equ:
+        # The text that it should name has an opcode, so the line is an instruction.
+        word = Misspelt(said("misspelt", word=equ, new="EQU"), equ, "EQU")
     if word:
         return Misspelt(said("earlier", line=other.number, inner=word), word.old, word.new, other.number)
     if line.word == "EQU" and not other.operation:
@@ -166,6 +199,7 @@ def undefined(source: Source, name: str, known: dict[str, Line]) -> str:
 CAUSES: dict[str, Cause] = {
     "1 Text 1 NotAscii": not_ascii,
     "1 Text 2 BadToken": bad_token,
+    "1 Text 5 BadCount": bad_count,
     "1 Text 7 Duplicate": duplicate,
     "2 Operation": operation,
     "4 Expression 1 Syntax": syntax,

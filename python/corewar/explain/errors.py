@@ -11,7 +11,8 @@ from .source import Line, Misspelt, Source, read_source
 # The maximum number of errors that are reported for a source.
 MOST = 10
 # After these errors the rest of the source cannot be read.
-LAST = ("1 Text 3 UnclosedFor", "1 Text 9 TooLong", "7 Empty", "8 TooLong")
+LAST = ("1 Text 9 TooLong", "7 Empty", "8 TooLong")
+UNCLOSED = "1 Text 3 UnclosedFor"
 
 
 def kind_of(fault: Fault) -> str:
@@ -41,7 +42,27 @@ def errors_of(data: bytes, load: Callable[[bytes], object]) -> Iterator[tuple[Fa
             if not 0 < number <= len(source.lines) or number in seen or kind_of(fault) in LAST:
                 return
             seen.add(number)
+            if kind_of(fault) == UNCLOSED:
+                close(lines, source)
             lines[number - 1] = replaced(source.lines[number - 1], source, advice.old if advice else "").encode()
+            if advice and advice.new == "EQU":
+                correct(lines, source, advice.old)
+
+
+def correct(lines: list[bytes], source: Source, misspelt: str) -> None:
+    """Writes EQU in place of a misspelt one, in all lines: what they name is used elsewhere."""
+    for line in source.lines:
+        if misspelt in line.labels[1:] and not line.unread:
+            lines[line.number - 1] = re.sub(rf"\b{misspelt}\b", "EQU", line.code, count=1).encode()
+
+
+def close(lines: list[bytes], source: Source) -> None:
+    """Puts a ROF at the end of what is read: before an END, whose line then begins with it, or after the last line."""
+    end = next((line.number for line in source.lines if line.word == "END" and not line.unread), None)
+    if end is None:
+        lines.append(b"ROF")
+    else:
+        lines[end - 1 : end] = [b"ROF", b"END"]
 
 
 def replaced(line: Line, source: Source, misspelt: str) -> str:

@@ -157,11 +157,14 @@ def read_source(data: bytes) -> Source:
 
 
 def like(word: str, choices: Sequence[str]) -> str | None:
-    """Returns the choice that is most similar to a word; the same letters in another order come first."""
+    """Returns the choice that is most similar to a word; the same letters in another order come first, and of equally
+    similar ones that with the same first letter.
+    """
     upper = {choice.upper(): choice for choice in choices[:MOST_CHOICES]}
     same = [choice for choice in upper if sorted(choice) == sorted(word.upper())]
-    close = same or get_close_matches(word.upper(), upper, n=1)
-    return upper[close[0]] if close else None
+    close = same or get_close_matches(word.upper(), upper)
+    best = [choice for choice in close if likeness(word, choice) == likeness(word, close[0])]
+    return upper[max(best, key=lambda choice: choice[:1] == word[:1].upper())] if best else None
 
 
 def likeness(word: str, choice: str) -> float:

@@ -77,6 +77,9 @@ class Folder:
         if len(data) > LARGEST_FILE:
             raise Refused(f"{name} has more than {LARGEST_FILE} bytes; not saved")
         path = sources_of(self.paths).get(name) or self._new(name)
+        # A pipe or a device could be read without end.
+        if path.exists() and not path.is_file():
+            raise Refused(f"{name} is not a regular file; not saved")
         there = digest(path.read_bytes()) if path.exists() else ""
         if there != seen:
             raise Changed(name, there)

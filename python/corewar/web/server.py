@@ -22,6 +22,7 @@ HOST = "127.0.0.1"
 TYPES = {".html": "text/html; charset=utf-8", ".js": "text/javascript; charset=utf-8", ".wasm": "application/wasm"}
 HEADERS = {
     "Cache-Control": "no-cache",
+    "Content-Security-Policy": "base-uri 'none'; form-action 'none'; frame-ancestors 'none'",
     "Cross-Origin-Resource-Policy": "same-origin",
     "Referrer-Policy": "no-referrer",
     "X-Content-Type-Options": "nosniff",
@@ -126,7 +127,7 @@ class Handler(BaseHTTPRequestHandler):
             self._tell(409, {"fault": str(fault), "seen": fault.seen})
         except Refused as fault:
             self._tell(400, {"fault": str(fault)})
-        except (KeyError, TypeError, ValueError, AttributeError):
+        except (KeyError, TypeError, ValueError, AttributeError, RecursionError):
             self._tell(400, {"fault": "this message is not one of the page's"})
 
     def _save(self, name: str, given: dict[str, Any]) -> None:

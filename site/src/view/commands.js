@@ -184,12 +184,13 @@ function deleteBreak(session, rest) {
 }
 
 /**
- * Assembles a line of source for an address.
+ * Assembles a line of source for an address. Meanwhile the battle stays at the turn that is shown.
  * @param {Session} session
  * @param {string} line
  * @param {number} address
  */
 async function readCellLine(session, line, address) {
+  await session.jump(session.turn);
   try {
     return await session.cellOf(line, address);
   } catch {

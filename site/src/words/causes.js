@@ -1,7 +1,17 @@
 /** The likely causes of an error in the text of a source, the likeliest first, as `corewar explain` finds them. */
 import { MODIFIERS } from "../model/cells.js";
 import { like, likeness } from "./likeness.js";
-import { NAME, OPCODES, OPERATIONS, codeOf, labelsOf, loopsAround, operandsOf, wordOf } from "./source.js";
+import {
+  NAME,
+  OPCODES,
+  OPERATIONS,
+  codeOf,
+  labelsOf,
+  loopsAround,
+  operandsOf,
+  tokensOf,
+  wordOf,
+} from "./source.js";
 
 /** @typedef {import("./source.js").Line} Line */
 /** @typedef {import("./source.js").Loop} Loop */
@@ -18,6 +28,8 @@ const PREDEFINED = "CORESIZE MAXPROCESSES MAXCYCLES MAXLENGTH MINDISTANCE ROUNDS
 const ELSEWHERE = "LDP STP PIN XCH PCT STS".split(" ");
 /** A character that no token has. */
 const FOREIGN = /[^\w\0- #$@*{}<>,.+\-/%()&|=!:]/u;
+/** The greatest number that is a token. */
+const GREATEST = 2n ** 63n - 1n;
 const OPENING = ["#", "$", "@", "{", "}", "("];
 /** How many words of a line are compared with the names of operations. */
 const FIRST_WORDS = 20;
@@ -57,10 +69,37 @@ function notAscii(_, { number, text }) {
 }
 
 /** @type {Find} */
-function badToken(_, { text }) {
-  const [word] = FOREIGN.exec(codeOf(text)) ?? [];
-  if (!word) return [];
-  return [word === "\\" ? { cause: "backslash", word } : { cause: "foreign", word }];
+function badToken(source, line) {
+  const [word] = FOREIGN.exec(codeOf(line.text)) ?? [];
+  if (word) return [word === "\\" ? { cause: "backslash", word } : { cause: "foreign", word }];
+  const counters = loopsAround(source, line.number).map(({ counter }) => counter);
+  return tokensOf(codeOf(line.text)).flatMap((token) => wrongToken(source, line, token, counters) ?? []);
+}
+
+/**
+ * Says why a token is none, or is not allowed in a line.
+ * @param {Source} source
+ * @param {Line} line
+ * @param {string} word
+ * @param {string[]} counters
+ * @returns {Cause | undefined}
+ */
+function wrongToken({ lines, equates }, line, word, counters) {
+  if (/^\d+$/.test(word)) return BigInt(word) > GREATEST ? { cause: "large", word } : undefined;
+  if (/^\d/.test(word)) return { cause: "half number", word };
+  const name = NAME.test(word) ? word.split("&").slice(1).find((one) => !counters.includes(one)) : undefined;
+  if (name) return { cause: "not counter", word, name };
+  const equate = equates.get(word);
+  if (!equate || word === line.operation || equate === line) return undefined;
+  const next = lines[equate.number];
+  const isMore = next && wordOf(next) === "EQU" && !next.labels.length;
+  return isMore ? { cause: "equ lines", word, line: equate.number } : undefined;
+}
+
+/** @type {Find} */
+function badCount(_, line) {
+  const isKnown = line.rest.includes("CURLINE");
+  return wordOf(line) === "FOR" ? [{ cause: "count", word: line.rest.join(""), isKnown }] : [];
 }
 
 /** @type {Find} */
@@ -125,7 +164,9 @@ function joined(name, loops) {
  * @returns {Cause}
  */
 function taken(source, line, name, other) {
-  const inner = misspelt(source, other);
+  const equ = other.labels.slice(1).find((one) => like(one, ["EQU"]));
+  // With a misspelt EQU, the text that it should name has an opcode, so the line is an instruction.
+  const inner = misspelt(source, other) ?? (equ ? { cause: "misspelt", word: equ, new: "EQU" } : null);
   if (inner) return { cause: "earlier", line: other.number, inner };
   const isBefore = wordOf(line) === "EQU" && !other.operation;
   return { cause: isBefore ? "before equ" : "duplicate", word: name, line: other.number };
@@ -196,6 +237,7 @@ function undefinedName({ loops, lines }, word, known) {
 export const CAUSES = {
   "1 Text 1 NotAscii": notAscii,
   "1 Text 2 BadToken": badToken,
+  "1 Text 5 BadCount": badCount,
   "1 Text 7 Duplicate": duplicate,
   "2 Operation": operation,
   "4 Expression 1 Syntax": syntax,

@@ -11,9 +11,9 @@ import { NAME, codeOf, labelsOf, readSource, wordOf } from "./source.js";
  * @typedef {{code: number, number: number, problem: number, expression: number, line: number}} Numbers
  */
 /**
- * An error at some columns of a line, and the word that is in place of an operation, or "". Lines are numbered from 1,
+ * An error at some columns of a line, and the cause if a word is in place of an operation. Lines are numbered from 1,
  * columns from 0.
- * @typedef {{line: number, from: number, to: number, text: string, misspelt?: string}} Explained
+ * @typedef {{line: number, from: number, to: number, text: string, misspelt?: Cause}} Explained
  */
 /**
  * The sentences: what errors mean by their texts, those of expressions by their last words, and causes by their names.
@@ -26,7 +26,8 @@ const { ASSEMBLY: ERRORS, TEXT: PROBLEMS, EXPRESSION: EXPRESSIONS } = ERROR_NAME
 const MOST_CAUSES = 2;
 const MOST = 10;
 /** After these errors the rest of a source cannot be read. */
-const LAST = ["1 Text 3 UnclosedFor", "1 Text 9 TooLong", "7 Empty", "8 TooLong"];
+const LAST = ["1 Text 9 TooLong", "7 Empty", "8 TooLong"];
+const UNCLOSED = "1 Text 3 UnclosedFor";
 
 /**
  * Returns the text of an error as `mars` prints it, without its line.
@@ -54,6 +55,7 @@ function sentence({ inner, ...cause }, meanings) {
     values.case = cause.isCase ? meanings.case : "";
     values.where = cause.line ? sentence({ cause: "where", line: cause.line }, meanings) : "";
   }
+  if (cause.cause === "count") values.known = cause.isKnown ? meanings.curline : "";
   return meanings[cause.cause].replace(/\{(\w+)\}/g, (_, name) => String(values[name]));
 }
 
@@ -74,7 +76,7 @@ export function explain(error, text, meanings) {
   const isEarlier = causes[0]?.cause === "earlier";
   const first = isEarlier ? causes[0].inner : causes[0];
   const number = isEarlier ? Number(causes[0].line) : error.line;
-  const misspelt = ["misspelt", "elsewhere"].includes(first?.cause ?? "") ? first?.word : "";
+  const misspelt = ["misspelt", "elsewhere"].includes(first?.cause ?? "") ? first : undefined;
   return { line: number, ...columns(source.lines[number - 1]?.text ?? "", first?.word), text: told, misspelt };
 }
 
@@ -111,9 +113,36 @@ export async function errorsOf(text, meanings, assemble) {
     if (isNew) found.push(explained);
     const line = source.lines[explained.line - 1];
     if (!isNew || !line || LAST.includes(errorName(error))) break;
-    lines[line.number - 1] = replaced(line, source, explained.misspelt ?? "");
+    if (errorName(error) === UNCLOSED) close(lines, source);
+    const misspelt = explained.misspelt?.word ?? "";
+    lines[line.number - 1] = replaced(line, source, misspelt);
+    if (explained.misspelt?.new === "EQU") correct(lines, source, misspelt);
   }
   return found;
+}
+
+/**
+ * Writes EQU in place of a misspelt one, in all lines: what they name is used elsewhere.
+ * @param {string[]} lines
+ * @param {Source} source
+ * @param {string} misspelt
+ */
+function correct(lines, source, misspelt) {
+  for (const { number, text, labels, unread } of source.lines) {
+    if (unread || !labels.slice(1).includes(misspelt)) continue;
+    lines[number - 1] = codeOf(text).replace(new RegExp(`\\b${misspelt}\\b`), "EQU");
+  }
+}
+
+/**
+ * Puts a ROF at the end of what is read: before an END, whose line then begins with it, or after the last line.
+ * @param {string[]} lines
+ * @param {Source} source
+ */
+function close(lines, source) {
+  const end = source.lines.find((line) => wordOf(line) === "END" && !line.unread);
+  if (end) lines.splice(end.number - 1, 1, "ROF", "END");
+  else lines.push("ROF");
 }
 
 /**

@@ -43,17 +43,26 @@ const ratio = (one, other) => (2 * common(one, other)) / (one.length + other.len
 export const likeness = (word, choice) => (sorted(word) === sorted(choice) ? 1 : ratio(word.toUpperCase(), choice));
 
 /**
- * Returns the choice that is most similar to a word, or undefined; the same letters in another order come first.
+ * Returns at most three choices that are similar to a word, the most similar one first, as get_close_matches does.
+ * @param {string} word
+ * @param {string[]} choices
+ */
+function closest(word, choices) {
+  const found = choices.map((choice) => ({ choice, alike: ratio(choice, word) })).filter(({ alike }) => alike >= LEAST);
+  found.sort((one, other) => other.alike - one.alike || (one.choice < other.choice ? 1 : -1));
+  return found.slice(0, 3).map(({ choice }) => choice);
+}
+
+/**
+ * Returns the choice that is most similar to a word, or undefined; the same letters in another order come first, and of
+ * equally similar ones that with the same first letter.
  * @param {string} word
  * @param {string[]} choices
  */
 export function like(word, choices) {
   const upper = new Map(choices.slice(0, MOST_CHOICES).map((choice) => [choice.toUpperCase(), choice]));
-  const same = [...upper.keys()].find((choice) => sorted(choice) === sorted(word));
-  let [best, most] = [same, LEAST];
-  for (const choice of same ? [] : upper.keys()) {
-    const found = ratio(choice, word.toUpperCase());
-    if (found > most || (found === most && choice > (best ?? ""))) [best, most] = [choice, found];
-  }
-  return upper.get(best ?? "");
+  const same = [...upper.keys()].filter((choice) => sorted(choice) === sorted(word));
+  const close = same.length ? same : closest(word.toUpperCase(), [...upper.keys()]);
+  const best = close.filter((choice) => likeness(word, choice) === likeness(word, close[0]));
+  return upper.get(best.find((choice) => choice[0] === word[0].toUpperCase()) ?? best[0]);
 }

@@ -23,7 +23,7 @@ export const NAME = /^[A-Za-z_][\w&]*$/;
 export const codeOf = (text) => text.split(";")[0];
 
 /** @param {string} text */
-const tokensOf = (text) => text.match(TOKEN) ?? [];
+export const tokensOf = (text) => text.match(TOKEN) ?? [];
 
 /** @param {Line} line */
 export const wordOf = ({ operation }) => operation.toUpperCase();

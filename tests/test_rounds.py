@@ -1,0 +1,55 @@
+"""The rounds of a match in portions, and the bar that shows how many are run."""
+from __future__ import annotations
+
+import os
+from dataclasses import replace
+
+import pytest
+from battles import matches
+from conftest import ENVIRONMENT, EXAMPLES, begin
+from hypothesis import given, strategies as st
+
+from corewar.battle.rounds import portions
+from corewar.cli import rounds as module
+from corewar.engine.battles import Battle
+from corewar.engine.calls import Match, match
+from corewar.engine.sources import read
+from corewar.model.faults import Fault
+from corewar.model.settings import FORMULA
+
+
+@given(matches(), st.integers(1, 12), st.integers(1, 7), st.integers(0, 1))
+def test_portions_are_the_match(fight: Match, rounds: int, size: int, fixed: int) -> None:
+    """Each round of a portion is that of the match: its warriors, where they start, and who begins."""
+    position = 9 if fixed and len(fight.warriors) == 2 else None
+    fight = replace(fight, rounds=rounds, position=position)
+    number = 0
+    for part in portions(fight, size):
+        assert 1 <= part.rounds < size + len(fight.warriors)
+        for round_ in range(part.rounds):
+            assert Battle(part, round_) == Battle(fight, number)
+            number += 1
+    assert number == rounds
+
+
+def test_a_fight_in_portions(monkeypatch: pytest.MonkeyPatch) -> None:
+    """The table is the library's, and points that fit only in portions are refused as it does."""
+    fight = Match([read(EXAMPLES / f"{name}.red") for name in ("dwarf", "imp", "paper")], rounds=100)
+    monkeypatch.setattr(module, "CYCLES", 7 * fight.settings.cycles)
+    assert module.rows_of(fight, FORMULA) == match(fight.warriors, rounds=100)
+    with pytest.raises(Fault, match="score 4 Range"):
+        module.rows_of(fight, str(2**63 // 20))
+
+
+@pytest.mark.parametrize("words", [["fight"], ["why"]])
+def test_progress(words: list[str]) -> None:
+    """On a terminal standard error has a bar, which is removed, and standard output what it has without."""
+    ours, theirs = os.openpty()
+    files = [EXAMPLES / "dwarf.red", EXAMPLES / "imp.red"]
+    told, _ = begin(*words, "-r", 160, *files, env={**ENVIRONMENT, "TERM": "xterm"}, stderr=theirs).communicate()
+    shown = os.read(ours, 100_000).decode()
+    os.close(ours)
+    os.close(theirs)
+    # The line of the bar is erased at the end.
+    assert "160/160" in shown and "rounds" in shown and "\x1b[2K" in shown.rpartition("160/160")[2]
+    assert told == begin(*words, "-r", 160, *files).communicate()[0]
