@@ -64,6 +64,8 @@ def test_a_newcomer_sees_a_fight(page: Browser) -> None:
     first = page.value("corewar.session.turn")
     page.until(f"corewar.session.turn > {first} && corewar.session.way === 1")
     assert page.value("document.title") == "Dwarf against Imp · Core War"
+    # A slow machine reads the page when the first caption is over, so it goes back.
+    stand(page, 0)
     assert "share a ring of 8,000 cells" in page.text("caption")
     assert page.value("!document.getElementById('what').hidden")
     # The story keeps its end for the end, unless a user wants to know.
