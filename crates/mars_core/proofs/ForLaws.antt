@@ -8,5 +8,4 @@ pub mod MovedStart
 pub mod Near
 pub mod ReferenceCode
 pub mod Relative
-pub mod SameCells
 pub mod Touched

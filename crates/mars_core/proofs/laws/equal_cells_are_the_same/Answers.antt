@@ -1,4 +1,4 @@
-use Rattle.mars_core.proofs.ForLaws.SameCells.{equal_cells_same}
+use Rattle.mars_core.proofs.SameCells.{equal_cells_same}
 use Rattle.mars_core.proofs.laws.equal_cells_are_the_same.Goals as goal
 
 pub returns : goal.returns
