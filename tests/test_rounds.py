@@ -1,7 +1,9 @@
 """The rounds of a match in portions, and the bar that shows how many are run."""
 from __future__ import annotations
 
+import contextlib
 import os
+from concurrent.futures import ThreadPoolExecutor
 from dataclasses import replace
 
 import pytest
@@ -41,15 +43,28 @@ def test_a_fight_in_portions(monkeypatch: pytest.MonkeyPatch) -> None:
         module.rows_of(fight, str(2**63 // 20))
 
 
+def all_of(terminal: int) -> str:
+    """Everything that is written to a terminal until its other end is closed, which is an error of reading then."""
+    shown = bytearray()
+    with contextlib.suppress(OSError):
+        while part := os.read(terminal, 4096):
+            shown += part
+    os.close(terminal)
+    return shown.decode()
+
+
 @pytest.mark.parametrize("words", [["fight"], ["why"]])
 def test_progress(words: list[str]) -> None:
     """On a terminal standard error has a bar, which is removed, and standard output what it has without."""
     ours, theirs = os.openpty()
     files = [EXAMPLES / "dwarf.red", EXAMPLES / "imp.red"]
-    told, _ = begin(*words, "-r", 160, *files, env={**ENVIRONMENT, "TERM": "xterm"}, stderr=theirs).communicate()
-    shown = os.read(ours, 100_000).decode()
-    os.close(ours)
+    process = begin(*words, "-r", 160, *files, env={**ENVIRONMENT, "TERM": "xterm"}, stderr=theirs)
     os.close(theirs)
+    # A terminal that nobody reads stops the command after 4 KB.
+    with ThreadPoolExecutor(1) as pool:
+        reading = pool.submit(all_of, ours)
+        told, _ = process.communicate()
+        shown = reading.result()
     # The line of the bar is erased at the end.
     assert "160/160" in shown and "rounds" in shown and "\x1b[2K" in shown.rpartition("160/160")[2]
     assert told == begin(*words, "-r", 160, *files).communicate()[0]
