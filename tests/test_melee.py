@@ -127,8 +127,12 @@ def test_the_command(run: Run, tmp_path: Path) -> None:
 
 def test_it_can_be_stopped() -> None:
     """Ctrl-C ends it at once."""
-    started = begin("melee", "--lineups", 100000, *(EXAMPLES / f"{name}.red" for name in NAMES))
-    time.sleep(3)
+    files = [EXAMPLES / f"{name}.red" for name in NAMES]
+    begun = time.monotonic()
+    begin("melee", "--lineups", 1, *files).communicate()
+    started = begin("melee", "--lineups", 100000, *files)
+    # By then it runs matches, also on a slow machine.
+    time.sleep(2 * (time.monotonic() - begun))
     started.send_signal(signal.SIGINT)
     _, told = started.communicate(timeout=20)
     assert (started.returncode, told) == (130, "corewar: stopped\n")
