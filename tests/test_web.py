@@ -103,12 +103,16 @@ def test_the_browser_is_led_by_a_file(tmp_path: Path) -> None:
 
 def test_a_killed_one_leaves_no_file(tmp_path: Path) -> None:
     """The page with the token is removed on SIGTERM, too."""
-    (tmp_path / "pages").mkdir()
-    environment = {**ENVIRONMENT, "BROWSER": "true %s", "TMPDIR": str(tmp_path / "pages")}
+    pages = tmp_path / "pages"
+    pages.mkdir()
+    # The second line is the browser's, which gets the page once it is there.
+    environment = {**ENVIRONMENT, "BROWSER": "echo %s", "TMPDIR": str(pages)}
     with begin("web", "--port", 0, tmp_path, env=environment) as process:
-        assert process.stdout and process.stdout.readline() and len([*(tmp_path / "pages").iterdir()]) == 1
+        assert process.stdout
+        _, page = process.stdout.readline(), process.stdout.readline()
         process.send_signal(signal.SIGTERM)
-        assert process.wait(WAIT) == 130 and not [*(tmp_path / "pages").iterdir()]
+        status = process.wait(WAIT)
+    assert page.startswith(f"file://{pages}/") and status == 130 and not [*pages.iterdir()]
 
 
 def test_its_port_is_the_same_each_time(tmp_path: Path) -> None:
