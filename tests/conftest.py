@@ -31,10 +31,19 @@ ENVIRONMENT = {**os.environ, "PYTHONPATH": str(TOP / "python"), "PYTHONUNBUFFERE
 Run = Callable[..., "subprocess.CompletedProcess[str]"]
 
 
-def begin(*words: object, **how: Any) -> subprocess.Popen[str]:
+class Begun(subprocess.Popen[str]):
+    """A command whose `with` doesn't wait for it if the test has failed."""
+
+    def __exit__(self, *failure: Any) -> None:
+        if failure[0]:
+            self.kill()
+        super().__exit__(*failure)
+
+
+def begin(*words: object, **how: Any) -> Begun:
     """`corewar` with words, as it is begun and not waited for."""
     options = {"env": ENVIRONMENT, "stdout": subprocess.PIPE, "stderr": subprocess.PIPE, "text": True, **how}
-    return subprocess.Popen([*COMMAND, *map(str, words)], **options)
+    return Begun([*COMMAND, *map(str, words)], **options)
 
 
 @pytest.fixture
