@@ -60,7 +60,7 @@ def test_progress(words: list[str]) -> None:
     files = [EXAMPLES / "dwarf.red", EXAMPLES / "imp.red"]
     process = begin(*words, "-r", 160, *files, env={**ENVIRONMENT, "TERM": "xterm"}, stderr=theirs)
     os.close(theirs)
-    # A terminal that nobody reads stops the command after 4 KB.
+    # A terminal that is not read stops the command after 4 KB.
     with ThreadPoolExecutor(1) as pool:
         reading = pool.submit(all_of, ours)
         told, _ = process.communicate()
