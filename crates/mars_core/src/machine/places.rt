@@ -24,7 +24,7 @@ pub struct Place {
 /// Evaluates the operand of a mode and a number, for the instruction at `pc`. This may write a cell.
 #[inline(always)]
 #[tactic(auto, unfolding(crate::specs::Operand::evaluated))]
-pub fn place_of<const LIMITED: bool>(
+pub fn place_of<const LIMITED: bool, const CALLER: u8, const OPERAND: u8>(
     params: &Params,
     core: &mut [PackedCell],
     pc: u32,
