@@ -1,4 +1,4 @@
--- The words that follow the program's name, as `clap` reads them.
+-- The arguments of the program, as `clap` parses them.
 use Rattle.std.specs.Prelude.{ℕ, true, List, [], ◌∷◌, Some, codes, fold, pos}
 use Rattle.mars_app.specs.Limits.{longest_history, most_rounds}
 use Rattle.mars_match.specs.Placement.{greatest_seed}
@@ -9,11 +9,11 @@ use Rattle.clap.specs.Walk.{Rule}
 use Rattle.clap.specs.declared.builder.action.ArgAction.TheVariants.{Help, SetTrue}
 use Rattle.clap.specs.declared.builder.value_parser.ValueParser.TheVariants as parser
 
--- a word with a number from 1 to a greatest one
+-- An option with a number from 1 to `greatest`.
 abbrev pub number_rule : List ℕ → ℕ → Rule
 number_rule id greatest = record (new_rule id) { value_names = 1; parser = Some (parser.Signed (pos 1) (pos greatest)) }
 
--- a word without a value
+-- An option without a value.
 abbrev pub flag_rule : List ℕ → Rule
 flag_rule id = record (new_rule id) { action = Some SetTrue }
 
@@ -23,18 +23,18 @@ score_rule = record (new_rule (codes "score")) { value_names = 1 }
 abbrev pub help_rule : Rule
 help_rule = record (new_rule (codes "help")) { action = Some Help }
 
--- a letter behind one minus, and the name behind two
+-- `short` gives an option a letter, after one minus; `long` gives it its name, after two.
 abbrev pub short : ℕ → Rule → Rule
 short letter rule = record rule { short = Some letter }
 
 abbrev pub long : Rule → Rule
 long rule = record rule { long = Some rule.id }
 
--- the value where the word isn't given
+-- The value if the option isn't given.
 abbrev pub or_else : List ℕ → Rule → Rule
 or_else text rule = record rule { defaults = text ∷ [] }
 
--- what is fought
+-- Options of the match or league.
 abbrev pub contest_rules : List Rule
 contest_rules =
     short 114 (or_else (codes "1") (number_rule (codes "rounds") most_rounds))
@@ -44,7 +44,7 @@ contest_rules =
     ∷ long (flag_rule (codes "league"))
     ∷ []
 
--- where it is fought
+-- Options of the core.
 abbrev pub core_rules : List Rule
 core_rules =
     short 115 (or_else (codes "8000") (number_rule (codes "core") largest_core))
@@ -56,7 +56,7 @@ core_rules =
     ∷ long (number_rule (codes "write-limit") largest_core)
     ∷ []
 
--- what is written
+-- Options of the output.
 abbrev pub output_rules : List Rule
 output_rules =
     short 98 (flag_rule (codes "brief"))
@@ -71,14 +71,14 @@ debugger_rules =
     ∷ long (or_else (codes "200000") (number_rule (codes "history") longest_history))
     ∷ []
 
--- the names of the warriors' files
+-- The names of the warriors' files.
 abbrev pub file_rule : Rule
 file_rule = record (new_rule (codes "FILE")) { required = true; range = Some (record { start_inclusive = 1; end_inclusive = usize_max }) }
 
 abbrev pub with_rules : App → List Rule → App
 with_rules app rules = fold with_rule app rules
 
--- the program, without words: the words are all its own, and no word is there by itself
+-- The program without its options. The name of the program is not an argument, and `clap` adds no option of its own.
 abbrev pub plain_mars : App
 plain_mars = record { top = record (new_shape (codes "mars")) { no_binary_name = true; disable_help_flag = true }; subs = [] }
 

@@ -1,4 +1,4 @@
--- What is allowed, as the program uses it.
+-- The conditions on options, as the program uses them.
 use Rattle.std.specs.Prelude.{◌≡◌, ℕ, ◌+◌, ◌≤◌, false, true, IfSome, vec_len}
 use Rattle.mars_core.specs.Limits.{most_warriors}
 use Rattle.mars_app.specs.Limits.{longest_history, most_rounds}

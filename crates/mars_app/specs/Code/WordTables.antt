@@ -1,5 +1,7 @@
--- The rules that `clap` has for the words of the table.
--- That they are the rules of the definition is closed by computation. What `clap` asks of the command then computes (`clap_on_literals`).
+-- The rules of `clap` for the options in the table.
+--
+-- That they are the rules of the definition is proved by computation. What `clap` requires of the command then computes too
+-- (`clap_on_literals`).
 use Rattle.std.specs.Prelude.{ℕ, None, Option, Some, pos}
 use Rattle.std.specs.Borrow.{Bor}
 use Rattle.clap.specs.Simple.{new_rule}
@@ -10,13 +12,13 @@ use Rattle.mars_app.specs.declared.command_line.Value.{Value}
 use Rattle.mars_app.specs.declared.command_line.Value.TheVariants as value
 use Rattle.mars_app.specs.declared.command_line.Word.{Word}
 
--- with the value that follows the word
+-- The rule for the value that follows the option.
 abbrev pub valued : Value → Rule → Rule
 valued (value.Flag action) rule = record rule { action = Some action }
 valued (value.Number greatest) rule = record rule { value_names = 1; parser = Some (parser.Signed (pos 1) (pos greatest)) }
 valued value.Formula rule = record rule { value_names = 1 }
 
--- with the letter behind one minus, or else the name behind two
+-- The rule of an option with a letter (after one minus), or otherwise with a name (after two).
 abbrev pub reached : Option ℕ → Text → Rule
 reached (Some letter) name = short letter (new_rule name)
 reached None name = long (new_rule name)

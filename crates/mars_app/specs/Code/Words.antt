@@ -1,4 +1,4 @@
--- What an error of `clap` comes to.
+-- The error of the program for an error of `clap`.
 use Rattle.std.specs.Prelude.{◌≡◌, ⊤, false}
 use Rattle.clap.specs.declared.error.kind.ErrorKind.{ErrorKind}
 use Rattle.clap.specs.declared.error.kind.ErrorKind.TheVariants as kind
