@@ -18,8 +18,8 @@ use Rattle.mars_c.specs.declared.cells.MarsCell.{MarsCell}
 use Rattle.mars_c.specs.declared.warriors.MarsWarrior.{MarsWarrior}
 use Rattle.mars_c.specs.declared.settings.MarsSettings.{MarsSettings}
 
--- The starting positions of round `k` (from 0) for `w` warriors: each earlier round draws its own positions first, so `seed`
--- has changed k times.
+-- The starting positions of round `k` (from 0) for `w` warriors. `seed` is the seed of round 0; each earlier round draws its own
+-- positions and leaves a new seed.
 abbrev pub placed_in : Parameters → ℕ → Option ℕ → ℕ → ℕ → Result (List ℕ) MatchFault
 placed_in p w fixed zero seed = placed_for p w fixed seed >>= λ placed. Ok placed.0
 placed_in p w fixed (suc k) seed = placed_for p w fixed seed >>= λ placed. placed_in p w fixed k placed.1

@@ -1,5 +1,6 @@
 -- Battles as blocks of 32-bit words that the caller owns: their capacity, what calls write to them, the edits that numbers
--- mean, and why calls are rejected.
+-- mean, and why calls are rejected. The definitions allow `OutOfMemory` as a refusal of every call,
+-- because an allocation may fail.
 use Rattle.std.specs.Prelude.{◌≡◌, ◌≢◌, ◌≤◌, ◌<◌, ◌⊎◌, ◌+◌, ◌*◌, ℕ, ⊤, List, ◌++◌, length, drop, take, None, Some}
 use Rattle.mars_core.specs.State.{State}
 use Rattle.mars_core.specs.Block.{Spells, block_of, head_words}

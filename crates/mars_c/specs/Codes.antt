@@ -30,6 +30,7 @@ use Rattle.mars_c.specs.declared.warriors.EntrantFault.{EntrantFault}
 use Rattle.mars_c.specs.declared.warriors.EntrantFault.TheVariants as entrant
 use Rattle.mars_c.specs.declared.ranges.SettingsFault.TheVariants as settings
 
+-- The number of an error of the settings or of another argument.
 abbrev pub settings_number : SettingsFault → ℕ
 settings_number settings.Rounds = 1
 settings_number settings.Seed = 2
@@ -40,6 +41,7 @@ settings_number settings.History = 6
 settings_number settings.Rows = 7
 settings_number settings.Round = 8
 
+-- The number of a parameter that is out of its range.
 abbrev pub parameter_number : ParamFault → ℕ
 parameter_number parameter.CoreSize = 1
 parameter_number parameter.Processes = 2
@@ -48,6 +50,7 @@ parameter_number parameter.Limit = 4
 parameter_number parameter.Length = 5
 parameter_number parameter.Distance = 6
 
+-- The number of an error of an expression.
 abbrev pub expression_number : ExprFault → ℕ
 expression_number expression.Syntax = 1
 expression_number expression.Unknown = 2
@@ -55,6 +58,7 @@ expression_number expression.DivideByZero = 3
 expression_number expression.Range = 4
 expression_number expression.Depth = 5
 
+-- The number of an error in a load file.
 abbrev pub load_number : LoadFault → ℕ
 load_number (load.Syntax line) = 1
 load_number load.TooLong = 2
@@ -68,6 +72,7 @@ abbrev pub load_line : LoadFault → ℕ
 load_line (load.Syntax line) = line
 load_line fault = 0
 
+-- The number of an error of a warrior.
 abbrev pub entrant_number : EntrantFault → ℕ
 entrant_number entrant.Length = 1
 entrant_number entrant.Start = 2
@@ -76,6 +81,7 @@ entrant_number (entrant.Field index) = 4
 entrant_number entrant.Name = 5
 entrant_number entrant.OutOfMemory = 6
 
+-- The number of an error of a lineup.
 abbrev pub lineup_number : LineupFault → ℕ
 lineup_number lineup.Count = 1
 lineup_number lineup.Index = 2
@@ -86,11 +92,13 @@ entrant_line (entrant.Cell index) = index
 entrant_line (entrant.Field index) = index
 entrant_line fault = 0
 
+-- The number of an error of the placement.
 abbrev pub placement_number : PlaceFault → ℕ
 placement_number place.NoRoom = 1
 placement_number place.BadSeed = 2
 placement_number place.OutOfMemory = 3
 
+-- The number of an error of the start of a battle.
 abbrev pub battle_number : BattleFault → ℕ
 battle_number battle.NoWarrior = 1
 battle_number battle.TooMany = 2
@@ -99,6 +107,7 @@ battle_number battle.StartOutside = 4
 battle_number battle.FieldOutside = 5
 battle_number battle.OutOfMemory = 6
 
+-- The number of an error of a block.
 abbrev pub block_number : BlockFault → ℕ
 block_number block.Short = 1
 block_number block.Mark = 2
@@ -135,6 +144,7 @@ edit_number edit.NoSuchProcess = 5
 edit_number edit.WarriorDead = 6
 edit_number edit.QueueFull = 7
 
+-- The number of a problem of an assembly.
 abbrev pub assembly_number : AsmProblem → ℕ
 assembly_number (assembly.Text problem) = 1
 assembly_number assembly.Operation = 2
@@ -146,6 +156,7 @@ assembly_number assembly.Empty = 7
 assembly_number assembly.TooLong = 8
 assembly_number assembly.OutOfMemory = 9
 
+-- The number of a problem of a text.
 abbrev pub text_number : TextProblem → ℕ
 text_number text.NotAscii = 1
 text_number text.BadToken = 2
@@ -175,7 +186,7 @@ problem_numbers problem = (0, 0)
 abbrev pub numbered : ℕ → ℕ → MarsFault
 numbered code number = record { code = code; number = number; problem = 0; expression = 0; line = 0; warrior = 0 }
 
--- The error that the caller gets if a call is rejected for this refusal.
+-- The error that the caller gets for this refusal.
 abbrev pub fault_of : CallRefusal → MarsFault
 fault_of OutOfMemory = numbered 1 0
 fault_of (Settings fault) = numbered 2 (settings_number fault)
@@ -196,7 +207,7 @@ fault_of (Score fault) = numbered 9 (expression_number fault)
 fault_of (Warrior index fault) = record { code = 13; number = entrant_number fault; problem = 0; expression = 0; line = entrant_line fault; warrior = index }
 fault_of (Lineup index fault) = record { code = 14; number = lineup_number fault; problem = 0; expression = 0; line = 0; warrior = index }
 
--- The error that the caller gets if a call on a block is rejected for this refusal.
+-- The error that the caller of a function on blocks gets for this refusal.
 abbrev pub block_fault_of : BlockRefusal → MarsFault
 block_fault_of refused.OutOfMemory = numbered 1 0
 block_fault_of (refused.Block fault) = record {

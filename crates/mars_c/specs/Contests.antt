@@ -33,10 +33,11 @@ IsLeague s text cells entrants rows = (setup : Setup) × (ws : List WarriorValue
     × IsSetup s text setup × AreEntrants setup.params cells entrants ws × (setup.plan.fixed ≡ None)
     × (league_of setup.params ws setup.plan.formula None setup.plan.rounds setup.plan.seed ≡ Ok rows)
 
--- The caller's rows hold the table of a match (`HoldsMatch`), or of a league (`HoldsLeague`).
+-- The caller's rows hold the table of a match.
 abbrev pub HoldsMatch : MarsSettings → List ℕ → List MarsCell → List MarsWarrior → List MarsRow → Type 0
 HoldsMatch s text cells entrants place = (rows : List RowValue) × IsMatch s text cells entrants rows × (place ≡ map plain_row rows)
 
+-- The caller's rows hold the table of a league.
 abbrev pub HoldsLeague : MarsSettings → List ℕ → List MarsCell → List MarsWarrior → List MarsRow → Type 0
 HoldsLeague s text cells entrants place = (rows : List RowValue) × IsLeague s text cells entrants rows × (place ≡ map plain_row rows)
 

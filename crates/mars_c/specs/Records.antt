@@ -19,6 +19,7 @@ plain_change change = record { address = change.address; before = plain_cell cha
 abbrev pub blank : MarsCell
 blank = record { op = 0; modifier = 0; a_mode = 0; b_mode = 0; a = 0; b = 0 }
 
+-- A write of a cell as numbers, or zeros if there is none.
 abbrev pub change_of : Option CellChange → MarsChange
 change_of None = record { address = 0; before = blank; after = blank }
 change_of (Some change) = plain_change change

@@ -1,4 +1,5 @@
--- Why a source is not assembled, a load file is not read or written, or a match, league or population is not run.
+-- Why a source is not assembled, a load file is not read or written, or a match, league or population is not run. The
+-- definitions allow `OutOfMemory` as a refusal of every call, because an allocation may fail.
 use Rattle.std.specs.Prelude.{◌≡◌, ◌≢◌, ◌≤◌, ◌<◌, ◌⊎◌, ◌&&◌, ℕ, ⊤, false, List, Ok, Err, Result, Some, codes, length, slice_get, sum_by, take}
 use Rattle.mars_cell.specs.Load.{load}
 use Rattle.mars_cell.specs.Parameters.{Parameters}
@@ -119,14 +120,15 @@ AreWarriors count = (1 ≤ count) × (count ≤ most_warriors)
 abbrev pub Misses : SettingsFault → Type 0 → CallRefusal → Type 0
 Misses fault Fits refusal = (refusal ≡ Settings fault) × (Fits → ⊥)
 
--- The refusal is the error of a match of these warriors (`FailsMatch`), of a league (`FailsLeague`), or of the start of a
--- round's battle (`FailsRound`).
+-- `refusal` is the error of a match of these warriors.
 abbrev pub FailsMatch : MarsSettings → List ℕ → List MarsCell → List MarsWarrior → CallRefusal → Type 0
 FailsMatch s text cells entrants = Fails s text cells entrants (λ setup ws. table_of setup.params ws setup.plan.formula setup.plan.fixed setup.plan.rounds setup.plan.seed)
 
+-- `refusal` is the error of a league of these warriors.
 abbrev pub FailsLeague : MarsSettings → List ℕ → List MarsCell → List MarsWarrior → CallRefusal → Type 0
 FailsLeague s text cells entrants = Fails s text cells entrants (λ setup ws. league_of setup.params ws setup.plan.formula setup.plan.fixed setup.plan.rounds setup.plan.seed)
 
+-- `refusal` is the error of the start of a round's battle.
 abbrev pub FailsRound : MarsSettings → List MarsCell → List MarsWarrior → ℕ → CallRefusal → Type 0
 FailsRound s cells entrants round = Fails s (codes "0") cells entrants (λ setup ws. begun setup ws round)
 

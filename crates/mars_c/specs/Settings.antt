@@ -26,10 +26,11 @@ parameters_in s = record {
 abbrev pub position_of : ℕ → Option ℕ
 position_of position = if position == 0 then None else Some position
 
--- The numbers of rounds that a match may have. `IsSeed` holds for the seeds that its first round may have.
+-- The numbers of rounds that a match may have.
 abbrev pub AreRounds : ℕ → Type 0
 AreRounds rounds = (1 ≤ rounds) × (rounds ≤ 100000)
 
+-- The seeds that the first round of a match may have.
 abbrev pub IsSeed : ℕ → Type 0
 IsSeed seed = (1 ≤ seed) × (seed ≤ 2147483646)
 
