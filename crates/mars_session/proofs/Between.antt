@@ -40,7 +40,7 @@ rises_here : (before : List Place) (p : Place) (after : List Place) → Rise (re
 rises_here [] p after r = r
 rises_here (b ∷ before) p after r = (rises_here before b (p ∷ after) r).2
 
--- So if the place `p` has fewer than `t` turns, no place before it is the first one with `t` turns.
+-- If the place `p` has fewer than `t` turns, no place before it is the first one with `t` turns.
 none_before_from : (t : ℕ) (before : List Place) (p : Place) (after : List Place) → p.state.turns < t → Rise (rewound_from before p after).present.state (rewound_from before p after).after
     → first_at_turn t (rewound_from before p after) ≡ first_at_turn_from t before p after
 none_before_from t [] p after l r = refl

@@ -47,6 +47,7 @@ cut h = record h { after = [] }
 abbrev pub append : History → State → History
 append h s = record { before = h.present ∷ h.before; present = record { state = s; mark = false }; after = [] }
 
+-- Appends unmarked places one by one; the last one becomes the present one.
 abbrev pub append_all : History → List State → History
 append_all h [] = h
 append_all h (s ∷ ss) = append_all (append h s) ss
@@ -61,6 +62,7 @@ abbrev pub step_back : List Place → Place → List Place → History
 step_back [] p after = record { before = []; present = p; after = after }
 step_back (b ∷ before) p after = record { before = before; present = b; after = p ∷ after }
 
+-- One place back, if there is one.
 abbrev pub back : History → History
 back h = step_back h.before h.present h.after
 
@@ -69,6 +71,7 @@ abbrev pub step_forward : List Place → Place → List Place → History
 step_forward before p [] = record { before = before; present = p; after = [] }
 step_forward before p (a ∷ after) = record { before = p ∷ before; present = a; after = after }
 
+-- One place forward, if there is one.
 abbrev pub forward : History → History
 forward h = step_forward h.before h.present h.after
 
@@ -79,6 +82,7 @@ marked_before (b ∷ before) p after =
     if b.mark then Some (record { before = before; present = b; after = p ∷ after })
     else marked_before before b (p ∷ after)
 
+-- Back from the present place to the nearest marked place before it, or None if there is none.
 abbrev pub undo : History → Option History
 undo h = marked_before h.before h.present h.after
 
@@ -89,6 +93,7 @@ marked_after before p (a ∷ after) =
     if a.mark then Some (record { before = p ∷ before; present = a; after = after })
     else marked_after (p ∷ before) a after
 
+-- Forward from the present place to the nearest marked place after it, or None if there is none.
 abbrev pub redo : History → Option History
 redo h = marked_after h.before h.present h.after
 
@@ -97,6 +102,7 @@ abbrev pub rewound_from : List Place → Place → List Place → History
 rewound_from [] p after = record { before = []; present = p; after = after }
 rewound_from (b ∷ before) p after = rewound_from before b (p ∷ after)
 
+-- The same places, with the first one as the present one.
 abbrev pub rewound : History → History
 rewound h = rewound_from h.before h.present h.after
 
@@ -121,9 +127,10 @@ abbrev pub last_place : Place → List Place → Place
 last_place p [] = p
 last_place p (a ∷ after) = last_place a after
 
--- The numbers of turns of the first and of the last place.
+-- The number of turns of the first place.
 abbrev pub first_turns : History → ℕ
 first_turns h = (rewound h).present.state.turns
 
+-- The number of turns of the last place.
 abbrev pub last_turns : History → ℕ
 last_turns h = (last_place h.present h.after).state.turns

@@ -18,6 +18,7 @@ abbrev pub left : Option ℕ → List Place → List Place
 left None before = before
 left (Some k) before = take k before
 
+-- The history after the places that are too many before the present one are evicted.
 abbrev pub retained : Option ℕ → History → History
 retained most h = record h { before = left most h.before }
 

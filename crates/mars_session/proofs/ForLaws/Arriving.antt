@@ -67,7 +67,7 @@ next_cycle cycle w next k l =
     let more : (cycle + 1) * w ≡ cycle * w + w = rw (add-one cycle) (suc-mul cycle w) in
     rw more (omega (arith, l))
 
--- The next clock, in terms of the live indices that were found: it is over or has advanced.
+-- If a live index was found, the next clock has advanced.
 clock_moved : (w : ℕ) (clock : Clock) (o z : Option ℕ) → clock.next < w → ((k : ℕ) → o ≡ Some k → (clock.next + 1 ≤ k) × (k < w)) → ((k : ℕ) → z ≡ Some k → k < w)
     → ((moved_clock clock o z).next < w) × ((z ≡ None) ⊎ (distance w clock + 1 ≤ distance w (moved_clock clock o z)))
 clock_moved w clock (Some k) z l f g = ((f k refl).1, inr (farther (clock.cycle * w) clock.next k (f k refl).0))

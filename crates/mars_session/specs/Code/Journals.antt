@@ -24,6 +24,7 @@ no_entry = (
   false,
 )
 
+-- The entry at index `n`: the record that leads from place `n` to the next one, and the mark of the next one.
 abbrev pub entry_at : List (Atom × Bool) → ℕ → Atom × Bool
 entry_at es i = slice_index_or es i no_entry
 

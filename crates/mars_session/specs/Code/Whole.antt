@@ -25,6 +25,7 @@ no_state = record {
 abbrev pub nowhere : Snapshot
 nowhere = record { battle = no_state; mark = false }
 
+-- The copy at index `i`.
 abbrev pub snapshot_at : List Snapshot → ℕ → Snapshot
 snapshot_at ks i = slice_index_or ks i nowhere
 
