@@ -17,13 +17,15 @@ number_rule id greatest = record (new_rule id) { value_names = 1; parser = Some 
 abbrev pub flag_rule : List ℕ → Rule
 flag_rule id = record (new_rule id) { action = Some SetTrue }
 
+-- The option for the score formula.
 abbrev pub score_rule : Rule
 score_rule = record (new_rule (codes "score")) { value_names = 1 }
 
+-- The option for the help.
 abbrev pub help_rule : Rule
 help_rule = record (new_rule (codes "help")) { action = Some Help }
 
--- `short` gives an option a letter, after one minus; `long` gives it its name, after two.
+-- The option with a letter, which is given after one minus; `long` has the option's name, after two.
 abbrev pub short : ℕ → Rule → Rule
 short letter rule = record rule { short = Some letter }
 
@@ -65,6 +67,7 @@ output_rules =
     ∷ long help_rule
     ∷ []
 
+-- Options of the debugger.
 abbrev pub debugger_rules : List Rule
 debugger_rules =
     short 101 (flag_rule (codes "debugger"))
@@ -75,6 +78,7 @@ debugger_rules =
 abbrev pub file_rule : Rule
 file_rule = record (new_rule (codes "FILE")) { required = true; range = Some (record { start_inclusive = 1; end_inclusive = usize_max }) }
 
+-- The program with these options added, one after another.
 abbrev pub with_rules : App → List Rule → App
 with_rules app rules = fold with_rule app rules
 
@@ -82,5 +86,6 @@ with_rules app rules = fold with_rule app rules
 abbrev pub plain_mars : App
 plain_mars = record { top = record (new_shape (codes "mars")) { no_binary_name = true; disable_help_flag = true }; subs = [] }
 
+-- The program with all its arguments.
 abbrev pub mars : App
 mars = with_rules (with_rules (with_rules (with_rules (with_rule plain_mars file_rule) contest_rules) core_rules) debugger_rules) output_rules

@@ -34,6 +34,7 @@ abbrev pub listing_from : ℕ → ℕ → List WarriorValue → List ℕ
 listing_from core_size number [] = []
 listing_from core_size number (w ∷ warriors) = listed core_size number w ++ listing_from core_size (number + 1) warriors
 
+-- The listing of all warriors; empty if `brief` is true.
 abbrev pub listing : ℕ → Bool → List WarriorValue → List ℕ
 listing core_size brief warriors = if brief then [] else listing_from core_size 0 warriors
 

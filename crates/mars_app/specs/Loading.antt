@@ -22,6 +22,7 @@ AllFit core_size warriors = All (λ (w : WarriorValue). All (FitsCore core_size)
 abbrev pub shown_character : ℕ → ℕ
 shown_character c = if is_control c then 63 else c
 
+-- A file's name in an error message.
 abbrev pub shown_name : List ℕ → List ℕ
 shown_name name = flat_map (λ c. encode_utf8 (shown_character c)) (chars name)
 

@@ -41,6 +41,7 @@ pub record OptionsValue : Type 0 where
   pub write_limit : Option ℕ
   pub history : ℕ
 
+-- The options of the program, with their texts as bytes.
 abbrev pub value_of : Options → OptionsValue
 value_of o = record {
   files = map (λ name. string_bytes name) o.files.items;
@@ -73,6 +74,7 @@ number_of text =
 abbrev pub given_number : Text → List Row → Option ℕ
 given_number word rows = option_and_then number_of (one_of word rows)
 
+-- The number of an option, or 0 if it has none.
 abbrev pub number : Text → List Row → ℕ
 number word rows = unwrap_or (given_number word rows) 0
 
@@ -103,6 +105,7 @@ options_of rows = record {
   history = number (codes "history") rows;
 }
 
+-- Whether a number is in the range from `least` to `greatest`, both included.
 abbrev pub is_between : ℕ → ℕ → ℕ → Bool
 is_between least greatest n = nat_le least n && nat_le n greatest
 
@@ -129,12 +132,15 @@ has_one_mode o = not (o.debugger && o.league) && not (o.debugger && o.load) && n
 abbrev pub is_fitting : OptionsValue → ℕ → Bool
 is_fitting o position = length o.files == 2 && not o.league && nat_le o.distance position && nat_le (position + o.distance) o.core
 
+-- There is no position, or it fits.
 abbrev pub has_fitting_position : OptionsValue → Bool
 has_fitting_position o = option_map_or (is_fitting o) o.fixed true
 
+-- The options are allowed: ranges, number of files, modes and position.
 abbrev pub are_allowed : OptionsValue → Bool
 are_allowed o = has_numbers o && has_files o && has_one_mode o && has_fitting_position o
 
+-- The options that the arguments say.
 abbrev pub said_by : List Text → OptionsValue
 said_by words = options_of (matches_of mars words)
 
@@ -144,9 +150,11 @@ pub record Ask (words : List Text) (o : OptionsValue) : Type 0 where
   pub said : said_by words ≡ o
   pub allowed : are_allowed o ≡ true
 
+-- The arguments request the help: this is the error of `clap`.
 abbrev pub AskForHelp : List Text → Type 0
 AskForHelp words = IsAmong kind.DisplayHelp (fault_of mars words)
 
+-- Whether an error of `clap` is a request for the help.
 abbrev pub is_help : ErrorKind → Bool
 is_help kind.DisplayHelp = true
 is_help _ = false

@@ -15,6 +15,7 @@ IsLoadFault name f (fault.Load shown line g) = (string_bytes shown ≡ shown_nam
 IsLoadFault name f fault.OutOfMemory = ⊤
 IsLoadFault name f _ = ⊥
 
+-- The error of the run reports the error `f` of the source `name`, and shows this name.
 abbrev pub IsAssemblyFault : List ℕ → AsmFault → RunFault → Type 0
 IsAssemblyFault name f (fault.Assembly shown line g) = (string_bytes shown ≡ shown_name name) × (g ≡ f) × (f.problem ≡ problem.OutOfMemory → ⊥) × (line ≡ f.line)
 IsAssemblyFault name f fault.OutOfMemory = ⊤

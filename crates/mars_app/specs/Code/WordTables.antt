@@ -23,9 +23,11 @@ abbrev pub reached : Option ℕ → Text → Rule
 reached (Some letter) name = short letter (new_rule name)
 reached None name = long (new_rule name)
 
+-- The rule with the default of the option, if it has one.
 abbrev pub defaulted : Option (Bor Text) → Rule → Rule
 defaulted (Some text) rule = or_else text.now rule
 defaulted None rule = rule
 
+-- The rule of an option of the table.
 abbrev pub rule_of_word : Word → Rule
 rule_of_word word = defaulted word.default (valued word.value (reached word.letter word.name.now))

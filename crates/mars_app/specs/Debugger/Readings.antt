@@ -38,9 +38,11 @@ list_text s address n =
 
 -- ---- The command queue
 
+-- The beginning of the line of a queue.
 abbrev pub queue_head : ℕ → List ℕ
 queue_head warrior = codes "queue " ++ decimal warrior ++ codes ":"
 
+-- A space and the address of a process.
 abbrev pub process_text : ℕ → List ℕ
 process_text address = codes " " ++ decimal address
 
@@ -66,6 +68,7 @@ unfoldable pub warrior_text : State → ℕ → List ℕ
 warrior_text s warrior =
     codes "warrior " ++ decimal warrior ++ life_text (queue_of s.queues warrior) (death_of s.deaths warrior) ++ codes "\n"
 
+-- The line that says whether the battle is over.
 abbrev pub end_text : State → List ℕ
 end_text s = if is_over_of s then codes "battle over\n" else codes "battle running\n"
 

@@ -10,6 +10,7 @@ use Rattle.mars_app.specs.declared.debugger.request.Command.TheVariants as comma
 use Rattle.mars_app.specs.declared.debugger.request.Request.{Request}
 use Rattle.mars_app.specs.declared.debugger.request.Request.TheVariants as request
 
+-- The name of a command.
 abbrev pub word_of : Command → List ℕ
 word_of command.Step = codes "step"
 word_of command.Run = codes "run"
@@ -27,6 +28,7 @@ word_of command.Queue = codes "queue"
 word_of command.Show = codes "show"
 word_of command.Quit = codes "quit"
 
+-- All commands.
 abbrev pub commands : List Command
 commands = command.Step ∷ command.Run ∷ command.Until ∷ command.Edit ∷ command.Fill ∷ command.Move ∷ command.Kill ∷ command.Spawn ∷ command.Undo ∷ command.Redo ∷ command.Goto ∷ command.List ∷ command.Queue ∷ command.Show ∷ command.Quit ∷ []
 
@@ -38,18 +40,20 @@ command_of w = find (λ c. bytes_eq (word_of c) w) commands
 unfoldable pub alone : {X : Type 0} → X → List ℕ → Option X
 alone x l = if length (first_word l) == 0 then Some x else None
 
--- One number that no word follows. The definitions after it read two and three numbers.
+-- One number that no word follows.
 unfoldable pub one_number : List ℕ → Option ℕ
 one_number l = do
   a ← number_at l
   alone a.0 a.1
 
+-- Two numbers that no word follows.
 unfoldable pub two_numbers : List ℕ → Option (ℕ × ℕ)
 two_numbers l = do
   a ← number_at l
   b ← one_number a.1
   Some (a.0, b)
 
+-- Three numbers that no word follows.
 unfoldable pub three_numbers : List ℕ → Option (ℕ × ℕ × ℕ)
 three_numbers l = do
   a ← number_at l

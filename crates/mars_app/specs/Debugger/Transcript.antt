@@ -36,6 +36,7 @@ pub data Transcript (core_size : ℕ) : SessionState → List (List ℕ) → Ses
       → whole ≡ (answer poor s (line_asks core_size l)).1 ++ text
       → Transcript core_size s (l ∷ ls) t whole
 
+-- Whether a request is `quit`.
 abbrev pub is_quit : Request → Bool
 is_quit request.Nothing = false
 is_quit (request.Call call) = false

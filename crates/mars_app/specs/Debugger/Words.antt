@@ -12,10 +12,11 @@ index_of p l = unwrap_or (position p l) (length l)
 abbrev pub from_word : List ℕ → List ℕ
 from_word l = drop (index_of (λ b. not (is_blank b)) l) l
 
--- The first word of a line; `after_word` is what follows it. If there is no word, both are empty.
+-- The first word of a line; empty if there is no word.
 unfoldable pub first_word : List ℕ → List ℕ
 first_word l = take (index_of is_blank (from_word l)) (from_word l)
 
+-- What follows the first word of a line; empty if there is no word.
 unfoldable pub after_word : List ℕ → List ℕ
 after_word l = drop (index_of is_blank (from_word l)) (from_word l)
 

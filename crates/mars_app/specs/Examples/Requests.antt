@@ -38,8 +38,8 @@ pub cells_are_read :
 unfolding request_of command_request with_arguments first_word after_word number_in parse_digits parts joins begins_word cell_of op_at suffix_at modifier_at mode_at number_at operand_at comma_at op_of modifier_of mode_of parse_number split_sign nearest default_modifier
 cells_are_read = (refl, refl)
 
--- A line of only whitespace requests nothing. Unknown are a line with a word too few or too many, with another spelling, with a
--- signed number, with a number of 19 digits or with half a cell, and a line of more than 256 bytes.
+-- A line of only whitespace requests nothing. A line is unknown if a word is missing, added or misspelt, if a number has a sign or
+-- 19 digits, if a cell is incomplete, or if the line has more than 256 bytes.
 pub lines_that_are_no_commands :
     (line_asks 8 [] ≡ request.Nothing)
     × (line_asks 8 (codes " \t\r") ≡ request.Nothing)
