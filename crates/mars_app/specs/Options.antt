@@ -164,7 +164,7 @@ abbrev pub AreBad : List Text → Type 0
 AreBad words = ((k : ErrorKind) × IsAmong k (fault_of mars words) × (is_help k ≡ false))
     ⊎ ((fault_of mars words ≡ []) × (are_allowed (said_by words) ≡ false))
 
--- The result is what the arguments request, or `OutOfMemory` if an allocation failed.
+-- The result is what the arguments request: options, the help, or an error. `OutOfMemory` is always possible.
 abbrev pub Reads : List Text → Result Options WordsFault → Type 0
 Reads words (Ok o) = Ask words (value_of o)
 Reads words (Err (fault.Help text)) = AskForHelp words

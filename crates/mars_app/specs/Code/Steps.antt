@@ -59,7 +59,8 @@ abbrev pub Breaks : ℕ → List ℕ → LineBuffer → SessionState → Option 
 Breaks core_size taken a t v u w = (s : SessionState) (bytes text : List ℕ) → ReadsOn core_size s bytes a t text
     → (added : List ℕ) × Appends v w added × Breaking core_size s (bytes ++ taken) u (text ++ added)
 
--- Whatever was read and written before, the unfinished line at the end of the input, if there is one, was executed.
+-- Whatever was read and written before, the unfinished line at the end of the input was executed, if there is one and it is not
+-- `quit`.
 abbrev pub Finishes : ℕ → LineBuffer → SessionState → Option (List ℕ) → SessionState → Option (List ℕ) → Type 0
 Finishes core_size a t v u w = (s : SessionState) (bytes text : List ℕ) → ReadsOn core_size s bytes a t text
     → (added : List ℕ) × Appends v w added × Transcript core_size s (until_quit core_size (lines_of bytes)) u (text ++ added)

@@ -43,7 +43,8 @@ pub bundles :
 unfolding clap_on_literals
 bundles = (refl, refl, refl, refl, refl)
 
--- The help, unless a bad argument is to its left; an option that is given twice; the debugger together with a league.
+-- `--help` requests the help unless a bad argument is to its left. An option may not be given twice, and the debugger may not be
+-- combined with a league.
 pub others :
     (fault_of mars (codes "--help" ∷ []) ≡ kind.DisplayHelp ∷ [])
     × (fault_of mars (codes "-r" ∷ codes "0" ∷ codes "--help" ∷ []) ≡ kind.ValueValidation ∷ [])
@@ -78,7 +79,7 @@ Allowed words = are_allowed (said_by words) ≡ true
 abbrev Forbidden : List (List ℕ) → Type 0
 Forbidden words = are_allowed (said_by words) ≡ false
 
--- A load file is written of only one source, a league has at least two warriors, and neither is combined with the debugger.
+-- `--load` requires exactly one file, a league requires at least two warriors, and neither may be combined with the debugger.
 pub contests_are_judged :
     Allowed (codes "--load" ∷ codes "a.red" ∷ [])
     × Forbidden (codes "--load" ∷ codes "a.red" ∷ codes "b.red" ∷ [])
