@@ -178,7 +178,7 @@ fn play<R: Read, W: Write>(
     requires position { FitsTwo setup.now.params (length warriors.now) options.now.fixed }
     requires history { IsBetween 1 longest_history options.now.history }
 
-    // On an error, only a beginning of the text was written.
+    // If it succeeds, what the options request was written; on an error, a beginning of it.
     ensures ok { OnOk result (PlaysWell options.now setup.now warriors.now streams.old streams.new) }
     ensures err { IfErr result (PlaysInPart options.now setup.now warriors.now streams.old streams.new) }
 {
