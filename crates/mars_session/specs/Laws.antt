@@ -39,13 +39,14 @@ AllAccepted limit (call ∷ calls) poor h =
     IsTrue (is_command (kind_of call)) × IsOk (outcome never limit call (first poor) h).reply
     × AllAccepted limit calls (rest poor) (outcome never limit call (first poor) h).history
 
--- After accepted commands, the same number of undos is accepted, and restores the state and the position.
+-- If all places are kept, the same number of undos is accepted after accepted commands, and restores the state and the position.
 abbrev pub UndosGiveBack : Type 0
 UndosGiveBack = (limit : ℕ) (calls : List Call) (poor : List Bool) (h : History) → AllAccepted limit calls poor h
     → IsSomeAnd (times (length calls) undo (script never limit calls poor h).history)
     (λ back. (back.present.state ≡ h.present.state) × (position_of back ≡ position_of h))
 
--- After those undos, the same number of redos is accepted, and restores the history after the commands exactly.
+-- If all places are kept, the same number of redos is accepted after those undos, and restores the history after the commands
+-- exactly.
 abbrev pub RedosGiveAgain : Type 0
 RedosGiveAgain = (limit : ℕ) (calls : List Call) (poor : List Bool) (h back : History) → AllAccepted limit calls poor h
     → times (length calls) undo (script never limit calls poor h).history ≡ Some back
@@ -75,8 +76,8 @@ pub record GoesBackAndOn (m : Retention) (limit count : ℕ) (undo_poor redo_poo
   pub redone : IsTrue (list_all is_ok (script m limit (replicate count Redo) redo_poor back).replies)
   pub same : (script m limit (replicate count Redo) redo_poor back).history ≡ end
 
--- After any list of commands, some of which may be refused, as many calls of Undo as commands were accepted lead back, and as
--- many calls of Redo lead on again. The position is restored, too.
+-- If all places are kept: after any list of commands, some of which may be refused, as many calls of Undo as commands were
+-- accepted lead back, and as many calls of Redo lead forward again. The position is restored, too.
 abbrev pub CommandsAreUndone : Type 0
 CommandsAreUndone = (limit : ℕ) (calls : List Call) (poor undo_poor redo_poor : List Bool) (h : History) → IsTrue (list_all is_command (map kind_of calls))
     → let count = accepted_count (script never limit calls poor h).replies in
@@ -121,15 +122,15 @@ RedoAfterUndo = (h back : History) → h.present.mark ≡ true → undo h ≡ So
 abbrev pub BeginningIsTape : Type 0
 BeginningIsTape = (s : State) → IsValid s → IsTape (beginning s) × ((k : ℕ) → IsTapeOf k (beginning s))
 
--- Every call, accepted or refused, turns a tape into a tape.
+-- If all places are kept, every call, accepted or refused, turns a tape into a tape.
 abbrev pub CallsKeepTapes : Type 0
 CallsKeepTapes = (limit : ℕ) (call : Call) (poor : Bool) (h : History) → IsTape h → IsTape (outcome never limit call poor h).history
 
--- Every list of calls turns a tape into a tape.
+-- If all places are kept, every list of calls turns a tape into a tape.
 abbrev pub ScriptsKeepTapes : Type 0
 ScriptsKeepTapes = (limit : ℕ) (calls : List Call) (poor : List Bool) (h : History) → IsTape h → IsTape (script never limit calls poor h).history
 
--- Every call keeps the number of places of a tape within the limit.
+-- If all places are kept, every call keeps the number of places of a tape within the limit.
 abbrev pub CallsKeepLimit : Type 0
 CallsKeepLimit = (limit : ℕ) (call : Call) (poor : Bool) (h : History) → IsTape h → last_of h ≤ limit → last_of (outcome never limit call poor h).history ≤ limit
 

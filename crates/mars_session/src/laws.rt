@@ -6,12 +6,14 @@ pub fn calls_are_scripts()
     ensures { CallsAreScripts }
 {}
 
-/// After accepted commands, the same number of undos is accepted, and restores the state and the position.
+/// If all places are kept, the same number of undos is accepted after accepted commands, and restores the state and the
+/// position.
 pub fn undos_give_back()
     ensures { UndosGiveBack }
 {}
 
-/// After those undos, the same number of redos is accepted, and restores the history after the commands exactly.
+/// If all places are kept, the same number of redos is accepted after those undos, and restores the history after the commands
+/// exactly.
 pub fn redos_give_again()
     ensures { RedosGiveAgain }
 {}
@@ -26,9 +28,9 @@ pub fn never_full()
     ensures { NeverFull }
 {}
 
-/// After any commands, some of which may be refused, as many calls of `Undo` as commands were accepted are all accepted, and
-/// restore the state and the position. As many calls of `Redo` after them are all accepted, and restore the history after the
-/// commands exactly.
+/// If all places are kept: after any commands, some of which may be refused, as many calls of `Undo` as commands were accepted
+/// are all accepted, and restore the state and the position. As many calls of `Redo` after them are all accepted, and restore
+/// the history after the commands exactly.
 pub fn commands_are_undone()
     ensures { CommandsAreUndone }
 {}
@@ -75,13 +77,14 @@ pub fn beginning_is_tape()
     ensures { BeginningIsTape }
 {}
 
-/// Every call keeps a tape: each place is a turn or an edit of the one before it, and the first and the last are marked.
+/// If all places are kept, every call keeps a tape: each place is a turn or an edit of the one before it, and the first and the
+/// last are marked.
 pub fn calls_keep_tapes()
     ensures { CallsKeepTapes }
 {}
 
-/// Every list of calls keeps a tape: each place is a turn or an edit of the one before it, and the first and the last are
-/// marked.
+/// If all places are kept, every list of calls keeps a tape: each place is a turn or an edit of the one before it, and the
+/// first and the last are marked.
 pub fn scripts_keep_tapes()
     ensures { ScriptsKeepTapes }
 {}
@@ -107,7 +110,7 @@ pub fn until_arrives()
     ensures { UntilArrives }
 {}
 
-/// Every call keeps a tape within its limit, because no command appends more places than its bound.
+/// If all places are kept, every call keeps a tape within its limit, because no command appends more places than its bound.
 pub fn calls_keep_limit()
     ensures { CallsKeepLimit }
 {}
