@@ -115,7 +115,7 @@ fn check_kill<T: Tape>(rt: &impl Abort, session: &mut Session<T>, queue: &[u32],
     check_queue(rt, session, queue);
 }
 
-/// Checks this for each process of a full queue.
+/// Checks that each process of a full queue can be killed and restored by undo.
 fn check_each_kill<T: Tape>(
     rt: &impl Abort,
     alloc: Global,
@@ -131,7 +131,7 @@ fn check_each_kill<T: Tape>(
     Ok(())
 }
 
-/// Checks this for full queues of 1, 2 and 5 processes, after 0 to 5 turns each.
+/// Checks kills in full queues of 1, 2 and 5 processes, after 0 to 5 turns each.
 fn check_kills<T: Start + Drop>(rt: &impl Abort, alloc: Global) -> Result<(), Fail> {
     for processes in [1, 2, 5] {
         for turns in 0..6 {

@@ -260,7 +260,7 @@ fn check_steps<T: Tape>(
     check_state(rt, session, turn.after, turn.queue)
 }
 
-/// Checks this over one kind of tape.
+/// Checks a turn, its undo and its redo over one kind of tape.
 fn check_turn<T: Start + Drop>(rt: &impl Abort, alloc: Global, turn: &Turn) -> Result<(), Fail> {
     let mut session = Session::new(tape_before::<T>(alloc, turn)?, 100);
     let checked = check_steps(rt, &mut session, turn);

@@ -19,7 +19,7 @@ fn check_sizes(
     }
 }
 
-/// Checks this for a session of one imp.
+/// Checks the replies of a session of one imp for all these sizes.
 fn check_imp(rt: &impl Abort, alloc: Global, input: &[u8], expected: &[u8]) -> Result<(), Fail> {
     let mut session = imp_session(rt, alloc)?;
     check_sizes(rt, alloc, &mut session, Exchange { input, expected });

@@ -84,7 +84,7 @@ fn check_sessions(
     assert_eq!(rt; poor.standing(), ample.standing());
 }
 
-/// Checks this for this session and a new one.
+/// Checks that the results and output of this session are those of a new one without memory left.
 fn check_session(
     rt: &impl Abort,
     alloc: Global,
